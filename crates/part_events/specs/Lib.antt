@@ -1,0 +1,4 @@
+pub mod Event
+pub mod Memory
+pub mod Package
+pub mod Stored

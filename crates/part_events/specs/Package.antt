@@ -1,0 +1,87 @@
+-- A package of parts, as its reader sees it.
+use Rattle.std.specs.Prelude.{◌≡◌, ℕ, ◌+◌, ◌-◌, ◌≤◌, ◌^◌, min, List, [], ◌∷◌, map, Bool, true, false, ◌==◌, if◌then◌else◌, Option, Some, None}
+use Rattle.std.specs.Char.{to_ascii_lowercase}
+use Rattle.std.specs.Str.{bytes_eq}
+use Rattle.part_events.specs.Event.{Event}
+
+-- a named list of events
+pub record Part : Type 0 where
+  pub name : List ℕ
+  pub events : List Event
+
+-- a name as it is compared: ASCII letters in lower case, and `\` read as `/`
+abbrev pub folded_byte : ℕ → ℕ
+folded_byte byte = if byte == 92 then 47 else to_ascii_lowercase byte
+
+abbrev pub folded : List ℕ → List ℕ
+folded name = map folded_byte name
+
+abbrev pub has_name : List ℕ → Part → Bool
+has_name name part = bytes_eq (folded part.name) (folded name)
+
+-- the events of the first part of this name
+abbrev pub part_of : List Part → List ℕ → Option (List Event)
+part_of [] name = None
+part_of (part ∷ parts) name = if has_name name part then Some part.events else part_of parts name
+
+-- What a package is to its reader. Where it doesn't tell its content, only the last five fields mean something.
+pub record PackageState : Type 0 where
+  pub told : Bool
+  pub parts : List Part
+  -- the events of the open part that were taken, the latest first, and those to come
+  pub past : List Event
+  pub rest : List Event
+  pub current : Event
+  pub has_current : Bool
+  -- how many events the open part still gives, at most
+  pub left : ℕ
+  -- how many events were taken of any part, up to the last value of the count
+  pub taken : ℕ
+  pub faults : ℕ
+
+-- the count of faults rose, or stands at its end
+abbrev pub HasCause : PackageState → PackageState → Type 0
+HasCause old new = min (old.faults + 1) (2 ^ 64 - 1) ≤ new.faults
+
+-- what no call of the trait changes
+pub record SameParts (old new : PackageState) : Type 0 where
+  pub told : new.told ≡ old.told
+  pub parts : new.parts ≡ old.parts
+  pub faults : old.faults ≤ new.faults
+
+-- no part is open
+pub record IsClosed (state : PackageState) : Type 0 where
+  pub past : state.past ≡ []
+  pub rest : state.rest ≡ []
+  pub has_current : state.has_current ≡ false
+  pub left : state.left ≡ 0
+
+-- a failed call: it has its cause, no part is open, and no event was taken
+pub record Fails (old new : PackageState) : Type 0 where
+  pub cause : HasCause old new
+  pub closed : IsClosed new
+  pub taken : new.taken ≡ old.taken
+
+-- an answer of `open`: where the part is found, the cursor stands before its first event
+pub record Opens (name : List ℕ) (found : Bool) (old new : PackageState) : Type 0 where
+  pub part : part_of old.parts name ≡ (if found then Some new.rest else None)
+  pub past : new.past ≡ []
+
+-- what an answer of `open` does, whether the package tells its parts or not
+pub record OpenCounts (found : Bool) (old new : PackageState) : Type 0 where
+  pub has_current : new.has_current ≡ false
+  pub absent : found ≡ false → IsClosed new
+  pub taken : new.taken ≡ old.taken
+  pub faults : new.faults ≡ old.faults
+
+-- an answer of `advance`: the next event, or the part's end
+abbrev pub Advances : Bool → PackageState → PackageState → Type 0
+Advances true old new = (old.rest ≡ new.current ∷ new.rest) × (new.past ≡ new.current ∷ old.past)
+Advances false old new = (old.rest ≡ []) × (new.rest ≡ []) × (new.past ≡ old.past)
+
+-- the counts after an answer of `advance`
+pub record AdvanceCounts (more : Bool) (old new : PackageState) : Type 0 where
+  pub has_current : new.has_current ≡ more
+  pub left : old.left ≡ (if more then new.left + 1 else new.left)
+  pub taken : new.taken ≡ (if more then min (old.taken + 1) (2 ^ 64 - 1) else old.taken)
+  pub faults : new.faults ≡ old.faults

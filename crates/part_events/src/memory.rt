@@ -1,0 +1,159 @@
+ghost use Rattle.std.specs.Prelude.{◌≡◌, ◌<◌, ◌++◌, ◌∷◌, [], length, Some, None, IfSome, IfNone, OnOk, OnErr};
+ghost use Rattle.part_events.specs.Event.{event_of};
+ghost use Rattle.part_events.specs.Package.{part_of};
+ghost use Rattle.part_events.specs.Memory.{part_at, state_of, closed, with_event};
+
+use crate::event::PartEvent;
+use crate::package::{Package, PackageFailed};
+use crate::stored::StoredPart;
+use std::alloc::{AllocError, Global};
+use std::marker::Model;
+
+/// Where reading stands in an open part.
+#[derive(Clone, Copy, Debug)]
+pub struct Place {
+    pub part: usize,
+    /// How many events were taken of the part.
+    pub next: usize,
+    /// Whether the last call took an event.
+    pub has_event: bool,
+}
+
+/// Parts in memory. No call of it as a package fails.
+#[derive(Debug, Drop)]
+pub struct MemoryPackage {
+    alloc: Global,
+    parts: Vec<StoredPart>,
+    place: Option<Place>,
+    taken: u64,
+}
+
+impl Model for MemoryPackage {
+    ghost use Rattle.part_events.specs.Memory.{Contents, IsPlace};
+
+    ghost Value = { Contents };
+
+    ghost view = { λ a. record { parts = a.parts.items; place = a.place; taken = a.taken } };
+
+    ghost invariant = { λ a. IsPlace a.parts.items a.place };
+}
+
+fn find_part(parts: &[StoredPart], name: &str) -> Option<usize>
+    ensures within { IfSome result (λ place. place < length parts.now) }
+    ensures found { IfSome result (λ place. part_of parts.now name.now ≡ Some (part_at parts.now place).events) }
+    ensures absent { IfNone result (part_of parts.now name.now ≡ None) }
+{
+    for (place, part) in parts.iter().enumerate() {
+        if part.has_name(name) {
+            return Some(place);
+        }
+    }
+    None
+}
+
+impl MemoryPackage {
+    /// A package without parts.
+    pub fn new(alloc: Global) -> MemoryPackage
+        ensures { result ≡ closed [] 0 }
+    {
+        MemoryPackage {
+            alloc,
+            parts: Vec::new(alloc),
+            place: None,
+            taken: 0,
+        }
+    }
+
+    /// Appends an empty part of this name. No part is open afterwards. A refusal changes nothing.
+    pub fn add_part(&mut self, name: &str) -> Result<(), AllocError>
+        ensures ok { OnOk result (self.new ≡ closed (self.old.parts ++ record { name = name.now; events = [] } ∷ []) self.old.taken) }
+        ensures err { OnErr result (self.new ≡ self.old) }
+    {
+        let part = StoredPart::new(self.alloc, name)?;
+        self.parts.push(part)?;
+        self.place = None;
+        Ok(())
+    }
+
+    /// Appends the event to the last part. No part is open afterwards. A refusal changes nothing.
+    pub fn push_event(&mut self, event: PartEvent<'_>) -> Result<(), AllocError>
+        requires { 0 < length self.old.parts }
+        ensures ok { OnOk result (self.new ≡ closed (with_event self.old.parts (event_of event.entry)) self.old.taken) }
+        ensures err { OnErr result (self.new ≡ self.old) }
+    {
+        let last = self.parts.len() - 1;
+        self.parts[last].push(event)?;
+        self.place = None;
+        Ok(())
+    }
+
+    pub fn part_count(&self) -> usize
+        ensures { result ≡ length self.now.parts }
+    {
+        self.parts.len()
+    }
+}
+
+impl Package for MemoryPackage {
+    ghost state = { state_of };
+
+    fn open(&mut self, name: &str) -> Result<bool, PackageFailed> {
+        match find_part(&self.parts, name) {
+            Some(part) => {
+                self.place = Some(Place {
+                    part,
+                    next: 0,
+                    has_event: false,
+                });
+                Ok(true)
+            }
+            None => {
+                self.place = None;
+                Ok(false)
+            }
+        }
+    }
+
+    fn advance(&mut self) -> Result<bool, PackageFailed> {
+        let Some(place) = self.place else {
+            return Ok(false);
+        };
+        if place.next == self.parts[place.part].len() {
+            self.place = Some(Place {
+                part: place.part,
+                next: place.next,
+                has_event: false,
+            });
+            return Ok(false);
+        }
+        self.place = Some(Place {
+            part: place.part,
+            next: place.next + 1,
+            has_event: true,
+        });
+        self.taken = self.taken.saturating_add(1);
+        Ok(true)
+    }
+
+    fn event(&self) -> PartEvent<'_> {
+        match self.place {
+            Some(place) => self.parts[place.part].event(place.next - 1),
+            None => unreachable!(),
+        }
+    }
+
+    fn left(&self) -> u64 {
+        match self.place {
+            Some(place) => (self.parts[place.part].len() - place.next) as u64,
+            None => 0,
+        }
+    }
+
+    fn taken(&self) -> u64 {
+        self.taken
+    }
+
+    fn faults(&self) -> u64 {
+        0
+    }
+}

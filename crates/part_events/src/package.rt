@@ -1,0 +1,51 @@
+ghost use Rattle.std.specs.Prelude.{◌≡◌, ◌≤◌, length, true, IfOk, OnErr};
+ghost use Rattle.part_events.specs.Event.{event_of};
+ghost use Rattle.part_events.specs.Package.{PackageState, SameParts, Fails, Opens, OpenCounts, Advances, AdvanceCounts};
+
+use crate::event::PartEvent;
+
+/// A package could not be read: its count of faults rose, or stands at its end.
+#[derive(Clone, Copy, Debug, PartialEq, Eq)]
+pub struct PackageFailed;
+
+/// Named parts, each a list of markup events, read through one cursor.
+///
+/// Names are compared with ASCII letters folded and `\` read as `/`, and the first part of a name is found. Whether a
+/// package tells its content to proofs is its own choice; its counts and its current event are always told. No call
+/// changes the parts.
+pub trait Package {
+    ghost state: { Self → PackageState };
+
+    /// Opens the part of this name, and stands before its first event. Answers false, and no part is open, where there
+    /// is none.
+    fn open(&mut self, name: &str) -> Result<bool, PackageFailed>
+        ensures keeps { SameParts (state self.old) (state self.new) }
+        ensures counts { IfOk result (λ found. OpenCounts found (state self.old) (state self.new)) }
+        ensures opens { (state self.old).told ≡ true → IfOk result (λ found. Opens name.now found (state self.old) (state self.new)) }
+        ensures failed { OnErr result (Fails (state self.old) (state self.new)) };
+
+    /// Takes the next event of the open part. Answers false at its end, or where no part is open.
+    fn advance(&mut self) -> Result<bool, PackageFailed>
+        ensures keeps { SameParts (state self.old) (state self.new) }
+        ensures counts { IfOk result (λ more. AdvanceCounts more (state self.old) (state self.new)) }
+        ensures events { (state self.old).told ≡ true → IfOk result (λ more. Advances more (state self.old) (state self.new)) }
+        ensures failed { OnErr result (Fails (state self.old) (state self.new)) };
+
+    /// The event that the last call took.
+    fn event(&self) -> PartEvent<'_>
+        requires { (state self.now).has_current ≡ true }
+        ensures { event_of result ≡ (state self.now).current };
+
+    /// How many events the open part still gives, at most.
+    fn left(&self) -> u64
+        ensures value { result ≡ (state self.now).left }
+        ensures bound { (state self.now).told ≡ true → length (state self.now).rest ≤ result };
+
+    /// How many events were taken of any part. The count stops at its last value.
+    fn taken(&self) -> u64
+        ensures { result ≡ (state self.now).taken };
+
+    /// How often a call failed. The count never falls, and stops at its last value.
+    fn faults(&self) -> u64
+        ensures { result ≡ (state self.now).faults };
+}
