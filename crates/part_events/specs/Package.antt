@@ -39,9 +39,13 @@ pub record PackageState : Type 0 where
   pub taken : ℕ
   pub faults : ℕ
 
+-- a count of 64 bits rose, or stands at its end
+abbrev pub Rose : ℕ → ℕ → Type 0
+Rose old new = min (old + 1) (2 ^ 64 - 1) ≤ new
+
 -- the count of faults rose, or stands at its end
 abbrev pub HasCause : PackageState → PackageState → Type 0
-HasCause old new = min (old.faults + 1) (2 ^ 64 - 1) ≤ new.faults
+HasCause old new = Rose old.faults new.faults
 
 -- what no call of the trait changes
 pub record SameParts (old new : PackageState) : Type 0 where

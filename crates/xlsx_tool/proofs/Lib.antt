@@ -1,0 +1,2 @@
+pub mod PackageTexts
+pub mod Pieces

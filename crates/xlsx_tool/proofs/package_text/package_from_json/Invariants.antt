@@ -1,0 +1,11 @@
+use Rattle.std.proofs.Common.{◌≡◌, ◌++◌, drop}
+use Rattle.std.specs.Option.{option_map}
+use Rattle.serde_json.specs.View.{items_view}
+use Rattle.part_events.specs.Memory.{closed}
+use Rattle.xlsx_tool.specs.PackageText.{parts_in}
+use Rattle.xlsx_tool.proofs.package_text.package_from_json.Given as goal
+
+abbrev pub invariant-loop-part : goal.invariant-loop-part
+invariant-loop-part l =
+    (l.«package» ≡ closed l.«package».parts 0)
+    × (option_map (λ rest. l.«package».parts ++ rest) (parts_in (items_view (drop l.part-index l.part-items))) ≡ parts_in (items_view l.part-items))

@@ -1,0 +1,13 @@
+use Rattle.std.proofs.Common.{◌≡◌, List, [], ◌∷◌, ◌++◌, drop}
+use Rattle.std.specs.Option.{option_map}
+use Rattle.serde_json.specs.View.{items_view}
+use Rattle.part_events.specs.Event.{Event}
+use Rattle.part_events.specs.Memory.{closed}
+use Rattle.xlsx_tool.specs.PackageText.{events_in}
+use Rattle.xlsx_tool.proofs.package_text.push_part_of.Given as goal
+
+abbrev pub invariant-loop-value : goal.invariant-loop-value
+invariant-loop-value l =
+    (done : List Event)
+    × (l.«package» ≡ closed (l.fn.«package».parts ++ record { name = l.name; events = done } ∷ []) l.fn.«package».taken)
+    × (option_map (λ rest. done ++ rest) (events_in (items_view (drop l.value-index l.events))) ≡ events_in (items_view l.events))

@@ -1,0 +1,4 @@
+pub mod MemoryForms
+pub mod PackageText
+pub mod Sink
+pub mod Source

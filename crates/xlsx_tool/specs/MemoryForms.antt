@@ -1,0 +1,34 @@
+-- The forms of source and sink in memory: what they hold, and which calls fail.
+use Rattle.std.specs.Prelude.{ℕ, ◌≤◌, ◌⊎◌, ◌<◌, List, length, true}
+use Rattle.std.specs.List.{Contains}
+use Rattle.xlsx_tool.specs.Source.{SourceState}
+use Rattle.xlsx_tool.specs.Sink.{SinkState}
+
+pub record HeldSource : Type 0 where
+  pub left : List ℕ
+  -- the most bytes that one call gives
+  pub piece : ℕ
+  -- the numbers of the calls that fail, counted from 0
+  pub fail_at : List ℕ
+  pub calls : ℕ
+  pub faults : ℕ
+
+abbrev pub source_state : HeldSource → SourceState
+source_state held = record { told = true; left = held.left; faults = held.faults }
+
+pub record HeldSink : Type 0 where
+  pub written : List ℕ
+  -- the most bytes that it takes in all
+  pub room : ℕ
+  -- the most bytes that one call takes
+  pub piece : ℕ
+  pub fail_at : List ℕ
+  pub calls : ℕ
+  pub faults : ℕ
+
+abbrev pub sink_state : HeldSink → SinkState
+sink_state held = record { told = true; written = held.written; faults = held.faults }
+
+-- a write of this piece fails: the call is planned to, or there is no room for any of the piece
+abbrev pub FailsToWrite : HeldSink → List ℕ → Type 0
+FailsToWrite held piece = Contains held.fail_at held.calls ⊎ ((0 < length piece) × (held.room ≤ length held.written))

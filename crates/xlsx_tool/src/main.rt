@@ -1,0 +1,7 @@
+#![tactic(auto)]
+
+mod package_text;
+mod sink;
+mod source;
+
+fn main() {}

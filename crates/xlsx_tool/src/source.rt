@@ -1,0 +1,139 @@
+ghost use Rattle.std.specs.Prelude.{◌≡◌, ◌<◌, ◌≤◌, ◌↔◌, [], length, true, false, Contains, IsErr, IfOk, OnOk, OnErr};
+ghost use Rattle.xlsx_tool.specs.Source.{SourceState, KeepsSource, Reads, SourceFails};
+ghost use Rattle.xlsx_tool.specs.MemoryForms.{source_state};
+
+use std::io::Read;
+use std::marker::Model;
+
+/// A source could not be read: its count of faults rose, or stands at its end.
+#[derive(Clone, Copy, Debug, PartialEq, Eq)]
+pub struct SourceFailed;
+
+/// Bytes that are read once, from the front. Whether a source tells proofs its bytes is its own choice.
+pub trait Source {
+    ghost state: { Self → SourceState };
+
+    /// Puts the next bytes into the front of the piece, and answers how many. Answers 0 for a piece with room only
+    /// at the end.
+    fn read(&mut self, into: &mut [u8]) -> Result<usize, SourceFailed>
+        ensures count { IfOk result (λ n. n ≤ length into.new) }
+        ensures keeps { KeepsSource (state self.old) (state self.new) }
+        ensures ok { OnOk result ((state self.new).faults ≡ (state self.old).faults) }
+        ensures bytes { (state self.old).told ≡ true → IfOk result (λ n. Reads n into.new (state self.old) (state self.new)) }
+        ensures end { (state self.old).told ≡ true → IfOk result (λ n. n ≡ 0 → 0 < length into.new → (state self.old).left ≡ []) }
+        ensures failed { OnErr result (SourceFails (state self.old) (state self.new)) };
+
+    /// How often a call failed. The count never falls, and stops at its last value.
+    fn faults(&self) -> u64
+        ensures { result ≡ (state self.now).faults };
+}
+
+/// Bytes in memory, given in pieces, some calls failing as planned.
+#[derive(Debug, Drop)]
+pub struct MemorySource {
+    bytes: Vec<u8>,
+    at: usize,
+    piece: usize,
+    fail_at: Vec<u64>,
+    calls: u64,
+    faults: u64,
+}
+
+impl Model for MemorySource {
+    ghost use Rattle.std.specs.Prelude.{◌<◌, ◌≤◌, ◌^◌, drop, vec_len};
+    ghost use Rattle.xlsx_tool.specs.MemoryForms.{HeldSource};
+
+    ghost Value = { HeldSource };
+
+    ghost view = { λ a. record { left = drop a.at a.bytes.items; piece = a.piece; fail_at = a.fail_at.items; calls = a.calls; faults = a.faults } };
+
+    ghost invariant = { λ a. (a.at ≤ vec_len a.bytes) × (0 < a.piece) × (a.faults < 2 ^ 64) };
+}
+
+impl MemorySource {
+    /// A source of these bytes that gives at most `piece` bytes a call, and whose calls of these numbers, counted
+    /// from 0, fail.
+    pub fn new(bytes: Vec<u8>, piece: usize, fail_at: Vec<u64>) -> MemorySource
+        requires { 0 < piece }
+        ensures { result ≡ record { left = bytes.items; piece = piece; fail_at = fail_at.items; calls = 0; faults = 0 } }
+    {
+        MemorySource {
+            bytes,
+            at: 0,
+            piece,
+            fail_at,
+            calls: 0,
+            faults: 0,
+        }
+    }
+}
+
+impl Source for MemorySource {
+    ghost state = { source_state };
+
+    fn read(&mut self, into: &mut [u8]) -> Result<usize, SourceFailed>
+        ensures count { IfOk result (λ n. n ≤ length into.new) }
+        ensures keeps { KeepsSource (source_state self.old) (source_state self.new) }
+        ensures ok { OnOk result (self.new.faults ≡ self.old.faults) }
+        ensures bytes { IfOk result (λ n. Reads n into.new (source_state self.old) (source_state self.new)) }
+        ensures end { IfOk result (λ n. n ≡ 0 → 0 < length into.new → self.old.left ≡ []) }
+        ensures failed { OnErr result (SourceFails (source_state self.old) (source_state self.new)) }
+        ensures planned { IsErr result ↔ Contains self.old.fail_at self.old.calls }
+    {
+        let call = self.calls;
+        self.calls = call.saturating_add(1);
+        if self.fail_at.contains(&call) {
+            self.faults = self.faults.saturating_add(1);
+            return Err(SourceFailed);
+        }
+        let count = self.piece.min(into.len()).min(self.bytes.len() - self.at);
+        into[..count].copy_from_slice(&self.bytes[self.at..self.at + count]);
+        self.at += count;
+        Ok(count)
+    }
+
+    fn faults(&self) -> u64 {
+        self.faults
+    }
+}
+
+/// A reader of the system as a source. It tells no bytes.
+#[derive(Debug, Drop)]
+pub struct StdSource<R: Read> {
+    inner: R,
+    faults: u64,
+}
+
+impl<R: Read> Model for StdSource<R> {
+    ghost use Rattle.std.specs.Prelude.{ℕ};
+
+    ghost Value = { ℕ };
+
+    ghost view = { λ a. a.faults };
+}
+
+impl<R: Read> StdSource<R> {
+    pub fn new(inner: R) -> StdSource<R>
+        ensures { result ≡ 0 }
+    {
+        StdSource { inner, faults: 0 }
+    }
+}
+
+impl<R: Read> Source for StdSource<R> {
+    ghost state = { λ faults. record { told = false; left = []; faults = faults } };
+
+    fn read(&mut self, into: &mut [u8]) -> Result<usize, SourceFailed> {
+        match self.inner.read(into) {
+            Ok(count) => Ok(count),
+            Err(_) => {
+                self.faults = self.faults.saturating_add(1);
+                Err(SourceFailed)
+            }
+        }
+    }
+
+    fn faults(&self) -> u64 {
+        self.faults
+    }
+}
