@@ -1,0 +1,77 @@
+-- A1 texts: letters of either case name the column, A = 1 in base 26, and decimal digits behind them
+-- the row, counted from 1. Positions are pairs of a row and a column, both counted from 0.
+use Rattle.std.specs.Prelude.{ℕ, zero, suc, ◌+◌, ◌-◌, ◌*◌, ◌/◌, ◌%◌, ◌<◌, ◌≤◌, ◌==◌, nat_lt, not, if◌then◌else◌, List, [], ◌∷◌, ◌++◌, length, map, drop, find, take_while, Option, None, Some, Result, Ok, Err}
+use Rattle.std.specs.Char.{is_ascii_alphabetic, is_ascii_digit, to_ascii_uppercase}
+use Rattle.std.specs.Int.Digits.{number_from_digits}
+use Rattle.std.specs.List.{prefix_len, slice_split}
+use Rattle.std.specs.Str.Parse.{digits_value}
+use Rattle.cell_refs.specs.declared.TheConstants.{MAX_ROWS, MAX_COLUMNS}
+use Rattle.cell_refs.specs.declared.error.RefError.{RefError}
+use Rattle.cell_refs.specs.declared.error.RefError.TheVariants.{Alphanumeric, RangeWithoutRowComponent, RangeWithoutColumnComponent, ColumnNumberOverflow, RowNumberOverflow, DimensionCount}
+
+-- b is a capital letter
+abbrev pub IsCapital : ℕ → Type 0
+IsCapital b = (65 ≤ b) × (b ≤ 90)
+
+-- the number of a letter of either case, A = 1 to Z = 26
+abbrev pub letter_value : ℕ → ℕ
+letter_value b = to_ascii_uppercase b - 64
+
+-- the number that letters write in base 26; without letters it is 0
+abbrev pub letters_value : List ℕ → ℕ
+letters_value letters = number_from_digits 26 (map letter_value letters)
+
+-- the capitals that write the number n in base 26, where no letter is 0 and Z is 26; `turns` is at
+-- least their number
+abbrev pub capitals_with_fuel : ℕ → ℕ → List ℕ
+capitals_with_fuel turns zero = []
+capitals_with_fuel zero (suc n) = []
+capitals_with_fuel (suc turns) (suc n) = capitals_with_fuel turns (n / 26) ++ (65 + n % 26) ∷ []
+
+-- the name of a column, counted from 0: the capitals that write its number counted from 1
+unfoldable pub column_name : ℕ → List ℕ
+column_name column = capitals_with_fuel (suc column) (suc column)
+
+-- the letters in front of a text
+abbrev pub letters_of : List ℕ → List ℕ
+letters_of text = take_while is_ascii_alphabetic text
+
+-- what stands behind the letters in front of a text
+abbrev pub behind_letters : List ℕ → List ℕ
+behind_letters text = drop (prefix_len is_ascii_alphabetic text) text
+
+-- the first byte that has no place in a reference: one that is neither letter nor digit, or a letter
+-- behind a digit
+abbrev pub stray_byte : List ℕ → Option ℕ
+stray_byte text = find (λ b. not (is_ascii_digit b)) (behind_letters text)
+
+-- the column as written, counted from 1
+abbrev pub column_number : List ℕ → ℕ
+column_number text = letters_value (letters_of text)
+
+-- the row as written, counted from 1; 0 without digits
+abbrev pub row_number : List ℕ → ℕ
+row_number text = digits_value 10 (behind_letters text)
+
+-- the refusal of a stray byte comes before any other answer
+abbrev pub unless_stray : {T : Type 0} → Option ℕ → Result T RefError → Result T RefError
+unless_stray (Some b) answer = Err (Alphanumeric b)
+unless_stray None answer = answer
+
+-- the position that a text names, or its first refusal
+unfoldable pub corner : List ℕ → Result (ℕ × ℕ) RefError
+corner text =
+    unless_stray (stray_byte text)
+    (if row_number text == 0 then Err RangeWithoutRowComponent
+    else (if length (letters_of text) == 0 then Err RangeWithoutColumnComponent
+    else (if nat_lt MAX_COLUMNS (column_number text) then Err ColumnNumberOverflow
+    else (if nat_lt MAX_ROWS (row_number text) then Err RowNumberOverflow
+    else Ok (row_number text - 1, column_number text - 1)))))
+
+-- the row that a text names, whatever its column, or its first refusal
+unfoldable pub row_of : List ℕ → Result ℕ RefError
+row_of text =
+    unless_stray (stray_byte text)
+    (if row_number text == 0 then Err RangeWithoutRowComponent
+    else (if nat_lt MAX_ROWS (row_number text) then Err RowNumberOverflow
+    else Ok (row_number text - 1)))
