@@ -1,1 +1,2 @@
 pub mod A1
+pub mod Scan

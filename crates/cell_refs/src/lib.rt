@@ -4,9 +4,11 @@
 #![tactic(auto)]
 
 mod column;
+mod corner;
 mod error;
 
 pub use column::{ColumnName, column_number_to_name};
+pub use corner::{get_row, get_row_column};
 pub use error::RefError;
 
 /// The number of rows of a worksheet.

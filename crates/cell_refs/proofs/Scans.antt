@@ -1,0 +1,143 @@
+-- What a scan of a text keeps: numbers that stop past their limit, and the first byte out of place.
+use Rattle.std.proofs.Common.{◌≡◌, ℕ, ◌+◌, ◌-◌, ◌*◌, ◌<◌, ◌≤◌, List, [], ◌∷◌, map, length, min, cond, not, true, false, Bool, get_or, take, drop, refl, sym, ap, ◌∙◌, arith}
+use Rattle.std.specs.Prelude.{find, take_while, Option, None, Some, Result, Ok, Err}
+use Rattle.std.specs.Char.{is_ascii_alphabetic, is_ascii_digit, digit_value}
+use Rattle.std.specs.Int.{IsInRange}
+use Rattle.std.specs.Int.Digits.{number_from_digits}
+use Rattle.std.specs.List.{prefix_len}
+use Rattle.std.specs.Str.Parse.{digits_value}
+use Rattle.std.proofs.lemmas.Bool.Decides.{nat_tests}
+use Rattle.std.proofs.lemmas.Int.Digits.{number_more, number_after_ge, digits_value_more}
+use Rattle.std.proofs.lemmas.List.{length-map, get_or-map, take-map, drop_more, drop_all}
+use Rattle.std.proofs.lemmas.List.Folds.{length-prefix_len}
+use Rattle.std.proofs.lemmas.List.Sums.{prefix_len_is, take_while-cons}
+use Rattle.std.proofs.lemmas.Str.{digit_value_digit}
+use Rattle.cell_refs.specs.declared.error.RefError.{RefError}
+use Rattle.cell_refs.specs.declared.error.RefError.TheVariants.{Alphanumeric, RangeWithoutRowComponent, RangeWithoutColumnComponent, ColumnNumberOverflow, RowNumberOverflow}
+use Rattle.cell_refs.specs.declared.corner.Scan.{Scan}
+use Rattle.cell_refs.specs.Scan.{scan_of}
+use Rattle.cell_refs.specs.A1.{letter_value, letters_value, letters_of, behind_letters, stray_byte, column_number, row_number, unless_stray, corner, row_of}
+
+-- one letter more, in numbers that stop at 16,385
+pub letters_more : (text : List ℕ) (i n m : ℕ) → i < length text → n ≡ min (number_from_digits 26 (take i (map letter_value text))) 16385 → m ≡ min (n * 26 + letter_value (get_or text i 0)) 16385 → m ≡ min (number_from_digits 26 (take (i + 1) (map letter_value text))) 16385
+letters_more text i n m in_text known next =
+    let in_map : i < length (map letter_value text) = omega (arith, length-map text letter_value) in
+    let more = number_more 26 (map letter_value text) i in_map in
+    let letter = get_or-map letter_value text i 0 0 in_text in
+    omega (arith, more, letter)
+
+digit_range : (b : ℕ) → is_ascii_digit b ≡ true → IsInRange 48 57 b
+digit_range b digit = (grind (arith, nat_tests), grind (arith, nat_tests))
+
+-- one digit more, in numbers that stop at 1,048,577
+pub digits_more : (digits : List ℕ) (i n m : ℕ) → i < length digits → is_ascii_digit (get_or digits i 0) ≡ true → n ≡ min (digits_value 10 (take i digits)) 1048577 → m ≡ min (n * 10 + (get_or digits i 0 - 48)) 1048577 → m ≡ min (digits_value 10 (take (i + 1) digits)) 1048577
+digits_more digits i n m in_digits digit known next =
+    let more = digits_value_more 10 digits i in_digits in
+    let value = digit_value_digit (get_or digits i 0) (digit_range (get_or digits i 0) digit) in
+    omega (arith, more, value)
+
+-- letters up to a place where none stands
+pub letters_end : (text : List ℕ) (i : ℕ) → i ≤ length text → ((k : ℕ) → k < i → is_ascii_alphabetic (get_or text k 0) ≡ true) → (i < length text → is_ascii_alphabetic (get_or text i 0) ≡ false) → i ≡ prefix_len is_ascii_alphabetic text
+letters_end text i in_text letters stops = sym (prefix_len_is is_ascii_alphabetic text i 0 in_text letters stops)
+
+-- what those letters write
+pub column_number_is : (text : List ℕ) (i n : ℕ) → i ≡ prefix_len is_ascii_alphabetic text → n ≡ min (number_from_digits 26 (take i (map letter_value text))) 16385 → n ≡ min (column_number text) 16385
+column_number_is text i n len known =
+    known ∙ ap (λ ds. min (number_from_digits 26 ds) 16385) (ap (λ k. take k (map letter_value text)) len ∙ take-map letter_value (prefix_len is_ascii_alphabetic text) text)
+
+-- a letter is at least 1
+letter_value_positive : (b : ℕ) → is_ascii_alphabetic b ≡ true → 0 < letter_value b
+letter_value_positive b letter = grind (arith, nat_tests)
+
+letters_value_positive : (b : ℕ) (letters : List ℕ) → is_ascii_alphabetic b ≡ true → 0 < letters_value (b ∷ letters)
+letters_value_positive b letters letter =
+    omega (arith, letter_value_positive b letter, number_after_ge 26 (0 * 26 + letter_value b) (map letter_value letters) (omega arith))
+
+column_number_by_first : (b : ℕ) (bs : List ℕ) (test : Bool) → is_ascii_alphabetic b ≡ test → 0 < cond test (1 + prefix_len is_ascii_alphabetic bs) 0 → 0 < letters_value (cond test (b ∷ take_while is_ascii_alphabetic bs) [])
+column_number_by_first b bs true letter some = letters_value_positive b (take_while is_ascii_alphabetic bs) letter
+column_number_by_first b bs false letter some = absurd (omega arith)
+
+-- where letters stand, the column is at least 1
+pub column_number_positive : (text : List ℕ) → 0 < prefix_len is_ascii_alphabetic text → 0 < column_number text
+column_number_positive [] some = absurd (omega arith)
+column_number_positive (b ∷ bs) some = rw (take_while-cons is_ascii_alphabetic b bs) (column_number_by_first b bs (is_ascii_alphabetic b) refl some)
+
+-- a byte that is in place is passed over
+pub find_past_digit : (digits : List ℕ) (i : ℕ) → i < length digits → is_ascii_digit (get_or digits i 0) ≡ true → find (λ b. not (is_ascii_digit b)) (drop i digits) ≡ find (λ b. not (is_ascii_digit b)) (drop (i + 1) digits)
+find_past_digit digits i in_digits digit =
+    ap (find (λ b. not (is_ascii_digit b))) (drop_more digits i 0 in_digits)
+    ∙ ap (λ t. cond (not t) (Some (get_or digits i 0)) (find (λ b. not (is_ascii_digit b)) (drop (i + 1) digits))) digit
+
+-- the first byte that is out of place
+pub find_stray : (digits : List ℕ) (i : ℕ) → i < length digits → is_ascii_digit (get_or digits i 0) ≡ false → find (λ b. not (is_ascii_digit b)) (drop i digits) ≡ Some (get_or digits i 0)
+find_stray digits i in_digits no_digit =
+    ap (find (λ b. not (is_ascii_digit b))) (drop_more digits i 0 in_digits)
+    ∙ ap (λ t. cond (not t) (Some (get_or digits i 0)) (find (λ b. not (is_ascii_digit b)) (drop (i + 1) digits))) no_digit
+
+-- a refusal of the scan is one of the whole
+pub unless_stray-err : {T U : Type 0} (s : Option ℕ) (x : U) (e : RefError) (answer : Result T RefError) → unless_stray s (Ok x) ≡ Err e → unless_stray s answer ≡ Err e
+unless_stray-err (Some b) x e answer h = let same : Alphanumeric b ≡ e = cc in ap Err same
+unless_stray-err None x e answer h = absurd (cc)
+
+unless_stray-ok : {U : Type 0} (s : Option ℕ) (x y : U) → unless_stray s (Ok x) ≡ Ok y → (s ≡ None) × (y ≡ x)
+unless_stray-ok (Some b) x y h = absurd (cc)
+unless_stray-ok None x y h = (refl, cc)
+
+pub corner_stray : (text : List ℕ) (e : RefError) → unless_stray (stray_byte text) (Ok (scan_of text)) ≡ Err e → corner text ≡ Err e
+unfolding corner
+corner_stray text e scanned = unless_stray-err (stray_byte text) (scan_of text) e _ scanned
+
+pub row_of_stray : (text : List ℕ) (e : RefError) → unless_stray (stray_byte text) (Ok (scan_of text)) ≡ Err e → row_of text ≡ Err e
+unfolding row_of
+row_of_stray text e scanned = unless_stray-err (stray_byte text) (scan_of text) e _ scanned
+
+module _ (text : List ℕ) (scan : Scan) (scanned : unless_stray (stray_byte text) (Ok (scan_of text)) ≡ Ok scan) where
+  no_stray : stray_byte text ≡ None
+  no_stray = (unless_stray-ok (stray_byte text) (scan_of text) scan scanned).0
+
+  scan_is : scan ≡ scan_of text
+  scan_is = (unless_stray-ok (stray_byte text) (scan_of text) scan scanned).1
+
+  row_is : scan.row ≡ min (row_number text) 1048577
+  row_is = ap (λ s. s.row) scan_is
+
+  column_is : scan.column ≡ min (column_number text) 16385
+  column_is = ap (λ s. s.column) scan_is
+
+  letters_len : length (letters_of text) ≡ scan.letters
+  letters_len = length-prefix_len is_ascii_alphabetic text ∙ sym (ap (λ s. s.letters) scan_is)
+
+  pub column_positive : 0 < scan.letters → 0 < scan.column
+  column_positive some = omega (arith, column_is, ap (λ s. s.letters) scan_is, column_number_positive text)
+
+  pub corner_without_row : scan.row ≡ 0 → corner text ≡ Err RangeWithoutRowComponent
+  unfolding corner
+  corner_without_row none = rw no_stray (grind (arith, nat_tests, row_is))
+
+  pub corner_without_column : 0 < scan.row → scan.letters ≡ 0 → corner text ≡ Err RangeWithoutColumnComponent
+  unfolding corner
+  corner_without_column some none = rw no_stray (grind (arith, nat_tests, row_is, letters_len))
+
+  pub corner_past_columns : 0 < scan.row → 0 < scan.letters → 16384 < scan.column → corner text ≡ Err ColumnNumberOverflow
+  unfolding corner
+  corner_past_columns some letters past = rw no_stray (grind (arith, nat_tests, row_is, letters_len, column_is))
+
+  pub corner_past_rows : 0 < scan.row → 0 < scan.letters → scan.column ≤ 16384 → 1048576 < scan.row → corner text ≡ Err RowNumberOverflow
+  unfolding corner
+  corner_past_rows some letters in_columns past = rw no_stray (grind (arith, nat_tests, row_is, letters_len, column_is))
+
+  pub corner_is : 0 < scan.row → 0 < scan.letters → scan.column ≤ 16384 → scan.row ≤ 1048576 → corner text ≡ Ok (scan.row - 1, scan.column - 1)
+  unfolding corner
+  corner_is some letters in_columns in_rows = rw no_stray (grind (arith, nat_tests, row_is, letters_len, column_is))
+
+  pub row_of_without_row : scan.row ≡ 0 → row_of text ≡ Err RangeWithoutRowComponent
+  unfolding row_of
+  row_of_without_row none = rw no_stray (grind (arith, nat_tests, row_is))
+
+  pub row_of_past_rows : 1048576 < scan.row → row_of text ≡ Err RowNumberOverflow
+  unfolding row_of
+  row_of_past_rows past = rw no_stray (grind (arith, nat_tests, row_is))
+
+  pub row_of_is : 0 < scan.row → scan.row ≤ 1048576 → row_of text ≡ Ok (scan.row - 1)
+  unfolding row_of
+  row_of_is some in_rows = rw no_stray (grind (arith, nat_tests, row_is))
