@@ -6,6 +6,7 @@ use Rattle.std.specs.Int.Digits.{number_from_digits}
 use Rattle.std.specs.List.{prefix_len, slice_split}
 use Rattle.std.specs.Str.Parse.{digits_value}
 use Rattle.cell_refs.specs.declared.TheConstants.{MAX_ROWS, MAX_COLUMNS}
+use Rattle.cell_refs.specs.declared.dimensions.Dimensions.{Dimensions}
 use Rattle.cell_refs.specs.declared.error.RefError.{RefError}
 use Rattle.cell_refs.specs.declared.error.RefError.TheVariants.{Alphanumeric, RangeWithoutRowComponent, RangeWithoutColumnComponent, ColumnNumberOverflow, RowNumberOverflow, DimensionCount}
 
@@ -75,3 +76,29 @@ row_of text =
     (if row_number text == 0 then Err RangeWithoutRowComponent
     else (if nat_lt MAX_ROWS (row_number text) then Err RowNumberOverflow
     else Ok (row_number text - 1)))
+
+-- what stands between the colons of a text
+abbrev pub parts : List ℕ → List (List ℕ)
+parts text = slice_split (λ b. b == 58) text
+
+-- one corner more, before others
+abbrev pub joined : Result (ℕ × ℕ) RefError → Result (List (ℕ × ℕ)) RefError → Result (List (ℕ × ℕ)) RefError
+joined (Err e) others = Err e
+joined (Ok first) (Err e) = Err e
+joined (Ok first) (Ok others) = Ok (first ∷ others)
+
+-- the corners that the parts name, or the first refusal among them
+abbrev pub corners : List (List ℕ) → Result (List (ℕ × ℕ)) RefError
+corners [] = Ok []
+corners (part ∷ others) = joined (corner part) (corners others)
+
+-- one corner is both ends of an area, two are its ends as they are written, and more are none
+abbrev pub area_of : Result (List (ℕ × ℕ)) RefError → Result Dimensions RefError
+area_of (Err e) = Err e
+area_of (Ok (only ∷ [])) = Ok (record { start = only; end = only })
+area_of (Ok (first ∷ second ∷ [])) = Ok (record { start = first; end = second })
+area_of (Ok others) = Err (DimensionCount (length others))
+
+-- the area that a text names, or its first refusal
+unfoldable pub area : List ℕ → Result Dimensions RefError
+area text = area_of (corners (parts text))

@@ -73,6 +73,7 @@ fn scan_text(range: &str) -> Result<Scan, RefError>
 /// The position that a text such as `C107` names, a row and a column counted from 0.
 ///
 /// The text is letters of either case, then decimal digits; see `RefError` for what is refused.
+#[tactic(auto, unfolding(crate::specs::A1::corner), using(crate::proofs::Scans::whole_scan))]
 pub fn get_row_column(range: &str) -> Result<(u32, u32), RefError>
     ensures { result ≡ corner range.now }
 {
@@ -97,6 +98,7 @@ pub fn get_row_column(range: &str) -> Result<(u32, u32), RefError>
 }
 
 /// The row, counted from 0, that a text such as `107` or `C107` names, whatever its column.
+#[tactic(auto, unfolding(crate::specs::A1::row_of), using(crate::proofs::Scans::whole_scan))]
 pub fn get_row(range: &str) -> Result<u32, RefError>
     ensures { result ≡ row_of range.now }
 {

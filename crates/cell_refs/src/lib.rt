@@ -5,10 +5,12 @@
 
 mod column;
 mod corner;
+mod dimensions;
 mod error;
 
 pub use column::{ColumnName, column_number_to_name};
 pub use corner::{get_row, get_row_column};
+pub use dimensions::{Dimensions, get_dimension};
 pub use error::RefError;
 
 /// The number of rows of a worksheet.
