@@ -16,7 +16,7 @@ use Rattle.cell_refs.specs.declared.error.RefError.{RefError}
 use Rattle.cell_refs.specs.declared.error.RefError.TheVariants.{Alphanumeric, RangeWithoutRowComponent, RangeWithoutColumnComponent, ColumnNumberOverflow, RowNumberOverflow}
 use Rattle.cell_refs.specs.declared.corner.Scan.{Scan}
 use Rattle.cell_refs.specs.Scan.{scan_of}
-use Rattle.cell_refs.specs.A1.{letter_value, letters_value, letters_of, behind_letters, stray_byte, column_number, row_number, unless_stray, corner, row_of}
+use Rattle.cell_refs.specs.A1.{letter_value, letters_value, letters_of, behind_letters, stray_byte, unless_stray, corner, row_of}
 
 -- one letter more, in numbers that stop at 16,385
 pub letters_more : (text : List ℕ) (i n m : ℕ) → i < length text → n ≡ min (number_from_digits 26 (take i (map letter_value text))) 16385 → m ≡ min (n * 26 + letter_value (get_or text i 0)) 16385 → m ≡ min (number_from_digits 26 (take (i + 1) (map letter_value text))) 16385
@@ -41,8 +41,8 @@ pub letters_end : (text : List ℕ) (i : ℕ) → i ≤ length text → ((k : �
 letters_end text i in_text letters stops = sym (prefix_len_is is_ascii_alphabetic text i 0 in_text letters stops)
 
 -- what those letters write
-pub column_number_is : (text : List ℕ) (i n : ℕ) → i ≡ prefix_len is_ascii_alphabetic text → n ≡ min (number_from_digits 26 (take i (map letter_value text))) 16385 → n ≡ min (column_number text) 16385
-column_number_is text i n len known =
+pub letters_value_is : (text : List ℕ) (i n : ℕ) → i ≡ prefix_len is_ascii_alphabetic text → n ≡ min (number_from_digits 26 (take i (map letter_value text))) 16385 → n ≡ min (letters_value (letters_of text)) 16385
+letters_value_is text i n len known =
     known ∙ ap (λ ds. min (number_from_digits 26 ds) 16385) (ap (λ k. take k (map letter_value text)) len ∙ take-map letter_value (prefix_len is_ascii_alphabetic text) text)
 
 -- a letter is at least 1
@@ -53,14 +53,14 @@ letters_value_positive : (b : ℕ) (letters : List ℕ) → is_ascii_alphabetic 
 letters_value_positive b letters letter =
     omega (arith, letter_value_positive b letter, number_after_ge 26 (0 * 26 + letter_value b) (map letter_value letters) (omega arith))
 
-column_number_by_first : (b : ℕ) (bs : List ℕ) (test : Bool) → is_ascii_alphabetic b ≡ test → 0 < cond test (1 + prefix_len is_ascii_alphabetic bs) 0 → 0 < letters_value (cond test (b ∷ take_while is_ascii_alphabetic bs) [])
-column_number_by_first b bs true letter some = letters_value_positive b (take_while is_ascii_alphabetic bs) letter
-column_number_by_first b bs false letter some = absurd (omega arith)
+first_letter : (b : ℕ) (bs : List ℕ) (test : Bool) → is_ascii_alphabetic b ≡ test → 0 < cond test (1 + prefix_len is_ascii_alphabetic bs) 0 → 0 < letters_value (cond test (b ∷ take_while is_ascii_alphabetic bs) [])
+first_letter b bs true letter some = letters_value_positive b (take_while is_ascii_alphabetic bs) letter
+first_letter b bs false letter some = absurd (omega arith)
 
 -- where letters stand, the column is at least 1
-pub column_number_positive : (text : List ℕ) → 0 < prefix_len is_ascii_alphabetic text → 0 < column_number text
-column_number_positive [] some = absurd (omega arith)
-column_number_positive (b ∷ bs) some = rw (take_while-cons is_ascii_alphabetic b bs) (column_number_by_first b bs (is_ascii_alphabetic b) refl some)
+pub letters_value_above_zero : (text : List ℕ) → 0 < prefix_len is_ascii_alphabetic text → 0 < letters_value (letters_of text)
+letters_value_above_zero [] some = absurd (omega arith)
+letters_value_above_zero (b ∷ bs) some = rw (take_while-cons is_ascii_alphabetic b bs) (first_letter b bs (is_ascii_alphabetic b) refl some)
 
 -- a byte that is in place is passed over
 pub find_past_digit : (digits : List ℕ) (i : ℕ) → i < length digits → is_ascii_digit (get_or digits i 0) ≡ true → find (λ b. not (is_ascii_digit b)) (drop i digits) ≡ find (λ b. not (is_ascii_digit b)) (drop (i + 1) digits)
@@ -75,4 +75,4 @@ find_stray digits i in_digits no_digit =
     ∙ ap (λ t. cond (not t) (Some (get_or digits i 0)) (find (λ b. not (is_ascii_digit b)) (drop (i + 1) digits))) no_digit
 
 -- the letters of a text that was scanned, and that they write a number above 0
-pub ruleset whole_scan = (length-prefix_len, column_number_positive)
+pub ruleset whole_scan = (length-prefix_len, letters_value_above_zero)

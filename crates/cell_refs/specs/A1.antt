@@ -41,41 +41,42 @@ letters_of text = take_while is_ascii_alphabetic text
 abbrev pub behind_letters : List ℕ → List ℕ
 behind_letters text = drop (prefix_len is_ascii_alphabetic text) text
 
--- the first byte that has no place in a reference: one that is neither letter nor digit, or a letter
+-- the first byte behind the letters that is no digit: it is neither letter nor digit, or a letter
 -- behind a digit
 abbrev pub stray_byte : List ℕ → Option ℕ
-stray_byte text = find (λ b. not (is_ascii_digit b)) (behind_letters text)
-
--- the column as written, counted from 1
-abbrev pub column_number : List ℕ → ℕ
-column_number text = letters_value (letters_of text)
-
--- the row as written, counted from 1; 0 without digits
-abbrev pub row_number : List ℕ → ℕ
-row_number text = digits_value 10 (behind_letters text)
+stray_byte behind = find (λ b. not (is_ascii_digit b)) behind
 
 -- the refusal of a stray byte comes before any other answer
 abbrev pub unless_stray : {T : Type 0} → Option ℕ → Result T RefError → Result T RefError
 unless_stray (Some b) answer = Err (Alphanumeric b)
 unless_stray None answer = answer
 
+-- the position that letters and what stands behind them name, or their first refusal; without
+-- digits the row number is 0
+abbrev pub corner_from : List ℕ → List ℕ → Result (ℕ × ℕ) RefError
+corner_from letters behind =
+    unless_stray (stray_byte behind)
+    (if digits_value 10 behind == 0 then Err RangeWithoutRowComponent
+    else (if length letters == 0 then Err RangeWithoutColumnComponent
+    else (if nat_lt MAX_COLUMNS (letters_value letters) then Err ColumnNumberOverflow
+    else (if nat_lt MAX_ROWS (digits_value 10 behind) then Err RowNumberOverflow
+    else Ok (digits_value 10 behind - 1, letters_value letters - 1)))))
+
 -- the position that a text names, or its first refusal
 unfoldable pub corner : List ℕ → Result (ℕ × ℕ) RefError
-corner text =
-    unless_stray (stray_byte text)
-    (if row_number text == 0 then Err RangeWithoutRowComponent
-    else (if length (letters_of text) == 0 then Err RangeWithoutColumnComponent
-    else (if nat_lt MAX_COLUMNS (column_number text) then Err ColumnNumberOverflow
-    else (if nat_lt MAX_ROWS (row_number text) then Err RowNumberOverflow
-    else Ok (row_number text - 1, column_number text - 1)))))
+corner text = corner_from (letters_of text) (behind_letters text)
+
+-- the row that digits name, or its first refusal
+abbrev pub row_from : List ℕ → Result ℕ RefError
+row_from behind =
+    unless_stray (stray_byte behind)
+    (if digits_value 10 behind == 0 then Err RangeWithoutRowComponent
+    else (if nat_lt MAX_ROWS (digits_value 10 behind) then Err RowNumberOverflow
+    else Ok (digits_value 10 behind - 1)))
 
 -- the row that a text names, whatever its column, or its first refusal
 unfoldable pub row_of : List ℕ → Result ℕ RefError
-row_of text =
-    unless_stray (stray_byte text)
-    (if row_number text == 0 then Err RangeWithoutRowComponent
-    else (if nat_lt MAX_ROWS (row_number text) then Err RowNumberOverflow
-    else Ok (row_number text - 1)))
+row_of text = row_from (behind_letters text)
 
 -- what stands between the colons of a text
 abbrev pub parts : List ℕ → List (List ℕ)

@@ -1,5 +1,5 @@
-ghost use Rattle.std.specs.Prelude.{◌≡◌, ℕ, ◌+◌, ◌<◌, ◌≤◌, List, length, take, All, if◌then◌else◌, nat_lt};
-ghost use Rattle.cell_refs.specs.A1.{column_name, IsCapital};
+ghost use Rattle.std.specs.Prelude.{◌≡◌, ℕ, ◌+◌, ◌<◌, ◌≤◌, List, length, take, ◌++◌, codes, All, if◌then◌else◌, nat_lt};
+ghost use Rattle.cell_refs.specs.A1.{column_name, corner, IsCapital};
 
 use crate::{MAX_COLUMNS, RefError};
 use std::marker::Model;
@@ -51,6 +51,7 @@ fn capital(place: u32) -> u8
     b'A' + place as u8
 }
 
+#[tactic(auto, using(crate::proofs::Names::column_name_one, crate::proofs::Names::column_name_more))]
 fn name_of(num: u32) -> ColumnName
     requires { num < MAX_COLUMNS }
     ensures { result ≡ column_name num }
@@ -76,3 +77,9 @@ fn name_of(num: u32) -> ColumnName
         len: 3,
     }
 }
+
+/// A column's name with `1` behind it is the text of the column's first cell.
+#[tactic(auto, using(crate::proofs::ReadBack::corner_of_name))]
+pub fn column_names_read_back()
+    ensures { (column : ℕ) → column < MAX_COLUMNS → corner (column_name column ++ codes "1") ≡ Ok (0, column) }
+{}

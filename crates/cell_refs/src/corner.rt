@@ -1,8 +1,8 @@
-ghost use Rattle.std.specs.Prelude.{◌≡◌, ℕ, ◌+◌, ◌-◌, ◌<◌, ◌≤◌, min, not, find, if◌then◌else◌};
-ghost use Rattle.std.specs.Char.{is_ascii_alphabetic, is_ascii_digit};
+ghost use Rattle.std.specs.Prelude.{◌≡◌, ℕ, ◌+◌, ◌-◌, ◌<◌, ◌≤◌, min};
+ghost use Rattle.std.specs.Char.{is_ascii_alphabetic};
 ghost use Rattle.std.specs.List.{prefix_len};
 ghost use Rattle.std.specs.Str.Parse.{digits_value};
-ghost use Rattle.cell_refs.specs.A1.{letter_value, column_number, stray_byte, unless_stray, corner, row_of};
+ghost use Rattle.cell_refs.specs.A1.{letter_value, letters_value, letters_of, behind_letters, stray_byte, unless_stray, corner, row_of};
 ghost use Rattle.cell_refs.specs.Scan.{scan_of};
 
 use crate::{MAX_COLUMNS, MAX_ROWS, RefError};
@@ -29,7 +29,7 @@ fn letter_value(letter: u8) -> u32
 
 // The column that the letters in front of a text write, counted from 1, and the number of letters.
 fn leading_column(text: &[u8]) -> (u32, usize)
-    ensures number { result.0 ≡ min (column_number text.now) PAST_COLUMNS }
+    ensures number { result.0 ≡ min (letters_value (letters_of text.now)) PAST_COLUMNS }
     ensures len { result.1 ≡ prefix_len is_ascii_alphabetic text.now }
 {
     let mut number = 0;
@@ -43,8 +43,8 @@ fn leading_column(text: &[u8]) -> (u32, usize)
 }
 
 // The row that digits write, counted from 1.
-fn row_from(digits: &[u8]) -> Result<u32, RefError>
-    ensures { result ≡ unless_stray (find (λ b. not (is_ascii_digit b)) digits.now) (Ok (min (digits_value 10 digits.now) PAST_ROWS)) }
+fn row_number(digits: &[u8]) -> Result<u32, RefError>
+    ensures { result ≡ unless_stray (stray_byte digits.now) (Ok (min (digits_value 10 digits.now) PAST_ROWS)) }
 {
     let mut number = 0;
     for byte in digits {
@@ -57,12 +57,12 @@ fn row_from(digits: &[u8]) -> Result<u32, RefError>
 }
 
 fn scan_text(range: &str) -> Result<Scan, RefError>
-    ensures { result ≡ unless_stray (stray_byte range.now) (Ok (scan_of range.now)) }
+    ensures { result ≡ unless_stray (stray_byte (behind_letters range.now)) (Ok (scan_of range.now)) }
 {
     let text = range.as_bytes();
     let (column, letters) = leading_column(text);
     let (_, digits) = text.split_at(letters);
-    let row = row_from(digits)?;
+    let row = row_number(digits)?;
     Ok(Scan {
         column,
         letters,

@@ -33,10 +33,7 @@ impl Dimensions {
     pub fn contains(&self, row: u32, column: u32) -> bool
         ensures { IsTrue result ↔ IsInside self.now row column }
     {
-        row >= self.start.0
-            && row <= self.end.0
-            && column >= self.start.1
-            && column <= self.end.1
+        row >= self.start.0 && row <= self.end.0 && column >= self.start.1 && column <= self.end.1
     }
 
     /// The number of cells, or `u64::MAX` where there are 2^64.

@@ -8,7 +8,7 @@ mod corner;
 mod dimensions;
 mod error;
 
-pub use column::{ColumnName, column_number_to_name};
+pub use column::{ColumnName, column_names_read_back, column_number_to_name};
 pub use corner::{get_row, get_row_column};
 pub use dimensions::{Dimensions, get_dimension};
 pub use error::RefError;
@@ -18,3 +18,6 @@ pub const MAX_ROWS: u32 = 1_048_576;
 
 /// The number of columns of a worksheet.
 pub const MAX_COLUMNS: u32 = 16_384;
+
+#[cfg(test)]
+mod tests;

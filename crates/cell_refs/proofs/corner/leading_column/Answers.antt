@@ -1,5 +1,5 @@
 use Rattle.std.proofs.Common.{ℕ, ◌+◌, ◌*◌, min, arith, sym, ap, ◌∙◌, below_more}
-use Rattle.cell_refs.proofs.Scans.{letters_more, letters_end, column_number_is}
+use Rattle.cell_refs.proofs.Scans.{letters_more, letters_end, letters_value_is}
 use Rattle.cell_refs.proofs.corner.leading_column.Goals as goal
 
 pub returns-then-not-is_ascii_alphabetic-clause-len : goal.returns-then-not-is_ascii_alphabetic-clause-len
@@ -8,7 +8,7 @@ returns-then-not-is_ascii_alphabetic-clause-len c =
 
 pub returns-then-not-is_ascii_alphabetic-clause-number : goal.returns-then-not-is_ascii_alphabetic-clause-number
 returns-then-not-is_ascii_alphabetic-clause-number c =
-    column_number_is c.args.text.now c.loop-i.i c.loop-i.number
+    letters_value_is c.args.text.now c.loop-i.i c.loop-i.number
     (letters_end c.args.text.now c.loop-i.i (omega arith) c.loop-i.invariant.letters (λ _. sym c.is_ascii_alphabetic.ensures.value ∙ c.if-not-is_ascii_alphabetic.true))
     c.loop-i.invariant.number
 
@@ -24,6 +24,6 @@ returns-clause-len c =
 
 pub returns-clause-number : goal.returns-clause-number
 returns-clause-number c =
-    column_number_is c.args.text.now c.loop-i.i c.loop-i.number
+    letters_value_is c.args.text.now c.loop-i.i c.loop-i.number
     (letters_end c.args.text.now c.loop-i.i (omega arith) c.loop-i.invariant.letters (λ h. absurd (omega arith)))
     c.loop-i.invariant.number

@@ -1,6 +1,6 @@
 use Rattle.std.proofs.Common.{ℕ, ◌+◌, ◌*◌, min, arith, sym, ap, ◌∙◌}
 use Rattle.cell_refs.proofs.Scans.{digits_more, find_past_digit, find_stray}
-use Rattle.cell_refs.proofs.corner.row_from.Goals as goal
+use Rattle.cell_refs.proofs.corner.row_number.Goals as goal
 
 pub loop-byte-preserved : goal.loop-byte-preserved
 loop-byte-preserved c = record {
