@@ -1,15 +1,12 @@
 -- The parts of a text between its colons, and what they add up to.
-use Rattle.std.proofs.Common.{◌≡◌, ◌≢◌, ℕ, ◌+◌, ◌<◌, ◌≤◌, List, [], ◌∷◌, ◌++◌, length, get_or, false, refl, sym, ap, ◌∙◌, arith, Bor, length-append}
+use Rattle.std.proofs.Common.{◌≡◌, ◌≢◌, ℕ, ◌+◌, ◌<◌, List, [], ◌∷◌, ◌++◌, length, get_or, false, refl, ap, ◌∙◌, arith, Bor, length-append}
 use Rattle.std.specs.Prelude.{◌==◌, Option, None, Some, Result, Ok, Err, MatchOption, All}
 use Rattle.std.proofs.lemmas.Bool.Decides.{nat_tests}
 use Rattle.std.proofs.lemmas.List.Elements.{All-from_get_or}
 use Rattle.std.proofs.lemmas.List.Splits.{slice_split_none, slice_split_at}
 use Rattle.std.proofs.lemmas.Str.Pattern.{IsSplitOnceResult, split_parts}
 use Rattle.cell_refs.specs.declared.error.RefError.{RefError}
-use Rattle.cell_refs.specs.declared.error.RefError.TheVariants.{DimensionCount}
-use Rattle.cell_refs.specs.declared.dimensions.Dimensions.{Dimensions}
-use Rattle.cell_refs.specs.A1.{corner, parts, joined, corners, area_of, area}
-use Rattle.cell_refs.specs.Dimensions.{corner_count}
+use Rattle.cell_refs.specs.A1.{parts}
 
 no_colons : (text : List ℕ) → ((i : ℕ) → i < length text → get_or text i 0 ≢ 58) → All (λ b. (b == 58) ≡ false) text
 no_colons text none = All-from_get_or (λ b. (b == 58) ≡ false) text 0 (λ i in_text. let differs = none i in_text in grind (arith, nat_tests))

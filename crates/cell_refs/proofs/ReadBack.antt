@@ -1,18 +1,14 @@
 -- A text of letters and what stands behind them, read from its front.
-use Rattle.std.proofs.Common.{◌≡◌, ℕ, ◌+◌, ◌<◌, ◌≤◌, List, [], ◌∷◌, ◌++◌, length, take, drop, get_or, true, refl, sym, ap, ◌∙◌, arith}
-use Rattle.std.specs.Prelude.{◌==◌, ◌-◌, nat_lt, not, if◌then◌else◌, All, find, Result, Ok, Err, codes}
-use Rattle.std.specs.Char.{is_ascii_alphabetic, is_ascii_digit}
-use Rattle.std.specs.Str.Parse.{digits_value}
+use Rattle.std.proofs.Common.{◌≡◌, ℕ, ◌+◌, ◌<◌, List, [], ◌∷◌, ◌++◌, length, take, drop, true, refl, ap, ◌∙◌, arith}
+use Rattle.std.specs.Prelude.{All, Ok, codes}
+use Rattle.std.specs.Char.{is_ascii_alphabetic}
 use Rattle.std.specs.List.{prefix_len}
 use Rattle.std.proofs.lemmas.Bool.Decides.{nat_tests}
 use Rattle.std.proofs.lemmas.List.{take_at, drop_at}
 use Rattle.std.proofs.lemmas.List.Elements.{All-weaker}
 use Rattle.std.proofs.lemmas.List.Folds.{prefix_len-append}
 use Rattle.std.proofs.lemmas.List.Sums.{prefix_len_is}
-use Rattle.cell_refs.specs.declared.TheConstants.{MAX_ROWS, MAX_COLUMNS}
-use Rattle.cell_refs.specs.declared.error.RefError.{RefError}
-use Rattle.cell_refs.specs.declared.error.RefError.TheVariants.{RangeWithoutRowComponent, RangeWithoutColumnComponent, ColumnNumberOverflow, RowNumberOverflow}
-use Rattle.cell_refs.specs.A1.{unless_stray, IsCapital, letters_of, behind_letters, letters_value, column_name, corner_from, corner}
+use Rattle.cell_refs.specs.A1.{IsCapital, letters_of, behind_letters, letters_value, column_name, corner_from, corner}
 use Rattle.cell_refs.proofs.Names.{letters_value-column_name, All-capital-column_name}
 
 -- b is a letter of either case

@@ -1,22 +1,18 @@
 -- What a scan of a text keeps: numbers that stop past their limit, and the first byte out of place.
 use Rattle.std.proofs.Common.{◌≡◌, ℕ, ◌+◌, ◌-◌, ◌*◌, ◌<◌, ◌≤◌, List, [], ◌∷◌, map, length, min, cond, not, true, false, Bool, get_or, take, drop, refl, sym, ap, ◌∙◌, arith}
-use Rattle.std.specs.Prelude.{find, take_while, Option, None, Some, Result, Ok, Err}
-use Rattle.std.specs.Char.{is_ascii_alphabetic, is_ascii_digit, digit_value}
+use Rattle.std.specs.Prelude.{find, take_while, Some}
+use Rattle.std.specs.Char.{is_ascii_alphabetic, is_ascii_digit}
 use Rattle.std.specs.Int.{IsInRange}
 use Rattle.std.specs.Int.Digits.{number_from_digits}
 use Rattle.std.specs.List.{prefix_len}
 use Rattle.std.specs.Str.Parse.{digits_value}
 use Rattle.std.proofs.lemmas.Bool.Decides.{nat_tests}
 use Rattle.std.proofs.lemmas.Int.Digits.{number_more, number_after_ge, digits_value_more}
-use Rattle.std.proofs.lemmas.List.{length-map, get_or-map, take-map, drop_more, drop_all}
+use Rattle.std.proofs.lemmas.List.{length-map, get_or-map, take-map, drop_more}
 use Rattle.std.proofs.lemmas.List.Folds.{length-prefix_len}
 use Rattle.std.proofs.lemmas.List.Sums.{prefix_len_is, take_while-cons}
 use Rattle.std.proofs.lemmas.Str.{digit_value_digit}
-use Rattle.cell_refs.specs.declared.error.RefError.{RefError}
-use Rattle.cell_refs.specs.declared.error.RefError.TheVariants.{Alphanumeric, RangeWithoutRowComponent, RangeWithoutColumnComponent, ColumnNumberOverflow, RowNumberOverflow}
-use Rattle.cell_refs.specs.declared.corner.Scan.{Scan}
-use Rattle.cell_refs.specs.Scan.{scan_of}
-use Rattle.cell_refs.specs.A1.{letter_value, letters_value, letters_of, behind_letters, stray_byte, unless_stray, corner, row_of}
+use Rattle.cell_refs.specs.A1.{letter_value, letters_value, letters_of}
 
 -- one letter more, in numbers that stop at 16,385
 pub letters_more : (text : List ℕ) (i n m : ℕ) → i < length text → n ≡ min (number_from_digits 26 (take i (map letter_value text))) 16385 → m ≡ min (n * 26 + letter_value (get_or text i 0)) 16385 → m ≡ min (number_from_digits 26 (take (i + 1) (map letter_value text))) 16385
@@ -76,3 +72,7 @@ find_stray digits i in_digits no_digit =
 
 -- the letters of a text that was scanned, and that they write a number above 0
 pub ruleset whole_scan = (length-prefix_len, letters_value_above_zero)
+
+pub ruleset letter_steps = (letters_more, letters_end, letters_value_is)
+
+pub ruleset digit_steps = (digits_more, find_past_digit, find_stray)

@@ -28,6 +28,7 @@ fn letter_value(letter: u8) -> u32
 }
 
 // The column that the letters in front of a text write, counted from 1, and the number of letters.
+#[tactic(auto, using(crate::proofs::Scans::letter_steps))]
 fn leading_column(text: &[u8]) -> (u32, usize)
     ensures number { result.0 ≡ min (letters_value (letters_of text.now)) PAST_COLUMNS }
     ensures len { result.1 ≡ prefix_len is_ascii_alphabetic text.now }
@@ -43,6 +44,7 @@ fn leading_column(text: &[u8]) -> (u32, usize)
 }
 
 // The row that digits write, counted from 1.
+#[tactic(auto, using(crate::proofs::Scans::digit_steps))]
 fn row_number(digits: &[u8]) -> Result<u32, RefError>
     ensures { result ≡ unless_stray (stray_byte digits.now) (Ok (min (digits_value 10 digits.now) PAST_ROWS)) }
 {
