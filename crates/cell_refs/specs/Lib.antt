@@ -1,0 +1,3 @@
+pub mod A1
+pub mod Dimensions
+pub mod Scan

@@ -1,0 +1,23 @@
+//! A1 texts: the position of a cell, the area between two cells, and the names of columns.
+//!
+//! A position is a pair of a row and a column, each counted from 0, as in `(0, 2)` for `C1`.
+#![tactic(auto)]
+
+mod column;
+mod corner;
+mod dimensions;
+mod error;
+
+pub use column::{ColumnName, column_names_read_back, column_number_to_name};
+pub use corner::{get_row, get_row_column};
+pub use dimensions::{Dimensions, get_dimension};
+pub use error::RefError;
+
+/// The number of rows of a worksheet.
+pub const MAX_ROWS: u32 = 1_048_576;
+
+/// The number of columns of a worksheet.
+pub const MAX_COLUMNS: u32 = 16_384;
+
+#[cfg(test)]
+mod tests;
