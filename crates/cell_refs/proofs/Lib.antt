@@ -1,4 +1,5 @@
 pub mod Names
 pub mod Parts
 pub mod ReadBack
+pub mod References
 pub mod Scans

@@ -39,11 +39,11 @@ pub letters-column_name : (column : ℕ) → All IsLetter (column_name column)
 letters-column_name column = All-weaker IsCapital IsLetter capital_is_letter (column_name column) (All-capital-column_name column)
 
 -- `corner` of a text with these letters, and this behind them
-corner_from_parts : (text letters behind : List ℕ) → letters_of text ≡ letters → behind_letters text ≡ behind → corner text ≡ corner_from letters behind
+pub corner_from_parts : (text letters behind : List ℕ) → letters_of text ≡ letters → behind_letters text ≡ behind → corner text ≡ corner_from letters behind
 unfolding corner
 corner_from_parts text letters behind front back = ap (λ l. corner_from l (behind_letters text)) front ∙ ap (corner_from letters) back
 
-length_from_value : (letters : List ℕ) → 0 < letters_value letters → 0 < length letters
+pub length_from_value : (letters : List ℕ) → 0 < letters_value letters → 0 < length letters
 length_from_value [] some = absurd (omega arith)
 length_from_value (b ∷ letters) some = omega arith
 

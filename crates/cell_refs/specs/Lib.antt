@@ -1,3 +1,4 @@
 pub mod A1
 pub mod Dimensions
+pub mod Reference
 pub mod Scan
