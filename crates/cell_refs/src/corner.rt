@@ -1,4 +1,4 @@
-ghost use Rattle.std.specs.Prelude.{◌≡◌, ℕ, ◌+◌, ◌-◌, ◌<◌, ◌≤◌, min};
+ghost use Rattle.std.specs.Prelude.{◌≡◌, ℕ, ◌+◌, ◌-◌, ◌<◌, ◌≤◌, min, IfOk};
 ghost use Rattle.std.specs.Char.{is_ascii_alphabetic};
 ghost use Rattle.std.specs.List.{prefix_len};
 ghost use Rattle.std.specs.Str.Parse.{digits_value};
@@ -77,7 +77,8 @@ fn scan_text(range: &str) -> Result<Scan, RefError>
 /// The text is letters of either case, then decimal digits; see `RefError` for what is refused.
 #[tactic(auto, unfolding(crate::specs::A1::corner), using(crate::proofs::Scans::whole_scan))]
 pub fn get_row_column(range: &str) -> Result<(u32, u32), RefError>
-    ensures { result ≡ corner range.now }
+    ensures value { result ≡ corner range.now }
+    ensures inside { IfOk result (λ position. (position.0 < MAX_ROWS) × (position.1 < MAX_COLUMNS)) }
 {
     let Scan {
         column,
@@ -102,7 +103,8 @@ pub fn get_row_column(range: &str) -> Result<(u32, u32), RefError>
 /// The row, counted from 0, that a text such as `107` or `C107` names, whatever its column.
 #[tactic(auto, unfolding(crate::specs::A1::row_of), using(crate::proofs::Scans::whole_scan))]
 pub fn get_row(range: &str) -> Result<u32, RefError>
-    ensures { result ≡ row_of range.now }
+    ensures value { result ≡ row_of range.now }
+    ensures inside { IfOk result (λ row. row < MAX_ROWS) }
 {
     let row = scan_text(range)?.row;
     if row == 0 {

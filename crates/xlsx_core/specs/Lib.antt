@@ -1,0 +1,4 @@
+pub mod PlainScan
+pub mod PlainSheet
+pub mod Texts
+pub mod ThinCell

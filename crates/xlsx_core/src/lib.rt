@@ -1,0 +1,10 @@
+//! What a workbook's worksheets hold.
+#![tactic(auto)]
+
+mod between;
+mod reference;
+mod scan;
+mod thin;
+
+pub use reference::{push_reference, push_row_reference};
+pub use thin::{ThinCell, ThinError};
