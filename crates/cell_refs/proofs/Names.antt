@@ -35,6 +35,8 @@ column_name_more n h =
     ap (λ front. front ++ (65 + n % 26) ∷ [])
     (ap (capitals_with_fuel n) next ∙ capitals_with_fuel_turns n (suc (n / 26 - 1)) (suc (n / 26 - 1)) (omega arith) (omega arith))
 
+pub ruleset name_steps = (column_name_one, column_name_more)
+
 letter_value_capital : (r : ℕ) → r < 26 → letter_value (65 + r) ≡ r + 1
 letter_value_capital r h = grind (arith, nat_tests)
 

@@ -2,3 +2,4 @@ pub mod A1
 pub mod Dimensions
 pub mod Reference
 pub mod Scan
+pub mod RefError

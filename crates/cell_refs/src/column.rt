@@ -35,7 +35,8 @@ impl ColumnName {
 ///
 /// Fails with `ColumnNumberOverflow` past the last column of a worksheet.
 pub fn column_number_to_name(num: u32) -> Result<ColumnName, RefError>
-    ensures { result ≡ (if nat_lt num MAX_COLUMNS then Ok (column_name num) else Err RefError.ColumnNumberOverflow) }
+    ensures { result ≡ (if nat_lt num MAX_COLUMNS then Ok (column_name num)
+        else Err RefError.ColumnNumberOverflow) }
 {
     if num >= MAX_COLUMNS {
         return Err(RefError::ColumnNumberOverflow);
@@ -51,7 +52,7 @@ fn capital(place: u32) -> u8
     b'A' + place as u8
 }
 
-#[tactic(auto, using(crate::proofs::Names::column_name_one, crate::proofs::Names::column_name_more))]
+#[tactic(auto, using(crate::proofs::Names::name_steps))]
 fn name_of(num: u32) -> ColumnName
     requires { num < MAX_COLUMNS }
     ensures { result ≡ column_name num }
@@ -81,5 +82,6 @@ fn name_of(num: u32) -> ColumnName
 /// A column's name with `1` behind it is the text of the column's first cell.
 #[tactic(auto, using(crate::proofs::ReadBack::corner_of_name))]
 pub fn column_names_read_back()
-    ensures { (column : ℕ) → column < MAX_COLUMNS → corner (column_name column ++ codes "1") ≡ Ok (0, column) }
+    ensures { (column : ℕ) → column < MAX_COLUMNS
+        → corner (column_name column ++ codes "1") ≡ Ok (0, column) }
 {}

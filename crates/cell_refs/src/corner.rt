@@ -46,7 +46,8 @@ fn leading_column(text: &[u8]) -> (u32, usize)
 // The row that digits write, counted from 1.
 #[tactic(auto, using(crate::proofs::Scans::digit_steps))]
 fn row_number(digits: &[u8]) -> Result<u32, RefError>
-    ensures { result ≡ unless_stray (stray_byte digits.now) (Ok (min (digits_value 10 digits.now) PAST_ROWS)) }
+    ensures { result ≡ unless_stray (stray_byte digits.now)
+        (Ok (min (digits_value 10 digits.now) PAST_ROWS)) }
 {
     let mut number = 0;
     for byte in digits {

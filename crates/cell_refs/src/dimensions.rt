@@ -1,4 +1,4 @@
-ghost use Rattle.std.specs.Prelude.{◌≡◌, ℕ, ◌+◌, ◌-◌, ◌*◌, ◌^◌, ◌<◌, ◌≤◌, ◌↔◌, min, IsTrue, IfOk, MatchOption, [], ◌∷◌, length};
+ghost use Rattle.std.specs.Prelude.{◌≡◌, ℕ, ◌+◌, ◌-◌, ◌*◌, ◌^◌, ◌<◌, ◌≤◌, ◌↔◌, min, IsTrue, IfOk, IfSome, IfNone, [], ◌∷◌, length};
 ghost use Rattle.cell_refs.specs.A1.{area, parts, corners};
 ghost use Rattle.cell_refs.specs.Dimensions.{corner_count};
 
@@ -55,7 +55,9 @@ fn span(first: u32, last: u32) -> u64
 
 // The first part before a colon and what stands behind that, where there is a colon.
 fn split_part(text: &str) -> Option<(&str, &str)>
-    ensures { MatchOption result (parts text.now ≡ text.now ∷ []) (λ x. (parts text.now ≡ x.0.now ∷ parts x.1.now) × (length x.1.now < length text.now)) }
+    ensures whole { IfNone result (parts text.now ≡ text.now ∷ []) }
+    ensures split { IfSome result (λ x. parts text.now ≡ x.0.now ∷ parts x.1.now) }
+    ensures shorter { IfSome result (λ x. length x.1.now < length text.now) }
 {
     text.split_once(':')
 }

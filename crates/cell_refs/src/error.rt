@@ -19,6 +19,11 @@ pub enum RefError {
 }
 
 impl fmt::Display for RefError {
+    ghost use Rattle.std.specs.Prelude.{Some};
+    ghost use Rattle.cell_refs.specs.RefError.{refusal_text};
+
+    ghost output = { λ refusal. Some (refusal_text refusal) };
+
     fn fmt<W: fmt::Write>(&self, f: &mut fmt::Formatter<W>) -> fmt::Result {
         match self {
             RefError::Alphanumeric(byte) => {

@@ -1,5 +1,9 @@
-use Rattle.cell_refs.proofs.Parts.{split_from}
+use Rattle.cell_refs.proofs.Parts.{parts-unsplit, parts-split, length-split}
 use Rattle.cell_refs.proofs.dimensions.split_part.Goals as goal
 
 pub returns : goal.returns
-returns c = split_from c.args.text.now c.split_once.result c.split_once.ensures.cases
+returns c = record {
+  whole = parts-unsplit c.args.text.now c.split_once.result c.split_once.ensures.cases;
+  split = parts-split c.args.text.now c.split_once.result c.split_once.ensures.cases;
+  shorter = length-split c.args.text.now c.split_once.result c.split_once.ensures.cases;
+}
