@@ -15,7 +15,7 @@ middle_is front end whole middle joined =
     let rest : drop (length front) whole ≡ middle ++ end = ap (drop (length front)) joined ∙ drop_at front (middle ++ end) (length front) refl in
     ap (λ n. take n (drop (length front) whole)) count ∙ ap (take (length middle)) rest ∙ take_at middle end (length middle) refl
 
-same_between : (front end a b : List ℕ) → front ++ (a ++ end) ≡ front ++ (b ++ end) → a ≡ b
+pub same_between : (front end a b : List ℕ) → front ++ (a ++ end) ≡ front ++ (b ++ end) → a ≡ b
 same_between front end a b same = append_cancel_right a b end (append_cancel_left front (a ++ end) (b ++ end) same)
 
 test_between : (front end whole a b : List ℕ) → whole ≡ front ++ (a ++ end) → bytes_eq whole (front ++ (b ++ end)) ≡ bytes_eq b a

@@ -1,3 +1,4 @@
+pub mod PlainPackage
 pub mod PlainScan
 pub mod PlainSheet
 pub mod Texts

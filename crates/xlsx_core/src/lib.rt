@@ -2,6 +2,7 @@
 #![tactic(auto)]
 
 mod between;
+mod plain;
 mod reference;
 mod scan;
 mod thin;

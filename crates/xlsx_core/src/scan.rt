@@ -33,7 +33,7 @@ pub enum Place {
     AtEnd,
 }
 
-fn is_opening(event: PartEvent<'_>, name: &str, attributes: &str) -> bool
+pub fn is_opening(event: PartEvent<'_>, name: &str, attributes: &str) -> bool
     ensures { result ≡ is_opening name.now attributes.now (event_of event.entry) }
 {
     match event {
@@ -42,7 +42,7 @@ fn is_opening(event: PartEvent<'_>, name: &str, attributes: &str) -> bool
     }
 }
 
-fn is_end(event: PartEvent<'_>, name: &str) -> bool
+pub fn is_end(event: PartEvent<'_>, name: &str) -> bool
     ensures { result ≡ is_end name.now (event_of event.entry) }
 {
     match event {
@@ -51,7 +51,7 @@ fn is_end(event: PartEvent<'_>, name: &str) -> bool
     }
 }
 
-fn attributes_of<'a>(event: PartEvent<'a>, name: &str) -> Option<&'a str>
+pub fn attributes_of<'a>(event: PartEvent<'a>, name: &str) -> Option<&'a str>
     ensures { option_map (λ attributes. attributes.now) result ≡ attributes_of name.now (event_of event.entry) }
 {
     match event {
