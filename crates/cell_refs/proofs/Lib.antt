@@ -1,3 +1,4 @@
+pub mod Inside
 pub mod Names
 pub mod Parts
 pub mod ReadBack

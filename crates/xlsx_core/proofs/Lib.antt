@@ -1,3 +1,5 @@
 pub mod Fronts
+pub mod PlainRead
+pub mod PlainWritten
 pub mod Spelled
 pub mod Taking

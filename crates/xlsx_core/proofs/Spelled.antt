@@ -38,6 +38,10 @@ chosen front end whole write found value true decides is =
     let same : found ≡ value = cc in decides.0 refl ∙ ap (λ x. front ++ (write x ++ end)) same
 chosen front end whole write found value false decides is = absurd cc
 
+chosen_value : {X E : Type 0} (found value : X) (test : Bool) → cond test (Some found) None ≡ Some value → ◌≡◌ {A = Result X E} (Ok found) (Ok value)
+chosen_value found value true is = let same : found ≡ value = cc in ap Ok same
+chosen_value found value false is = absurd cc
+
 module _ {X E : Type 0} (read : List ℕ → Result X E) (write : X → List ℕ) (front end whole : List ℕ) where
   spelled_from : (middle : List ℕ) (answer : Result X E) → whole ≡ front ++ (middle ++ end) → if_spelled front end write whole answer ≡ if_same write middle answer
   spelled_from middle (Ok value) joined = ap (λ (b : Bool). cond b (Some value) None) (test_between front end whole middle (write value) joined)
@@ -79,3 +83,11 @@ module _ {X E : Type 0} (read : List ℕ → Result X E) (write : X → List ℕ
       ap (λ (b : Bool). cond b (Some value) None) (tested ∙ ap (λ (xs : List ℕ). bytes_eq xs middle) spelled)
       ∙ ap (if_same write middle) reads
       ∙ sym (spelled_between_is middle joined)
+
+  if_spelled_reads : (answer : Result X E) (value : X) → if_spelled front end write whole answer ≡ Some value → answer ≡ Ok value
+  if_spelled_reads (Ok found) value is = chosen_value found value (bytes_eq whole (front ++ (write found ++ end))) is
+  if_spelled_reads (Err e) value is = absurd cc
+
+  -- what is spelled is what was read between the front and the end
+  pub spelled_between_reads : (value : X) → spelled_between front end read write whole ≡ Some value → read (middle_of front end whole) ≡ Ok value
+  spelled_between_reads value is = if_spelled_reads (read (middle_of front end whole)) value is

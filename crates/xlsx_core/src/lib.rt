@@ -2,10 +2,12 @@
 #![tactic(auto)]
 
 mod between;
+mod laws;
 mod plain;
 mod reference;
 mod scan;
 mod thin;
 
+pub use laws::plain_sheets_are_read;
 pub use reference::{push_reference, push_row_reference};
 pub use thin::{ThinCell, ThinError};
