@@ -32,29 +32,41 @@ workbook_events name =
 abbrev pub is_plain_name : List ℕ → Bool
 is_plain_name name = not (list_any (λ byte. byte == 34 || byte == 38) name)
 
--- the package is plain: its one sheet has this name and these cells
-pub record IsPlain (parts : List Part) (name : List ℕ) (cells : List PlainCell) : Type 0 where
+-- the parts beside the workbook's and the sheet's own
+pub record HasPlainFrame (parts : List Part) : Type 0 where
   pub no_strings : part_of parts (codes "xl/sharedStrings.xml") ≡ None
   pub no_styles : part_of parts (codes "xl/styles.xml") ≡ None
   pub root : part_of parts (codes "_rels/.rels") ≡ Some (relationship_events root_attributes)
   pub relationships : part_of parts (codes "xl/_rels/workbook.xml.rels") ≡ Some (relationship_events workbook_attributes)
-  pub workbook : part_of parts (codes "xl/workbook.xml") ≡ Some (workbook_events name)
-  pub plain_name : is_plain_name name ≡ true
+
+-- the workbook has one sheet, of this name
+abbrev pub HasWorkbook : List Part → List ℕ → Type 0
+HasWorkbook parts name = part_of parts (codes "xl/workbook.xml") ≡ Some (workbook_events name)
+
+-- the sheet's part is plain, with these cells
+pub record HasPlainSheet (parts : List Part) (cells : List PlainCell) : Type 0 where
   pub events : List Event
-  pub sheet : part_of parts (codes "xl/worksheets/sheet1.xml") ≡ Some events
+  pub found : part_of parts (codes "xl/worksheets/sheet1.xml") ≡ Some events
   pub plain : IsPlainSheet events cells
+
+-- the package is plain: its one sheet has this name and these cells
+pub record IsPlain (parts : List Part) (name : List ℕ) (cells : List PlainCell) : Type 0 where
+  pub frame : HasPlainFrame parts
+  pub workbook : HasWorkbook parts name
+  pub plain_name : is_plain_name name ≡ true
+  pub sheet : HasPlainSheet parts cells
 
 -- whether the next event is this one
 abbrev pub Takes : Bool → Event → PackageState → PackageState → Type 0
 Takes true event old new = old.rest ≡ event ∷ new.rest
 Takes false event old new = (rest : List Event) → old.rest ≡ event ∷ rest → ⊥
 
--- why reading a package failed
+-- why reading a package without taking memory failed
 abbrev pub ReadFails : ThinError → PackageState → PackageState → Type 0
 ReadFails NotBuilt old new = ⊥
 ReadFails NoSheet old new = ⊥
 ReadFails Io old new = HasCause old new
-ReadFails OutOfMemory old new = Unit {0}
+ReadFails OutOfMemory old new = ⊥
 
 -- a text that is the attributes of the sheet of no plain name
 abbrev pub NamesNoSheet : List ℕ → Type 0
@@ -79,9 +91,27 @@ abbrev pub TakesSheet : Option Bool → List ℕ → List Event → List Event �
 TakesSheet None asked before behind = FindsSheet None asked (IsSomeNextSheet before)
 TakesSheet (Some same) asked before behind = FindsSheet (Some same) asked (IsNextSheet before behind)
 
+-- the count of faults is as it was
+abbrev pub SameFaults : PackageState → PackageState → Type 0
+SameFaults old new = new.faults ≡ old.faults
+
 -- why the cells of a plain sheet were not read
 abbrev pub CellsFail : ThinError → PackageState → PackageState → Type 0
-CellsFail NotBuilt old new = old.told ≡ true → cells_from beginning old.rest ≡ None
+CellsFail NotBuilt old new = SameFaults old new × (old.told ≡ true → cells_from beginning old.rest ≡ None)
 CellsFail NoSheet old new = ⊥
 CellsFail Io old new = HasCause old new
-CellsFail OutOfMemory old new = Unit {0}
+CellsFail OutOfMemory old new = SameFaults old new
+
+-- why a sheet's part was not read
+abbrev pub SheetFails : ThinError → PackageState → PackageState → Type 0
+SheetFails NotBuilt old new = SameFaults old new × (old.told ≡ true → (cells : List PlainCell) → HasPlainSheet old.parts cells → ⊥)
+SheetFails NoSheet old new = ⊥
+SheetFails Io old new = HasCause old new
+SheetFails OutOfMemory old new = SameFaults old new
+
+-- why a package was not read as plain, where this name was asked for
+abbrev pub ThinFails : ThinError → List ℕ → PackageState → PackageState → Type 0
+ThinFails NotBuilt asked old new = SameFaults old new × (old.told ≡ true → (name : List ℕ) (cells : List PlainCell) → IsPlain old.parts name cells → ⊥)
+ThinFails NoSheet asked old new = SameFaults old new × (old.told ≡ true → (name : List ℕ) × (cells : List PlainCell) × IsPlain old.parts name cells × (name ≡ asked → ⊥))
+ThinFails Io asked old new = HasCause old new
+ThinFails OutOfMemory asked old new = SameFaults old new

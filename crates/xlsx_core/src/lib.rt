@@ -8,6 +8,7 @@ mod reference;
 mod scan;
 mod thin;
 
+pub use plain::read_thin;
 pub use laws::plain_sheets_are_read;
 pub use reference::{push_reference, push_row_reference};
 pub use thin::{ThinCell, ThinError};

@@ -1,8 +1,8 @@
-ghost use Rattle.std.specs.Prelude.{◌≡◌, ◌≢◌, ◌↔◌, ℕ, [], ◌∷◌, ◌++◌, List, option_map, option_to_list, true, false, Some, None, codes, IsTrue, IfSome, IfNone, IfOk, OnOk, IfErr};
+ghost use Rattle.std.specs.Prelude.{◌≡◌, ◌↔◌, ℕ, [], ◌∷◌, ◌++◌, List, option_map, option_to_list, true, false, Some, None, codes, IsTrue, IfSome, IfNone, IfOk, OnOk, IfErr};
 ghost use Rattle.part_events.specs.Event.{Event, end};
 ghost use Rattle.part_events.specs.Package.{part_of, SameParts, PackageState, HasCause};
 ghost use Rattle.xlsx_core.specs.PlainSheet.{opening};
-ghost use Rattle.xlsx_core.specs.PlainPackage.{relationship_events, workbook_events, is_plain_name, sheet_attributes, NamesNoSheet, FindsSheet, IsNextSheet, TakesSheet, Takes, ReadFails, CellsFail};
+ghost use Rattle.xlsx_core.specs.PlainPackage.{relationship_events, workbook_events, is_plain_name, sheet_attributes, NamesNoSheet, FindsSheet, IsNextSheet, TakesSheet, HasPlainFrame, HasWorkbook, HasPlainSheet, IsPlain, Takes, ReadFails, CellsFail, SheetFails, ThinFails};
 ghost use Rattle.xlsx_core.specs.PlainScan.{cells_from, beginning};
 ghost use Rattle.xlsx_core.specs.ThinCell.{cell_of, cells_of};
 
@@ -184,7 +184,7 @@ fn takes_workbook_end<P: Package>(package: &mut P) -> Result<bool, ThinError>
 fn finds_sheet<P: Package>(package: &mut P, name: &str) -> Result<Option<bool>, ThinError>
     ensures keeps { SameParts (P.state «package».old) (P.state «package».new) }
     ensures faults { OnOk result ((P.state «package».new).faults ≡ (P.state «package».old).faults) }
-    ensures takes { (P.state «package».old).told ≡ true → IfOk result (λ found. FindsSheet found name.now (λ sheet. part_of (P.state «package».old).parts (codes "xl/workbook.xml") ≡ Some (workbook_events sheet))) }
+    ensures takes { (P.state «package».old).told ≡ true → IfOk result (λ found. FindsSheet found name.now (HasWorkbook (P.state «package».old).parts)) }
     ensures err { IfErr result (λ e. ReadFails e (P.state «package».old) (P.state «package».new)) }
 {
     if !package.open("xl/workbook.xml")? {
@@ -205,8 +205,7 @@ fn keep(cells: &mut Vec<ThinCell>, cell: Option<ThinCell>) -> Result<(), AllocEr
 /// The cells of the open part, where it is a worksheet in plain form; else `NotBuilt`.
 fn take_cells<P: Package>(alloc: Global, package: &mut P) -> Result<Vec<ThinCell>, ThinError>
     ensures keeps { SameParts (P.state «package».old) (P.state «package».new) }
-    ensures faults { IfErr result (λ e. e ≢ ThinError.Io → (P.state «package».new).faults ≡ (P.state «package».old).faults) }
-    ensures no_faults { OnOk result ((P.state «package».new).faults ≡ (P.state «package».old).faults) }
+    ensures faults { OnOk result ((P.state «package».new).faults ≡ (P.state «package».old).faults) }
     ensures cells { (P.state «package».old).told ≡ true → IfOk result (λ cells. cells_from beginning (P.state «package».old).rest ≡ Some (cells_of cells.items)) }
     ensures err { IfErr result (λ e. CellsFail e (P.state «package».old) (P.state «package».new)) }
 {
@@ -221,4 +220,80 @@ fn take_cells<P: Package>(alloc: Global, package: &mut P) -> Result<Vec<ThinCell
     } else {
         Err(ThinError::NotBuilt)
     }
+}
+
+const ROOT_ATTRIBUTES: &str = " Id=\"rId1\" Type=\"http://schemas.openxmlformats.org/officeDocument/2006/relationships/officeDocument\" Target=\"xl/workbook.xml\"";
+
+const WORKBOOK_ATTRIBUTES: &str = " Id=\"rId1\" Type=\"http://schemas.openxmlformats.org/officeDocument/2006/relationships/worksheet\" Target=\"worksheets/sheet1.xml\"";
+
+/// Whether a part of this name is there.
+fn has_part<P: Package>(package: &mut P, part: &str) -> Result<bool, ThinError>
+    ensures keeps { SameParts (P.state «package».old) (P.state «package».new) }
+    ensures faults { OnOk result ((P.state «package».new).faults ≡ (P.state «package».old).faults) }
+    ensures has { (P.state «package».old).told ≡ true → IfOk result (λ yes. (yes ≡ false) ↔ (part_of (P.state «package».old).parts part.now ≡ None)) }
+    ensures err { IfErr result (λ e. ReadFails e (P.state «package».old) (P.state «package».new)) }
+{
+    Ok(package.open(part)?)
+}
+
+/// Whether the parts beside the workbook's and the sheet's own are those of a plain package.
+fn has_plain_frame<P: Package>(package: &mut P) -> Result<bool, ThinError>
+    ensures keeps { SameParts (P.state «package».old) (P.state «package».new) }
+    ensures faults { OnOk result ((P.state «package».new).faults ≡ (P.state «package».old).faults) }
+    ensures has { (P.state «package».old).told ≡ true → IfOk result (λ yes. IsTrue yes ↔ HasPlainFrame (P.state «package».old).parts) }
+    ensures err { IfErr result (λ e. ReadFails e (P.state «package».old) (P.state «package».new)) }
+{
+    if has_part(package, "xl/sharedStrings.xml")? {
+        return Ok(false);
+    }
+    if has_part(package, "xl/styles.xml")? {
+        return Ok(false);
+    }
+    if !has_relationship(package, "_rels/.rels", ROOT_ATTRIBUTES)? {
+        return Ok(false);
+    }
+    if !has_relationship(package, "xl/_rels/workbook.xml.rels", WORKBOOK_ATTRIBUTES)? {
+        return Ok(false);
+    }
+    Ok(true)
+}
+
+/// The cells of the sheet's part, where it is plain; else `NotBuilt`.
+fn sheet_cells<P: Package>(alloc: Global, package: &mut P) -> Result<Vec<ThinCell>, ThinError>
+    ensures keeps { SameParts (P.state «package».old) (P.state «package».new) }
+    ensures faults { OnOk result ((P.state «package».new).faults ≡ (P.state «package».old).faults) }
+    ensures cells { (P.state «package».old).told ≡ true → IfOk result (λ cells. HasPlainSheet (P.state «package».old).parts (cells_of cells.items)) }
+    ensures err { IfErr result (λ e. SheetFails e (P.state «package».old) (P.state «package».new)) }
+{
+    if !package.open("xl/worksheets/sheet1.xml")? {
+        return Err(ThinError::NotBuilt);
+    }
+    take_cells(alloc, package)
+}
+
+/// The cells of the one sheet of a plain package (docs/FORMAT.md), in order, where the sheet has this name.
+///
+/// Fails with `NotBuilt` where the package isn't plain, with `NoSheet` where it is and its sheet has another name, and
+/// with `Io` where the package fails.
+pub fn read_thin<P: Package>(
+    alloc: Global,
+    package: &mut P,
+    name: &str,
+) -> Result<Vec<ThinCell>, ThinError>
+    ensures keeps { SameParts (P.state «package».old) (P.state «package».new) }
+    ensures faults { OnOk result ((P.state «package».new).faults ≡ (P.state «package».old).faults) }
+    ensures cells { (P.state «package».old).told ≡ true → IfOk result (λ cells. IsPlain (P.state «package».old).parts name.now (cells_of cells.items)) }
+    ensures err { IfErr result (λ e. ThinFails e name.now (P.state «package».old) (P.state «package».new)) }
+{
+    if !has_plain_frame(package)? {
+        return Err(ThinError::NotBuilt);
+    }
+    let Some(same) = finds_sheet(package, name)? else {
+        return Err(ThinError::NotBuilt);
+    };
+    let cells = sheet_cells(alloc, package)?;
+    if !same {
+        return Err(ThinError::NoSheet);
+    }
+    Ok(cells)
 }
