@@ -1,4 +1,5 @@
 pub mod Fronts
+pub mod OneSheet
 pub mod PlainFails
 pub mod PlainRead
 pub mod PlainWritten

@@ -9,6 +9,6 @@ mod scan;
 mod thin;
 
 pub use plain::read_thin;
-pub use laws::plain_sheets_are_read;
+pub use laws::{plain_sheet_is_one, plain_sheets_are_read};
 pub use reference::{push_reference, push_row_reference};
 pub use thin::{ThinCell, ThinError};

@@ -1,2 +1,5 @@
+pub mod Listings
 pub mod PackageTexts
 pub mod Pieces
+pub mod Running
+pub mod Runs

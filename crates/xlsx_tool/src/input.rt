@@ -1,0 +1,49 @@
+ghost use Rattle.std.specs.Prelude.{◌≡◌, ◌<◌, length, IfOk, IfErr};
+ghost use Rattle.xlsx_tool.specs.Input.{InputRead, InputFails, PieceRead, PieceFails};
+
+use std::alloc::Global;
+
+use crate::error::ToolError;
+use crate::source::Source;
+
+/// The most bytes that an input may have.
+pub const INPUT_LIMIT: usize = 67_108_864;
+
+/// How many bytes are asked for at a time.
+const PIECE: usize = 65_536;
+
+/// Appends the next bytes, at most as many as the piece is long, and answers false at the source's end.
+fn read_piece<S: Source>(
+    source: &mut S,
+    bytes: &mut Vec<u8>,
+    piece: &mut [u8],
+) -> Result<bool, ToolError>
+    requires { 0 < length piece.old }
+    ensures ok { IfOk result (λ more. PieceRead more (length piece.new) bytes.old.items bytes.new.items (S.state source.old) (S.state source.new)) }
+    ensures err { IfErr result (λ e. PieceFails e (S.state source.old) (S.state source.new)) }
+{
+    let Ok(count) = source.read(piece) else {
+        return Err(ToolError::ReadFault);
+    };
+    if count == 0 {
+        return Ok(false);
+    }
+    bytes.extend_from_slice(&piece[..count])?;
+    Ok(true)
+}
+
+/// Reads the source to its end; more bytes than the limit, and a failure of the source, are refused.
+pub fn read_input<S: Source>(alloc: Global, source: &mut S) -> Result<Vec<u8>, ToolError>
+    ensures ok { IfOk result (λ bytes. InputRead bytes.items (S.state source.old) (S.state source.new)) }
+    ensures err { IfErr result (λ e. InputFails e (S.state source.old) (S.state source.new)) }
+{
+    let mut bytes = Vec::new(alloc);
+    let mut piece = vec![in alloc; 0u8; PIECE]?;
+    'pieces: while bytes.len() <= INPUT_LIMIT {
+        let room = PIECE.min(INPUT_LIMIT + 1 - bytes.len());
+        if !read_piece(source, &mut bytes, &mut piece[..room])? {
+            return Ok(bytes);
+        }
+    }
+    Err(ToolError::InputTooLarge)
+}
