@@ -97,7 +97,7 @@ fn lines_from<S: Source>(alloc: Global, source: &mut S, name: &str) -> Result<St
 }
 
 /// Writes the bytes, whole.
-fn send<K: Sink>(sink: &mut K, bytes: &[u8]) -> Result<(), ToolError>
+pub fn send<K: Sink>(sink: &mut K, bytes: &[u8]) -> Result<(), ToolError>
     ensures ok { OnOk result (IsSent bytes.now (K.state sink.old) (K.state sink.new)) }
     ensures err { IfErr result (λ e. SendFails e bytes.now (K.state sink.old) (K.state sink.new)) }
 {
