@@ -1,0 +1,6 @@
+pub mod Attributes
+pub mod AttrIter
+pub mod FirstItem
+pub mod Text
+pub mod Wanted
+pub mod Fault

@@ -1,0 +1,63 @@
+ghost use Rattle.std.specs.Prelude.{◌≡◌, ◌≤◌, ◌+◌, ◌++◌, take, drop, length, MatchOption, IfOk, OnOk, OnErr, encode_utf8, string_bytes};
+ghost use Rattle.attr_text.specs.Text.{line_ends, unescaped, escaped_character};
+
+use crate::entity::digits_number;
+use std::alloc::{AllocError, Global};
+
+/// Appends the text, with CR LF and each lone CR as LF. After a refusal `out` is as it was.
+pub fn push_line_ends(out: &mut String, text: &str) -> Result<(), AllocError>
+    ensures ok { OnOk result (string_bytes out.new ≡ string_bytes out.old ++ line_ends text.now) }
+    ensures unchanged { OnErr result (string_bytes out.new ≡ string_bytes out.old) }
+{
+    out.reserve(text.len())?;
+    let mut rest = text;
+    while let Some((run, behind)) = rest.split_once('\r') {
+        out.push_str(run).unwrap();
+        out.push('\n').unwrap();
+        rest = behind.strip_prefix('\n').unwrap_or(behind);
+    }
+    out.push_str(rest).unwrap();
+    Ok(())
+}
+
+// The character of the escape `_xHHHH_` with which the bytes begin.
+fn escape_at(bytes: &[u8]) -> Option<char>
+    ensures { result ≡ escaped_character bytes.now }
+{
+    if bytes.len() < 7 || bytes[0] != b'_' || bytes[1] != b'x' || bytes[6] != b'_' {
+        return None;
+    }
+    char::from_u32(digits_number(&bytes[2..6], 16)?)
+}
+
+// The place of the first escape that has a character, and that character.
+fn next_escape(bytes: &[u8]) -> Option<(usize, char)>
+    ensures { MatchOption result (unescaped bytes.now ≡ bytes.now)
+        (λ p. (p.0 + 7 ≤ length bytes.now)
+        × (unescaped bytes.now ≡ take p.0 bytes.now ++ (encode_utf8 p.1 ++ unescaped (drop (p.0 + 7) bytes.now)))) }
+{
+    for i in 0..bytes.len() {
+        if bytes[i] == b'_' {
+            if let Some(c) = escape_at(&bytes[i..]) {
+                return Some((i, c));
+            }
+        }
+    }
+    None
+}
+
+/// The text with each `_xHHHH_` replaced by the character of that number; the number of a
+/// surrogate is no character, and stays as it is written.
+pub fn unescape_hex(alloc: Global, text: &str) -> Result<String, AllocError>
+    ensures { IfOk result (λ out. string_bytes out ≡ unescaped text.now) }
+{
+    let mut out = String::new(alloc);
+    let mut rest = text;
+    while let Some((at, c)) = next_escape(rest.as_bytes()) {
+        out.push_str(&rest[..at])?;
+        out.push(c)?;
+        rest = &rest[at + 7..];
+    }
+    out.push_str(rest)?;
+    Ok(out)
+}
