@@ -1,7 +1,9 @@
-ghost use Rattle.std.specs.Prelude.{◌≡◌, ◌≤◌, ◌∷◌, length, MatchOption, true, false};
+ghost use Rattle.std.specs.Prelude.{◌≡◌, ◌==◌, ◌<◌, ◌≤◌, ◌∷◌, length, MatchOption, true, false};
+ghost use Rattle.std.specs.List.{before_first, after_first};
 ghost use Rattle.attr_text.specs.Attributes.{front_of, is_quote, begins_with_quote, items, items_left, items_from};
 ghost use Rattle.attr_text.specs.FirstItem.{front_read};
 
+use crate::cuts::{split_first, trim_end, trim_start};
 use crate::fault::AttrFault;
 
 // What stands first in a text.
@@ -16,12 +18,23 @@ fn opening_quote(text: &str) -> Option<(char, &str)>
     ensures { MatchOption result (begins_with_quote text.now ≡ false)
         (λ p. (text.now ≡ p.0 ∷ p.1.now) × (is_quote p.0 ≡ true)) }
 {
-    let quote = match text.as_bytes() {
-        [b'"', ..] => '"',
-        [b'\'', ..] => '\'',
-        _ => return None,
-    };
-    Some((quote, &text[1..]))
+    match text.as_bytes() {
+        [b'"', ..] => Some(('"', &text[1..])),
+        [b'\'', ..] => Some(('\'', &text[1..])),
+        _ => None,
+    }
+}
+
+// The value before the closing quote, or the whole text, and what follows the quote.
+fn to_quote(text: &str, quote: char) -> (&str, &str)
+    requires { quote < 128 }
+    ensures value { result.0.now ≡ before_first (λ b. b == quote) text.now }
+    ensures rest { result.1.now ≡ after_first (λ b. b == quote) text.now }
+{
+    match split_first(text, quote) {
+        Some((value, rest)) => (value, rest),
+        None => (text, ""),
+    }
 }
 
 // What stands first in `text`, the end of a text of `size` bytes.
@@ -29,19 +42,19 @@ fn first_item(size: usize, text: &str) -> FirstItem<'_>
     requires { length text.now ≤ size }
     ensures { front_read result ≡ front_of size text.now }
 {
-    let body = text.trim_ascii_start();
+    let body = trim_start(text);
     if body.is_empty() {
         return FirstItem::Nothing;
     }
-    let Some((key, behind)) = body.split_once('=') else {
+    let Some((key, behind)) = split_first(body, '=') else {
         return FirstItem::Broken(AttrFault::ExpectedEq(size - body.len()));
     };
-    let value = behind.trim_ascii_start();
+    let value = trim_start(behind);
     let Some((quote, inside)) = opening_quote(value) else {
         return FirstItem::Broken(AttrFault::UnquotedValue(size - value.len()));
     };
-    let (value, rest) = inside.split_once(quote).unwrap_or((inside, ""));
-    FirstItem::Attribute(key.trim_ascii_end(), value, rest)
+    let (value, rest) = to_quote(inside, quote);
+    FirstItem::Attribute(trim_end(key), value, rest)
 }
 
 /// The items of an attribute text, from left to right: pairs of a key and a value as they are

@@ -2,6 +2,7 @@
 //! line ends and `_xHHHH_`.
 #![tactic(auto)]
 
+mod cuts;
 mod entity;
 mod fault;
 mod items;
