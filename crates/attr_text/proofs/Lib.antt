@@ -1,1 +1,3 @@
 pub mod ItemsLemmas
+pub mod NameLemmas
+pub mod WantedLemmas

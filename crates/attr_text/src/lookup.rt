@@ -11,21 +11,20 @@ use crate::items::RawAttrIter;
 pub fn local_name_matches(key: &str, local_name: &str) -> bool
     ensures { result ≡ has_local_name local_name.now key.now }
 {
-    if key == local_name {
-        return true;
+    let (key, local) = (key.as_bytes(), local_name.as_bytes());
+    if key.len() <= local.len() {
+        return key == local;
     }
-    match key.strip_suffix(local_name) {
-        Some(prefix) => prefix.ends_with(':'),
-        None => false,
-    }
+    let colon = key.len() - local.len() - 1;
+    key[colon] == b':' && local == &key[colon + 1..]
 }
 
 /// What follows the last `:` of a name, or the whole name.
 pub fn local_name(name: &str) -> &str
     ensures { result.now ≡ local_name_of name.now }
 {
-    match name.rsplit_once(':') {
-        Some((_, local)) => local,
+    match name.rfind(':') {
+        Some(colon) => &name[colon + 1..],
         None => name,
     }
 }
