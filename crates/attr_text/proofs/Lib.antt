@@ -1,3 +1,4 @@
 pub mod ItemsLemmas
 pub mod NameLemmas
 pub mod WantedLemmas
+pub mod ValuesLemmas

@@ -102,10 +102,14 @@ value_of key text =
     let value = first_value (bytes_eq key) (items text) in
     answer value (is_some value) (ending_fault (items text))
 
+-- the value of the first pair of each key
+abbrev pub first_values : List (List ℕ) → List Item → List (Option (List ℕ))
+first_values keys all = map (λ key. first_value (bytes_eq key) all) keys
+
 -- the lookup of several keys: the value of the first pair of each
 unfoldable pub lookup : List (List ℕ) → List ℕ → Result (List (Option (List ℕ))) AttrFault
 lookup keys text =
-    let values = map (λ key. first_value (bytes_eq key) (items text)) keys in
+    let values = first_values keys (items text) in
     answer values (list_all is_some values) (ending_fault (items text))
 
 -- the key is the local name, or ends in `:` and the local name

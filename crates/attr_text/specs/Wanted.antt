@@ -17,9 +17,13 @@ abbrev pub answer_of : Wanted → List ℕ → Result (Option (List ℕ)) AttrFa
 answer_of (Key wanted) text = value_of wanted.now text
 answer_of (LocalName wanted) text = value_of_local wanted.now text
 
--- what was found for each wanted key once this pair was read too
+-- what is found for a wanted key once this pair was read too
+abbrev pub value_noted : List ℕ → List ℕ → List ℕ → Option (List ℕ) → Option (List ℕ)
+value_noted key value wanted found = option_or found (if bytes_eq wanted key then Some value else None)
+
+-- the same for each wanted key
 abbrev pub noted : List ℕ → List ℕ → List (List ℕ) → List (Option (List ℕ)) → List (Option (List ℕ))
-noted key value [] found = []
+noted key value [] values = []
 noted key value (wanted ∷ others) [] = []
-noted key value (wanted ∷ others) (value' ∷ values) =
-    option_or value' (if bytes_eq wanted key then Some value else None) ∷ noted key value others values
+noted key value (wanted ∷ others) (found ∷ values) =
+    value_noted key value wanted found ∷ noted key value others values

@@ -1,13 +1,30 @@
-ghost use Rattle.std.specs.Prelude.{◌≡◌, [], ◌∷◌, length, map, MatchResult, None, Ok, Err};
+ghost use Rattle.std.specs.Prelude.{◌≡◌, [], ◌∷◌, length, map, is_some, MatchResult, None, Ok, Err};
+ghost use Rattle.std.specs.List.{list_all};
 ghost use Rattle.std.specs.Option.{option_copied};
 ghost use Rattle.attr_text.specs.Attributes.{lookup};
-ghost use Rattle.attr_text.specs.Wanted.{noted};
+ghost use Rattle.attr_text.specs.Wanted.{value_noted, noted};
 
 use crate::fault::AttrFault;
 use crate::items::RawAttrIter;
 
 /// The value of a key, if a pair has it.
 pub type AttrValue<'a> = Option<&'a str>;
+
+// What is found for a wanted key once this pair was read too.
+fn with_pair<'a>(
+    found: AttrValue<'a>,
+    wanted: &str,
+    key: &str,
+    value: &'a str,
+) -> AttrValue<'a>
+    ensures { option_copied result ≡ value_noted key.now value.now wanted.now (option_copied found.entry) }
+{
+    match found {
+        Some(first) => Some(first),
+        None if wanted == key => Some(value),
+        None => None,
+    }
+}
 
 // Gives the pair's value to each wanted key that is the pair's and has no value yet.
 fn note_value<'a>(keys: &[&str], values: &mut [AttrValue<'a>], key: &str, value: &'a str)
@@ -16,10 +33,15 @@ fn note_value<'a>(keys: &[&str], values: &mut [AttrValue<'a>], key: &str, value:
         ≡ noted key.now value.now (map (λ k. k.now) keys.now) (map option_copied values.old) }
 {
     for i in 0..values.len() {
-        if values[i].is_none() && keys[i] == key {
-            values[i] = Some(value);
-        }
+        values[i] = with_pair(values[i], keys[i], key, value);
     }
+}
+
+// Whether each wanted key has a value.
+fn are_all_found(values: &[AttrValue<'_>]) -> bool
+    ensures { result ≡ list_all is_some values.now }
+{
+    values.iter().all(|value| value.is_some())
 }
 
 // The lookup of several keys, in one reading of the text.
@@ -40,8 +62,8 @@ fn find_values<'a>(
     for item in RawAttrIter::new(raw) {
         let (key, value) = item?;
         note_value(keys, values, key, value);
-        if values.iter().all(|v| v.is_some()) {
-            break;
+        if are_all_found(values) {
+            return Ok(());
         }
     }
     Ok(())
