@@ -2,3 +2,5 @@ pub mod ItemsLemmas
 pub mod NameLemmas
 pub mod WantedLemmas
 pub mod ValuesLemmas
+pub mod DigitsLemmas
+pub mod EntityLemmas
