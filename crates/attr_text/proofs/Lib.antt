@@ -4,3 +4,4 @@ pub mod WantedLemmas
 pub mod ValuesLemmas
 pub mod DigitsLemmas
 pub mod EntityLemmas
+pub mod DecodedLemmas

@@ -3,6 +3,7 @@ ghost use Rattle.std.specs.Str.Parse.{digits_value};
 ghost use Rattle.attr_text.specs.Text.{all_digits, character_of_digits, unnamed_character, entity_character, decoded};
 ghost use Rattle.attr_text.specs.Fault.{DecodeFails, EntityFails};
 
+use crate::cuts::split_first;
 use crate::fault::TextFault;
 use std::alloc::Global;
 
@@ -73,9 +74,9 @@ pub fn decode_attr(alloc: Global, text: &str) -> Result<String, TextFault>
 {
     let mut out = String::new(alloc);
     let mut rest = text;
-    while let Some((run, behind)) = rest.split_once('&') {
+    while let Some((run, behind)) = split_first(rest, '&') {
         let at = text.len() - rest.len() + run.len();
-        let Some((name, after)) = behind.split_once(';') else {
+        let Some((name, after)) = split_first(behind, ';') else {
             return Err(TextFault::Entity { at });
         };
         let Some(c) = entity_char(name) else {
