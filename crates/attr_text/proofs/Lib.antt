@@ -5,3 +5,4 @@ pub mod ValuesLemmas
 pub mod DigitsLemmas
 pub mod EntityLemmas
 pub mod DecodedLemmas
+pub mod LinesLemmas

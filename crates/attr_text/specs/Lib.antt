@@ -4,3 +4,4 @@ pub mod FirstItem
 pub mod Text
 pub mod Wanted
 pub mod Fault
+pub mod Lines

@@ -1,8 +1,20 @@
 ghost use Rattle.std.specs.Prelude.{◌≡◌, ◌≤◌, ◌+◌, ◌++◌, take, drop, length, MatchOption, IfOk, OnOk, OnErr, encode_utf8, string_bytes};
 ghost use Rattle.attr_text.specs.Text.{line_ends, unescaped, escaped_character};
+ghost use Rattle.attr_text.specs.Lines.{without_line_feed};
 
+use crate::cuts::split_first;
 use crate::entity::digits_number;
 use std::alloc::{AllocError, Global};
+
+// The text without an LF in front.
+fn skip_line_feed(text: &str) -> &str
+    ensures { result.now ≡ without_line_feed text.now }
+{
+    match text.strip_prefix('\n') {
+        Some(rest) => rest,
+        None => text,
+    }
+}
 
 /// Appends the text, with CR LF and each lone CR as LF. After a refusal `out` is as it was.
 pub fn push_line_ends(out: &mut String, text: &str) -> Result<(), AllocError>
@@ -11,10 +23,10 @@ pub fn push_line_ends(out: &mut String, text: &str) -> Result<(), AllocError>
 {
     out.reserve(text.len())?;
     let mut rest = text;
-    while let Some((run, behind)) = rest.split_once('\r') {
+    while let Some((run, behind)) = split_first(rest, '\r') {
         out.push_str(run).unwrap();
         out.push('\n').unwrap();
-        rest = behind.strip_prefix('\n').unwrap_or(behind);
+        rest = skip_line_feed(behind);
     }
     out.push_str(rest).unwrap();
     Ok(())
