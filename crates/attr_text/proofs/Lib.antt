@@ -6,3 +6,4 @@ pub mod DigitsLemmas
 pub mod EntityLemmas
 pub mod DecodedLemmas
 pub mod LinesLemmas
+pub mod EscapesLemmas

@@ -1,6 +1,7 @@
 ghost use Rattle.std.specs.Prelude.{◌≡◌, ◌≤◌, ◌+◌, ◌++◌, take, drop, length, MatchOption, IfOk, OnOk, OnErr, encode_utf8, string_bytes};
 ghost use Rattle.attr_text.specs.Text.{line_ends, unescaped, escaped_character};
 ghost use Rattle.attr_text.specs.Lines.{without_line_feed};
+ghost use Rattle.attr_text.specs.Escapes.{HasEscapeAt};
 
 use crate::cuts::split_first;
 use crate::entity::digits_number;
@@ -44,15 +45,11 @@ fn escape_at(bytes: &[u8]) -> Option<char>
 
 // The place of the first escape that has a character, and that character.
 fn next_escape(bytes: &[u8]) -> Option<(usize, char)>
-    ensures { MatchOption result (unescaped bytes.now ≡ bytes.now)
-        (λ p. (p.0 + 7 ≤ length bytes.now)
-        × (unescaped bytes.now ≡ take p.0 bytes.now ++ (encode_utf8 p.1 ++ unescaped (drop (p.0 + 7) bytes.now)))) }
+    ensures { MatchOption result (unescaped bytes.now ≡ bytes.now) (λ p. HasEscapeAt bytes.now p.0 p.1) }
 {
     for i in 0..bytes.len() {
-        if bytes[i] == b'_' {
-            if let Some(c) = escape_at(&bytes[i..]) {
-                return Some((i, c));
-            }
+        if let Some(c) = escape_at(&bytes[i..]) {
+            return Some((i, c));
         }
     }
     None
