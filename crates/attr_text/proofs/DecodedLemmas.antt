@@ -3,8 +3,9 @@ use Rattle.std.proofs.Common.{◌≡◌, ℕ, zero, suc, ◌+◌, ◌-◌, ◌<�
 use Rattle.std.specs.Prelude.{◌==◌, nat_lt, encode_utf8}
 use Rattle.std.specs.List.{position_or_len, before_first, after_first}
 use Rattle.std.proofs.lemmas.Bool.{lt-ltb, le-ltb, eqb-true}
-use Rattle.std.proofs.lemmas.List.Sums.{split_at_first, fails_before_first, passes_at_first}
+use Rattle.std.proofs.lemmas.List.Sums.{fails_before_first}
 use Rattle.std.proofs.lemmas.List.{get_or-take, length-take}
+use Rattle.attr_text.proofs.CutsLemmas.{fails_in_before_first, split_at_mark}
 use Rattle.attr_text.specs.Text.{entity_character, onto_text, onto_character, character_behind, is_semicolon, decoded_within, decoded}
 
 -- `&`
@@ -37,13 +38,6 @@ decoded_within-run size (b ∷ run) rest plain =
     (ap (onto_text (b ∷ [])) (decoded_within-run size run rest (λ k l. plain (suc k) (omega arith)))
     ∙ onto_text-append (b ∷ []) run (decoded_within size rest 0))
 
--- before the first `&` there is none
-before-plain : (text : List ℕ) (k : ℕ) → k < length (before_first is_ampersand text) → is_ampersand (get_or (before_first is_ampersand text) k 0) ≡ false
-before-plain text k within =
-    let n = position_or_len is_ampersand text in
-    let below : k < n = omega (arith, length-take n text) in
-    ap is_ampersand (get_or-take n text k 0 below) ∙ fails_before_first is_ampersand text k 0 below
-
 -- a text without `&`
 pub decoded_within-plain : (size : ℕ) (text : List ℕ) → position_or_len is_ampersand text ≡ length text → decoded_within size text 0 ≡ Ok text
 unfolding decoded_within
@@ -67,9 +61,8 @@ decoded_within-first : (size : ℕ) (text : List ℕ) → position_or_len is_amp
 decoded_within-first size text some =
     let run = before_first is_ampersand text in
     let behind = after_first is_ampersand text in
-    let mark : get_or text (position_or_len is_ampersand text) 0 ≡ 38 = eqb-true _ _ (passes_at_first is_ampersand text 0 some) in
-    ap (λ (t : List ℕ). decoded_within size t 0) (split_at_first is_ampersand text 0 some ∙ ap (λ b. run ++ b ∷ behind) mark)
-    ∙ decoded_within-run size run (38 ∷ behind) (before-plain text)
+    ap (λ (t : List ℕ). decoded_within size t 0) (split_at_mark 38 text some)
+    ∙ decoded_within-run size run (38 ∷ behind) (fails_in_before_first is_ampersand text)
     ∙ ap (onto_text run) (decoded_within-ampersand size behind)
 
 -- the first reference has no character

@@ -7,3 +7,4 @@ pub mod EntityLemmas
 pub mod DecodedLemmas
 pub mod LinesLemmas
 pub mod EscapesLemmas
+pub mod CutsLemmas

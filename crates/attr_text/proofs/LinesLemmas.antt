@@ -3,8 +3,9 @@ use Rattle.std.proofs.Common.{◌≡◌, ℕ, zero, suc, ◌+◌, ◌-◌, ◌<�
 use Rattle.std.specs.Prelude.{◌==◌, if◌then◌else◌}
 use Rattle.std.specs.List.{position_or_len, before_first, after_first}
 use Rattle.std.proofs.lemmas.Bool.{eqb-true, eq-eqb, ne_eqb, cases_eq}
-use Rattle.std.proofs.lemmas.List.Sums.{split_at_first, fails_before_first, passes_at_first}
+use Rattle.std.proofs.lemmas.List.Sums.{fails_before_first}
 use Rattle.std.proofs.lemmas.List.{get_or-take, length-take}
+use Rattle.attr_text.proofs.CutsLemmas.{fails_in_before_first, split_at_mark}
 use Rattle.attr_text.specs.Text.{line_ends_behind, line_ends}
 use Rattle.attr_text.specs.Lines.{without_line_feed}
 
@@ -30,12 +31,6 @@ line_ends_behind-run [] rest plain = refl
 line_ends_behind-run (b ∷ run) rest plain =
     rw (plain 0 (omega arith)) (ap (λ (t : List ℕ). b ∷ t) (line_ends_behind-run run rest (λ k l. plain (suc k) (omega arith))))
 
-before-plain : (text : List ℕ) (k : ℕ) → k < length (before_first is_return text) → is_return (get_or (before_first is_return text) k 0) ≡ false
-before-plain text k within =
-    let n = position_or_len is_return text in
-    let below : k < n = omega (arith, length-take n text) in
-    ap is_return (get_or-take n text k 0 below) ∙ fails_before_first is_return text k 0 below
-
 -- a text without CR
 pub line_ends-plain : (text : List ℕ) → position_or_len is_return text ≡ length text → line_ends text ≡ text
 unfolding line_ends line_ends_behind
@@ -53,9 +48,8 @@ pub line_ends-first : (text run behind rest : List ℕ) → position_or_len is_r
     → behind ≡ after_first is_return text → rest ≡ without_line_feed behind → line_ends text ≡ run ++ 10 ∷ line_ends rest
 unfolding line_ends
 line_ends-first text run behind rest some run_is behind_is rest_is =
-    let mark : get_or text (position_or_len is_return text) 0 ≡ 13 = eqb-true _ _ (passes_at_first is_return text 0 some) in
-    ap (line_ends_behind false) (split_at_first is_return text 0 some ∙ ap (λ b. before_first is_return text ++ b ∷ after_first is_return text) mark)
-    ∙ line_ends_behind-run (before_first is_return text) (13 ∷ after_first is_return text) (before-plain text)
+    ap (line_ends_behind false) (split_at_mark 13 text some)
+    ∙ line_ends_behind-run (before_first is_return text) (13 ∷ after_first is_return text) (fails_in_before_first is_return text)
     ∙ ap (λ (t : List ℕ). before_first is_return text ++ t) (line_ends_behind-at_return (after_first is_return text))
     ∙ rw (← run_is, ← behind_is, ← rest_is)
 

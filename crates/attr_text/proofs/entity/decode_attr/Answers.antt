@@ -1,4 +1,4 @@
-use Rattle.std.proofs.Common.{◌≡◌, ◌≤◌, ◌++◌, length, Ok, Err, Some, None, sym, ap, ◌∙◌, refl, arith, rules, append_assoc}
+use Rattle.std.proofs.Common.{◌≡◌, ◌++◌, length, Ok, sym, ap, ◌∙◌, arith, rules, append_assoc}
 use Rattle.std.specs.Prelude.{string_bytes, encode_utf8}
 use Rattle.attr_text.specs.Text.{decoded, decoded_within, onto_text}
 use Rattle.attr_text.proofs.DecodedLemmas.{onto_text-append, onto_text-nil, decoded_within-plain, decoded_within-refused, decoded_within-character, character_behind-none, character_behind-name, after-le}

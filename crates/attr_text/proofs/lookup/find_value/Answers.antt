@@ -1,6 +1,6 @@
-use Rattle.std.proofs.Common.{◌≡◌, ◌∷◌, Ok, Err, Some, None, true, sym, ap, ◌∙◌, rules}
+use Rattle.std.proofs.Common.{◌≡◌, ◌∷◌, Ok, Err, true, sym, ap, ◌∙◌}
 use Rattle.std.proofs.lemmas.Result.{err_from_is_err_and}
-use Rattle.attr_text.specs.Attributes.{first_value, ending_fault, items}
+use Rattle.attr_text.specs.Attributes.{first_value, ending_fault}
 use Rattle.attr_text.specs.AttrIter.{attrs_left, item_of}
 use Rattle.attr_text.specs.Wanted.{accepts}
 use Rattle.attr_text.proofs.WantedLemmas.{answer_of-found, answer_of-refused, answer_of-none}

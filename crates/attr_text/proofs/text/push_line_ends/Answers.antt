@@ -1,8 +1,6 @@
-use Rattle.std.proofs.Common.{◌≡◌, ◌+◌, ◌++◌, [], ◌∷◌, length, is_ok, sym, ap, ◌∙◌, arith}
+use Rattle.std.proofs.Common.{◌≡◌, ◌++◌, [], ◌∷◌, length, is_ok, sym, ap, ◌∙◌, arith}
 use Rattle.std.specs.Prelude.{string_bytes}
-use Rattle.std.specs.String.{string_len}
 use Rattle.std.proofs.ResultArms.{chosen}
-use Rattle.attr_text.specs.Text.{line_ends}
 use Rattle.attr_text.proofs.LinesLemmas.{line_ends-plain, line_ends-first, length-line, line_written}
 use Rattle.attr_text.proofs.text.push_line_ends.Goals as goal
 

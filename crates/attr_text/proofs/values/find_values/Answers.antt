@@ -6,6 +6,7 @@ use Rattle.attr_text.specs.Attributes.{Item, items, first_values, ending_fault}
 use Rattle.attr_text.specs.AttrIter.{attrs_left, item_of}
 use Rattle.attr_text.proofs.ValuesLemmas.{found_later, found_later-start, found_later-noted, list_all-none, list_all-copied, lookup-end, lookup-refused, lookup-all_found, lookup-no_keys}
 use Rattle.attr_text.proofs.values.find_values.Goals as goal
+use Rattle.attr_text.proofs.values.find_values.Goals.{After-note_value}
 
 -- as many keys as values
 same_lengths : (keys : List (Bor (List ℕ))) (values : List (Option (Bor (List ℕ)))) → length keys ≡ length values → length (map (λ k. k.now) keys) ≡ length (map option_copied values)
@@ -40,27 +41,33 @@ returns-in_err-key c =
     let p = err_from_is_err_and c.from_residual.result c.from_residual.ensures.1 in
     rw (p.1, p.2) (lookup-refused keys c.args.raw.now values fault rest (same_lengths c.args.keys.now c.loop-item.values (omega arith)) found (list_all-copied c.loop-item.values ∙ c.loop-item.invariant.missing) ends)
 
-pub returns-then-are_all_found : goal.returns-then-are_all_found
-returns-then-are_all_found c =
+-- what stands first, and what was found once it was read
+turn : (c : After-note_value) →
+    let rest = attrs_left c.next.new.self in
+    let keys = map (λ k. k.now) c.args.keys.now in
+    let first = attrs_left c.loop-item.item-iterator ≡ Ok (c.in_ok-key.key.now, c.in_ok-key.value.now) ∷ rest in
+    first × (first_values keys (items c.args.raw.now) ≡ found_later rest keys (map option_copied c.note_value.new.values))
+turn c =
     let keys = map (λ k. k.now) c.args.keys.now in
     let old = map option_copied c.loop-item.values in
     let new = map option_copied c.note_value.new.values in
     let rest = attrs_left c.next.new.self in
     let first = c.in-Some.ensures.steps ∙ ap (λ i. item_of i ∷ rest) c.in_ok-key.was in
-    let found = found_later-noted c.in_ok-key.key.now c.in_ok-key.value.now (items c.args.raw.now) (attrs_left c.loop-item.item-iterator) rest keys old new c.loop-item.invariant.found first c.note_value.ensures in
-    lookup-all_found keys c.args.raw.now new rest (same_lengths c.args.keys.now c.note_value.new.values (omega arith)) found
+    (first, found_later-noted c.in_ok-key.key.now c.in_ok-key.value.now (items c.args.raw.now) (attrs_left c.loop-item.item-iterator) rest keys old new c.loop-item.invariant.found first c.note_value.ensures)
+
+pub returns-then-are_all_found : goal.returns-then-are_all_found
+returns-then-are_all_found c =
+    lookup-all_found (map (λ k. k.now) c.args.keys.now) c.args.raw.now (map option_copied c.note_value.new.values) (attrs_left c.next.new.self)
+    (same_lengths c.args.keys.now c.note_value.new.values (omega arith))
+    (turn (goal.at.returns-then-are_all_found c).After-note_value).1
     (list_all-copied c.note_value.new.values ∙ sym c.if-are_all_found.ensures)
 
 pub loop-item-preserved : goal.loop-item-preserved
 loop-item-preserved c =
-    let keys = map (λ k. k.now) c.args.keys.now in
-    let old = map option_copied c.loop-item.values in
-    let new = map option_copied c.note_value.new.values in
-    let rest = attrs_left c.next.new.self in
-    let first = c.in-Some.ensures.steps ∙ ap (λ i. item_of i ∷ rest) c.in_ok-key.was in
+    let now = turn (goal.at.loop-item-preserved c).After-note_value in
     record {
-      found = found_later-noted c.in_ok-key.key.now c.in_ok-key.value.now (items c.args.raw.now) (attrs_left c.loop-item.item-iterator) rest keys old new c.loop-item.invariant.found first c.note_value.ensures;
-      fault = sym (ap ending_fault first) ∙ c.loop-item.invariant.fault;
+      found = now.1;
+      fault = sym (ap ending_fault now.0) ∙ c.loop-item.invariant.fault;
       missing = sym c.if-are_all_found.ensures;
     }
 

@@ -1,4 +1,4 @@
-use Rattle.std.proofs.Common.{map, length, ◌∙◌, arith}
+use Rattle.std.proofs.Common.{map, ◌∙◌, arith}
 use Rattle.std.proofs.lemmas.List.{length-map}
 use Rattle.attr_text.proofs.ValuesLemmas.{noted-is}
 use Rattle.attr_text.proofs.values.note_value.Goals as goal
