@@ -8,3 +8,4 @@ pub mod DecodedLemmas
 pub mod LinesLemmas
 pub mod EscapesLemmas
 pub mod CutsLemmas
+pub mod SlowLemmas

@@ -16,3 +16,6 @@ pub use items::{RawAttrIter, items_in_order};
 pub use lookup::{RawAttributes, local_name, local_name_matches};
 pub use text::{push_line_ends, unescape_hex};
 pub use values::{AttrValue, five_values, four_values, six_values, three_values, two_values};
+
+#[cfg(test)]
+mod tests;
