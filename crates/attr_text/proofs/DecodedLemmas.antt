@@ -57,7 +57,7 @@ decoded_within-ampersand size behind =
 decoded_within-first : (size : ℕ) (text : List ℕ) → position_or_len is_ampersand text < length text →
     let behind = after_first is_ampersand text in
     decoded_within size text 0 ≡ onto_text (before_first is_ampersand text)
-        (onto_character (size - length (38 ∷ behind)) (character_behind behind) (decoded_within size (after_first is_semicolon behind) 0))
+    (onto_character (size - length (38 ∷ behind)) (character_behind behind) (decoded_within size (after_first is_semicolon behind) 0))
 decoded_within-first size text some =
     let run = before_first is_ampersand text in
     let behind = after_first is_ampersand text in

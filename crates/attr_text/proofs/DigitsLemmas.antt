@@ -18,9 +18,9 @@ capped-times v b d positive =
     ⊎_elim
     (λ less. let same : capped v ≡ v = omega arith in ap (λ n. capped (n * b + d)) same)
     (λ more.
-        let most : capped v ≡ 0x11_0000 = omega arith in
-        let product = mul-le-mul_left b more in
-        ap (λ n. capped (n * b + d)) most ∙ omega (arith, product))
+    let most : capped v ≡ 0x11_0000 = omega arith in
+    let product = mul-le-mul_left b more in
+    ap (λ n. capped (n * b + d)) most ∙ omega (arith, product))
     (cases_lt v 0x11_0000)
 
 -- one more digit

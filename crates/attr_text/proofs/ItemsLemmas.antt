@@ -47,8 +47,8 @@ pub front_of-below : (size : ℕ) (text : List ℕ) → RestIsBelow (front_of si
 front_of-below size text =
     let body = without_leading_space text in
     RestIsBelow-weaker (front_of size text) (length body) (length text)
-        (length-drop-le (prefix_len is_ascii_whitespace text) text)
-        (front_behind_space-below size body)
+    (length-drop-le (prefix_len is_ascii_whitespace text) text)
+    (front_behind_space-below size body)
 
 -- only what follows the first item matters for the others
 items_from-same : (f g : List ℕ → List Item) (front : Front) (n : ℕ) → RestIsBelow front n

@@ -35,9 +35,9 @@ front_of-attribute size text (b ∷ bs) (q ∷ vs) inside body_is some value_is 
 
 pub quoted : (b : ℕ) → (b ≡ 34) ⊎ (b ≡ 39) → is_quote b ≡ true
 quoted b h = elim h [
-      | inl e ↦ rw e
-      | inr e ↦ rw e
-    ]
+  | inl e ↦ rw e
+  | inr e ↦ rw e
+]
 
 -- a list of items that were read, and what is left
 pub read-attribute : (size : ℕ) (text key value rest : List ℕ) (all read : List Item) → all ≡ read ++ items_left size text

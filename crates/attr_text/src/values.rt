@@ -11,12 +11,7 @@ use crate::items::RawAttrIter;
 pub type AttrValue<'a> = Option<&'a str>;
 
 // What is found for a wanted key once this pair was read too.
-fn with_pair<'a>(
-    found: AttrValue<'a>,
-    wanted: &str,
-    key: &str,
-    value: &'a str,
-) -> AttrValue<'a>
+fn with_pair<'a>(found: AttrValue<'a>, wanted: &str, key: &str, value: &'a str) -> AttrValue<'a>
     ensures { option_copied result ≡ value_noted key.now value.now wanted.now (option_copied found.entry) }
 {
     match found {

@@ -52,10 +52,7 @@ fn front_part(text: &[u8]) -> &[u8]
 }
 
 // The first item in the end `text` of a text of `size` bytes: its key, its value and what follows.
-fn first_parts(
-    size: usize,
-    text: &[u8],
-) -> Option<Result<(&[u8], &[u8], &[u8]), AttrFault>>
+fn first_parts(size: usize, text: &[u8]) -> Option<Result<(&[u8], &[u8], &[u8]), AttrFault>>
     requires { length text.now ≤ size }
     ensures { front_of_parts result ≡ front_of size text.now }
 {
