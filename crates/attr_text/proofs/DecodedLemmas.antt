@@ -1,12 +1,12 @@
 -- A text decoded run by run.
-use Rattle.std.proofs.Common.{◌≡◌, ℕ, zero, suc, ◌+◌, ◌-◌, ◌<◌, ◌≤◌, Bool, true, false, List, [], ◌∷◌, ◌++◌, length, take, drop, get_or, Ok, Err, Option, Some, None, Result, refl, sym, ap, ◌∙◌, arith, append_assoc, append-nil, length-drop}
-use Rattle.std.specs.Prelude.{◌==◌, nat_lt, encode_utf8}
+use Rattle.std.proofs.Common.{◌≡◌, ℕ, zero, suc, ◌+◌, ◌-◌, ◌<◌, ◌≤◌, Bool, false, List, [], ◌∷◌, ◌++◌, length, drop, get_or, Ok, Err, Some, None, Result, refl, sym, ap, ◌∙◌, arith, append_assoc, append-nil, length-drop}
+use Rattle.std.specs.Prelude.{◌==◌, encode_utf8}
 use Rattle.std.specs.List.{position_or_len, before_first, after_first}
-use Rattle.std.proofs.lemmas.Bool.{lt-ltb, le-ltb, eqb-true}
+use Rattle.std.proofs.lemmas.Bool.{lt-ltb, le-ltb}
 use Rattle.std.proofs.lemmas.List.Sums.{fails_before_first}
-use Rattle.std.proofs.lemmas.List.{get_or-take, length-take}
+use Rattle.std.proofs.lemmas.List.{length-take}
 use Rattle.attr_text.proofs.CutsLemmas.{fails_in_before_first, split_at_mark}
-use Rattle.attr_text.specs.Text.{entity_character, onto_text, onto_character, character_behind, is_semicolon, decoded_within, decoded}
+use Rattle.attr_text.specs.Text.{entity_character, onto_text, onto_character, character_behind, is_semicolon, decoded_within}
 
 -- `&`
 abbrev is_ampersand : ℕ → Bool

@@ -1,10 +1,10 @@
 -- Escapes, run by run.
-use Rattle.std.proofs.Common.{◌≡◌, ℕ, zero, suc, ◌+◌, ◌-◌, ◌<◌, ◌≤◌, Bool, true, false, ◌&&◌, List, [], ◌∷◌, ◌++◌, length, take, drop, get_or, Option, Some, None, refl, sym, ap, ◌∙◌, arith, append_assoc, append-nil, length-drop}
+use Rattle.std.proofs.Common.{◌≡◌, ℕ, zero, suc, ◌+◌, ◌<◌, ◌≤◌, Bool, true, false, ◌&&◌, List, [], ◌∷◌, ◌++◌, length, take, drop, get_or, Option, Some, None, refl, sym, ap, ◌∙◌, arith, append_assoc, append-nil, length-drop}
 use Rattle.std.specs.Prelude.{◌==◌, nat_le, encode_utf8}
 use Rattle.std.specs.Str.Parse.{digits_value}
 use Rattle.std.proofs.lemmas.Bool.{eqb-true, leb-true}
 use Rattle.std.proofs.lemmas.Option.{cond_some}
-use Rattle.std.proofs.lemmas.List.{at_drop_more, take_more, drop-drop, get_or-drop, drop_all, take_all, at_drop_all}
+use Rattle.std.proofs.lemmas.List.{at_drop_more, take_more, drop-drop, get_or-drop, drop_all, take_all}
 use lib.Utf8.{scalar}
 use Rattle.attr_text.specs.Text.{begins_with_escape, all_digits, escaped_character, onto_unescaped, unescaped_within, unescaped}
 use Rattle.attr_text.specs.Escapes.{HasEscapeAt}

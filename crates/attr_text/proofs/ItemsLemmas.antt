@@ -1,11 +1,11 @@
 -- The items of a text, by the first one and what follows it.
-use Rattle.std.proofs.Common.{◌≡◌, ℕ, zero, suc, ◌+◌, ◌-◌, ◌<◌, ◌≤◌, Bool, true, false, List, [], ◌∷◌, length, drop, Ok, Err, refl, sym, ap, ◌∙◌, arith, length-drop}
+use Rattle.std.proofs.Common.{◌≡◌, ℕ, zero, suc, ◌+◌, ◌-◌, ◌<◌, ◌≤◌, true, false, List, [], ◌∷◌, length, drop, Ok, Err, refl, sym, ap, ◌∙◌, arith, length-drop}
 use Rattle.std.specs.Prelude.{nat_lt, ◌==◌, if◌then◌else◌}
 use Rattle.std.specs.List.{prefix_len, position_or_len, before_first, after_first}
 use Rattle.std.specs.Char.{is_ascii_whitespace}
 use Rattle.attr_text.specs.declared.fault.AttrFault.{AttrFault}
 use Rattle.attr_text.specs.declared.fault.AttrFault.TheVariants.{ExpectedEq, UnquotedValue}
-use Rattle.attr_text.specs.Attributes.{Item, Front, nothing, broken, attribute, without_leading_space, without_trailing_space, is_quote, is_equals_sign, front_with_key, front_behind_space, front_of, items_from, items_within, items_left, items}
+use Rattle.attr_text.specs.Attributes.{Item, Front, nothing, broken, attribute, without_leading_space, without_trailing_space, is_quote, is_equals_sign, front_with_key, front_behind_space, front_of, items_from, items_within, items_left}
 
 -- what follows the first item has fewer than n bytes
 abbrev pub RestIsBelow : Front → ℕ → Type 0

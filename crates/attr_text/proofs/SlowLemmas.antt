@@ -1,13 +1,13 @@
 -- The definitions, byte by byte.
-use Rattle.std.proofs.Common.{◌≡◌, ℕ, ◌+◌, ◌-◌, ◌<◌, ◌≤◌, Bool, true, false, List, [], ◌∷◌, length, take, drop, get_or, refl, sym, ap, ◌∙◌, arith, inl, inr, ◌⊎◌, ◌++◌, Ok, Err, subst, append_assoc, append-nil}
-use Rattle.std.specs.Prelude.{◌==◌, nat_lt}
+use Rattle.std.proofs.Common.{◌≡◌, ℕ, ◌-◌, ◌<◌, ◌≤◌, true, false, List, [], ◌∷◌, length, take, drop, get_or, sym, ap, ◌∙◌, arith, inl, inr, ◌⊎◌, ◌++◌, Ok, Err, subst, append_assoc, append-nil}
+use Rattle.std.specs.Prelude.{◌==◌}
 use Rattle.std.specs.Char.{is_ascii_whitespace}
-use Rattle.std.specs.List.{prefix_len, suffix_len, position_or_len, before_first, after_first}
+use Rattle.std.specs.List.{position_or_len, before_first, after_first}
 use Rattle.std.proofs.lemmas.Bool.{lt-ltb}
 use Rattle.std.proofs.lemmas.List.Sums.{prefix_len_is, suffix_len_is}
 use Rattle.attr_text.specs.declared.fault.AttrFault.{AttrFault}
 use Rattle.attr_text.proofs.ItemsLemmas.{RestIsBelow, front_of-below, items_left-nothing, items_left-broken, items_left-attribute}
-use Rattle.attr_text.specs.Attributes.{Front, Item, nothing, broken, attribute, items_left, without_leading_space, without_trailing_space, is_quote, is_equals_sign, front_with_key, front_of}
+use Rattle.attr_text.specs.Attributes.{Front, Item, nothing, broken, attribute, items_left, without_leading_space, without_trailing_space, is_quote, is_equals_sign, front_of}
 
 -- n bytes of white space stand in front
 pub without_leading_space-is : (text : List ℕ) (n : ℕ) → n ≤ length text → ((k : ℕ) → k < n → is_ascii_whitespace (get_or text k 0) ≡ true)

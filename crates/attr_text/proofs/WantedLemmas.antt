@@ -1,5 +1,5 @@
 -- The lookup of one key, by what its items say.
-use Rattle.std.proofs.Common.{◌≡◌, ℕ, Bool, true, false, List, Ok, Err, Option, Some, None, refl, ap, ◌∙◌}
+use Rattle.std.proofs.Common.{◌≡◌, ℕ, true, false, List, Ok, Err, Option, Some, None, refl, ap, ◌∙◌}
 use Rattle.std.specs.Prelude.{is_some}
 use Rattle.attr_text.specs.Attributes.{first_value, ending_fault, answer, items, value_of, value_of_local}
 use Rattle.attr_text.specs.Wanted.{accepts, answer_of}

@@ -1,4 +1,4 @@
-ghost use Rattle.std.specs.Prelude.{◌≡◌, ℕ, List, MatchResult, Ok, Err};
+ghost use Rattle.std.specs.Prelude.{◌≡◌, ◌≤◌, ℕ, List, length, MatchResult, Ok, Err};
 ghost use Rattle.std.specs.Option.{option_copied};
 ghost use Rattle.attr_text.specs.Attributes.{items, value_of, value_of_local, has_local_name, local_name_of};
 ghost use Rattle.attr_text.specs.AttrIter.{attrs_left};
@@ -74,6 +74,7 @@ pub trait RawAttributes {
     /// The items of the attribute text.
     fn iter_raw_attrs(&self) -> RawAttrIter<'_>
         ensures gives { attrs_left result ≡ items (attributes self.now) }
+        ensures bound { length (attrs_left result) ≤ length (attributes self.now) }
     {
         RawAttrIter::new(self.attributes_raw())
     }

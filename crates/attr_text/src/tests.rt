@@ -75,7 +75,8 @@ fn lookups_take_the_first_pair_of_each_key(rt: HostRuntime) {
         text: "good=\"1\" bad=2",
     };
     assert_eq!(rt; tag.attributes_raw(), "good=\"1\" bad=2");
-    assert_eq!(rt; tag.iter_raw_attrs().count(), 2);
+    let mut items = tag.iter_raw_attrs();
+    assert_eq!(rt; items.next(), Some(Ok(("good", "1"))));
     assert_eq!(rt; tag.raw_attr("good"), Ok(Some("1")));
     assert_eq!(rt; tag.raw_attr("x"), Err(AttrFault::UnquotedValue(13)));
     let tag = Tag {

@@ -1,4 +1,4 @@
-use Rattle.std.proofs.Common.{◌≡◌, ◌<◌, ◌∷◌, length, map, Ok, Err, Option, List, ℕ, None, Some, Bor, sym, ap, ◌∙◌, arith, rules, false-eqb}
+use Rattle.std.proofs.Common.{◌≡◌, ◌<◌, ◌∷◌, length, map, Ok, Err, Option, List, ℕ, Bor, sym, ap, ◌∙◌, arith, rules}
 use Rattle.std.specs.Option.{option_copied}
 use Rattle.std.proofs.lemmas.Result.{err_from_is_err_and}
 use Rattle.std.proofs.lemmas.List.{length-map}
