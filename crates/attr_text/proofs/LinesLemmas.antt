@@ -79,3 +79,7 @@ pub line_written : (out run rest whole text : List ℕ) → out ++ line_ends tex
     → (out ++ run ++ 10 ∷ []) ++ line_ends rest ≡ whole
 line_written out run rest whole text so_far first =
     simp append_assoc (sym (ap (λ t. out ++ t) first) ∙ so_far)
+
+-- a run and its CR
+pub length-mark : (text run : List ℕ) → position_or_len is_return text < length text → run ≡ before_first is_return text → length run + 1 ≤ length text
+length-mark text run some run_is = omega (arith, ap length run_is, length-take (position_or_len is_return text) text)

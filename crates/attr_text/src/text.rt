@@ -1,4 +1,5 @@
-ghost use Rattle.std.specs.Prelude.{◌≡◌, ◌≤◌, ◌+◌, ◌++◌, take, drop, length, MatchOption, IfOk, OnOk, OnErr, encode_utf8, string_bytes};
+ghost use Rattle.std.specs.Prelude.{◌≡◌, ◌≤◌, ◌+◌, ◌++◌, [], ◌∷◌, length, MatchOption, IfOk, OnOk, OnErr, string_bytes};
+ghost use Rattle.std.specs.String.{string_len, string_capacity};
 ghost use Rattle.attr_text.specs.Text.{line_ends, unescaped, escaped_character};
 ghost use Rattle.attr_text.specs.Lines.{without_line_feed};
 ghost use Rattle.attr_text.specs.Escapes.{HasEscapeAt};
@@ -17,6 +18,17 @@ fn skip_line_feed(text: &str) -> &str
     }
 }
 
+// Appends a run and the line end behind it, for which there is room.
+fn push_line(out: &mut String, run: &str)
+    requires { string_len out.old + length run.now + 1 ≤ string_capacity out.old }
+    ensures bytes { string_bytes out.new ≡ string_bytes out.old ++ run.now ++ 10 ∷ [] }
+    ensures len { string_len out.new ≡ string_len out.old + length run.now + 1 }
+    ensures capacity { string_capacity out.old ≤ string_capacity out.new }
+{
+    out.push_str(run).unwrap();
+    out.push('\n').unwrap();
+}
+
 /// Appends the text, with CR LF and each lone CR as LF. After a refusal `out` is as it was.
 pub fn push_line_ends(out: &mut String, text: &str) -> Result<(), AllocError>
     ensures ok { OnOk result (string_bytes out.new ≡ string_bytes out.old ++ line_ends text.now) }
@@ -25,8 +37,7 @@ pub fn push_line_ends(out: &mut String, text: &str) -> Result<(), AllocError>
     out.reserve(text.len())?;
     let mut rest = text;
     while let Some((run, behind)) = split_first(rest, '\r') {
-        out.push_str(run).unwrap();
-        out.push('\n').unwrap();
+        push_line(out, run);
         rest = skip_line_feed(behind);
     }
     out.push_str(rest).unwrap();
