@@ -1,8 +1,8 @@
-use Rattle.std.proofs.Common.{◌≡◌, ◌+◌, ◌<◌, ◌≤◌, true, length, take, drop, get_or, min, sym, ap, ◌∙◌, inl, inr, arith, rules}
+use Rattle.std.proofs.Common.{◌≡◌, ◌+◌, ◌<◌, true, length, drop, get_or, ap, ◌∙◌, inl, inr, rules}
 use Rattle.std.specs.Prelude.{◌==◌}
-use Rattle.std.specs.List.{position_or_len, before_first, after_first}
+use Rattle.std.specs.List.{position_or_len, after_first}
 use Rattle.std.proofs.lemmas.List.{drop_min}
-use Rattle.attr_text.specs.Attributes.{Front, attribute, is_quote, is_equals_sign, without_leading_space, front_of}
+use Rattle.attr_text.specs.Attributes.{is_quote, is_equals_sign, without_leading_space}
 use Rattle.attr_text.proofs.SlowLemmas.{front_of-attribute, quoted}
 use Rattle.attr_text.proofs.tests.slow.first_parts.Goals as goal
 use Rattle.attr_text.proofs.tests.slow.first_parts.Goals.{else-value-ne34-via-then-value-ne34+else-value-ne39, else-value-ne34-via-else-value-ne34}

@@ -1,4 +1,4 @@
-use Rattle.std.proofs.Common.{◌≡◌, ◌<◌, length, map, Ok, Err, Some, sym, refl, ap, ◌∙◌, arith, rules}
+use Rattle.std.proofs.Common.{◌≡◌, length, map, Ok, Err, Some, sym, ap, ◌∙◌, arith}
 use Rattle.std.proofs.lemmas.List.{map_push}
 use Rattle.attr_text.specs.Attributes.{items, attribute, broken, front_of}
 use Rattle.attr_text.specs.AttrIter.{item_of}
