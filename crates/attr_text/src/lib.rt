@@ -1,0 +1,21 @@
+//! The text of XML attributes and of character data: attribute items and lookups, references,
+//! line ends and `_xHHHH_`.
+#![tactic(auto)]
+
+mod cuts;
+mod entity;
+mod fault;
+mod items;
+mod lookup;
+mod text;
+mod values;
+
+pub use entity::{decode_attr, entity_char, push_entity};
+pub use fault::{AttrFault, TextFault};
+pub use items::{RawAttrIter, items_in_order};
+pub use lookup::{RawAttributes, local_name, local_name_matches};
+pub use text::{push_line_ends, unescape_hex};
+pub use values::{AttrValue, five_values, four_values, six_values, three_values, two_values};
+
+#[cfg(test)]
+mod tests;
