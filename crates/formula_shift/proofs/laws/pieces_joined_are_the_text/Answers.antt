@@ -1,0 +1,5 @@
+use Rattle.formula_shift.proofs.Cutting.{joined-pieces}
+use Rattle.formula_shift.proofs.laws.pieces_joined_are_the_text.Goals as goal
+
+pub returns : goal.returns
+returns c = joined-pieces

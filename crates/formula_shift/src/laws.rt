@@ -1,0 +1,55 @@
+ghost use Rattle.std.specs.Prelude.{◌≡◌, ℕ, Some, IfSome, pos, suc, ◌+◌, [], ◌∷◌, ◌++◌, List, ℤ, length, drop, encode_utf8};
+ghost use Rattle.formula_shift.specs.Pieces.{kind_of, group_length, length_behind, first_piece, pieces, joined};
+ghost use Rattle.formula_shift.specs.References.{word_reference, spelling};
+ghost use Rattle.formula_shift.specs.Relocation.{NoneLeaves, offset_between, moved_pieces, references, moved};
+
+/// A text is cut into its first piece and the pieces of what follows it.
+pub fn pieces_by_the_first()
+    ensures none { pieces [] ≡ [] }
+    ensures some { (b : ℕ) (bs : List ℕ) →
+        pieces (b ∷ bs) ≡ first_piece b bs ∷ pieces (drop (length_behind (kind_of b) bs) bs) }
+{}
+
+/// The pieces of a text joined are the text.
+pub fn pieces_joined_are_the_text()
+    ensures { (text : List ℕ) → joined (pieces text) ≡ text }
+{}
+
+/// In a Group an apostrophe takes a whole character as plain, however many bytes it has.
+pub fn apostrophe_takes_a_character(c: char)
+    ensures { (inner : ℕ) (rest : List ℕ) →
+        group_length inner (39 ∷ (encode_utf8 c ++ rest))
+        ≡ suc (length (encode_utf8 c) + group_length inner rest) }
+{}
+
+/// A moved text is cut into the pieces of the text, where each reference that does not leave the
+/// worksheet is replaced by the Word that spells it moved.
+pub fn moved_text_is_cut_into_the_moved_pieces()
+    ensures { (text : List ℕ) (offset : ℤ × ℤ) →
+        pieces (moved text offset) ≡ moved_pieces offset (pieces text) }
+{}
+
+/// A text without a reference is its own expansion.
+pub fn text_without_reference_stays()
+    ensures { (text : List ℕ) (offset : ℤ × ℤ) → references (pieces text) ≡ [] → moved text offset ≡ text }
+{}
+
+/// A reference that a Word names, spelled, is the Word of that reference again.
+pub fn spelling_reads_back()
+    ensures { (word : List ℕ) → IfSome (word_reference word) (λ r. word_reference (spelling r) ≡ Some r) }
+{}
+
+/// Where no reference of a text leaves the worksheet from a to b, and none from a to c, expanding from a
+/// to b and then from b to c gives the expansion from a to c.
+pub fn expansions_compose()
+    ensures { (text : List ℕ) (a b c : ℕ × ℕ) →
+        NoneLeaves (offset_between a b) text → NoneLeaves (offset_between a c) text →
+        moved (moved text (offset_between a b)) (offset_between b c)
+        ≡ moved text (offset_between a c) }
+{}
+
+/// Where no reference leaves the worksheet, there and back gives the canonical spelling.
+pub fn expansion_and_back_is_the_canonical_spelling()
+    ensures { (text : List ℕ) (a b : ℕ × ℕ) → NoneLeaves (offset_between a b) text →
+        moved (moved text (offset_between a b)) (offset_between b a) ≡ moved text (pos 0, pos 0) }
+{}

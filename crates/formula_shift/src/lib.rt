@@ -1,0 +1,22 @@
+//! Formulas of cells: their pieces, the references in them, and their text moved to another cell.
+#![tactic(auto)]
+
+mod corner;
+mod expand;
+mod laws;
+mod piece;
+mod reference;
+mod spelling;
+
+pub use corner::Corner;
+pub use expand::{expand_shared_formula, expand_shared_formula_into, expanded_len};
+pub use laws::{
+    apostrophe_takes_a_character, expansion_and_back_is_the_canonical_spelling, expansions_compose,
+    moved_text_is_cut_into_the_moved_pieces, pieces_by_the_first, pieces_joined_are_the_text,
+    spelling_reads_back, text_without_reference_stays,
+};
+pub use piece::{Piece, Pieces};
+pub use reference::Reference;
+
+#[cfg(test)]
+mod tests;
