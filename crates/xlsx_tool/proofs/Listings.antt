@@ -1,7 +1,7 @@
 -- Texts with bytes in two characters.
-use Rattle.std.proofs.Common.{◌≡◌, ℕ, ◌+◌, ◌<◌, ◌≤◌, List, [], ◌∷◌, ◌++◌, length, take, drop, get_or, refl, sym, ◌∙◌, ap, Bool, true, false, cond, not, ◌&&◌, ◌==◌, arith, inl, inr}
-use Rattle.std.specs.List.{flat_map, prefix_len}
-use Rattle.std.specs.Str.{IsUtf8, IsCharBoundary}
+use Rattle.std.proofs.Common.{◌≡◌, ℕ, ◌+◌, ◌<◌, ◌≤◌, List, [], ◌∷◌, length, take, drop, get_or, refl, Bool, true, false, cond, not, ◌&&◌, ◌==◌, arith, inl, inr}
+use Rattle.std.specs.List.{prefix_len}
+use Rattle.std.specs.Str.{IsCharBoundary}
 use Rattle.std.proofs.Math.Numerals.{one-add}
 use Rattle.std.proofs.lemmas.Bool.{cases_lt}
 use Rattle.std.proofs.lemmas.Bool.Decides.{nat_tests}
@@ -52,6 +52,6 @@ unescaped_boundary bytes =
     let place = prefix_len is_unescaped bytes in
     let fits : place ≤ length bytes = omega (arith, length-prefix_len is_unescaped bytes, length-take place bytes) in
     elim (cases_lt place (length bytes)) [
-      inl before ↦ IsCharBoundary-before_ascii bytes place before (at_special bytes place before (starts_escaped bytes))
-    | inr past ↦ (let same : place ≡ length bytes = omega arith in rw same (IsCharBoundary-end bytes))
+      | inl before ↦ IsCharBoundary-before_ascii bytes place before (at_special bytes place before (starts_escaped bytes))
+      | inr past ↦ (let same : place ≡ length bytes = omega arith in rw same (IsCharBoundary-end bytes))
     ]

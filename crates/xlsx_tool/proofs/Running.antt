@@ -1,15 +1,14 @@
 -- The steps of a run, over plain values.
-use Rattle.std.proofs.Common.{◌≡◌, ℕ, ◌+◌, ◌-◌, ◌<◌, ◌≤◌, List, [], ◌∷◌, ◌++◌, length, take, drop, refl, sym, ◌∙◌, ap, subst, Bool, true, false, cond, not, arith, Option, Some, None, append_assoc}
-use Rattle.std.specs.Prelude.{IfSome}
-use Rattle.std.specs.Option.{option_and_then, option_map}
-use Rattle.std.specs.List.{AllByRecursion, flat_map}
+use Rattle.std.proofs.Common.{◌≡◌, ℕ, ◌+◌, ◌<◌, ◌≤◌, List, [], ◌∷◌, ◌++◌, length, take, drop, refl, sym, ◌∙◌, ap, subst, Bool, true, false, cond, arith, Some, None, append_assoc}
+use Rattle.std.specs.Option.{option_and_then}
+use Rattle.std.specs.List.{AllByRecursion}
 use Rattle.std.specs.Str.{IsUtf8, is_utf8}
 use Rattle.std.proofs.lemmas.List.{take-append-drop, append-nil, length-append, length-drop, length-take-le}
 use Rattle.std.proofs.lemmas.Str.{IsUtf8-from_is_utf8, is_utf8-from_IsUtf8}
 use Rattle.serde_json.specs.Data.{Data}
 use Rattle.serde_json.specs.Read.{read}
 use Rattle.part_events.specs.Package.{Part}
-use Rattle.xlsx_core.specs.PlainSheet.{PlainCell, PlainRow, IsPlainCell, IsPlainRow, IsPlainSheet, all_cells}
+use Rattle.xlsx_core.specs.PlainSheet.{PlainCell, PlainRow, IsPlainCell, IsPlainRow, all_cells}
 use Rattle.xlsx_core.specs.PlainPackage.{IsPlain, ThinFails}
 use Rattle.xlsx_core.specs.declared.thin.ThinError.{ThinError}
 use Rattle.xlsx_core.specs.declared.thin.ThinError.TheVariants.{NotBuilt}
@@ -79,7 +78,7 @@ reads_on room old new first now next fits reading piece = record {
   fits = omega (arith, piece.3, fits);
   told = piece.0 ∙ reading.told;
   faults = piece.1 ∙ reading.faults;
-  whole = λ told. reading.whole told ∙ piece.4 (reading.told ∙ told)
+  whole = λ told. reading.whole told ∙ piece.4 (reading.told ∙ told);
 }
 
 -- nothing is left
@@ -88,9 +87,9 @@ reads_all room old new first now next fits reading piece = record {
   fits = rw piece.1 fits;
   faults = piece.0 ∙ reading.faults;
   whole = λ told. (
-    let ends = piece.2 (reading.told ∙ told) in
-    (reading.whole told ∙ ap (λ (xs : List ℕ). old ++ xs) ends.0 ∙ append-nil old ∙ sym piece.1, ends.1)
-  )
+      let ends = piece.2 (reading.told ∙ told) in
+      (reading.whole told ∙ ap (λ (xs : List ℕ). old ++ xs) ends.0 ∙ append-nil old ∙ sym piece.1, ends.1)
+      );
 }
 
 -- more was read than the limit
@@ -98,7 +97,7 @@ pub reads_too_many : (bytes : List ℕ) (first now : SourceState) → 67108864 <
 reads_too_many bytes first now long reading told = record {
   taken = bytes;
   many = omega (arith, long, reading.fits);
-  from = reading.whole told
+  from = reading.whole told;
 }
 
 rises : (first now next : ℕ) → now ≡ first → Rose now next → Rose first next

@@ -1,18 +1,16 @@
 -- A run, from what its steps give.
-use Rattle.std.proofs.Common.{◌≡◌, ℕ, ◌+◌, ◌≤◌, List, [], ◌∷◌, ◌++◌, length, refl, sym, ◌∙◌, ap, subst, true≢false, Bool, true, false, arith, Option, Some, None}
+use Rattle.std.proofs.Common.{◌≡◌, ℕ, List, ◌++◌, length, refl, sym, ◌∙◌, ap, subst, true≢false, true, arith, Option, Some, None}
 use Rattle.std.specs.Prelude.{◌↔◌, Result, Ok, Err, IsOk, OnOk, IfErr}
 use Rattle.std.proofs.lemmas.List.{length-append}
-use Rattle.part_events.specs.Memory.{Contents}
-use Rattle.part_events.specs.Package.{Part, Rose}
+use Rattle.part_events.specs.Package.{Part}
 use Rattle.xlsx_core.specs.PlainSheet.{PlainCell}
 use Rattle.xlsx_core.specs.PlainPackage.{IsPlain}
-use Rattle.xlsx_tool.specs.Input.{InputRead, InputFails, TookTooMany}
+use Rattle.xlsx_tool.specs.Input.{InputRead, InputFails}
 use Rattle.xlsx_tool.specs.Listing.{listing}
 use Rattle.xlsx_tool.specs.PackageText.{package_in}
-use Rattle.xlsx_tool.specs.Run.{sheet_asked, NoFaults, Spells, IsReadable, Reads, Succeeds, IsNoPackage, IsNotPlain, HasOtherSheet, WroteFront, ReadingFails, RefusesCommand, RefusesLines, Refuses, AnswersExactly, PackageRead, NoPackage, LinesFail, LinesRead, IsSent, FrontSent, SendFails}
+use Rattle.xlsx_tool.specs.Run.{sheet_asked, Spells, IsReadable, Succeeds, ReadingFails, Refuses, AnswersExactly, NoPackage, LinesFail, LinesRead, IsSent, SendFails}
 use Rattle.xlsx_tool.specs.Sink.{SinkState}
 use Rattle.xlsx_tool.specs.Source.{SourceState}
-use Rattle.xlsx_tool.specs.declared.input.TheConstants.{INPUT_LIMIT}
 use Rattle.xlsx_tool.specs.declared.error.ToolError.{ToolError}
 use Rattle.xlsx_tool.specs.declared.error.ToolError.TheVariants.{Usage, ReadFault, InputTooLarge, NotAPackage, NotBuilt, NoSheet, WriteFault, OutOfMemory}
 
@@ -64,7 +62,7 @@ lines_read lines name bytes parts source source' input spelled given = record {
   cells = given.0;
   plain = given.1;
   listed = given.2;
-  whole = λ told. (spelled_by bytes parts source source' input spelled told, (input.whole told).1)
+  whole = λ told. (spelled_by bytes parts source source' input spelled told, (input.whole told).1);
 }
 
 -- ---- the run
@@ -100,8 +98,8 @@ not_written WriteFault words name lines source source' sink sink' asked read fai
     front = fails.1.front;
     behind = fails.1.behind;
     lines = sym read.listed ∙ fails.1.whole;
-    written = fails.1.written
-  }
+    written = fails.1.written;
+  };
 }
 not_written OutOfMemory words name lines source source' sink sink' asked read fails = absurd fails
 
@@ -116,8 +114,8 @@ succeeded words name lines source source' sink sink' asked read sent = record {
     spells = (read.whole told).0;
     plain = read.plain;
     whole = (read.whole told).1;
-    written = λ sink_told. sent.written sink_told ∙ ap (λ (xs : List ℕ). sink.written ++ xs) read.listed
-  }
+    written = λ sink_told. sent.written sink_told ∙ ap (λ (xs : List ℕ). sink.written ++ xs) read.listed;
+  };
 }
 
 -- only a sink that fails is left changed by a refusal
@@ -179,18 +177,19 @@ is_readable words name parts source source' sink sink' asked told spells succeed
     let named = subst (λ (name : List ℕ). IsPlain read.parts name read.cells) (same_some succeeds.name name (sheet_asked words) succeeds.asked asked) read.plain in
     record {
       cells = read.cells;
-      plain = subst (λ (parts : List Part). IsPlain parts name read.cells) (same_some read.parts parts (package_in source.left) read.spells.spelled spells.spelled) named
+      plain = subst (λ (parts : List Part). IsPlain parts name read.cells) (same_some read.parts parts (package_in source.left) read.spells.spelled spells.spelled) named;
     }
 
 answers_by : OneName → (result : Result (Unit {0}) ToolError) (words : List (List ℕ)) (name : List ℕ) (parts : List Part) (source source' : SourceState) (sink sink' : SinkState) → sheet_asked words ≡ Some name → source.told ≡ true → Spells source.left parts → (result ≡ Err OutOfMemory → ⊥) → (result ≡ Err ReadFault → ⊥) → (result ≡ Err WriteFault → ⊥)
     → OnOk result (Succeeds words source source' sink sink') → IfErr result (λ e. Refuses e words source source' sink sink') → IsOk result ↔ IsReadable parts name
 answers_by one (Ok x) words name parts source source' sink sink' asked told spells memory read write ok err =
     (λ _. is_readable words name parts source source' sink sink' asked told spells ok, λ _. refl)
-answers_by one (Err e) words name parts source source' sink sink' asked told spells memory read write ok err =
-    (λ is_ok. absurd (true≢false (sym is_ok)),
-    λ readable. absurd (not_refused one e words name parts readable.cells source source' sink sink' asked told spells readable.plain (λ is. memory (ap Err is)) (λ is. read (ap Err is)) (λ is. write (ap Err is)) err))
+answers_by one (Err e) words name parts source source' sink sink' asked told spells memory read write ok err = (
+  λ is_ok. absurd (true≢false (sym is_ok)),
+  λ readable. absurd (not_refused one e words name parts readable.cells source source' sink sink' asked told spells readable.plain (λ is. memory (ap Err is)) (λ is. read (ap Err is)) (λ is. write (ap Err is)) err),
+)
 
 pub answers : OneName → (result : Result (Unit {0}) ToolError) (words : List (List ℕ)) (source source' : SourceState) (sink sink' : SinkState) → source.told ≡ true → OnOk result (Succeeds words source source' sink sink') → IfErr result (λ e. Refuses e words source source' sink sink') → AnswersExactly result words source
 answers one result words source source' sink sink' told ok err = record {
-  exactly = λ name parts asked spells memory read write. answers_by one result words name parts source source' sink sink' asked told spells memory read write ok err
+  exactly = λ name parts asked spells memory read write. answers_by one result words name parts source source' sink sink' asked told spells memory read write ok err;
 }

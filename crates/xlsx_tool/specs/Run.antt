@@ -1,5 +1,5 @@
 -- What a run of the program answers, and when.
-use Rattle.std.specs.Prelude.{◌≡◌, ◌↔◌, Result, Ok, Err, IsOk, ℕ, ◌+◌, ◌≤◌, List, [], ◌∷◌, ◌++◌, length, Bool, true, if◌then◌else◌, Option, Some, None, codes, map, String, string_bytes}
+use Rattle.std.specs.Prelude.{◌≡◌, ◌↔◌, Result, Err, IsOk, ℕ, ◌≤◌, List, [], ◌∷◌, ◌++◌, length, true, if◌then◌else◌, Option, Some, None, codes, map, String, string_bytes}
 use Rattle.std.specs.Str.{bytes_eq}
 use Rattle.std.specs.declared.alloc.Global.{Global}
 use Rattle.part_events.specs.Memory.{Contents, closed}
@@ -130,9 +130,9 @@ Refuses OutOfMemory words source source' sink sink' = RefusesCommand OutOfMemory
 -- name that was asked for, unless memory, the source or the sink fails it.
 pub record AnswersExactly (result : Result (Unit {0}) ToolError) (words : List (List ℕ)) (source : SourceState) : Type 0 where
   pub exactly :
-    (name : List ℕ) (parts : List Part) → sheet_asked words ≡ Some name → Spells source.left parts
-    → (result ≡ Err OutOfMemory → ⊥) → (result ≡ Err ReadFault → ⊥) → (result ≡ Err WriteFault → ⊥)
-    → IsOk result ↔ IsReadable parts name
+      (name : List ℕ) (parts : List Part) → sheet_asked words ≡ Some name → Spells source.left parts
+      → (result ≡ Err OutOfMemory → ⊥) → (result ≡ Err ReadFault → ⊥) → (result ≡ Err WriteFault → ⊥)
+      → IsOk result ↔ IsReadable parts name
 
 -- ---- the steps of a run
 

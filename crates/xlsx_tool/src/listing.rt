@@ -1,4 +1,4 @@
-ghost use Rattle.std.specs.Prelude.{◌≡◌, ◌<◌, ◌++◌, ◌==◌, ◌∷◌, [], length, false, option_map, string_bytes, slice_index, IfOk, OnOk, OnErr, IsUtf8};
+ghost use Rattle.std.specs.Prelude.{◌≡◌, ◌<◌, ◌++◌, ◌==◌, ◌∷◌, [], length, false, option_map, string_bytes, slice_index, IfOk, OnOk, IsUtf8};
 ghost use Rattle.std.specs.List.{prefix_len, AllByRecursion};
 ghost use Rattle.xlsx_core.specs.ThinCell.{cell_of, cells_of};
 ghost use Rattle.xlsx_tool.specs.Listing.{escaped_byte, escaped, field, line, line_of, listing, is_unescaped, IsInside, StartsEscaped};
@@ -95,14 +95,4 @@ pub fn listing_of(alloc: Global, cells: &[ThinCell]) -> Result<String, AllocErro
         push_line(&mut out, cell)?;
     }
     Ok(out)
-}
-
-/// Appends the lines of the cells, in their order. A refusal leaves the text as it was.
-pub fn push_listing(out: &mut String, cells: &[ThinCell]) -> Result<(), AllocError>
-    requires { AllByRecursion IsInside (cells_of cells.now) }
-    ensures ok { OnOk result (string_bytes out.new ≡ string_bytes out.old ++ listing (cells_of cells.now)) }
-    ensures err { OnErr result (string_bytes out.new ≡ string_bytes out.old) }
-{
-    let lines = listing_of(*out.allocator(), cells)?;
-    out.push_str(lines.as_str())
 }

@@ -8,19 +8,17 @@ mod package_text;
 mod run;
 mod sink;
 mod source;
-
 #[cfg(test)]
 mod tests;
-
-use std::alloc::Global;
-use std::env::{self, Env};
-use std::io::{self, Input};
-use std::process::ExitCode;
 
 use error::ToolError;
 use run::{run, send};
 use sink::StdSink;
 use source::StdSource;
+use std::alloc::Global;
+use std::env::{self, Env};
+use std::io::{self, Input};
+use std::process::ExitCode;
 
 const HELP: &str = "\
 Usage: xlsx_tool cells NAME < package.json

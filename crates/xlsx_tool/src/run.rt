@@ -9,8 +9,6 @@ ghost use Rattle.xlsx_tool.specs.declared.error.ToolError.TheVariants.{Usage, Wr
 ghost use Rattle.serde_json.specs.View.{view};
 ghost use Rattle.xlsx_tool.specs.Listing.{listing};
 
-use std::alloc::Global;
-
 use crate::error::ToolError;
 use crate::input::read_input;
 use crate::listing::listing_of;
@@ -19,6 +17,7 @@ use crate::sink::Sink;
 use crate::source::Source;
 use part_events::MemoryPackage;
 use serde_json::Value;
+use std::alloc::Global;
 use xlsx_core::{ThinError, plain_sheet_is_one, read_thin};
 
 /// The name in the words `cells NAME`.

@@ -1,11 +1,14 @@
-use std::alloc::Global;
-use std::test::Fail;
+ghost use Rattle.std.specs.Prelude.{◌<◌};
 
 use crate::error::ToolError;
 use crate::input::INPUT_LIMIT;
+use crate::package_text::package_from_json;
 use crate::run::run;
 use crate::sink::MemorySink;
 use crate::source::MemorySource;
+use serde_json::Value;
+use std::alloc::Global;
+use std::test::Fail;
 
 const FRONT: &str = r##"{"version":1,"parts":[
 {"name":"_rels/.rels","events":[["s","Relationships",""],
@@ -24,6 +27,10 @@ const NUTS: &str = r#",["s","row"," r=\"1\""],
 ["s","c"," r=\"A1\" t=\"str\""],["s","v",""],["t","nut"],["e","v"],["e","c"],
 ["s","c"," r=\"B1\" t=\"str\""],["s","f",""],["t","UPPER(A1)"],["e","f"],["s","v",""],["t","NUT"],["e","v"],["e","c"],["e","row"]"#;
 
+/// A cell without a type.
+const UNTYPED: &str =
+    r#",["s","row"," r=\"1\""],["s","c"," r=\"A1\""],["s","v",""],["t","nut"],["e","v"],["e","c"],["e","row"]"#;
+
 const NUTS_LINES: &str = "A1\ts:nut\t-\t-\nB1\ts:NUT\t=UPPER(A1)\t-\n";
 
 /// A package of one sheet `S` with these events inside its `sheetData`.
@@ -32,6 +39,7 @@ fn package_of(alloc: Global, inside: &str) -> Result<String, Fail> {
 }
 
 /// What a run answers, and what it has written.
+#[derive(Debug, Drop)]
 struct Answer {
     result: Result<(), ToolError>,
     written: String,
@@ -65,7 +73,9 @@ fn calls(alloc: Global, failing: Option<u64>) -> Result<Vec<u64>, Fail> {
     Ok(calls)
 }
 
-fn answer(alloc: Global, words: &[&str], input: &[u8], setting: Setting) -> Result<Answer, Fail> {
+fn run_on(alloc: Global, words: &[&str], input: &[u8], setting: Setting) -> Result<Answer, Fail>
+    requires { 0 < setting.piece }
+{
     let mut texts = Vec::new(alloc);
     for word in words {
         texts.push(String::from_str(alloc, word)?)?;
@@ -83,8 +93,166 @@ fn answer(alloc: Global, words: &[&str], input: &[u8], setting: Setting) -> Resu
 #[test]
 fn a_plain_sheet_is_listed(rt: HostRuntime) -> Result<(), Fail> {
     let input = package_of(rt.alloc(), NUTS)?;
-    let told = answer(rt.alloc(), &["cells", "S"], input.as_bytes(), EASY)?;
-    assert_eq!(rt; told.result, Ok(()));
-    assert_eq!(rt; told.written.as_str(), NUTS_LINES);
+    for piece in [1, 2, 3, 1_000] {
+        let setting = Setting { piece, ..EASY };
+        let told = run_on(rt.alloc(), &["cells", "S"], input.as_bytes(), setting)?;
+        assert_eq!(rt; told.result, Ok(()));
+        assert_eq!(rt; told.written.as_str(), NUTS_LINES);
+    }
+    Ok(())
+}
+
+#[test]
+fn each_refusal_has_its_cause(rt: HostRuntime) -> Result<(), Fail> {
+    let alloc = rt.alloc();
+    let nuts = package_of(alloc, NUTS)?;
+    let untyped = package_of(alloc, UNTYPED)?;
+    let cells: &[&str] = &["cells", "S"];
+    let table: [(&[&str], &str, ToolError); 8] = [
+        (cells, "", ToolError::NotAPackage),
+        (cells, "[]", ToolError::NotAPackage),
+        (
+            cells,
+            "{\"version\":2,\"parts\":[]}",
+            ToolError::NotAPackage,
+        ),
+        (cells, "{\"version\":1,\"parts\":[]}", ToolError::NotBuilt),
+        (&["cells"], nuts.as_str(), ToolError::Usage),
+        (&["cells", "S", "S"], nuts.as_str(), ToolError::Usage),
+        (&["cells", "X"], nuts.as_str(), ToolError::NoSheet),
+        (cells, untyped.as_str(), ToolError::NotBuilt),
+    ];
+    for (words, input, want) in table {
+        let told = run_on(alloc, words, input.as_bytes(), EASY)?;
+        assert_eq!(rt; told.result, Err(want), "of {input}");
+        assert_eq!(rt; told.written.as_str(), "");
+    }
+    let told = run_on(alloc, cells, b"\xff", EASY)?;
+    assert_eq!(rt; told.result, Err(ToolError::NotAPackage));
+    Ok(())
+}
+
+#[test]
+fn a_failing_source_is_told(rt: HostRuntime) -> Result<(), Fail> {
+    let alloc = rt.alloc();
+    let input = package_of(alloc, NUTS)?;
+    for call in 0..4 {
+        let setting = Setting {
+            failing_read: Some(call),
+            ..EASY
+        };
+        let told = run_on(alloc, &["cells", "S"], input.as_bytes(), setting)?;
+        let fails = call <= input.len() as u64 / 1_000 + 1;
+        let want = if fails {
+            Err(ToolError::ReadFault)
+        } else {
+            Ok(())
+        };
+        assert_eq!(rt; told.result, want, "of call {call}");
+    }
+    Ok(())
+}
+
+#[test]
+fn a_full_or_failing_sink_has_a_front_of_the_lines(rt: HostRuntime) -> Result<(), Fail> {
+    let alloc = rt.alloc();
+    let input = package_of(alloc, NUTS)?;
+    for room in 0..NUTS_LINES.len() {
+        let setting = Setting { room, ..EASY };
+        let told = run_on(alloc, &["cells", "S"], input.as_bytes(), setting)?;
+        assert_eq!(rt; told.result, Err(ToolError::WriteFault));
+        assert_eq!(rt; told.written.as_bytes(), &NUTS_LINES.as_bytes()[..room]);
+    }
+    let setting = Setting {
+        piece: 10,
+        failing_write: Some(2),
+        ..EASY
+    };
+    let told = run_on(alloc, &["cells", "S"], input.as_bytes(), setting)?;
+    assert_eq!(rt; told.result, Err(ToolError::WriteFault));
+    assert_eq!(rt; told.written.as_bytes(), &NUTS_LINES.as_bytes()[..20]);
+    Ok(())
+}
+
+#[test]
+fn an_input_past_the_limit_is_too_large(rt: HostRuntime) -> Result<(), Fail> {
+    let alloc = rt.alloc();
+    let setting = Setting {
+        piece: 65_536,
+        ..EASY
+    };
+    for (length, want) in [
+        (INPUT_LIMIT, ToolError::NotAPackage),
+        (INPUT_LIMIT + 1, ToolError::InputTooLarge),
+    ] {
+        let input = vec![in alloc; b' '; length]?;
+        let told = run_on(alloc, &["cells", "S"], &input, setting)?;
+        assert_eq!(rt; told.result, Err(want), "of {length} bytes");
+    }
+    Ok(())
+}
+
+#[test]
+fn refusals_have_statuses_and_texts(rt: HostRuntime) -> Result<(), Fail> {
+    for (error, status, text) in [
+        (ToolError::Usage, 2, "usage"),
+        (ToolError::ReadFault, 3, "read fault"),
+        (ToolError::InputTooLarge, 4, "input too large"),
+        (ToolError::NotAPackage, 5, "not a package"),
+        (ToolError::NoSheet, 6, "no sheet"),
+        (ToolError::WriteFault, 7, "write fault"),
+        (ToolError::OutOfMemory, 8, "out of memory"),
+        (ToolError::NotBuilt, 9, "not built yet"),
+    ] {
+        assert_eq!(rt; error.status(), status);
+        assert_eq!(rt; error.to_string(rt.alloc())?.as_str(), text);
+    }
+    Ok(())
+}
+
+#[test]
+fn a_package_text_of_version_1_spells_its_parts(rt: HostRuntime) -> Result<(), Fail> {
+    let alloc = rt.alloc();
+    for (text, parts) in [
+        (r#"{"parts":[],"version":1}"#, Some(0)),
+        (
+            r#"{"version":1,"made by":["x",-3],"parts":[{"name":"a","events":[["o"],["r","amp"],["d","x"]],"more":null}]}"#,
+            Some(1),
+        ),
+        (
+            r#"{"version":1,"parts":[{"name":"a","events":[]},{"name":"a","events":[["t",""]]}]}"#,
+            Some(2),
+        ),
+        (r#"{"version":"1","parts":[]}"#, None),
+        (r#"{"version":1.0,"parts":[]}"#, None),
+        (r#"{"version":1,"parts":[],"more":[{"deep":0.5}]}"#, None),
+        (r#"{"version":1,"parts":{}}"#, None),
+        (r#"{"version":1,"parts":[{"name":"a"}]}"#, None),
+        (r#"{"version":1,"parts":[{"name":1,"events":[]}]}"#, None),
+        (
+            r#"{"version":1,"parts":[{"name":"a","events":[["s","x"]]}]}"#,
+            None,
+        ),
+        (
+            r#"{"version":1,"parts":[{"name":"a","events":[["o","x"]]}]}"#,
+            None,
+        ),
+        (
+            r#"{"version":1,"parts":[{"name":"a","events":[["q","x"]]}]}"#,
+            None,
+        ),
+        (
+            r#"{"version":1,"parts":[{"name":"a","events":[["t",1]]}]}"#,
+            None,
+        ),
+    ] {
+        let value = Value::from_str(alloc, text)?;
+        let found = package_from_json(alloc, &value)?;
+        assert_eq!(rt;
+            found.map(|package| package.part_count()),
+            parts,
+            "of {text}"
+        );
+    }
     Ok(())
 }

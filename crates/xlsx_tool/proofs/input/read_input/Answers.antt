@@ -1,6 +1,6 @@
-use Rattle.std.proofs.Common.{◌≡◌, ◌∙◌, ◌+◌, ◌≤◌, length, refl, rules, arith}
+use Rattle.std.proofs.Common.{length, refl, rules}
 use Rattle.std.proofs.lemmas.Result.{err_from_is_err_and}
-use Rattle.xlsx_tool.proofs.Running.{IsReading, reads_on, reads_all, reads_too_many, piece_fails, goes_on, ends, piece_keeps}
+use Rattle.xlsx_tool.proofs.Running.{reads_on, reads_all, reads_too_many, piece_fails, goes_on, ends, piece_keeps}
 use Rattle.xlsx_tool.proofs.input.read_input.Goals as goal
 
 pub pieces-init : goal.pieces-init

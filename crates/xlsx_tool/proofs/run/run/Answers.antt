@@ -11,4 +11,4 @@ returns-in_err-lines-clause-exact g c = λ told. (
     rw (handed.1, handed.2)
     (answers c.plain_sheet_is_one.ensures.name (Err e) (texts c.args.words.now) _ (g.S.Source.state c.lines_from.new.source) (g.K.Sink.state c.args.sink.now) (g.K.Sink.state c.args.sink.now) told tt
     (refused e (texts c.args.words.now) c.in-Some.name.now _ _ (g.K.Sink.state c.args.sink.now) (sym c.in-Some.ensures) c.in_err-lines.ensures.err))
-)
+    )
