@@ -16,5 +16,4 @@ pub fn references_read_back()
 pub fn references_lie_inside()
     ensures position { (text : List ℕ) (position : ℕ × ℕ) → corner text ≡ Ok position → (position.0 < MAX_ROWS) × (position.1 < MAX_COLUMNS) }
     ensures row { (text : List ℕ) (row : ℕ) → row_of text ≡ Ok row → row < MAX_ROWS }
-{
-}
+{}

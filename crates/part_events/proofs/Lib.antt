@@ -1,3 +1,12 @@
+pub mod LookingBack
+pub mod Matches
 pub mod Names
+pub mod Nested
+pub mod Opened
+pub mod Outermost
 pub mod Parts
+pub mod Sections
 pub mod Spans
+pub mod Steps
+pub mod Texts
+pub mod Walking

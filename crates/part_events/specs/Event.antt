@@ -27,3 +27,12 @@ event_of (Text content) = text content.now
 event_of (CharData content) = char_data content.now
 event_of (EntityRef name) = entity_ref name.now
 event_of Other = other
+
+-- a fact of the tag of a start, which is false of every other event
+abbrev pub IsStartAnd : Event → (Tag → Type 0) → Type 0
+IsStartAnd (start tag) P = P tag
+IsStartAnd (end name) P = ⊥
+IsStartAnd (text content) P = ⊥
+IsStartAnd (char_data content) P = ⊥
+IsStartAnd (entity_ref name) P = ⊥
+IsStartAnd other P = ⊥

@@ -1,4 +1,13 @@
 pub mod Event
+pub mod Failing
+pub mod JoinedText
 pub mod Memory
+pub mod NestingLaws
+pub mod OpenNames
+pub mod Nesting
 pub mod Package
+pub mod Reader
+pub mod Reading
+pub mod Section
 pub mod Stored
+pub mod Walk

@@ -1,4 +1,7 @@
 ghost use Rattle.std.specs.Prelude.{◌≡◌};
+ghost use Rattle.attr_text.specs.Attributes.{local_name_of};
+
+use attr_text::{RawAttributes, local_name};
 
 /// The start of an element.
 #[derive(Clone, Copy, Debug, PartialEq, Eq)]
@@ -7,6 +10,23 @@ pub struct StartTag<'a> {
     pub name: &'a str,
     /// The text between the name and the end of the tag, as written.
     pub attributes: &'a str,
+}
+
+impl<'a> StartTag<'a> {
+    /// What follows the last `:` of the name, or the whole name.
+    pub fn local_name(&self) -> &'a str
+        ensures { result.now ≡ local_name_of self.now.name.now }
+    {
+        local_name(self.name)
+    }
+}
+
+impl RawAttributes for StartTag<'_> {
+    ghost attributes = { λ tag. tag.attributes.now };
+
+    fn attributes_raw(&self) -> &str {
+        self.attributes
+    }
 }
 
 /// One markup event of a part. An empty element is a start and an end.

@@ -87,6 +87,13 @@ impl MemoryPackage {
         Ok(())
     }
 
+    /// Leaves no part open.
+    pub(crate) fn close(&mut self)
+        ensures { self.new ≡ closed self.old.parts self.old.taken }
+    {
+        self.place = None;
+    }
+
     pub fn part_count(&self) -> usize
         ensures { result ≡ length self.now.parts }
     {

@@ -1,7 +1,13 @@
+pub mod Events
 pub mod Fronts
+pub mod Kept
 pub mod OneSheet
+pub mod OpeningLemmas
+pub mod Pieces
 pub mod PlainFails
 pub mod PlainRead
 pub mod PlainWritten
+pub mod Refused
+pub mod Sound
 pub mod Spelled
 pub mod Taking

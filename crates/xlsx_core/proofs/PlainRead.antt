@@ -324,10 +324,10 @@ module _ (last : Option (ℕ × ℕ)) (event : Event) (events : List Event) (cel
         row_cells = cell ∷ more.row_cells;
         rows = more.rows;
         spelled =
-          ap (λ (e : Event). e ∷ events) is
-          ∙ ap (λ (es : List Event). opening (codes "c") (cell_attributes position) ∷ es) (left.spelled ∙ ap (λ (es : List Event). child_events (codes "f") left.content ++ es) (left.left.spelled ∙ ap (λ (es : List Event). child_events (codes "v") left.left.content ++ es) (ends.spelled ∙ ap (λ (es : List Event). end (codes "c") ∷ es) more.spelled)))
-          ∙ cell_spelled position left.content left.left.content rest
-          ∙ sym (append_assoc (cell_events cell) (flat_map cell_events more.row_cells) (end (codes "row") ∷ rows_tail more.rows));
+            ap (λ (e : Event). e ∷ events) is
+            ∙ ap (λ (es : List Event). opening (codes "c") (cell_attributes position) ∷ es) (left.spelled ∙ ap (λ (es : List Event). child_events (codes "f") left.content ++ es) (left.left.spelled ∙ ap (λ (es : List Event). child_events (codes "v") left.left.content ++ es) (ends.spelled ∙ ap (λ (es : List Event). end (codes "c") ∷ es) more.spelled)))
+            ∙ cell_spelled position left.content left.left.content rest
+            ∙ sym (append_assoc (cell_events cell) (flat_map cell_events more.row_cells) (end (codes "row") ∷ rows_tail more.rows));
         plain_cells = (record { in_rows = fits.0; in_columns = fits.1; text = chosen_plain left.left.content left.left.plain_text; formula = chosen_plain left.content left.plain_text }, more.plain_cells);
         plain = more.plain;
         same = ends.same ∙ ap (λ (cs : List PlainCell). cell ∷ cs) more.same;

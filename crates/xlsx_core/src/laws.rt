@@ -9,12 +9,10 @@ ghost use Rattle.xlsx_core.specs.PlainScan.{cells_from, beginning};
 pub fn plain_sheets_are_read()
     ensures read { (events : List Event) (cells : List PlainCell) → IsPlainSheet events cells → cells_from beginning events ≡ Some cells }
     ensures only { (events : List Event) (cells : List PlainCell) → cells_from beginning events ≡ Some cells → IsPlainSheet events cells }
-{
-}
+{}
 
 /// A plain package has one sheet: one name, and one list of cells.
 pub fn plain_sheet_is_one()
     ensures name { (parts : List Part) (name another : List ℕ) (cells others : List PlainCell) → IsPlain parts name cells → IsPlain parts another others → name ≡ another }
     ensures cells { (parts : List Part) (name another : List ℕ) (cells others : List PlainCell) → IsPlain parts name cells → IsPlain parts another others → cells ≡ others }
-{
-}
+{}

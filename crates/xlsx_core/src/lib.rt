@@ -2,13 +2,28 @@
 #![tactic(auto)]
 
 mod between;
+mod decode;
 mod laws;
+mod opening;
+mod paths;
 mod plain;
 mod reference;
+mod relationship_parts;
+mod relationships;
 mod scan;
+mod section;
+mod sheet;
+mod sheet_element;
 mod thin;
+mod workbook;
+mod xlsx;
 
-pub use plain::read_thin;
 pub use laws::{plain_sheet_is_one, plain_sheets_are_read};
+pub use plain::read_thin;
 pub use reference::{push_reference, push_row_reference};
+pub use sheet::{Metadata, Sheet, SheetType, SheetVisible};
 pub use thin::{ThinCell, ThinError};
+pub use xlsx::{OpenFailure, Xlsx};
+
+#[cfg(test)]
+mod opening_tests;

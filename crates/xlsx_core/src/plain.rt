@@ -6,13 +6,11 @@ ghost use Rattle.xlsx_core.specs.PlainPackage.{relationship_events, workbook_eve
 ghost use Rattle.xlsx_core.specs.PlainScan.{cells_from, beginning};
 ghost use Rattle.xlsx_core.specs.ThinCell.{cell_of, cells_of};
 
-use std::alloc::{AllocError, Global};
-
-use part_events::Package;
-
 use crate::between::between;
 use crate::scan::{SheetScan, attributes_of, is_end, is_opening};
 use crate::thin::{ThinCell, ThinError};
+use part_events::Package;
+use std::alloc::{AllocError, Global};
 
 /// Whether the next event is this start.
 fn takes_opening<P: Package>(
@@ -222,9 +220,11 @@ fn take_cells<P: Package>(alloc: Global, package: &mut P) -> Result<Vec<ThinCell
     }
 }
 
-const ROOT_ATTRIBUTES: &str = " Id=\"rId1\" Type=\"http://schemas.openxmlformats.org/officeDocument/2006/relationships/officeDocument\" Target=\"xl/workbook.xml\"";
+const ROOT_ATTRIBUTES: &str =
+    " Id=\"rId1\" Type=\"http://schemas.openxmlformats.org/officeDocument/2006/relationships/officeDocument\" Target=\"xl/workbook.xml\"";
 
-const WORKBOOK_ATTRIBUTES: &str = " Id=\"rId1\" Type=\"http://schemas.openxmlformats.org/officeDocument/2006/relationships/worksheet\" Target=\"worksheets/sheet1.xml\"";
+const WORKBOOK_ATTRIBUTES: &str =
+    " Id=\"rId1\" Type=\"http://schemas.openxmlformats.org/officeDocument/2006/relationships/worksheet\" Target=\"worksheets/sheet1.xml\"";
 
 /// Whether a part of this name is there.
 fn has_part<P: Package>(package: &mut P, part: &str) -> Result<bool, ThinError>

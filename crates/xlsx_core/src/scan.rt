@@ -5,15 +5,14 @@ ghost use Rattle.xlsx_core.specs.PlainScan.{row_in, position_in, is_opening, is_
 ghost use Rattle.xlsx_core.specs.ThinCell.{StepFails};
 ghost use Rattle.xlsx_core.specs.ThinCell.{cell_of, place_of};
 
-use std::alloc::{AllocError, Global};
-use std::marker::Model;
-use std::mem;
-
 use crate::between::between;
 use crate::reference::{push_reference, push_row_reference};
 use crate::thin::{ThinCell, ThinError};
 use cell_refs::{get_row, get_row_column};
 use part_events::PartEvent;
+use std::alloc::{AllocError, Global};
+use std::marker::Model;
+use std::mem;
 
 /// Where reading stands in the part of a worksheet; within a cell, with what was read of it.
 #[derive(Debug, Drop)]

@@ -12,5 +12,5 @@ returns-in_default-clause-takes g c =
     let told-2 = c.in_ok-takes_opening.ensures.keeps.told ∙ told in
     let told-3 = c.in_ok-takes_opening-2.ensures.keeps.told ∙ told-2 in
     let rest = rest_taken c.in_ok-takes_opening-2.field-0 _ _ _ _ c.if-not-branch-2.false (c.in_ok-takes_opening-2.ensures.takes told-2)
-      (rest_taken c.in_ok-takes_opening.field-0 _ _ _ _ c.if-not-branch.false (c.in_ok-takes_opening.ensures.takes told) same) in
+    (rest_taken c.in_ok-takes_opening.field-0 _ _ _ _ c.if-not-branch.false (c.in_ok-takes_opening.ensures.takes told) same) in
     no_sheet_taken c.in_ok-same.field-0 _ _ _ name _ c.in_default.is (c.in_ok-same.ensures.takes told-3) plain rest

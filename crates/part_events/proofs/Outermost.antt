@@ -1,0 +1,58 @@
+-- Outermost elements and children, by their starts.
+use Rattle.std.proofs.Common.{◌≡◌, ℕ, zero, suc, ◌+◌, List, [], ◌∷◌, map, Bool, true, false, refl, sym, ◌∙◌, ap, arith}
+use Rattle.std.specs.Prelude.{if◌then◌else◌, ◌==◌}
+use Rattle.std.proofs.lemmas.Bool.Decides.{nat_tests}
+use Rattle.part_events.specs.Event.{Tag, Event, start, end, text, char_data, entity_ref, other}
+use Rattle.part_events.specs.Nesting.{starts_in, ends_in, depth}
+use Rattle.part_events.specs.NestingLaws.{starts_at}
+use Rattle.part_events.specs.Section.{Element, content, behind, outermost, outermost_from, is_any, children}
+
+left_behind : (wanted : Tag → Bool) (inner : ℕ) (events : List Event) → outermost_from wanted (suc inner) events ≡ outermost_from wanted 0 (behind inner events)
+left_behind wanted inner [] = refl
+left_behind wanted inner (start tag ∷ events) = left_behind wanted (suc inner) events
+left_behind wanted zero (end name ∷ events) = refl
+left_behind wanted (suc inner) (end name ∷ events) = left_behind wanted inner events
+left_behind wanted inner (text written ∷ events) = left_behind wanted inner events
+left_behind wanted inner (char_data written ∷ events) = left_behind wanted inner events
+left_behind wanted inner (entity_ref name ∷ events) = left_behind wanted inner events
+left_behind wanted inner (other ∷ events) = left_behind wanted inner events
+
+pub outermost-wanted : (wanted : Tag → Bool) (tag : Tag) (events : List Event) → wanted tag ≡ true → outermost wanted (start tag ∷ events) ≡ record { tag = tag; inside = content 0 events } ∷ outermost wanted (behind 0 events)
+outermost-wanted wanted tag events is =
+    let first : Element = record { tag = tag; inside = content 0 events } in
+    ap (λ (b : Bool). if b then first ∷ outermost_from wanted 1 events else outermost_from wanted 0 events) is
+    ∙ ap (λ (others : List Element). first ∷ others) (left_behind wanted 0 events)
+
+pub outermost-unwanted : (wanted : Tag → Bool) (tag : Tag) (events : List Event) → wanted tag ≡ false → outermost wanted (start tag ∷ events) ≡ outermost wanted events
+outermost-unwanted wanted tag events is =
+    let first : Element = record { tag = tag; inside = content 0 events } in
+    ap (λ (b : Bool). if b then first ∷ outermost_from wanted 1 events else outermost_from wanted 0 events) is
+
+abbrev tags : List Element → List Tag
+tags elements = map (λ (element : Element). element.tag) elements
+
+at_level : (n : ℕ) → n ≡ 1 → (n == 1) ≡ true
+at_level n is = grind (arith, nat_tests)
+
+off_level : (n k : ℕ) → n ≡ k + 2 → (n == 1) ≡ false
+off_level n k is = grind (arith, nat_tests)
+
+children_from : (within : ℕ) (past events : List Event) → starts_in past ≡ ends_in past + 1 + within → tags (outermost_from is_any within (content within events)) ≡ starts_at 1 past (content within events)
+children_from within past [] is = refl
+children_from zero past (start tag ∷ events) is =
+    let level : (depth past == 1) ≡ true = at_level (depth past) (omega (arith, is)) in
+    ap (λ (rest : List Tag). tag ∷ rest) (children_from 1 (start tag ∷ past) events (omega (arith, is)))
+    ∙ ap (λ (b : Bool). if b then tag ∷ starts_at 1 (start tag ∷ past) (content 1 events) else starts_at 1 (start tag ∷ past) (content 1 events)) (sym level)
+children_from (suc within) past (start tag ∷ events) is =
+    let level : (depth past == 1) ≡ false = off_level (depth past) within (omega (arith, is)) in
+    children_from (suc (suc within)) (start tag ∷ past) events (omega (arith, is))
+    ∙ ap (λ (b : Bool). if b then tag ∷ starts_at 1 (start tag ∷ past) (content (suc (suc within)) events) else starts_at 1 (start tag ∷ past) (content (suc (suc within)) events)) (sym level)
+children_from zero past (end name ∷ events) is = refl
+children_from (suc within) past (end name ∷ events) is = children_from within (end name ∷ past) events (omega (arith, is))
+children_from within past (text written ∷ events) is = children_from within (text written ∷ past) events is
+children_from within past (char_data written ∷ events) is = children_from within (char_data written ∷ past) events is
+children_from within past (entity_ref name ∷ events) is = children_from within (entity_ref name ∷ past) events is
+children_from within past (other ∷ events) is = children_from within (other ∷ past) events is
+
+pub children_at_depth_one : (tag : Tag) (events : List Event) → tags (children (content 0 events)) ≡ starts_at 1 (start tag ∷ []) (content 0 events)
+children_at_depth_one tag events = children_from 0 (start tag ∷ []) events (omega arith)

@@ -1,0 +1,80 @@
+-- The text of an element: that of its Text events and references, with character data where it is asked for.
+use Rattle.std.specs.Prelude.{◌≡◌, ⊤, ℕ, suc, ◌+◌, List, [], ◌∷◌, ◌++◌, Bool, true, false, if◌then◌else◌, Option, None, Some, option_map, is_none, encode_utf8, slice_get, IsSomeAnd}
+use Rattle.attr_text.specs.Text.{entity_character, line_ends}
+use Rattle.attr_text.specs.declared.fault.TextFault.{TextFault}
+use Rattle.attr_text.specs.declared.fault.TextFault.TheVariants as text_fault
+use Rattle.part_events.specs.Event.{Event, start, end, text, char_data, entity_ref, other}
+use Rattle.part_events.specs.Package.{HasCause}
+use Rattle.part_events.specs.Reading.{Reading, IsAtEnd, BreaksAt, ahead, events_of}
+use Rattle.part_events.specs.Section.{content, is_closed, behind}
+use Rattle.part_events.specs.declared.fault.StreamError.{StreamError}
+use Rattle.part_events.specs.declared.fault.StreamError.TheVariants.{Io, Xml, OutOfMemory}
+use Rattle.part_events.specs.declared.fault.XmlFault.TheVariants.{EndMismatch, Unclosed, Entity}
+
+abbrev pub character_text : Option ℕ → List ℕ
+character_text None = []
+character_text (Some character) = encode_utf8 character
+
+-- the text of an event, where `data_too` says whether that of character data is wanted
+abbrev pub text_of : Bool → Event → List ℕ
+text_of data_too (start tag) = []
+text_of data_too (end name) = []
+text_of data_too (text written) = line_ends written
+text_of data_too (char_data written) = if data_too then line_ends written else []
+text_of data_too (entity_ref name) = character_text (entity_character name)
+text_of data_too other = []
+
+abbrev pub joined : Bool → List Event → List ℕ
+joined data_too [] = []
+joined data_too (event ∷ events) = text_of data_too event ++ joined data_too events
+
+-- a reference without a character
+abbrev pub is_unknown : Event → Bool
+is_unknown (start tag) = false
+is_unknown (end name) = false
+is_unknown (text written) = false
+is_unknown (char_data written) = false
+is_unknown (entity_ref name) = is_none (entity_character name)
+is_unknown other = false
+
+-- the place of the first reference without a character; where there is one, the joined text is refused there
+abbrev pub unknown_entity : List Event → Option ℕ
+unknown_entity [] = None
+unknown_entity (event ∷ events) = if is_unknown event then Some 0 else option_map suc (unknown_entity events)
+
+-- what became of the buffer: the text of a front of the events was put behind its old text
+pub record PutsFront (data_too : Bool) (events : List Event) (old new : List ℕ) : Type 0 where
+  pub front : List Event
+  pub more : List Event
+  pub parts : events ≡ front ++ more
+  pub text : new ≡ old ++ joined data_too front
+
+-- the text of the element was read, up to its match, or to the part's end
+pub record ReadsText (data_too is_whole : Bool) (old_text new_text : List ℕ) (old new : Reading) : Type 0 where
+  pub closed : is_closed 0 (ahead old) ≡ is_whole
+  pub text : new_text ≡ old_text ++ joined data_too (content 0 (ahead old))
+  pub known : unknown_entity (content 0 (ahead old)) ≡ None
+  pub ahead : ahead new ≡ behind 0 (ahead old)
+  pub at_end : is_whole ≡ false → IsAtEnd new
+
+-- event `at` of the part is a reference without a character
+abbrev pub IsUnknownAt : List Event → ℕ → Type 0
+IsUnknownAt events at = IsSomeAnd (slice_get events at) (λ event. is_unknown event ≡ true)
+
+-- when a text can't be read
+abbrev pub TextFails : Reading → Reading → StreamError → Type 0
+TextFails old new Io = HasCause old.source new.source
+TextFails old new (Xml (EndMismatch at)) = old.source.told ≡ true → (events_of new ≡ events_of old) × BreaksAt (events_of new) at
+TextFails old new (Xml (Unclosed at)) = ⊥
+TextFails old new (Xml (Entity at)) = old.source.told ≡ true → (events_of new ≡ events_of old) × IsUnknownAt (events_of new) at × (option_map (λ place. old.at + place) (unknown_entity (content 0 (ahead old))) ≡ Some at)
+TextFails old new OutOfMemory = ⊤
+
+-- when the text of an event can't be put
+abbrev pub EventFails : Event → TextFault → Type 0
+EventFails event (text_fault.Entity at) = is_unknown event ≡ true
+EventFails event text_fault.OutOfMemory = ⊤
+
+-- the refusal of the text of event `at`
+abbrev pub text_error : ℕ → TextFault → StreamError
+text_error at (text_fault.Entity place) = Xml (Entity at)
+text_error at text_fault.OutOfMemory = OutOfMemory

@@ -1,0 +1,168 @@
+-- A reader of a part: what it is to its caller, and what its calls do.
+use Rattle.std.specs.Prelude.{◌≡◌, ⊤, ℕ, ◌+◌, ◌-◌, ◌<◌, ◌≤◌, ◌^◌, min, List, [], ◌∷◌, ◌++◌, length, reverse, slice_get, Bool, true, false}
+use Rattle.part_events.specs.Event.{Event, start, end, text, char_data, entity_ref, other}
+use Rattle.part_events.specs.Nesting.{starts_in, ends_in, depth, open_name, IsWhole, whole_rest, whole}
+use Rattle.part_events.specs.Package.{PackageState, HasCause, SameParts}
+use Rattle.part_events.specs.Section.{is_closed, behind}
+use Rattle.part_events.specs.declared.cursor.Cursor.{Cursor}
+use Rattle.part_events.specs.declared.fault.StreamError.{StreamError}
+use Rattle.part_events.specs.declared.fault.StreamError.TheVariants.{Io, Xml, OutOfMemory}
+use Rattle.part_events.specs.declared.fault.XmlFault.TheVariants.{EndMismatch, Unclosed, Entity}
+
+-- what a reader is to its caller: its package, the names of the open elements, the innermost first, how many events of
+-- the part it took, and whether a call of it was refused
+pub record Reading : Type 0 where
+  pub source : PackageState
+  pub names : List (List ℕ)
+  pub at : ℕ
+  pub is_failed : Bool
+
+abbrev pub reading : PackageState → Cursor → Reading
+reading source cursor = record { source = source; names = cursor.names; at = cursor.at; is_failed = cursor.failed }
+
+-- the events of the open part
+abbrev pub events_of : Reading → List Event
+events_of r = reverse r.source.past ++ r.source.rest
+
+-- what is ahead of a reader, up to the first end that breaks the nesting
+abbrev pub ahead : Reading → List Event
+ahead r = whole_rest r.source.past r.source.rest
+
+-- The reader stands where its package does: what was taken is whole, and the names are those of the open elements.
+pub record IsTracked (r : Reading) : Type 0 where
+  pub at : r.at ≡ length r.source.past
+  pub whole : IsWhole r.source.past
+  pub names : (outside : ℕ) → open_name outside r.source.past ≡ slice_get r.names outside
+  pub depth : length r.names + ends_in r.source.past ≡ starts_in r.source.past
+
+abbrev pub is_start : Event → Bool
+is_start (start tag) = true
+is_start (end name) = false
+is_start (text content) = false
+is_start (char_data content) = false
+is_start (entity_ref name) = false
+is_start other = false
+
+-- the current event is a start
+pub record IsAtElement (r : Reading) : Type 0 where
+  pub has_current : r.source.has_current ≡ true
+  pub current : is_start r.source.current ≡ true
+
+-- the reader may be read on
+pub record IsReading (r : Reading) : Type 0 where
+  pub going : r.is_failed ≡ false
+  pub element : IsAtElement r → 0 < length r.names
+  pub fits : r.at + r.source.left < 2 ^ 64
+  pub tracked : r.source.told ≡ true → IsTracked r
+
+-- the package stands before the first event of its part, or no part is open
+pub record IsAtStart (source : PackageState) : Type 0 where
+  pub past : source.told ≡ true → source.past ≡ []
+  pub has_current : source.has_current ≡ false
+
+-- a reader that was just made
+pub record OpensReader (old : PackageState) (new : Reading) : Type 0 where
+  pub reading : IsReading new
+  pub parts : SameParts old new.source
+  pub faults : new.source.faults ≡ old.faults
+  pub taken : new.source.taken ≡ old.taken
+  pub names : new.names ≡ []
+  pub at : new.at ≡ 0
+  pub past : old.told ≡ true → new.source.past ≡ []
+
+-- What every call keeps: the parts are the same, and the package's count of taken events rose by those that were taken
+-- of the part, up to its last value.
+pub record Goes (old new : Reading) : Type 0 where
+  pub parts : SameParts old.source new.source
+  pub forward : old.at ≤ new.at
+  pub taken : min new.source.taken (2 ^ 64 - 1) ≡ min (old.source.taken + (new.at - old.at)) (2 ^ 64 - 1)
+
+-- the same events of the same part
+abbrev pub SamePart : Reading → Reading → Type 0
+SamePart old new = old.source.told ≡ true → events_of new ≡ events_of old
+
+-- what every call keeps that isn't refused
+pub record GoesOn (old new : Reading) : Type 0 where
+  pub reading : IsReading new
+  pub faults : new.source.faults ≡ old.source.faults
+  pub left : new.at + new.source.left ≡ old.at + old.source.left
+  pub part : SamePart old new
+
+-- the names of the open elements behind an event
+abbrev pub names_behind : Event → List (List ℕ) → List (List ℕ)
+names_behind (start tag) names = tag.name ∷ names
+names_behind (end name) [] = []
+names_behind (end name) (first ∷ names) = names
+names_behind (text content) names = names
+names_behind (char_data content) names = names
+names_behind (entity_ref name) names = names
+names_behind other names = names
+
+-- an end needs an open element
+abbrev pub IsEnclosed : Event → List (List ℕ) → Type 0
+IsEnclosed (start tag) names = Unit {0}
+IsEnclosed (end name) names = 0 < length names
+IsEnclosed (text content) names = Unit {0}
+IsEnclosed (char_data content) names = Unit {0}
+IsEnclosed (entity_ref name) names = Unit {0}
+IsEnclosed other names = Unit {0}
+
+-- a step to the next event, whether the package tells its parts or not
+pub record TakesEvent (old new : Reading) : Type 0 where
+  pub has_current : new.source.has_current ≡ true
+  pub names : new.names ≡ names_behind new.source.current old.names
+  pub enclosed : IsEnclosed new.source.current old.names
+  pub at : new.at ≡ old.at + 1
+  pub left : old.source.left ≡ new.source.left + 1
+
+-- the part has no further event
+pub record StaysAtEnd (old new : Reading) : Type 0 where
+  pub has_current : new.source.has_current ≡ false
+  pub names : new.names ≡ old.names
+  pub at : new.at ≡ old.at
+  pub left : old.source.left ≡ new.source.left
+
+abbrev pub Steps : Bool → Reading → Reading → Type 0
+Steps true old new = TakesEvent old new
+Steps false old new = StaysAtEnd old new
+
+-- nothing is ahead of the reader, since the part has ended
+pub record IsAtEnd (r : Reading) : Type 0 where
+  pub rest : r.source.rest ≡ []
+
+-- what a step does to what is ahead
+abbrev pub StepsAhead : Bool → Reading → Reading → Type 0
+StepsAhead true old new = (ahead old ≡ new.source.current ∷ ahead new) × (new.source.past ≡ new.source.current ∷ old.source.past)
+StepsAhead false old new = (ahead old ≡ []) × IsAtEnd new × (new.source.past ≡ old.source.past)
+
+-- event `at` of the part is the first end that breaks the nesting
+pub record BreaksAt (events : List Event) (at : ℕ) : Type 0 where
+  pub before : length (whole events) ≡ at
+  pub breaks : at < length events
+
+-- when a step is refused; want of memory may come at any time
+abbrev pub StepFails : Reading → Reading → StreamError → Type 0
+StepFails old new Io = HasCause old.source new.source
+StepFails old new (Xml (EndMismatch at)) = old.source.told ≡ true → (events_of new ≡ events_of old) × BreaksAt (events_of new) at × (ahead old ≡ [])
+StepFails old new (Xml (Unclosed at)) = ⊥
+StepFails old new (Xml (Entity at)) = ⊥
+StepFails old new OutOfMemory = ⊤
+
+-- the part ends inside an element, and has `at` events
+pub record EndsOpen (events : List Event) (at : ℕ) : Type 0 where
+  pub whole : whole events ≡ events
+  pub size : length events ≡ at
+  pub element : 0 < depth (reverse events)
+
+-- what is taken of an element is the rest of it, up to its match
+pub record Skips (old new : Reading) : Type 0 where
+  pub closed : is_closed 0 (ahead old) ≡ true
+  pub ahead : ahead new ≡ behind 0 (ahead old)
+
+-- when an element can't be skipped
+abbrev pub SkipFails : Reading → Reading → StreamError → Type 0
+SkipFails old new Io = HasCause old.source new.source
+SkipFails old new (Xml (EndMismatch at)) = old.source.told ≡ true → (events_of new ≡ events_of old) × BreaksAt (events_of new) at
+SkipFails old new (Xml (Unclosed at)) = old.source.told ≡ true → (events_of new ≡ events_of old) × EndsOpen (events_of new) at × (is_closed 0 (ahead old) ≡ false)
+SkipFails old new (Xml (Entity at)) = ⊥
+SkipFails old new OutOfMemory = ⊤

@@ -1,0 +1,88 @@
+-- How a walk over a section goes: from its start, whose element is number `base` of the open ones, to its end.
+use Rattle.std.specs.Prelude.{◌≡◌, ⊤, ℕ, suc, ◌-◌, ◌<◌, ◌≤◌, List, [], ◌∷◌, length, map, Bool, true, false, Some, None, slice_get}
+use Rattle.part_events.specs.Event.{Tag, Event, start, IsStartAnd}
+use Rattle.part_events.specs.Package.{HasCause}
+use Rattle.part_events.specs.Reading.{Reading, IsAtElement, IsAtEnd, BreaksAt, ahead, events_of}
+use Rattle.part_events.specs.Section.{content, is_closed, behind, starts_by, behind_start, outermost, is_any, is_named}
+use Rattle.part_events.specs.declared.fault.StreamError.{StreamError}
+use Rattle.part_events.specs.declared.fault.StreamError.TheVariants.{Io, Xml, OutOfMemory}
+use Rattle.part_events.specs.declared.fault.XmlFault.TheVariants.{EndMismatch, Unclosed, Entity}
+use Rattle.part_events.specs.declared.walk.Found.{Found}
+use Rattle.part_events.specs.declared.walk.Found.TheVariants.{Start, Closed, Ended}
+use Rattle.part_events.specs.declared.walk.Wanted.{Wanted}
+use Rattle.part_events.specs.declared.walk.Wanted.TheVariants.{Any, Named}
+
+abbrev pub wants : Wanted → Tag → Bool
+wants Any = is_any
+wants (Named names) = is_named (map (λ name. name.now) names.now)
+
+-- how many elements are open inside the section
+abbrev pub inside : ℕ → Reading → ℕ
+inside base r = length r.names - base
+
+-- where the walk stands after each answer
+abbrev pub StandsAt : (Tag → Bool) → ℕ → Found → Reading → Reading → Type 0
+StandsAt wanted base Start old new = IsAtElement new × (base < length new.names) × IsStartAnd new.source.current (λ tag. wanted tag ≡ true) × (old.at < new.at)
+StandsAt wanted base Closed old new = suc (length new.names) ≡ base
+StandsAt wanted base Ended old new = base ≤ length new.names
+
+-- nothing was passed that is wanted: the same is left of the section
+pub record SameAhead (wanted : Tag → Bool) (open_before : ℕ) (before : List Event) (open_after : ℕ) (after : List Event) : Type 0 where
+  pub starts : starts_by wanted (content open_before before) ≡ starts_by wanted (content open_after after)
+  pub elements : outermost wanted (content open_before before) ≡ outermost wanted (content open_after after)
+  pub closed : is_closed open_before before ≡ is_closed open_after after
+  pub behind : behind open_before before ≡ behind open_after after
+  pub first : behind_start wanted before ≡ behind_start wanted after
+
+-- the next wanted start of the section
+pub record IsNextStart (wanted : Tag → Bool) (base : ℕ) (tag : Tag) (old new : Reading) : Type 0 where
+  pub is_wanted : wanted tag ≡ true
+  pub starts : starts_by wanted (content (inside base old) (ahead old)) ≡ tag ∷ starts_by wanted (content (inside base new) (ahead new))
+  pub closed : is_closed (inside base old) (ahead old) ≡ is_closed (inside base new) (ahead new)
+  pub behind : behind (inside base old) (ahead old) ≡ behind (inside base new) (ahead new)
+  pub first : behind_start wanted (ahead old) ≡ Some (ahead new)
+  pub last : slice_get new.source.past 0 ≡ Some (start tag)
+
+-- the next wanted element of the section, where `new` stands at its start
+pub record IsNextElement (wanted : Tag → Bool) (base : ℕ) (tag : Tag) (old new : Reading) : Type 0 where
+  pub is_wanted : wanted tag ≡ true
+  pub elements : outermost wanted (content (inside base old) (ahead old)) ≡ record { tag = tag; inside = content 0 (ahead new) } ∷ outermost wanted (content (inside base new - 1) (behind 0 (ahead new)))
+  pub closed : is_closed (inside base old) (ahead old) ≡ is_closed (inside base new - 1) (behind 0 (ahead new))
+  pub behind : behind (inside base old) (ahead old) ≡ behind (inside base new - 1) (behind 0 (ahead new))
+
+-- the section is closed, and nothing was passed that is wanted
+pub record ClosesSection (wanted : Tag → Bool) (base : ℕ) (old new : Reading) : Type 0 where
+  pub starts : starts_by wanted (content (inside base old) (ahead old)) ≡ []
+  pub elements : outermost wanted (content (inside base old) (ahead old)) ≡ []
+  pub closed : is_closed (inside base old) (ahead old) ≡ true
+  pub behind : behind (inside base old) (ahead old) ≡ ahead new
+
+-- the part ended in the section, and nothing was passed that is wanted
+pub record EndsInSection (wanted : Tag → Bool) (base : ℕ) (old new : Reading) : Type 0 where
+  pub starts : starts_by wanted (content (inside base old) (ahead old)) ≡ []
+  pub elements : outermost wanted (content (inside base old) (ahead old)) ≡ []
+  pub closed : is_closed (inside base old) (ahead old) ≡ false
+  pub first : behind_start wanted (ahead old) ≡ None
+  pub ahead : ahead new ≡ []
+  pub at_end : IsAtEnd new
+
+-- an answer of the walk over starts, at any depth of the section
+abbrev pub FindsStart : (Tag → Bool) → ℕ → Found → Reading → Reading → Type 0
+FindsStart wanted base Start old new = IsStartAnd new.source.current (λ tag. IsNextStart wanted base tag old new)
+FindsStart wanted base Closed old new = ClosesSection wanted base old new
+FindsStart wanted base Ended old new = EndsInSection wanted base old new
+
+-- an answer of the walk over elements, those left aside that lie in one of them
+abbrev pub FindsElement : (Tag → Bool) → ℕ → Found → Reading → Reading → Type 0
+FindsElement wanted base Start old new = IsStartAnd new.source.current (λ tag. IsNextElement wanted base tag old new)
+FindsElement wanted base Closed old new = ClosesSection wanted base old new
+FindsElement wanted base Ended old new = EndsInSection wanted base old new
+
+-- when a walk is refused: a break of the nesting comes before the section is closed
+abbrev pub WalkFails : (Tag → Bool) → ℕ → Reading → Reading → StreamError → Type 0
+WalkFails wanted base old new Io = HasCause old.source new.source
+WalkFails wanted base old new (Xml (EndMismatch at)) =
+    old.source.told ≡ true → (events_of new ≡ events_of old) × BreaksAt (events_of new) at × (is_closed (inside base old) (ahead old) ≡ false) × (behind_start wanted (ahead old) ≡ None)
+WalkFails wanted base old new (Xml (Unclosed at)) = ⊥
+WalkFails wanted base old new (Xml (Entity at)) = ⊥
+WalkFails wanted base old new OutOfMemory = ⊤

@@ -1,0 +1,56 @@
+ghost use Rattle.std.specs.Prelude.{◌≡◌};
+ghost use Rattle.part_events.specs.declared.fault.StreamError.TheVariants.{Io, Xml, OutOfMemory};
+
+use crate::package::PackageFailed;
+use std::alloc::AllocError;
+use thiserror::Error;
+
+/// What is wrong with the markup of a part. Events are counted from 0.
+#[derive(Clone, Copy, Debug, PartialEq, Eq, Error)]
+pub enum XmlFault {
+    /// An end whose whole name is not that of the innermost open element.
+    #[error("end tag mismatch at {at}")]
+    EndMismatch { at: u64 },
+    /// The part has `at` events, and ends inside an element that was to be read to its end.
+    #[error("unclosed element at {at}")]
+    Unclosed { at: u64 },
+    /// A reference without a character.
+    #[error("unknown entity at {at}")]
+    Entity { at: u64 },
+}
+
+/// Why a part could not be read on.
+#[derive(Clone, Copy, Debug, PartialEq, Eq, Error)]
+pub enum StreamError {
+    /// The package could not be read.
+    #[error("the package could not be read")]
+    Io,
+    #[error("{0}")]
+    Xml(XmlFault),
+    #[error("out of memory")]
+    OutOfMemory,
+}
+
+impl From<PackageFailed> for StreamError {
+    ghost from_gives = { λ _ error. error ≡ Io };
+
+    fn from(_failed: PackageFailed) -> StreamError {
+        StreamError::Io
+    }
+}
+
+impl From<XmlFault> for StreamError {
+    ghost from_gives = { λ fault error. error ≡ Xml fault };
+
+    fn from(fault: XmlFault) -> StreamError {
+        StreamError::Xml(fault)
+    }
+}
+
+impl From<AllocError> for StreamError {
+    ghost from_gives = { λ _ error. error ≡ OutOfMemory };
+
+    fn from(_error: AllocError) -> StreamError {
+        StreamError::OutOfMemory
+    }
+}

@@ -1,0 +1,210 @@
+ghost use Rattle.std.specs.Prelude.{◌≡◌, ℕ, suc, [], ◌<◌, ◌≤◌, length, map, true, None, Some, MatchOption, OnOk, OnErr, IfOk, IfErr, string_bytes, IfSome, is_err};
+ghost use Rattle.part_events.specs.declared.fault.StreamError.TheVariants.{Io};
+ghost use Rattle.part_events.specs.Event.{event_of};
+ghost use Rattle.part_events.specs.JoinedText.{PutsFront, ReadsText, TextFails};
+ghost use Rattle.part_events.specs.Package.{part_of};
+ghost use Rattle.part_events.specs.Reading.{ahead, events_of, OpensReader, IsReading, IsAtStart, IsAtElement, Goes, GoesOn, Steps, StepsAhead, StepFails, Skips, SkipFails};
+ghost use Rattle.part_events.specs.Section.{content, is_named, is_any};
+ghost use Rattle.part_events.specs.Walk.{StandsAt, FindsStart, FindsElement, WalkFails};
+
+use crate::cursor::Cursor;
+use crate::event::PartEvent;
+use crate::fault::StreamError;
+use crate::package::Package;
+use crate::walk::Found;
+use std::alloc::Global;
+
+/// Reads a part of a package from its start, and keeps the names of the open elements.
+///
+/// What it keeps beside the package is a type parameter, so that a caller knows what became of the package once the
+/// reader is gone.
+pub struct XlReader<'a, P: Package, C: Drop = Cursor> {
+    package: &'a mut P,
+    cursor: C,
+}
+
+impl<P: Package, C: Drop> Drop for XlReader<'_, P, C> {
+    fn drop(self)
+        ensures { self.exit.0.now ≡ self.entry.package.now }
+    {
+        let XlReader {
+            package: _,
+            cursor: _,
+        } = self;
+    }
+}
+
+impl<'a, P: Package> XlReader<'a, P> {
+    ghost use Rattle.part_events.specs.Reader.{reading_by, package_of, reference_of, allocator_of, KeepsHold};
+
+    /// Opens the part of this name. Answers None where there is none.
+    pub fn open(
+        alloc: Global,
+        package: &'a mut P,
+        name: &str,
+    ) -> Result<Option<XlReader<'a, P>>, StreamError>
+        ensures same_reference { IfOk result (λ found. IfSome found (λ reader. reference_of reader ≡ «package».entry.ghost_name)) }
+        ensures opens { IfOk result (λ found. IfSome found (λ reader. OpensReader (P.state «package».old) (reading_by P.state reader))) }
+        ensures part { (P.state «package».old).told ≡ true → IfOk result (λ found. MatchOption found (part_of (P.state «package».old).parts name.now ≡ None) (λ reader. part_of (P.state «package».old).parts name.now ≡ Some (events_of (reading_by P.state reader)))) }
+        ensures alloc { IfOk result (λ found. IfSome found (λ reader. allocator_of reader ≡ alloc)) }
+        ensures err { IfErr result (λ error. error ≡ Io) }
+    {
+        if !package.open(name)? {
+            return Ok(None);
+        }
+        Ok(Some(XlReader::over(alloc, package)))
+    }
+
+    /// A reader over the part that was just opened.
+    pub fn over(alloc: Global, package: &'a mut P) -> XlReader<'a, P>
+        requires { IsAtStart (P.state «package».old) }
+        ensures same_reference { reference_of result ≡ «package».entry.ghost_name }
+        ensures same { package_of result ≡ «package».old }
+        ensures start { (reading_by P.state result).at ≡ 0 }
+        ensures depth { (reading_by P.state result).names ≡ [] }
+        ensures alloc { allocator_of result ≡ alloc }
+        ensures reading { IsReading (reading_by P.state result) }
+    {
+        let cursor = Cursor::new(alloc, package);
+        XlReader { package, cursor }
+    }
+
+    /// Takes the next event of the part. Answers false at the part's end. An end has to have the whole name of the
+    /// innermost open element.
+    pub fn next(&mut self) -> Result<bool, StreamError>
+        requires reading { IsReading (reading_by P.state self.old) }
+        ensures hold { KeepsHold self.old self.new }
+        ensures goes { Goes (reading_by P.state self.old) (reading_by P.state self.new) }
+        ensures on { OnOk result (GoesOn (reading_by P.state self.old) (reading_by P.state self.new)) }
+        ensures steps { IfOk result (λ more. Steps more (reading_by P.state self.old) (reading_by P.state self.new)) }
+        ensures ahead { (reading_by P.state self.old).source.told ≡ true → IfOk result (λ more. StepsAhead more (reading_by P.state self.old) (reading_by P.state self.new)) }
+        ensures err { IfErr result (StepFails (reading_by P.state self.old) (reading_by P.state self.new)) }
+        ensures failed { (reading_by P.state self.new).is_failed ≡ is_err result }
+    {
+        self.cursor.next(self.package)
+    }
+
+    /// The event that the last call of `next` took.
+    pub fn event(&self) -> PartEvent<'_>
+        requires { (reading_by P.state self.now).source.has_current ≡ true }
+        ensures { event_of result ≡ (reading_by P.state self.now).source.current }
+    {
+        self.package.event()
+    }
+
+    /// Reads to the end of the element at whose start the reader stands.
+    pub fn skip_element(&mut self) -> Result<(), StreamError>
+        requires reading { IsReading (reading_by P.state self.old) }
+        requires element { IsAtElement (reading_by P.state self.old) }
+        ensures hold { KeepsHold self.old self.new }
+        ensures goes { Goes (reading_by P.state self.old) (reading_by P.state self.new) }
+        ensures on { OnOk result (GoesOn (reading_by P.state self.old) (reading_by P.state self.new)) }
+        ensures depth { OnOk result (length (reading_by P.state self.old).names ≡ suc (length (reading_by P.state self.new).names)) }
+        ensures skips { (reading_by P.state self.old).source.told ≡ true → OnOk result (Skips (reading_by P.state self.old) (reading_by P.state self.new)) }
+        ensures err { IfErr result (SkipFails (reading_by P.state self.old) (reading_by P.state self.new)) }
+        ensures failed { (reading_by P.state self.new).is_failed ≡ is_err result }
+    {
+        self.cursor.skip_element(self.package)
+    }
+
+    /// Appends the text of the element at whose start the reader stands: each Text, each CharData where `char_data` says
+    /// so, with their line ends as LF, and the character of each reference. Reads to the element's end, and answers false
+    /// where the part ends before. After a refusal `out` has its old text and that of the events before.
+    pub fn read_text(&mut self, out: &mut String, char_data: bool) -> Result<bool, StreamError>
+        requires reading { IsReading (reading_by P.state self.old) }
+        requires element { IsAtElement (reading_by P.state self.old) }
+        ensures hold { KeepsHold self.old self.new }
+        ensures goes { Goes (reading_by P.state self.old) (reading_by P.state self.new) }
+        ensures on { OnOk result (GoesOn (reading_by P.state self.old) (reading_by P.state self.new)) }
+        ensures depth { IfOk result (λ closed. closed ≡ true → length (reading_by P.state self.old).names ≡ suc (length (reading_by P.state self.new).names)) }
+        ensures text { (reading_by P.state self.old).source.told ≡ true → IfOk result (λ closed. ReadsText char_data closed (string_bytes out.old) (string_bytes out.new) (reading_by P.state self.old) (reading_by P.state self.new)) }
+        ensures front { (reading_by P.state self.old).source.told ≡ true → OnErr result (PutsFront char_data (content 0 (ahead (reading_by P.state self.old))) (string_bytes out.old) (string_bytes out.new)) }
+        ensures err { IfErr result (TextFails (reading_by P.state self.old) (reading_by P.state self.new)) }
+        ensures failed { (reading_by P.state self.new).is_failed ≡ is_err result }
+    {
+        self.cursor.read_text(self.package, out, char_data)
+    }
+
+    /// Reads on to the next start with one of these local names, at any depth of the section whose element is number
+    /// `base` of the open ones, counted from 1. With a `base` of 0 the whole part is walked over.
+    pub fn next_start(&mut self, base: usize, names: &[&str]) -> Result<Found, StreamError>
+        requires reading { IsReading (reading_by P.state self.old) }
+        requires within { base ≤ length (reading_by P.state self.old).names }
+        ensures hold { KeepsHold self.old self.new }
+        ensures goes { Goes (reading_by P.state self.old) (reading_by P.state self.new) }
+        ensures on { OnOk result (GoesOn (reading_by P.state self.old) (reading_by P.state self.new)) }
+        ensures stands { IfOk result (λ found. StandsAt (is_named (map (λ name. name.now) names.now)) base found (reading_by P.state self.old) (reading_by P.state self.new)) }
+        ensures found { (reading_by P.state self.old).source.told ≡ true → IfOk result (λ found. FindsStart (is_named (map (λ name. name.now) names.now)) base found (reading_by P.state self.old) (reading_by P.state self.new)) }
+        ensures err { IfErr result (WalkFails (is_named (map (λ name. name.now) names.now)) base (reading_by P.state self.old) (reading_by P.state self.new)) }
+        ensures failed { (reading_by P.state self.new).is_failed ≡ is_err result }
+    {
+        self.cursor.next_start(self.package, base, names)
+    }
+
+    /// Reads on to the next element with one of these local names in such a section. Each element that is found has to
+    /// be read to its end before the next one is asked for, so that those that lie in it are left aside.
+    pub fn next_element(&mut self, base: usize, names: &[&str]) -> Result<Found, StreamError>
+        requires reading { IsReading (reading_by P.state self.old) }
+        requires within { base ≤ length (reading_by P.state self.old).names }
+        ensures hold { KeepsHold self.old self.new }
+        ensures goes { Goes (reading_by P.state self.old) (reading_by P.state self.new) }
+        ensures on { OnOk result (GoesOn (reading_by P.state self.old) (reading_by P.state self.new)) }
+        ensures stands { IfOk result (λ found. StandsAt (is_named (map (λ name. name.now) names.now)) base found (reading_by P.state self.old) (reading_by P.state self.new)) }
+        ensures found { (reading_by P.state self.old).source.told ≡ true → IfOk result (λ found. FindsElement (is_named (map (λ name. name.now) names.now)) base found (reading_by P.state self.old) (reading_by P.state self.new)) }
+        ensures err { IfErr result (WalkFails (is_named (map (λ name. name.now) names.now)) base (reading_by P.state self.old) (reading_by P.state self.new)) }
+        ensures failed { (reading_by P.state self.new).is_failed ≡ is_err result }
+    {
+        self.cursor.next_element(self.package, base, names)
+    }
+
+    /// Reads on to the next child of the element that is number `base` of the open ones. Each child has to be read to its
+    /// end before the next one is asked for.
+    pub fn next_child(&mut self, base: usize) -> Result<Found, StreamError>
+        requires reading { IsReading (reading_by P.state self.old) }
+        requires within { base ≤ length (reading_by P.state self.old).names }
+        ensures hold { KeepsHold self.old self.new }
+        ensures goes { Goes (reading_by P.state self.old) (reading_by P.state self.new) }
+        ensures on { OnOk result (GoesOn (reading_by P.state self.old) (reading_by P.state self.new)) }
+        ensures stands { IfOk result (λ found. StandsAt is_any base found (reading_by P.state self.old) (reading_by P.state self.new)) }
+        ensures found { (reading_by P.state self.old).source.told ≡ true → IfOk result (λ found. FindsElement is_any base found (reading_by P.state self.old) (reading_by P.state self.new)) }
+        ensures err { IfErr result (WalkFails is_any base (reading_by P.state self.old) (reading_by P.state self.new)) }
+        ensures failed { (reading_by P.state self.new).is_failed ≡ is_err result }
+    {
+        self.cursor.next_child(self.package, base)
+    }
+
+    /// How many events of the part were taken.
+    pub fn at(&self) -> u64
+        ensures { result ≡ (reading_by P.state self.now).at }
+    {
+        self.cursor.at()
+    }
+
+    /// How many elements are open.
+    pub fn depth(&self) -> usize
+        ensures { result ≡ length (reading_by P.state self.now).names }
+    {
+        self.cursor.depth()
+    }
+
+    /// How often a call of the package failed.
+    pub fn faults(&self) -> u64
+        ensures { result ≡ (reading_by P.state self.now).source.faults }
+    {
+        self.package.faults()
+    }
+
+    /// Whether a call was refused. Then the part can't be read on.
+    pub fn is_failed(&self) -> bool
+        ensures { result ≡ (reading_by P.state self.now).is_failed }
+    {
+        self.cursor.is_failed()
+    }
+
+    /// The allocator that the reader was given.
+    pub fn alloc(&self) -> Global
+        ensures { result ≡ allocator_of self.now }
+    {
+        self.cursor.alloc()
+    }
+}

@@ -1,0 +1,93 @@
+ghost use Rattle.std.specs.Prelude.{◌≡◌, true, MatchResult, IfOk, IfErr};
+ghost use Rattle.part_events.specs.Package.{SameParts};
+ghost use Rattle.xlsx_core.specs.Opened.{opening_of};
+ghost use Rattle.xlsx_core.specs.Opening.{OpensAs, OpensSoundly, OpeningFails, SoundFails};
+
+use crate::opening::open;
+use crate::sheet::Metadata;
+use cell_data::XlsxError;
+use part_events::Package;
+use std::alloc::Global;
+
+/// An open workbook, and the package that it is read from.
+#[derive(Drop)]
+pub struct Xlsx<P: Package> {
+    package: P,
+    metadata: Metadata,
+    paths: Vec<String>,
+    is_1904: bool,
+    alloc: Global,
+}
+
+/// Why a workbook could not be opened, with the package that was handed in.
+#[derive(Drop)]
+pub struct OpenFailure<P: Package> {
+    pub error: XlsxError,
+    pub package: P,
+}
+
+impl<P: Package> Xlsx<P> {
+    /// Opens the workbook of a package, as ECMA-376 part 2, section 9.3 (relationships) and part 1, section 18.2
+    /// (workbook) have it. A refusal hands the package back, with the same parts.
+    ///
+    /// The package's relationships lead to the workbook, the last one to an office document with a target being taken.
+    /// Relationships of the workbook are by Id, of which the last stands. Each section is read to its end and no further.
+    ///
+    /// A package with shared strings or styles is refused as not built yet.
+    pub fn new(alloc: Global, package: P) -> Result<Xlsx<P>, OpenFailure<P>>
+        ensures keeps { MatchResult result
+            (λ xlsx. SameParts (P.state «package») (P.state xlsx.package))
+            (λ failure. SameParts (P.state «package») (P.state failure.package)) }
+        ensures faults { IfOk result (λ xlsx. (P.state xlsx.package).faults ≡ (P.state «package»).faults) }
+        ensures opens { (P.state «package»).told ≡ true → IfOk result (λ xlsx. OpensAs (P.state «package»).parts (opening_of xlsx.metadata xlsx.paths.items xlsx.is_1904)) }
+        ensures err { IfErr result (λ failure. OpeningFails (P.state «package») (P.state failure.package) failure.error) }
+        ensures sound { (P.state «package»).told ≡ true → OpensSoundly (P.state «package»).parts → IfErr result (λ failure. SoundFails (P.state «package») (P.state failure.package) failure.error) }
+    {
+        let mut package = package;
+        match open(alloc, &mut package) {
+            Ok(opened) => Ok(Xlsx {
+                package,
+                metadata: opened.metadata,
+                paths: opened.paths,
+                is_1904: opened.is_1904,
+                alloc,
+            }),
+            Err(error) => Err(OpenFailure { error, package }),
+        }
+    }
+
+    /// The package, as it is now.
+    pub fn into_package(self) -> P
+        ensures { result ≡ self.package }
+    {
+        let Xlsx {
+            package,
+            metadata: _,
+            paths: _,
+            is_1904: _,
+            alloc: _,
+        } = self;
+        package
+    }
+
+    /// How often a call of the package failed.
+    pub fn faults(&self) -> u64
+        ensures { result ≡ (P.state self.now.package).faults }
+    {
+        self.package.faults()
+    }
+
+    /// Whether dates count from 1904, and not from 1900.
+    pub fn has_1904_epoch(&self) -> bool
+        ensures { result ≡ self.now.is_1904 }
+    {
+        self.is_1904
+    }
+
+    /// The sheets, in order, and the defined names.
+    pub fn metadata(&self) -> &Metadata
+        ensures { result.now ≡ self.now.metadata }
+    {
+        &self.metadata
+    }
+}
