@@ -44,6 +44,11 @@ impl ToolError {
 }
 
 impl fmt::Display for ToolError {
+    ghost use Rattle.std.specs.Prelude.{Some};
+    ghost use Rattle.xlsx_tool.specs.Status.{error_text};
+
+    ghost output = { λ error. Some (error_text error) };
+
     fn fmt<W: fmt::Write>(&self, f: &mut fmt::Formatter<W>) -> fmt::Result {
         f.write_str(match self {
             ToolError::Usage => "usage",
