@@ -2,7 +2,7 @@
 use Rattle.std.proofs.Common.{◌≡◌, ℕ, List, [], ◌∷◌, ap, sym, ◌∙◌}
 use Rattle.std.specs.Prelude.{Option, Some, None, codes}
 use Rattle.part_events.specs.Event.{Event, start, end, text, char_data, entity_ref, other}
-use Rattle.part_events.specs.Package.{Part, part_of}
+use Rattle.part_events.specs.Package.{Part}
 use Rattle.xlsx_core.specs.PlainSheet.{PlainCell}
 use Rattle.xlsx_core.specs.PlainScan.{cells_from, beginning}
 use Rattle.xlsx_core.specs.PlainPackage.{IsPlain}

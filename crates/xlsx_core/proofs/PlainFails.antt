@@ -1,10 +1,10 @@
 -- Refusals that are handed on.
-use Rattle.std.proofs.Common.{◌≡◌, ℕ, List, Bool, true, false, refl, sym, ◌∙◌, ap, Option, Some, None, codes}
+use Rattle.std.proofs.Common.{◌≡◌, ℕ, List, Bool, true, false, sym, ◌∙◌, ap, Some, None, codes}
 use Rattle.part_events.specs.Event.{Event}
-use Rattle.part_events.specs.Package.{Part, part_of, PackageState, SameParts, HasCause, Opens}
-use Rattle.xlsx_core.specs.PlainSheet.{PlainCell, IsPlainSheet}
+use Rattle.part_events.specs.Package.{Part, part_of, PackageState, SameParts, Opens}
+use Rattle.xlsx_core.specs.PlainSheet.{PlainCell}
 use Rattle.xlsx_core.specs.PlainScan.{cells_from, beginning}
-use Rattle.xlsx_core.specs.PlainPackage.{HasPlainSheet, HasPlainFrame, IsPlain, FindsSheet, HasWorkbook, CellsFail, SheetFails, ThinFails, SameFaults, ReadFails}
+use Rattle.xlsx_core.specs.PlainPackage.{HasPlainSheet, CellsFail, SheetFails, ThinFails, ReadFails}
 use Rattle.xlsx_core.specs.declared.thin.ThinError.{ThinError}
 use Rattle.xlsx_core.specs.declared.thin.ThinError.TheVariants.{NotBuilt, NoSheet, Io, OutOfMemory}
 use Rattle.xlsx_core.proofs.PlainRead.{read_sheet}

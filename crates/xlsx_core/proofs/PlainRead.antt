@@ -1,6 +1,6 @@
 -- What is read as cells are the events of plain rows.
 use Rattle.std.proofs.Common.{◌≡◌, ℕ, ◌<◌, List, [], ◌∷◌, ◌++◌, Bool, true, false, ◌&&◌, refl, sym, ◌∙◌, ap, Option, Some, None, codes, append_assoc, cond, subst}
-use Rattle.std.specs.Prelude.{IfSome, is_some, Result, Ok, Err}
+use Rattle.std.specs.Prelude.{IfSome, is_some}
 use Rattle.std.specs.Option.{option_map, option_and_then}
 use Rattle.std.specs.List.{flat_map, AllByRecursion}
 use Rattle.std.specs.Str.{bytes_eq}
@@ -10,7 +10,7 @@ use Rattle.cell_refs.specs.Reference.{reference, row_reference}
 use Rattle.cell_refs.proofs.Inside.{corner_inside, row_inside}
 use Rattle.xlsx_core.proofs.Spelled.{spelled_between_some, spelled_between_reads}
 use Rattle.part_events.specs.Event.{Event, Tag, start, end, text, char_data, entity_ref, other}
-use Rattle.xlsx_core.specs.PlainSheet.{PlainCell, PlainRow, opening, row_attributes, cell_attributes, child_events, cell_events, row_events, closing_events, sheet_events, all_cells, is_plain_text, IsPlainText, comes_after, is_rising, IsPlainCell, IsPlainRow, IsPlainSheet}
+use Rattle.xlsx_core.specs.PlainSheet.{PlainCell, PlainRow, opening, row_attributes, cell_attributes, child_events, cell_events, row_events, closing_events, all_cells, is_plain_text, IsPlainText, comes_after, is_rising, IsPlainCell, IsPlainRow, IsPlainSheet}
 use Rattle.xlsx_core.specs.PlainScan as scan
 use Rattle.xlsx_core.specs.PlainScan.{Place, Scan, Step, row_in, position_in, with_cell, cells_from, beginning, begins_cell, on, goes_to, ends_cell, is_opening, is_end, attributes_of, plain_text_of, step_at, is_done, with_formula, with_text}
 

@@ -1,14 +1,14 @@
 -- The events of plain rows are read as their cells.
-use Rattle.std.proofs.Common.{◌≡◌, ℕ, ◌<◌, List, [], ◌∷◌, ◌++◌, Bool, true, false, ◌&&◌, refl, sym, ◌∙◌, ap, Option, Some, None, codes, append_assoc, cond}
-use Rattle.std.specs.Prelude.{IfSome, is_some, Ok}
-use Rattle.std.specs.Option.{option_map, option_and_then}
+use Rattle.std.proofs.Common.{◌≡◌, ℕ, ◌<◌, List, [], ◌∷◌, ◌++◌, Bool, true, false, ◌&&◌, refl, sym, ◌∙◌, ap, Option, Some, None, codes, append_assoc}
+use Rattle.std.specs.Prelude.{IfSome}
+use Rattle.std.specs.Option.{option_map}
 use Rattle.std.specs.List.{flat_map, AllByRecursion}
 use Rattle.cell_refs.specs.A1.{corner, row_of}
 use Rattle.cell_refs.specs.Reference.{reference, row_reference}
 use Rattle.cell_refs.proofs.References.{corner_of_reference, row_of_reference}
-use Rattle.part_events.specs.Event.{Event, end, text}
-use Rattle.xlsx_core.specs.PlainSheet.{PlainCell, PlainRow, opening, row_attributes, cell_attributes, child_events, cell_events, row_events, closing_events, sheet_events, all_cells, is_plain_text, IsPlainText, comes_after, is_rising, IsPlainCell, IsPlainRow, IsPlainSheet}
-use Rattle.xlsx_core.specs.PlainScan.{Place, at_worksheet, at_sheet_data, in_rows, in_cells, in_cell, Scan, row_in, position_in, with_cell, cells_from, beginning, begins_cell}
+use Rattle.part_events.specs.Event.{Event, end}
+use Rattle.xlsx_core.specs.PlainSheet.{PlainCell, PlainRow, row_attributes, cell_attributes, child_events, cell_events, row_events, closing_events, all_cells, IsPlainText, comes_after, is_rising, IsPlainCell, IsPlainRow, IsPlainSheet}
+use Rattle.xlsx_core.specs.PlainScan.{Place, in_rows, in_cells, in_cell, Scan, row_in, position_in, with_cell, cells_from, beginning}
 use Rattle.xlsx_core.proofs.Spelled.{spelled_between_written}
 
 abbrev pub at : Place → Option (ℕ × ℕ) → Scan

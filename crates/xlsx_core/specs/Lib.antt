@@ -14,5 +14,6 @@ pub mod Section
 pub mod Sheets
 pub mod Texts
 pub mod ThinCell
+pub mod ThinError
 pub mod Workbook
 pub mod WorkbookEvents

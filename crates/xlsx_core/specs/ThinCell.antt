@@ -1,5 +1,5 @@
 -- A cell as it is read, and where reading stands, apart from where their texts lie in memory.
-use Rattle.std.specs.Prelude.{◌≡◌, ℕ, List, map, Option, None, option_map, string_bytes}
+use Rattle.std.specs.Prelude.{◌≡◌, List, map, Option, None, option_map, string_bytes}
 use Rattle.xlsx_core.specs.PlainSheet.{PlainCell}
 use Rattle.xlsx_core.specs.PlainScan as plain
 use Rattle.xlsx_core.specs.declared.thin.ThinCell.{ThinCell}

@@ -14,6 +14,8 @@ mod scan;
 mod section;
 mod sheet;
 mod sheet_element;
+#[cfg(test)]
+mod tests;
 mod thin;
 mod workbook;
 mod xlsx;

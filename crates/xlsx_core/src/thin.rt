@@ -29,13 +29,18 @@ pub enum ThinError {
 }
 
 impl fmt::Display for ThinError {
+    ghost use Rattle.std.specs.Prelude.{Some};
+    ghost use Rattle.xlsx_core.specs.ThinError.{refusal_text};
+
+    ghost output = { λ refusal. Some (refusal_text refusal) };
+
     fn fmt<W: fmt::Write>(&self, f: &mut fmt::Formatter<W>) -> fmt::Result {
-        f.write_str(match self {
-            ThinError::NotBuilt => "not built yet",
-            ThinError::NoSheet => "no sheet",
-            ThinError::Io => "I/O error",
-            ThinError::OutOfMemory => "out of memory",
-        })
+        match self {
+            ThinError::NotBuilt => f.write_str("not built yet"),
+            ThinError::NoSheet => f.write_str("no sheet"),
+            ThinError::Io => f.write_str("I/O error"),
+            ThinError::OutOfMemory => f.write_str("out of memory"),
+        }
     }
 }
 

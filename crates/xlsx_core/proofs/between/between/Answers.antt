@@ -1,4 +1,4 @@
-use Rattle.std.proofs.Common.{◌∙◌, sym, append_assoc}
+use Rattle.std.proofs.Common.{◌∙◌, sym}
 use Rattle.xlsx_core.proofs.Fronts.{none_weaker, rest_same}
 use Rattle.xlsx_core.proofs.between.between.Goals as goal
 

@@ -1,7 +1,5 @@
-use Rattle.std.proofs.Common.{◌≡◌, ◌∙◌, codes, true}
+use Rattle.std.proofs.Common.{◌∙◌, codes}
 use Rattle.std.proofs.lemmas.Result.{IfOk-weaker, IfErr-weaker}
-use Rattle.part_events.specs.Package.{Opens}
-use Rattle.xlsx_core.specs.PlainPackage.{HasPlainSheet, CellsFail, SheetFails}
 use Rattle.xlsx_core.specs.ThinCell.{cells_of}
 use Rattle.xlsx_core.proofs.PlainFails.{sheet_read, sheet_fails, opened}
 use Rattle.xlsx_core.proofs.plain.sheet_cells.Goals as goal

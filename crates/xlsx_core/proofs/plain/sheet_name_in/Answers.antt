@@ -1,4 +1,4 @@
-use Rattle.std.proofs.Common.{◌≡◌, sym, ◌∙◌, ap, true, false, codes}
+use Rattle.std.proofs.Common.{◌≡◌, sym, ◌∙◌, ap, false, codes}
 use Rattle.xlsx_core.proofs.Spelled.{same_between}
 use Rattle.xlsx_core.specs.PlainPackage.{is_plain_name}
 use Rattle.xlsx_core.proofs.plain.sheet_name_in.Goals as goal

@@ -1,4 +1,4 @@
-use Rattle.std.proofs.Common.{◌∙◌, Option, None, Bool, refl}
+use Rattle.std.proofs.Common.{◌∙◌}
 use Rattle.xlsx_core.proofs.Taking.{never_taken, rest_taken, no_sheet_taken}
 use Rattle.xlsx_core.proofs.plain.takes_workbook.Goals as goal
 

@@ -1,4 +1,4 @@
-use Rattle.std.proofs.Common.{◌≡◌, List, ℕ, ◌++◌, sym, ◌∙◌, ap, true, false, codes}
+use Rattle.std.proofs.Common.{List, ℕ, ◌++◌, sym, ◌∙◌, ap, true, false, codes}
 use Rattle.cell_refs.specs.A1.{corner}
 use Rattle.cell_refs.specs.Reference.{reference}
 use Rattle.xlsx_core.proofs.Spelled.{found_between, spelled_between_none}

@@ -1,7 +1,7 @@
-use Rattle.std.proofs.Common.{◌≡◌, List, ℕ, ◌++◌, sym, ◌∙◌, ap, true, false, codes}
+use Rattle.std.proofs.Common.{List, ℕ, ◌++◌, ◌∙◌, ap, true, false, codes}
 use Rattle.cell_refs.specs.A1.{row_of}
 use Rattle.cell_refs.specs.Reference.{row_reference}
-use Rattle.xlsx_core.proofs.Spelled.{found_between, spelled_between_none}
+use Rattle.xlsx_core.proofs.Spelled.{found_between}
 use Rattle.xlsx_core.proofs.scan.row_in.Goals as goal
 
 pub returns-then-eq : goal.returns-then-eq
