@@ -1,13 +1,13 @@
 -- One event of a workbook's section.
-use Rattle.std.proofs.Common.{◌≡◌, ℕ, suc, ◌+◌, ◌-◌, ◌<◌, ◌≤◌, List, [], ◌∷◌, ◌++◌, length, Bool, true, false, Option, Some, None, Result, Ok, Err, refl, sym, ◌∙◌, ap, subst, inl, inr, ◌⊎◌, arith, cond, append-nil, string_bytes, String, Global, OnOk}
+use Rattle.std.proofs.Common.{◌≡◌, ℕ, suc, ◌-◌, ◌<◌, ◌≤◌, List, [], ◌∷◌, ◌++◌, length, Bool, true, false, Option, Some, None, Result, Ok, Err, refl, sym, ◌∙◌, ap, subst, inl, inr, ◌⊎◌, arith, append-nil, string_bytes, String, Global, OnOk}
 use Rattle.std.specs.Prelude.{slice_get, is_some, option_map, option_to_list, if◌then◌else◌, codes, reverse}
 use Rattle.part_events.specs.Event.{Tag, Event, start, end, text, char_data, entity_ref, other}
 use Rattle.part_events.specs.JoinedText.{joined, text_of, is_unknown, unknown_entity, IsUnknownAt}
-use Rattle.part_events.specs.declared.fault.XmlFault.TheVariants.{EndMismatch, Unclosed, Entity}
+use Rattle.part_events.specs.declared.fault.XmlFault.TheVariants.{Entity}
 use Rattle.cell_data.specs.declared.error.XlsxError.TheVariants.{OutOfMemory, Xml}
 use Rattle.xlsx_core.specs.DefinedNames.{with_text, defined_name, is_defined_name, names_in}
 use Rattle.xlsx_core.proofs.Kept.{prepended-and_others}
-use Rattle.part_events.specs.Reading.{Reading, IsTracked, TakesEvent, StepsAhead, GoesOn, ahead, events_of, names_behind, IsEnclosed}
+use Rattle.part_events.specs.Reading.{Reading, IsTracked, TakesEvent, StepsAhead, ahead, events_of, names_behind, IsEnclosed}
 use Rattle.part_events.specs.Section.{Element, content, is_closed, behind, starts_by}
 use Rattle.part_events.specs.Walk.{inside}
 use Rattle.part_events.proofs.Walking.{GoesInside, goes_inside, next_element}
@@ -15,8 +15,8 @@ use Rattle.cell_data.specs.declared.error.XlsxError.{XlsxError}
 use Rattle.xlsx_core.specs.Refusal.{Refusal, no_character, and_others_if, some_answers, all_answers, last_answer, and_others, or_later, or_earlier, prepended}
 use Rattle.xlsx_core.specs.Relationships.{Related}
 use Rattle.xlsx_core.specs.Section.{SectionFails}
-use Rattle.xlsx_core.specs.Sheets.{PlacedSheet, is_sheet, is_properties, sheet_of, flag_of, sheets_in, flag_in}
-use Rattle.xlsx_core.specs.Workbook.{TakesStart, IsStartRefused, Carries, IsRefusedAhead, sheets_of, names_of, sheet_step, flag_step}
+use Rattle.xlsx_core.specs.Sheets.{is_sheet, is_properties, sheet_of, flag_of, sheets_in, flag_in}
+use Rattle.xlsx_core.specs.Workbook.{IsStartRefused, Carries, IsRefusedAhead, sheets_of, names_of}
 use Rattle.xlsx_core.specs.WorkbookEvents.{TakesTheEvent, EventFails, TextRefused, TextTaken, NameTaken, IsNameRefused, CarriesNames, is_name_start}
 use Rattle.xlsx_core.specs.declared.workbook.WorkbookContents.{WorkbookContents}
 use Rattle.part_events.proofs.Nested.{reverse_on}

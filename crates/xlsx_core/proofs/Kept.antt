@@ -1,6 +1,6 @@
 -- What is kept of many elements, with one more of them.
 use Rattle.std.proofs.Common.{◌≡◌, List, [], ◌∷◌, ◌++◌, Option, Some, None, Result, Ok, Err, refl, sym, append_assoc}
-use Rattle.xlsx_core.specs.Refusal.{Refusal, or_earlier, or_later, and_others, with_first, prepended, last_answer, all_answers}
+use Rattle.xlsx_core.specs.Refusal.{Refusal, or_earlier, or_later, and_others, prepended, last_answer, all_answers}
 
 -- what the last of some gives, with one before them
 pub or_earlier-or_later : {A : Type 0} (kept next : Option A) (answer others : Result (Option A) Refusal) → or_earlier kept answer ≡ Ok next → or_earlier next others ≡ or_earlier kept (or_later answer others)

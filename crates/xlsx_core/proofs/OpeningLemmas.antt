@@ -1,23 +1,22 @@
 -- How the readings of a package's parts make an opening.
-use Rattle.std.proofs.Common.{◌≡◌, ℕ, ◌+◌, List, [], ◌∷◌, ◌++◌, length, true, Bool, false, map, Option, Some, None, Result, Ok, Err, refl, sym, ◌∙◌, ap, subst, inl, inr, ◌⊎◌, arith, codes, string_bytes, String, Global, length-append}
+use Rattle.std.proofs.Common.{◌≡◌, ℕ, ◌+◌, List, [], ◌∷◌, ◌++◌, length, true, Bool, false, Option, Some, None, Ok, refl, sym, ◌∙◌, ap, subst, inl, inr, arith, codes, string_bytes, String, Global, length-append}
 use Rattle.std.specs.Prelude.{option_and_then, unwrap_or, IsSomeAnd, MatchOption}
 use Rattle.part_events.specs.Event.{Event}
 use Rattle.part_events.specs.Package.{Part, PackageState, SameParts, part_of}
 use Rattle.cell_data.specs.declared.error.XlsxError.{XlsxError}
 use Rattle.cell_data.specs.declared.error.XlsxError.TheVariants.{OutOfMemory, Io, NotBuilt}
 use Rattle.xlsx_core.specs.Kept.{entry_of}
-use Rattle.xlsx_core.specs.Opened.{placed, opening_of}
+use Rattle.xlsx_core.specs.Opened.{placed}
 use Rattle.xlsx_core.specs.Opening.{Opening, HasPath, HasRelationships, HasWorkbook, IsOpening, OpensAs, OpeningFails, WorkbookCause, epoch_by, empty_opening}
 use Rattle.xlsx_core.specs.Paths.{folder_of, workbook_part}
 use Rattle.xlsx_core.specs.Presence.{WorkbookOpens, WorkbookFails}
 use Rattle.xlsx_core.specs.Relationships.{Related, IsPathRefused}
 use Rattle.xlsx_core.specs.Section.{closed_section, closed_section_of, PartFails, OptionalPartFails, SectionCause}
 use Rattle.xlsx_core.specs.Sheets.{PlacedSheet}
-use Rattle.xlsx_core.specs.Workbook.{pair_of, sheets_of, names_of}
+use Rattle.xlsx_core.specs.Workbook.{sheets_of, names_of}
 use Rattle.xlsx_core.specs.WorkbookEvents.{IsContents, AreContentsRefused}
 use Rattle.xlsx_core.specs.declared.sheet.Sheet.{Sheet}
 use Rattle.xlsx_core.specs.declared.sheet.SheetEntry.{SheetEntry}
-use Rattle.xlsx_core.specs.declared.sheet.Metadata.{Metadata}
 use Rattle.xlsx_core.specs.declared.workbook.WorkbookContents.{WorkbookContents}
 
 pub placed_push : (sheets : List Sheet) (paths : List (String Global)) (entry : SheetEntry) → length sheets ≡ length paths → placed (sheets ++ entry.sheet ∷ []) (paths ++ entry.path ∷ []) ≡ placed sheets paths ++ entry_of entry ∷ []

@@ -1,19 +1,19 @@
 -- How a refusal passes from a step to its section, and from a section to its part.
-use Rattle.std.proofs.Common.{◌≡◌, ℕ, ◌-◌, ◌≤◌, List, [], ◌∷◌, ◌++◌, length, reverse, Bool, true, false, Some, None, Result, Ok, Err, refl, sym, ◌∙◌, ap, subst, inl, inr, ◌⊎◌, arith, append-nil, string_bytes}
-use Rattle.std.specs.Prelude.{slice_get, codes}
+use Rattle.std.proofs.Common.{◌≡◌, ℕ, ◌-◌, List, [], ◌∷◌, ◌++◌, length, reverse, Bool, true, Some, Result, Err, refl, sym, ◌∙◌, subst, inl, inr, arith, string_bytes}
+use Rattle.std.specs.Prelude.{slice_get}
 use Rattle.std.proofs.lemmas.List.{length-reverse}
 use Rattle.part_events.specs.Event.{Tag, Event, start, IsStartAnd}
 use Rattle.part_events.specs.Nesting.{whole}
 use Rattle.part_events.specs.Reading.{Reading, IsReading, IsTracked, Goes, GoesOn, BreaksAt, ahead, events_of}
 use Rattle.part_events.specs.Section.{is_closed}
-use Rattle.part_events.specs.declared.fault.XmlFault.TheVariants.{EndMismatch, Unclosed, Entity}
+use Rattle.part_events.specs.declared.fault.XmlFault.TheVariants.{EndMismatch, Entity}
 use Rattle.part_events.proofs.Nested.{reverse_on, whole_split}
 use Rattle.part_events.proofs.Texts.{slice_get-append}
 use Rattle.part_events.proofs.Walking.{goes_nowhere, stays}
 use Rattle.cell_data.specs.declared.error.XlsxError.{XlsxError}
 use Rattle.cell_data.specs.declared.error.XlsxError.TheVariants.{OutOfMemory, Io, Xml, XmlAttr, XmlEof, RelationshipNotFound, Unrecognized}
 use Rattle.xlsx_core.specs.Element.{RefusedBy, ElementFails, Unknown}
-use Rattle.xlsx_core.specs.Refusal.{Refusal, lookup_fault, undecoded, no_character, unrelated, unknown_state, unknown_type}
+use Rattle.xlsx_core.specs.Refusal.{Refusal}
 use Rattle.part_events.specs.Walk.{FindsStart, IsNextStart}
 use Rattle.xlsx_core.specs.Section.{SectionFails, IsUndecodedAt, found_by}
 

@@ -1,5 +1,5 @@
 -- No cause of a refusal stands where a package opens soundly.
-use Rattle.std.proofs.Common.{◌≡◌, ℕ, List, [], ◌∷◌, Bool, true, false, Option, Some, None, Result, Ok, Err, refl, sym, ◌∙◌, ap, subst, inl, inr, ◌⊎◌, codes, string_bytes}
+use Rattle.std.proofs.Common.{◌≡◌, ℕ, List, [], ◌∷◌, Bool, true, false, Option, Some, None, Ok, Err, refl, sym, ◌∙◌, ap, subst, inl, inr, ◌⊎◌, codes, string_bytes}
 use mathlib.Core.Path.{fun_ext}
 use Rattle.std.specs.Prelude.{option_and_then, option_map, IsSomeAnd, if◌then◌else◌, MatchOption}
 use Rattle.part_events.specs.Event.{Event}
@@ -7,17 +7,15 @@ use Rattle.part_events.specs.Nesting.{whole}
 use Rattle.part_events.specs.Package.{Part, PackageState, part_of}
 use Rattle.part_events.specs.Reading.{BreaksAt}
 use Rattle.part_events.specs.Section.{content, is_closed, behind_start, is_named, section}
-use Rattle.part_events.specs.declared.fault.XmlFault.TheVariants.{EndMismatch, Unclosed, Entity}
+use Rattle.part_events.specs.declared.fault.XmlFault.TheVariants.{EndMismatch, Entity}
 use Rattle.cell_data.specs.declared.error.XlsxError.{XlsxError}
 use Rattle.cell_data.specs.declared.error.XlsxError.TheVariants.{OutOfMemory, Io, NotBuilt, Xml, XmlAttr, XmlEof, FileNotFound, RelationshipNotFound, Unrecognized}
-use Rattle.xlsx_core.specs.DefinedNames.{names_in}
 use Rattle.xlsx_core.specs.Element.{Unknown}
 use Rattle.xlsx_core.specs.Opening.{Opening, HasPath, HasRelationships, HasWorkbook, IsOpening, OpensAs, OpensSoundly, OpeningCause, WorkbookCause, OpeningFails, SoundFails, epoch_by, empty_opening}
 use Rattle.xlsx_core.specs.Paths.{folder_of, workbook_part, relationships_part}
 use Rattle.xlsx_core.specs.Refusal.{Refusal, lookup_fault, unrelated}
 use Rattle.xlsx_core.specs.Relationships.{Related, required_path_in, related_in, IsPathRefused, AreRelationshipsRefused}
-use Rattle.xlsx_core.specs.Section.{closed_section, closed_section_of, if_closed, OfPart, OfSection, IsUndecodedAt, SectionCause, PartCause}
-use Rattle.xlsx_core.specs.Sheets.{sheets_in, flag_in}
+use Rattle.xlsx_core.specs.Section.{closed_section, closed_section_of, if_closed, OfSection, IsUndecodedAt, SectionCause, PartCause}
 use Rattle.xlsx_core.specs.WorkbookEvents.{AreContentsRefused}
 
 -- a part whose section is closed, with what holds of the section

@@ -1,7 +1,7 @@
 -- When an element is refused.
 use Rattle.std.specs.Prelude.{◌≡◌, ◌⊎◌, ⊤, ℕ, List, codes, string_bytes, Result, Err}
 use Rattle.part_events.specs.Event.{Tag}
-use Rattle.part_events.specs.declared.fault.XmlFault.TheVariants.{EndMismatch, Unclosed, Entity}
+use Rattle.part_events.specs.declared.fault.XmlFault.TheVariants.{Entity}
 use Rattle.cell_data.specs.declared.error.XlsxError.{XlsxError}
 use Rattle.cell_data.specs.declared.error.XlsxError.TheVariants.{OutOfMemory, Xml, XmlAttr, RelationshipNotFound, Unrecognized}
 use Rattle.xlsx_core.specs.Refusal.{Refusal, lookup_fault, undecoded, unknown_state, unrelated, unknown_type}

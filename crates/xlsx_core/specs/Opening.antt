@@ -1,5 +1,5 @@
 -- What opening a workbook finds in the parts of a package, and why it is refused.
-use Rattle.std.specs.Prelude.{◌≡◌, ◌⊎◌, ⊤, ℕ, List, [], Bool, true, false, codes, Option, Some, None, unwrap_or, Result, Ok, Err, IsSome, IsSomeAnd, MatchOption}
+use Rattle.std.specs.Prelude.{◌≡◌, ◌⊎◌, ⊤, ℕ, List, [], Bool, true, false, codes, Option, unwrap_or, Result, Ok, Err, IsSome, IsSomeAnd, MatchOption}
 use Rattle.part_events.specs.Event.{Event}
 use Rattle.part_events.specs.Package.{Part, PackageState, HasCause, part_of}
 use Rattle.cell_data.specs.declared.error.XlsxError.{XlsxError}

@@ -6,7 +6,7 @@ use Rattle.part_events.specs.Nesting.{whole}
 use Rattle.part_events.specs.Package.{Part, PackageState, HasCause, part_of}
 use Rattle.part_events.specs.Reading.{Reading, BreaksAt, ahead, events_of}
 use Rattle.part_events.specs.Section.{content, is_closed, behind_start, is_named, section}
-use Rattle.part_events.specs.declared.fault.XmlFault.TheVariants.{EndMismatch, Unclosed, Entity}
+use Rattle.part_events.specs.declared.fault.XmlFault.TheVariants.{EndMismatch, Entity}
 use Rattle.part_events.specs.declared.walk.Found.{Found}
 use Rattle.part_events.specs.declared.walk.Found.TheVariants as found
 use Rattle.cell_data.specs.declared.error.XlsxError.{XlsxError}

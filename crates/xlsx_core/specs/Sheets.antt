@@ -1,5 +1,5 @@
 -- What the starts of sheets say, and whether the workbook counts its dates from 1904.
-use Rattle.std.specs.Prelude.{ℕ, List, [], ◌∷◌, Bool, true, false, ◌||◌, if◌then◌else◌, codes, Option, Some, None, unwrap_or, option_map, Result, Ok, Err}
+use Rattle.std.specs.Prelude.{ℕ, List, [], ◌∷◌, Bool, ◌||◌, if◌then◌else◌, codes, Option, Some, None, unwrap_or, option_map, Result, Ok, Err}
 use Rattle.std.specs.Str.{bytes_eq}
 use Rattle.attr_text.specs.Attributes.{lookup, value_of, value_of_local}
 use Rattle.attr_text.specs.declared.fault.AttrFault.{AttrFault}

@@ -1,11 +1,10 @@
 -- What a workbook's section holds, and what is kept of it.
 use Rattle.std.specs.Prelude.{◌≡◌, ◌⊎◌, ℕ, List, Bool, true, if◌then◌else◌, map, Option, Result, Err, String, string_bytes}
 use Rattle.std.specs.declared.alloc.Global.{Global}
-use Rattle.part_events.specs.Event.{Tag, Event}
+use Rattle.part_events.specs.Event.{Tag}
 use Rattle.part_events.specs.Reading.{Reading, ahead}
 use Rattle.part_events.specs.Section.{content, is_closed}
 use Rattle.part_events.specs.Walk.{inside}
-use Rattle.xlsx_core.specs.DefinedNames.{names_in}
 use Rattle.xlsx_core.specs.Kept.{entry_of}
 use Rattle.xlsx_core.specs.Refusal.{Refusal, and_others, or_later, or_earlier, prepended}
 use Rattle.xlsx_core.specs.Relationships.{Related}

@@ -5,7 +5,7 @@ use Rattle.part_events.specs.JoinedText.{is_unknown}
 use Rattle.part_events.specs.Reading.{Reading, ahead}
 use Rattle.part_events.specs.Section.{content, is_closed}
 use Rattle.part_events.specs.Walk.{inside}
-use Rattle.part_events.specs.declared.fault.XmlFault.TheVariants.{EndMismatch, Unclosed, Entity}
+use Rattle.part_events.specs.declared.fault.XmlFault.TheVariants.{Entity}
 use Rattle.cell_data.specs.declared.error.XlsxError.{XlsxError}
 use Rattle.cell_data.specs.declared.error.XlsxError.TheVariants.{OutOfMemory, Xml}
 use Rattle.xlsx_core.specs.DefinedNames.{with_text, defined_name, is_defined_name, names_in}

@@ -1,9 +1,8 @@
-use Rattle.std.proofs.Common.{◌≡◌, ℕ, List, true, Ok, sym, ◌∙◌, subst, codes, string_bytes}
-use Rattle.std.specs.Prelude.{IsSomeAnd, OnOk}
+use Rattle.std.proofs.Common.{ℕ, List, ◌∙◌, subst, string_bytes}
 use Rattle.std.proofs.lemmas.Result.{err_from_is_err_and, IfOk-weaker, IfErr-weaker}
-use Rattle.part_events.specs.Package.{Part, SameParts}
+use Rattle.part_events.specs.Package.{SameParts}
 use Rattle.xlsx_core.specs.Opened.{opening_of}
-use Rattle.xlsx_core.specs.Opening.{HasPath, OpensAs, OpeningFails}
+use Rattle.xlsx_core.specs.Opening.{OpensAs, OpeningFails}
 use Rattle.xlsx_core.specs.Presence.{WorkbookOpens, WorkbookFails}
 use Rattle.xlsx_core.proofs.OpeningLemmas.{path_fails, opens_as, workbook_fails, further}
 use Rattle.xlsx_core.proofs.opening.open.Goals as goal

@@ -1,12 +1,11 @@
-use Rattle.std.proofs.Common.{◌≡◌, ℕ, List, true, Option, None, Ok, sym, ◌∙◌, ap, subst, codes, string_bytes}
-use Rattle.std.specs.Prelude.{IsSomeAnd, MatchOption}
+use Rattle.std.proofs.Common.{◌≡◌, ℕ, List, true, None, Ok, sym, ◌∙◌, ap, subst, codes}
+use Rattle.std.specs.Prelude.{IsSomeAnd}
 use Rattle.std.proofs.lemmas.Result.{err_from_is_err_and}
-use Rattle.part_events.specs.Event.{Event}
 use Rattle.part_events.specs.Package.{Part, part_of}
 use Rattle.xlsx_core.specs.Kept.{kept}
 use Rattle.xlsx_core.specs.Opened.{opening_of}
 use Rattle.xlsx_core.specs.Opening.{HasRelationships}
-use Rattle.xlsx_core.specs.Paths.{folder_of, workbook_part, relationships_part}
+use Rattle.xlsx_core.specs.Paths.{folder_of, workbook_part}
 use Rattle.xlsx_core.specs.Relationships.{related_in}
 use Rattle.xlsx_core.specs.Section.{closed_section_of, OptionalPartFails}
 use Rattle.xlsx_core.specs.WorkbookEvents.{IsContents, AreContentsRefused}

@@ -1,7 +1,7 @@
-use Rattle.std.proofs.Common.{◌≡◌, ◌-◌, ◌∷◌, [], List, true, sym, ◌∙◌, ap, rules, Some, Err, Result, codes, option_map, string_bytes}
+use Rattle.std.proofs.Common.{◌≡◌, ◌-◌, ◌∷◌, [], List, true, sym, ◌∙◌, ap, rules, Some, Err, codes, option_map, string_bytes}
 use Rattle.std.specs.Prelude.{slice_get}
 use Rattle.std.proofs.lemmas.Result.{err_from_is_err_and}
-use Rattle.part_events.specs.Event.{Tag, Event, start, tag_of}
+use Rattle.part_events.specs.Event.{Tag, start, tag_of}
 use Rattle.part_events.specs.Reader.{reading_by}
 use Rattle.part_events.specs.Reading.{ahead, events_of}
 use Rattle.part_events.specs.Section.{content, starts_by, is_named}

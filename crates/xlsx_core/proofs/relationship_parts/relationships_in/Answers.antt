@@ -3,7 +3,7 @@ use Rattle.std.specs.Prelude.{slice_get}
 use Rattle.std.proofs.lemmas.Result.{err_from_is_err_and}
 use Rattle.attr_text.specs.Attributes.{lookup}
 use Rattle.attr_text.specs.declared.fault.AttrFault.{AttrFault}
-use Rattle.part_events.specs.Event.{Tag, Event, start, tag_of}
+use Rattle.part_events.specs.Event.{Tag, start, tag_of}
 use Rattle.part_events.specs.Reader.{reading_by}
 use Rattle.part_events.specs.Reading.{ahead, events_of}
 use Rattle.part_events.specs.Section.{content, starts_by, is_named}

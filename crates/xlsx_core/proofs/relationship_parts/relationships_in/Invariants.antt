@@ -1,4 +1,4 @@
-use Rattle.std.proofs.Common.{◌≡◌, ◌≤◌, ◌∷◌, [], length, true, List, ℕ}
+use Rattle.std.proofs.Common.{◌≡◌, ◌≤◌, length, true, List, ℕ}
 use Rattle.part_events.specs.Reader.{reading_by, KeepsHold}
 use Rattle.part_events.specs.Reading.{Goes, GoesOn, ahead}
 use Rattle.part_events.specs.Section.{content, is_closed}

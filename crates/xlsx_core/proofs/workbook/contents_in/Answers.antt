@@ -1,4 +1,4 @@
-use Rattle.std.proofs.Common.{◌≡◌, ℕ, ◌-◌, List, [], length, true, Option, None, Result, Ok, Err, refl, sym, ◌∙◌, ap, inl, inr, arith, codes, map}
+use Rattle.std.proofs.Common.{◌≡◌, ℕ, List, [], None, Result, Err, sym, ◌∙◌, ap, inl, inr, arith, codes, map}
 use Rattle.std.proofs.lemmas.Result.{err_from_is_err_and}
 use Rattle.part_events.specs.Event.{Event}
 use Rattle.part_events.specs.Reader.{reading_by}
@@ -7,7 +7,7 @@ use Rattle.part_events.specs.Section.{content, is_closed}
 use Rattle.part_events.specs.Walk.{inside}
 use Rattle.xlsx_core.specs.DefinedNames.{names_in}
 use Rattle.xlsx_core.specs.Kept.{kept, entry_of}
-use Rattle.xlsx_core.specs.Refusal.{Refusal, prepended, or_earlier}
+use Rattle.xlsx_core.specs.Refusal.{Refusal, prepended}
 use Rattle.xlsx_core.specs.Sheets.{sheets_in, flag_in}
 use Rattle.xlsx_core.specs.Workbook.{sheets_of, names_of, pair_of}
 use Rattle.xlsx_core.specs.WorkbookEvents.{IsSectionRefused, AreContentsRefused}

@@ -1,16 +1,15 @@
-use Rattle.std.proofs.Common.{◌≡◌, ℕ, ◌+◌, ◌-◌, ◌<◌, ◌≤◌, ◌++◌, ◌∷◌, [], List, Bool, length, true, false, Option, Some, Ok, Err, refl, sym, ◌∙◌, ap, subst, inl, inr, arith, rules, codes, map, option_map, string_bytes, append_assoc, append-nil}
+use Rattle.std.proofs.Common.{◌≡◌, ℕ, ◌-◌, ◌≤◌, ◌++◌, [], List, length, true, false, Some, sym, ◌∙◌, ap, subst, inl, inr, arith, rules, codes, map, option_map, string_bytes, append_assoc, append-nil}
 use Rattle.std.specs.Prelude.{slice_get, is_some, option_to_list}
 use Rattle.std.proofs.lemmas.Result.{err_from_is_err_and, on_ok_weaker}
 use Rattle.part_events.specs.Event.{Event, event_of}
-use Rattle.part_events.specs.JoinedText.{joined, text_of, is_unknown, unknown_entity, IsUnknownAt}
+use Rattle.part_events.specs.JoinedText.{joined, text_of, is_unknown, unknown_entity}
 use Rattle.part_events.specs.Reader.{reading_by}
-use Rattle.part_events.specs.Reading.{TakesEvent, StepsAhead, ahead, events_of}
-use Rattle.part_events.specs.Section.{content, is_closed, behind}
+use Rattle.part_events.specs.Reading.{TakesEvent, ahead, events_of}
+use Rattle.part_events.specs.Section.{content}
 use Rattle.part_events.specs.Walk.{inside}
 use Rattle.xlsx_core.specs.Kept.{kept}
-use Rattle.xlsx_core.specs.Refusal.{Refusal}
 use Rattle.xlsx_core.specs.Workbook.{Carries, IsRefusedAhead, names_of, pair_of}
-use Rattle.xlsx_core.specs.WorkbookEvents.{TakesTheEvent, EventFails, TextRefused, TextTaken, IsNameTextRefused}
+use Rattle.xlsx_core.specs.WorkbookEvents.{TakesTheEvent, EventFails, TextTaken, IsNameTextRefused}
 use Rattle.xlsx_core.proofs.Refused.{section_further}
 use Rattle.xlsx_core.proofs.Events.{StepsInside, steps_inside, ClosesElement, closes_element, carries_event, carries_further, same_names, refused_earlier, event_refusal, event_place, joined_on, unknown_on, unknown_here, unknown_text, unknown_at, text_taken, text_refusal, always}
 use Rattle.xlsx_core.proofs.workbook.read_name_text.Goals as goal

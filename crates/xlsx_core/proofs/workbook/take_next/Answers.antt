@@ -1,4 +1,4 @@
-use Rattle.std.proofs.Common.{◌≡◌, ℕ, ◌-◌, ◌≤◌, List, length, true, Some, Err, sym, ◌∙◌, ap, subst, inl, inr, arith, codes}
+use Rattle.std.proofs.Common.{◌≡◌, ℕ, ◌-◌, ◌≤◌, List, length, true, Some, sym, ◌∙◌, subst, inl, inr, arith, codes}
 use Rattle.std.specs.Prelude.{slice_get}
 use Rattle.std.proofs.lemmas.Result.{err_from_is_err_and}
 use Rattle.part_events.specs.Event.{Event, event_of}
@@ -7,7 +7,6 @@ use Rattle.part_events.specs.Reading.{TakesEvent, ahead, events_of}
 use Rattle.part_events.specs.Section.{content}
 use Rattle.part_events.specs.Walk.{inside}
 use Rattle.xlsx_core.specs.Kept.{kept}
-use Rattle.xlsx_core.specs.Refusal.{Refusal}
 use Rattle.xlsx_core.specs.Workbook.{Carries, IsRefusedAhead, names_of}
 use Rattle.xlsx_core.specs.WorkbookEvents.{TakesTheEvent, EventFails, NameTaken, IsNameRefused, IsSectionRefused, IsNameElementRefused, is_name_start}
 use Rattle.xlsx_core.proofs.Refused.{section_further, section_weaker}
