@@ -1,5 +1,5 @@
 -- The forms of source and sink in memory: what they hold, and which calls fail.
-use Rattle.std.specs.Prelude.{ℕ, ◌≤◌, ◌⊎◌, ◌<◌, List, length, true}
+use Rattle.std.specs.Prelude.{◌≡◌, ℕ, ◌+◌, ◌-◌, ◌^◌, ◌≤◌, ◌⊎◌, ◌<◌, min, List, length, true}
 use Rattle.std.specs.List.{Contains}
 use Rattle.xlsx_tool.specs.Source.{SourceState}
 use Rattle.xlsx_tool.specs.Sink.{SinkState}
@@ -16,6 +16,12 @@ pub record HeldSource : Type 0 where
 abbrev pub source_state : HeldSource → SourceState
 source_state held = record { told = true; left = held.left; faults = held.faults }
 
+-- a call of `read` is counted, up to the last count, and the plan stays
+pub record CountsRead (old new : HeldSource) : Type 0 where
+  pub calls : new.calls ≡ min (old.calls + 1) (2 ^ 64 - 1)
+  pub piece : new.piece ≡ old.piece
+  pub fail_at : new.fail_at ≡ old.fail_at
+
 pub record HeldSink : Type 0 where
   pub written : List ℕ
   -- the most bytes that it takes in all
@@ -28,6 +34,13 @@ pub record HeldSink : Type 0 where
 
 abbrev pub sink_state : HeldSink → SinkState
 sink_state held = record { told = true; written = held.written; faults = held.faults }
+
+-- a call of `write` is counted, up to the last count, and the plan stays
+pub record CountsWrite (old new : HeldSink) : Type 0 where
+  pub calls : new.calls ≡ min (old.calls + 1) (2 ^ 64 - 1)
+  pub room : new.room ≡ old.room
+  pub piece : new.piece ≡ old.piece
+  pub fail_at : new.fail_at ≡ old.fail_at
 
 -- a write of this piece fails: the call is planned to, or there is no room for any of the piece
 abbrev pub FailsToWrite : HeldSink → List ℕ → Type 0

@@ -1,7 +1,7 @@
 ghost use Rattle.std.specs.Prelude.{◌≡◌, ◌<◌, ◌≤◌, ◌↔◌, [], length, true, false, IsErr, IfOk, OnOk, OnErr};
 ghost use Rattle.part_events.specs.Package.{Rose};
 ghost use Rattle.xlsx_tool.specs.Sink.{SinkState, KeepsSink, Writes, SinkFails};
-ghost use Rattle.xlsx_tool.specs.MemoryForms.{sink_state, FailsToWrite};
+ghost use Rattle.xlsx_tool.specs.MemoryForms.{sink_state, FailsToWrite, CountsWrite};
 
 use std::alloc::{AllocError, Global};
 use std::io::Write;
@@ -92,6 +92,8 @@ impl Sink for MemorySink {
         ensures bytes { IfOk result (λ n. Writes n piece.now (sink_state self.old) (sink_state self.new)) }
         ensures failed { OnErr result (SinkFails (sink_state self.old) (sink_state self.new)) }
         ensures planned { IsErr result ↔ FailsToWrite self.old piece.now }
+        ensures few { IfOk result (λ n. n ≤ self.old.piece) }
+        ensures counts { CountsWrite self.old self.new }
     {
         let call = self.calls;
         self.calls = call.saturating_add(1);

@@ -1,6 +1,6 @@
 ghost use Rattle.std.specs.Prelude.{◌≡◌, ◌<◌, ◌≤◌, ◌↔◌, [], length, true, false, Contains, IsErr, IfOk, OnOk, OnErr};
 ghost use Rattle.xlsx_tool.specs.Source.{SourceState, KeepsSource, Reads, SourceFails};
-ghost use Rattle.xlsx_tool.specs.MemoryForms.{source_state};
+ghost use Rattle.xlsx_tool.specs.MemoryForms.{source_state, CountsRead};
 
 use std::io::Read;
 use std::marker::Model;
@@ -79,6 +79,8 @@ impl Source for MemorySource {
         ensures end { IfOk result (λ n. n ≡ 0 → 0 < length into.new → self.old.left ≡ []) }
         ensures failed { OnErr result (SourceFails (source_state self.old) (source_state self.new)) }
         ensures planned { IsErr result ↔ Contains self.old.fail_at self.old.calls }
+        ensures few { IfOk result (λ n. n ≤ self.old.piece) }
+        ensures counts { CountsRead self.old self.new }
     {
         let call = self.calls;
         self.calls = call.saturating_add(1);
