@@ -1,5 +1,5 @@
 use super::*;
-use part_events::{MemoryPackage, Package, PackageFailed, PartEvent, StartTag};
+use part_events::{FailingPackage, MemoryPackage, PartEvent, StartTag};
 use std::alloc::Global;
 use std::test::Fail;
 
@@ -335,45 +335,12 @@ fn other_packages_are_not_built(rt: HostRuntime) -> Result<(), Fail> {
     Ok(())
 }
 
-/// A package whose calls all fail.
-#[derive(Drop)]
-struct Broken;
-
-impl Package for Broken {
-    ghost use Rattle.std.specs.Prelude.{[], ◌-◌, ◌^◌, false};
-    ghost use Rattle.part_events.specs.Event.{other};
-
-    ghost state = { λ _. record { told = false; parts = []; past = []; rest = []; current = other; has_current = false; left = 0; taken = 0; faults = 2 ^ 64 - 1 } };
-
-    fn open(&mut self, _name: &str) -> Result<bool, PackageFailed> {
-        Err(PackageFailed)
-    }
-
-    fn advance(&mut self) -> Result<bool, PackageFailed> {
-        Err(PackageFailed)
-    }
-
-    fn event(&self) -> PartEvent<'_> {
-        PartEvent::Other
-    }
-
-    fn left(&self) -> u64 {
-        0
-    }
-
-    fn taken(&self) -> u64 {
-        0
-    }
-
-    fn faults(&self) -> u64 {
-        u64::MAX
-    }
-}
-
 #[test]
 fn refusals_have_texts(rt: HostRuntime) -> Result<(), Fail> {
+    let calls = vec![in rt.alloc(); 0u64]?;
+    let mut failing = FailingPackage::new(MemoryPackage::new(rt.alloc()), calls);
     assert_eq!(rt;
-        read_thin(rt.alloc(), &mut Broken, "S").err(),
+        read_thin(rt.alloc(), &mut failing, "S").err(),
         Some(ThinError::Io)
     );
     for (error, want) in [
