@@ -1,6 +1,7 @@
 -- The steps of a run, over plain values.
 use Rattle.std.proofs.Common.{◌≡◌, ℕ, ◌+◌, ◌<◌, ◌≤◌, List, [], ◌∷◌, ◌++◌, length, take, drop, refl, sym, ◌∙◌, ap, subst, Bool, true, false, cond, arith, Some, None, append_assoc}
 use Rattle.std.specs.Option.{option_and_then}
+use Rattle.std.specs.Prelude.{Result, Ok, Err, IfOk, IfErr}
 use Rattle.std.specs.List.{AllByRecursion}
 use Rattle.std.specs.Str.{IsUtf8, is_utf8}
 use Rattle.std.proofs.lemmas.List.{take-append-drop, append-nil, length-append, length-drop, length-take-le}
@@ -9,16 +10,19 @@ use Rattle.serde_json.specs.Data.{Data}
 use Rattle.serde_json.specs.Read.{read}
 use Rattle.part_events.specs.Package.{Part}
 use Rattle.xlsx_core.specs.PlainSheet.{PlainCell, PlainRow, IsPlainCell, IsPlainRow, all_cells}
-use Rattle.xlsx_core.specs.PlainPackage.{IsPlain, ThinFails}
-use Rattle.xlsx_core.specs.declared.thin.ThinError.{ThinError}
-use Rattle.xlsx_core.specs.declared.thin.ThinError.TheVariants.{NotBuilt}
-use Rattle.part_events.specs.Package.{PackageState, Rose}
+use Rattle.xlsx_core.specs.ThinReading.{ReadsAs, ThinCause, ThinFails}
+use Rattle.cell_data.specs.declared.error.XlsxError.{XlsxError}
+use Rattle.cell_data.specs.declared.error.XlsxError.TheVariants as workbook
+use Rattle.part_events.specs.Memory.{Contents, state_of}
+use Rattle.part_events.specs.Package.{Rose}
 use Rattle.xlsx_tool.specs.Source.{SourceState}
 use Rattle.xlsx_tool.specs.Input.{InputRead, InputFails, PieceRead, PieceFails, TookTooMany}
 use Rattle.xlsx_tool.specs.declared.error.ToolError.{ToolError}
-use Rattle.xlsx_tool.specs.declared.error.ToolError.TheVariants.{Usage, ReadFault, InputTooLarge, NotAPackage, NoSheet, WriteFault, OutOfMemory}
+use Rattle.xlsx_tool.specs.declared.error.ToolError.TheVariants.{ReadFault, OutOfMemory}
 use Rattle.xlsx_tool.specs.Listing.{IsInside}
 use Rattle.xlsx_tool.specs.PackageText.{package_of, package_in}
+use Rattle.xlsx_tool.specs.Run.{LinesFail}
+use Rattle.xlsx_tool.specs.Status.{of_workbook}
 
 -- what is in a text of UTF-8
 pub package_in-read : (bytes : List ℕ) (value : Data) → IsUtf8 bytes → read bytes ≡ Some value → package_in bytes ≡ package_of value
@@ -47,9 +51,9 @@ inside-rows : (rows : List PlainRow) → AllByRecursion IsPlainRow rows → AllB
 inside-rows [] plain = tt
 inside-rows (row ∷ rows) plain = inside-append row.cells (all_cells rows) (inside-cells row.cells plain.0.cells) (inside-rows rows plain.1)
 
--- the cells of a plain package lie inside their sheet
-pub plain_inside : (parts : List Part) (name : List ℕ) (cells : List PlainCell) → IsPlain parts name cells → AllByRecursion IsInside cells
-plain_inside parts name cells plain = let sheet = plain.sheet.plain in rw sheet.same (inside-rows sheet.rows sheet.plain)
+-- the cells that were read lie inside their sheet
+pub read_inside : (parts : List Part) (name : List ℕ) (cells : List PlainCell) → ReadsAs parts name cells → AllByRecursion IsInside cells
+read_inside parts name cells reads = let sheet = reads.plain in rw sheet.same (inside-rows sheet.rows sheet.plain)
 
 -- a piece more was written
 pub front_more : (bytes front rest : List ℕ) (count : ℕ) → bytes ≡ front ++ rest → bytes ≡ (front ++ take count rest) ++ drop count rest
@@ -59,9 +63,20 @@ front_more bytes front rest count joined =
 pub written_more : (before now after front piece : List ℕ) → now ≡ before ++ front → after ≡ now ++ piece → after ≡ before ++ (front ++ piece)
 written_more before now after front piece first second = second ∙ ap (λ (xs : List ℕ). xs ++ piece) first ∙ append_assoc before front piece
 
--- what a refusal for not being plain says of the package
-pub not_built : (asked : List ℕ) (old new : PackageState) (e : ThinError) → e ≡ NotBuilt → ThinFails e asked old new → old.told ≡ true → (name : List ℕ) (cells : List PlainCell) → IsPlain old.parts name cells → ⊥
-not_built asked old new e is fails told = (subst (λ (e : ThinError). ThinFails e asked old new) is fails).1 told
+-- what holds of the answer that was given
+pub ok_at : {A E : Type 0} (result : Result A E) (x : A) (P : A → Type 0) → result ≡ Ok x → IfOk result P → P x
+ok_at {A = A} {E = E} result x P is holds = subst (λ (r : Result A E). IfOk r P) is holds
+
+pub err_at : {A E : Type 0} (result : Result A E) (e : E) (P : E → Type 0) → result ≡ Err e → IfErr result P → P e
+err_at {A = A} {E = E} result e P is holds = subst (λ (r : Result A E). IfErr r P) is holds
+
+-- why a sheet of a package in memory isn't read is why its lines aren't had
+pub workbook_fails : (error : XlsxError) (name : List ℕ) (old new : Contents) → ThinFails name (state_of old) (state_of new) error → LinesFail (of_workbook error) name old.parts
+workbook_fails workbook.Io name old new fails = absurd (omega (arith, fails))
+workbook_fails workbook.OutOfMemory name old new fails = tt
+workbook_fails workbook.NotBuilt name old new fails = (fails refl).1
+workbook_fails (workbook.WorksheetNotFound asked) name old new fails = (λ is. absurd (cc), (fails refl).1)
+workbook_fails error name old new fails = (λ is. absurd (cc), fails refl)
 
 -- ---- the input
 
@@ -105,14 +120,9 @@ rises first now next same rose = subst (λ (faults : ℕ). Rose faults next) sam
 
 -- why a piece wasn't read is why the input wasn't
 pub piece_fails : (e : ToolError) (first now next : SourceState) → now.faults ≡ first.faults → PieceFails e now next → InputFails e first next
-piece_fails Usage first now next same fails = absurd fails
 piece_fails ReadFault first now next same fails = rises first.faults now.faults next.faults same fails
-piece_fails InputTooLarge first now next same fails = absurd fails
-piece_fails NotAPackage first now next same fails = absurd fails
-piece_fails ToolError.NotBuilt first now next same fails = absurd fails
-piece_fails NoSheet first now next same fails = absurd fails
-piece_fails WriteFault first now next same fails = absurd fails
 piece_fails OutOfMemory first now next same fails = fails ∙ same
+piece_fails _ first now next same fails = absurd fails
 
 pub goes_on : (more : Bool) (room : ℕ) (old new : List ℕ) (now next : SourceState) → more ≡ true → PieceRead more room old new now next → PieceRead true room old new now next
 goes_on more room old new now next is piece = subst (λ (more : Bool). PieceRead more room old new now next) is piece

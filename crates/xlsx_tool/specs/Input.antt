@@ -4,7 +4,7 @@ use Rattle.part_events.specs.Package.{Rose}
 use Rattle.xlsx_tool.specs.Source.{SourceState}
 use Rattle.xlsx_tool.specs.declared.input.TheConstants.{INPUT_LIMIT}
 use Rattle.xlsx_tool.specs.declared.error.ToolError.{ToolError}
-use Rattle.xlsx_tool.specs.declared.error.ToolError.TheVariants.{Usage, ReadFault, InputTooLarge, NotAPackage, NotBuilt, NoSheet, WriteFault, OutOfMemory}
+use Rattle.xlsx_tool.specs.declared.error.ToolError.TheVariants.{Usage, ReadFault, InputTooLarge, NotAPackage, NotBuilt, Workbook, WriteFault, OutOfMemory}
 
 -- the whole input was read, and is these bytes
 pub record InputRead (bytes : List ℕ) (source source' : SourceState) : Type 0 where
@@ -20,14 +20,10 @@ pub record TookTooMany (source source' : SourceState) : Type 0 where
 
 -- why the input was not read
 abbrev pub InputFails : ToolError → SourceState → SourceState → Type 0
-InputFails Usage source source' = ⊥
 InputFails ReadFault source source' = Rose source.faults source'.faults
 InputFails InputTooLarge source source' = (source'.faults ≡ source.faults) × (source.told ≡ true → TookTooMany source source')
-InputFails NotAPackage source source' = ⊥
-InputFails NotBuilt source source' = ⊥
-InputFails NoSheet source source' = ⊥
-InputFails WriteFault source source' = ⊥
 InputFails OutOfMemory source source' = source'.faults ≡ source.faults
+InputFails _ source source' = ⊥
 
 -- A piece was read: bytes were appended that were left before, or nothing was left.
 abbrev pub PieceRead : Bool → ℕ → List ℕ → List ℕ → SourceState → SourceState → Type 0
@@ -38,11 +34,6 @@ PieceRead false room old new source source' =
     (source'.faults ≡ source.faults) × (new ≡ old) × (source.told ≡ true → (source.left ≡ []) × (source'.left ≡ []))
 
 abbrev pub PieceFails : ToolError → SourceState → SourceState → Type 0
-PieceFails Usage source source' = ⊥
 PieceFails ReadFault source source' = Rose source.faults source'.faults
-PieceFails InputTooLarge source source' = ⊥
-PieceFails NotAPackage source source' = ⊥
-PieceFails NotBuilt source source' = ⊥
-PieceFails NoSheet source source' = ⊥
-PieceFails WriteFault source source' = ⊥
 PieceFails OutOfMemory source source' = source'.faults ≡ source.faults
+PieceFails _ source source' = ⊥

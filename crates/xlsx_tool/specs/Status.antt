@@ -1,7 +1,10 @@
 -- What the program ends with after each refusal: a status and a text.
-use Rattle.std.specs.Prelude.{ℕ, List, codes}
+use Rattle.std.specs.Prelude.{ℕ, List, codes, Option, Some}
+use Rattle.cell_data.specs.XlsxError.{text_of}
+use Rattle.cell_data.specs.declared.error.XlsxError.{XlsxError}
+use Rattle.cell_data.specs.declared.error.XlsxError.TheVariants as workbook
 use Rattle.xlsx_tool.specs.declared.error.ToolError.{ToolError}
-use Rattle.xlsx_tool.specs.declared.error.ToolError.TheVariants.{Usage, ReadFault, InputTooLarge, NotAPackage, NotBuilt, NoSheet, WriteFault, OutOfMemory}
+use Rattle.xlsx_tool.specs.declared.error.ToolError.TheVariants.{Usage, ReadFault, InputTooLarge, NotAPackage, NotBuilt, Workbook, WriteFault, OutOfMemory}
 
 -- 0 is success, and 1 is kept for the system
 abbrev pub status_of : ToolError → ℕ
@@ -9,17 +12,23 @@ status_of Usage = 2
 status_of ReadFault = 3
 status_of InputTooLarge = 4
 status_of NotAPackage = 5
-status_of NoSheet = 6
+status_of (Workbook error) = 6
 status_of WriteFault = 7
 status_of OutOfMemory = 8
 status_of NotBuilt = 9
 
-abbrev pub error_text : ToolError → List ℕ
-error_text Usage = codes "usage"
-error_text ReadFault = codes "read fault"
-error_text InputTooLarge = codes "input too large"
-error_text NotAPackage = codes "not a package"
-error_text NoSheet = codes "no sheet"
-error_text WriteFault = codes "write fault"
-error_text OutOfMemory = codes "out of memory"
-error_text NotBuilt = codes "not built yet"
+abbrev pub error_text : ToolError → Option (List ℕ)
+error_text Usage = Some (codes "usage")
+error_text ReadFault = Some (codes "read fault")
+error_text InputTooLarge = Some (codes "input too large")
+error_text NotAPackage = Some (codes "not a package")
+error_text (Workbook error) = text_of error
+error_text WriteFault = Some (codes "write fault")
+error_text OutOfMemory = Some (codes "out of memory")
+error_text NotBuilt = Some (codes "not built yet")
+
+-- what the refusal of a workbook becomes
+abbrev pub of_workbook : XlsxError → ToolError
+of_workbook workbook.NotBuilt = NotBuilt
+of_workbook workbook.OutOfMemory = OutOfMemory
+of_workbook error = Workbook error

@@ -1,12 +1,13 @@
 ghost use Rattle.std.specs.Prelude.{◌≡◌};
 ghost use Rattle.xlsx_tool.specs.Status.{status_of};
 
+use cell_data::XlsxError;
 use std::alloc::{AllocError, AllocFailed};
 use std::error::Error;
 use std::fmt;
 
 /// Why the program fails (docs/FORMAT.md).
-#[derive(Clone, Copy, Debug, PartialEq, Eq, Hash)]
+#[derive(Debug, PartialEq, Eq, Drop)]
 pub enum ToolError {
     /// The words are no command.
     Usage,
@@ -18,8 +19,8 @@ pub enum ToolError {
     NotAPackage,
     /// The package needs what isn't built yet.
     NotBuilt,
-    /// No sheet has the asked name.
-    NoSheet,
+    /// The workbook can't be opened, or its sheet not be read.
+    Workbook(XlsxError),
     /// The sink failed; what was written is a front of the output.
     WriteFault,
     OutOfMemory,
@@ -35,7 +36,7 @@ impl ToolError {
             ToolError::ReadFault => 3,
             ToolError::InputTooLarge => 4,
             ToolError::NotAPackage => 5,
-            ToolError::NoSheet => 6,
+            ToolError::Workbook(_) => 6,
             ToolError::WriteFault => 7,
             ToolError::OutOfMemory => 8,
             ToolError::NotBuilt => 9,
@@ -44,22 +45,21 @@ impl ToolError {
 }
 
 impl fmt::Display for ToolError {
-    ghost use Rattle.std.specs.Prelude.{Some};
     ghost use Rattle.xlsx_tool.specs.Status.{error_text};
 
-    ghost output = { λ error. Some (error_text error) };
+    ghost output = { error_text };
 
     fn fmt<W: fmt::Write>(&self, f: &mut fmt::Formatter<W>) -> fmt::Result {
-        f.write_str(match self {
-            ToolError::Usage => "usage",
-            ToolError::ReadFault => "read fault",
-            ToolError::InputTooLarge => "input too large",
-            ToolError::NotAPackage => "not a package",
-            ToolError::NotBuilt => "not built yet",
-            ToolError::NoSheet => "no sheet",
-            ToolError::WriteFault => "write fault",
-            ToolError::OutOfMemory => "out of memory",
-        })
+        match self {
+            ToolError::Usage => f.write_str("usage"),
+            ToolError::ReadFault => f.write_str("read fault"),
+            ToolError::InputTooLarge => f.write_str("input too large"),
+            ToolError::NotAPackage => f.write_str("not a package"),
+            ToolError::NotBuilt => f.write_str("not built yet"),
+            ToolError::Workbook(error) => write!(f, "{error}"),
+            ToolError::WriteFault => f.write_str("write fault"),
+            ToolError::OutOfMemory => f.write_str("out of memory"),
+        }
     }
 }
 
@@ -82,5 +82,19 @@ impl<T: Drop> From<AllocFailed<T>> for ToolError {
 
     fn from(_refused: AllocFailed<T>) -> ToolError {
         ToolError::OutOfMemory
+    }
+}
+
+impl From<XlsxError> for ToolError {
+    ghost use Rattle.xlsx_tool.specs.Status.{of_workbook};
+
+    ghost from_gives = { λ refusal e. e ≡ of_workbook refusal };
+
+    fn from(refusal: XlsxError) -> ToolError {
+        match refusal {
+            XlsxError::NotBuilt => ToolError::NotBuilt,
+            XlsxError::OutOfMemory => ToolError::OutOfMemory,
+            other => ToolError::Workbook(other),
+        }
     }
 }

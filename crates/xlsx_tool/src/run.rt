@@ -1,8 +1,8 @@
 ghost use Rattle.std.specs.Prelude.{◌≡◌, ◌≢◌, ◌+◌, ◌≤◌, [], true, length, List, string_bytes, option_map, Some, None, IfOk, OnOk, IfErr, Err};
 ghost use Rattle.part_events.specs.Memory.{closed};
-ghost use Rattle.xlsx_core.specs.PlainPackage.{IsPlain};
 ghost use Rattle.xlsx_core.specs.PlainSheet.{PlainCell};
 ghost use Rattle.xlsx_core.specs.ThinCell.{cells_of};
+ghost use Rattle.xlsx_core.specs.ThinReading.{ReadsAs};
 ghost use Rattle.xlsx_tool.specs.Run.{texts, sheet_asked, Succeeds, Refuses, AnswersExactly, LinesRead, ReadingFails, PackageRead, NoPackage, LinesFail, IsSent, SendFails};
 ghost use Rattle.xlsx_tool.specs.PackageText.{package_in, package_of};
 ghost use Rattle.xlsx_tool.specs.declared.error.ToolError.TheVariants.{Usage, WriteFault};
@@ -18,7 +18,7 @@ use crate::source::Source;
 use part_events::MemoryPackage;
 use serde_json::Value;
 use std::alloc::Global;
-use xlsx_core::{ThinError, plain_sheet_is_one, read_thin};
+use xlsx_core::{ThinAnswer, read_thin, readable_sheets_are_not_refused};
 
 /// The name in the words `cells NAME`.
 fn sheet_asked(words: &[String]) -> Option<&str>
@@ -68,21 +68,15 @@ fn package_from(alloc: Global, bytes: Vec<u8>) -> Result<MemoryPackage, ToolErro
 }
 
 /// The lines of the sheet of this name.
-fn lines_of(alloc: Global, mut package: MemoryPackage, name: &str) -> Result<String, ToolError>
-    ensures ok { IfOk result (λ out. (cells : List PlainCell) × IsPlain «package».parts name.now cells × (string_bytes out ≡ listing cells)) }
+fn lines_of(alloc: Global, package: MemoryPackage, name: &str) -> Result<String, ToolError>
+    ensures ok { IfOk result (λ out. (cells : List PlainCell) × ReadsAs «package».parts name.now cells × (string_bytes out ≡ listing cells)) }
     ensures err { IfErr result (λ e. LinesFail e name.now «package».parts) }
 {
-    match read_thin(alloc, &mut package, name) {
-        Ok(cells) => {
-            drop(package);
-            Ok(listing_of(alloc, &cells)?)
-        }
-        Err(ThinError::NotBuilt) => Err(ToolError::NotBuilt),
-        Err(ThinError::NoSheet) => Err(ToolError::NoSheet),
-        Err(ThinError::OutOfMemory) => Err(ToolError::OutOfMemory),
-        // A package in memory has no faults.
-        Err(ThinError::Io) => unreachable!(),
-    }
+    let ThinAnswer { result, package } = read_thin(alloc, package, name);
+    // What is read needs the package no more.
+    drop(package);
+    let cells = result?;
+    Ok(listing_of(alloc, &cells)?)
 }
 
 /// The lines of the sheet of this name, of the package that the source spells.
@@ -127,7 +121,7 @@ pub fn run<S: Source, K: Sink>(
     ensures unwritten { IfErr result (λ e. e ≢ WriteFault → K.state sink.new ≡ K.state sink.old) }
     ensures exact { (S.state source.old).told ≡ true → AnswersExactly result (texts words.now) (S.state source.old) }
 {
-    plain_sheet_is_one();
+    readable_sheets_are_not_refused();
     let Some(name) = sheet_asked(words) else {
         return Err(ToolError::Usage);
     };

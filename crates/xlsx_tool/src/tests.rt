@@ -6,6 +6,7 @@ use crate::package_text::package_from_json;
 use crate::run::run;
 use crate::sink::MemorySink;
 use crate::source::MemorySource;
+use cell_data::XlsxError;
 use serde_json::Value;
 use std::alloc::Global;
 use std::test::Fail;
@@ -102,33 +103,48 @@ fn a_plain_sheet_is_listed(rt: HostRuntime) -> Result<(), Fail> {
     Ok(())
 }
 
+/// The refusal of a run by its status and text; status 0 and no text where it isn't refused.
+fn refusal_of(alloc: Global, told: &Answer) -> Result<(u8, String), Fail> {
+    match &told.result {
+        Ok(()) => Ok((0, String::new(alloc))),
+        Err(error) => Ok((error.status(), error.to_string(alloc)?)),
+    }
+}
+
 #[test]
 fn each_refusal_has_its_cause(rt: HostRuntime) -> Result<(), Fail> {
     let alloc = rt.alloc();
     let nuts = package_of(alloc, NUTS)?;
     let untyped = package_of(alloc, UNTYPED)?;
     let cells: &[&str] = &["cells", "S"];
-    let table: [(&[&str], &str, ToolError); 8] = [
-        (cells, "", ToolError::NotAPackage),
-        (cells, "[]", ToolError::NotAPackage),
+    let table: [(&[&str], &[u8], u8, &str); 9] = [
+        (cells, b"", 5, "not a package"),
+        (cells, b"\xff", 5, "not a package"),
+        (cells, b"[]", 5, "not a package"),
+        (cells, br#"{"version":2,"parts":[]}"#, 5, "not a package"),
         (
             cells,
-            "{\"version\":2,\"parts\":[]}",
-            ToolError::NotAPackage,
+            br#"{"version":1,"parts":[]}"#,
+            6,
+            "File not found '_rels/.rels'",
         ),
-        (cells, "{\"version\":1,\"parts\":[]}", ToolError::NotBuilt),
-        (&["cells"], nuts.as_str(), ToolError::Usage),
-        (&["cells", "S", "S"], nuts.as_str(), ToolError::Usage),
-        (&["cells", "X"], nuts.as_str(), ToolError::NoSheet),
-        (cells, untyped.as_str(), ToolError::NotBuilt),
+        (&["cells"], nuts.as_bytes(), 2, "usage"),
+        (&["cells", "S", "S"], nuts.as_bytes(), 2, "usage"),
+        (
+            &["cells", "X"],
+            nuts.as_bytes(),
+            6,
+            "Worksheet 'X' not found",
+        ),
+        (cells, untyped.as_bytes(), 9, "not built yet"),
     ];
-    for (words, input, want) in table {
-        let told = run_on(alloc, words, input.as_bytes(), EASY)?;
-        assert_eq!(rt; told.result, Err(want), "of {input}");
+    for (words, input, status, text) in table {
+        let told = run_on(alloc, words, input, EASY)?;
+        let (told_status, told_text) = refusal_of(alloc, &told)?;
+        assert_eq!(rt; told_status, status, "of {text}");
+        assert_eq!(rt; told_text.as_str(), text);
         assert_eq!(rt; told.written.as_str(), "");
     }
-    let told = run_on(alloc, cells, b"\xff", EASY)?;
-    assert_eq!(rt; told.result, Err(ToolError::NotAPackage));
     Ok(())
 }
 
@@ -199,7 +215,11 @@ fn refusals_have_statuses_and_texts(rt: HostRuntime) -> Result<(), Fail> {
         (ToolError::ReadFault, 3, "read fault"),
         (ToolError::InputTooLarge, 4, "input too large"),
         (ToolError::NotAPackage, 5, "not a package"),
-        (ToolError::NoSheet, 6, "no sheet"),
+        (
+            ToolError::Workbook(XlsxError::RelationshipNotFound),
+            6,
+            "Relationship not found",
+        ),
         (ToolError::WriteFault, 7, "write fault"),
         (ToolError::OutOfMemory, 8, "out of memory"),
         (ToolError::NotBuilt, 9, "not built yet"),

@@ -9,6 +9,6 @@ returns-in_err-lines-clause-exact g c = λ told. (
     let handed = err_from_is_err_and c.from_residual.result c.from_residual.ensures.1 in
     let e = c.in_err-lines.field-0.0 in
     rw (handed.1, handed.2)
-    (answers c.plain_sheet_is_one.ensures.name (Err e) (texts c.args.words.now) _ (g.S.Source.state c.lines_from.new.source) (g.K.Sink.state c.args.sink.now) (g.K.Sink.state c.args.sink.now) told tt
+    (answers c.readable_sheets_are_not_refused.ensures.never (Err e) (texts c.args.words.now) _ (g.S.Source.state c.lines_from.new.source) (g.K.Sink.state c.args.sink.now) (g.K.Sink.state c.args.sink.now) told tt
     (refused e (texts c.args.words.now) c.in-Some.name.now _ _ (g.K.Sink.state c.args.sink.now) (sym c.in-Some.ensures) c.in_err-lines.ensures.err))
     )
