@@ -2,12 +2,9 @@
 use Rattle.std.proofs.Common.{◌≡◌, ℕ, suc, ◌-◌, ◌<◌, ◌≤◌, List, [], ◌∷◌, length, Bool, true, false, refl, sym, ◌∙◌, ap, arith, Some}
 use Rattle.std.specs.Prelude.{if◌then◌else◌}
 use Rattle.part_events.specs.Event.{Tag, Event, start, end, text, char_data, entity_ref, other}
-use Rattle.part_events.specs.Reading.{Reading, IsReading, Goes, GoesOn, StepFails, TakesEvent, StepsAhead, names_behind, IsEnclosed, ahead}
+use Rattle.part_events.specs.Reading.{Reading, IsReading, Goes, GoesOn, TakesEvent, StepsAhead, names_behind, IsEnclosed, ahead}
 use Rattle.part_events.specs.Section.{Element, content, is_closed, behind, starts_by, behind_start, outermost, outermost_from}
 use Rattle.part_events.specs.Walk.{inside, SameAhead, IsNextStart, IsNextElement, ClosesSection, EndsInSection}
-use Rattle.part_events.specs.declared.fault.StreamError.{StreamError}
-use Rattle.part_events.specs.declared.fault.StreamError.TheVariants.{Io, Xml, OutOfMemory}
-use Rattle.part_events.specs.declared.fault.XmlFault.TheVariants.{EndMismatch, Unclosed, Entity}
 use Rattle.part_events.proofs.Sections.{content-content, goes_on_behind}
 
 pub goes_nowhere : (r : Reading) → Goes r r

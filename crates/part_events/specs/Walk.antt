@@ -2,13 +2,15 @@
 use Rattle.std.specs.Prelude.{◌≡◌, ⊤, ℕ, suc, ◌-◌, ◌<◌, ◌≤◌, List, [], ◌∷◌, length, map, Bool, true, false, Some, None, slice_get}
 use Rattle.part_events.specs.Event.{Tag, Event, start, IsStartAnd}
 use Rattle.part_events.specs.Package.{HasCause}
-use Rattle.part_events.specs.Reading.{Reading, IsAtElement, IsAtEnd, BreaksAt, ahead, events_of}
+use Rattle.part_events.specs.Reading.{Reading, IsAtElement, TakesEvent, StaysAtEnd, StepsAhead, IsAtEnd, BreaksAt, ahead, events_of}
 use Rattle.part_events.specs.Section.{content, is_closed, behind, starts_by, behind_start, outermost, is_any, is_named}
 use Rattle.part_events.specs.declared.fault.StreamError.{StreamError}
 use Rattle.part_events.specs.declared.fault.StreamError.TheVariants.{Io, Xml, OutOfMemory}
 use Rattle.part_events.specs.declared.fault.XmlFault.TheVariants.{EndMismatch, Unclosed, Entity}
 use Rattle.part_events.specs.declared.walk.Found.{Found}
 use Rattle.part_events.specs.declared.walk.Found.TheVariants.{Start, Closed, Ended}
+use Rattle.part_events.specs.declared.walk.Inside.{Inside}
+use Rattle.part_events.specs.declared.walk.Inside.TheVariants as step
 use Rattle.part_events.specs.declared.walk.Wanted.{Wanted}
 use Rattle.part_events.specs.declared.walk.Wanted.TheVariants.{Any, Named}
 
@@ -19,6 +21,48 @@ wants (Named names) = is_named (map (λ name. name.now) names.now)
 -- how many elements are open inside the section
 abbrev pub inside : ℕ → Reading → ℕ
 inside base r = length r.names - base
+
+-- where the reader stands after each step over the events of a section
+abbrev pub StandsInside : ℕ → Inside → Reading → Reading → Type 0
+StandsInside base step.Event old new = TakesEvent old new × (base ≤ length new.names)
+StandsInside base step.Closed old new = TakesEvent old new × (suc (length new.names) ≡ base)
+StandsInside base step.Ended old new = StaysAtEnd old new × (base ≤ length new.names)
+
+-- the next event of the section was taken
+pub record TakesInside (base : ℕ) (old new : Reading) : Type 0 where
+  pub events : content (inside base old) (ahead old) ≡ new.source.current ∷ content (inside base new) (ahead new)
+  pub closed : is_closed (inside base old) (ahead old) ≡ is_closed (inside base new) (ahead new)
+  pub left : behind (inside base old) (ahead old) ≡ behind (inside base new) (ahead new)
+  pub steps : StepsAhead true old new
+
+-- the end of the section was taken
+pub record TakesLastEnd (base : ℕ) (old new : Reading) : Type 0 where
+  pub events : content (inside base old) (ahead old) ≡ []
+  pub closed : is_closed (inside base old) (ahead old) ≡ true
+  pub left : behind (inside base old) (ahead old) ≡ ahead new
+  pub steps : StepsAhead true old new
+
+-- no event is left of the section, nor of the part
+pub record HasNoneInside (base : ℕ) (old new : Reading) : Type 0 where
+  pub events : content (inside base old) (ahead old) ≡ []
+  pub closed : is_closed (inside base old) (ahead old) ≡ false
+  pub left : behind (inside base old) (ahead old) ≡ []
+  pub steps : StepsAhead false old new
+
+-- what a step does to the section
+abbrev pub StepsInside : ℕ → Inside → Reading → Reading → Type 0
+StepsInside base step.Event old new = TakesInside base old new
+StepsInside base step.Closed old new = TakesLastEnd base old new
+StepsInside base step.Ended old new = HasNoneInside base old new
+
+-- when a step is refused: the event that comes next breaks the nesting, and the section isn't closed before
+abbrev pub InsideFails : ℕ → Reading → Reading → StreamError → Type 0
+InsideFails base old new Io = HasCause old.source new.source
+InsideFails base old new (Xml (EndMismatch at)) =
+    old.source.told ≡ true → (events_of new ≡ events_of old) × BreaksAt (events_of new) at × (is_closed (inside base old) (ahead old) ≡ false) × (ahead old ≡ [])
+InsideFails base old new (Xml (Unclosed at)) = ⊥
+InsideFails base old new (Xml (Entity at)) = ⊥
+InsideFails base old new OutOfMemory = ⊤
 
 -- where the walk stands after each answer
 abbrev pub StandsAt : (Tag → Bool) → ℕ → Found → Reading → Reading → Type 0

@@ -5,13 +5,13 @@ ghost use Rattle.part_events.specs.JoinedText.{PutsFront, ReadsText, TextFails};
 ghost use Rattle.part_events.specs.Package.{part_of};
 ghost use Rattle.part_events.specs.Reading.{ahead, events_of, OpensReader, IsReading, IsAtStart, IsAtElement, Goes, GoesOn, Steps, StepsAhead, StepFails, Skips, SkipFails};
 ghost use Rattle.part_events.specs.Section.{content, is_named, is_any};
-ghost use Rattle.part_events.specs.Walk.{StandsAt, FindsStart, FindsElement, WalkFails};
+ghost use Rattle.part_events.specs.Walk.{StandsInside, StepsInside, InsideFails, StandsAt, FindsStart, FindsElement, WalkFails};
 
 use crate::cursor::Cursor;
 use crate::event::PartEvent;
 use crate::fault::StreamError;
 use crate::package::Package;
-use crate::walk::Found;
+use crate::walk::{Found, Inside};
 use std::alloc::Global;
 
 /// Reads a part of a package from its start, and keeps the names of the open elements.
@@ -123,6 +123,22 @@ impl<'a, P: Package> XlReader<'a, P> {
         ensures failed { (reading_by P.state self.new).is_failed ≡ is_err result }
     {
         self.cursor.read_text(self.package, out, char_data)
+    }
+
+    /// Takes the next event of the section whose element is number `base` of the open ones, counted from 1. With a `base`
+    /// of 0 the section is the whole part.
+    pub fn next_inside(&mut self, base: usize) -> Result<Inside, StreamError>
+        requires reading { IsReading (reading_by P.state self.old) }
+        requires within { base ≤ length (reading_by P.state self.old).names }
+        ensures hold { KeepsHold self.old self.new }
+        ensures goes { Goes (reading_by P.state self.old) (reading_by P.state self.new) }
+        ensures on { OnOk result (GoesOn (reading_by P.state self.old) (reading_by P.state self.new)) }
+        ensures stands { IfOk result (λ found. StandsInside base found (reading_by P.state self.old) (reading_by P.state self.new)) }
+        ensures inside { (reading_by P.state self.old).source.told ≡ true → IfOk result (λ found. StepsInside base found (reading_by P.state self.old) (reading_by P.state self.new)) }
+        ensures err { IfErr result (InsideFails base (reading_by P.state self.old) (reading_by P.state self.new)) }
+        ensures failed { (reading_by P.state self.new).is_failed ≡ is_err result }
+    {
+        self.cursor.next_inside(self.package, base)
     }
 
     /// Reads on to the next start with one of these local names, at any depth of the section whose element is number

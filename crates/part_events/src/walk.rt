@@ -4,12 +4,23 @@ ghost use Rattle.std.specs.Str.{bytes_eq};
 ghost use Rattle.part_events.specs.Event.{tag_of};
 ghost use Rattle.part_events.specs.Reading.{reading, IsReading, IsAtElement, Goes, GoesOn, Skips, SkipFails};
 ghost use Rattle.part_events.specs.Section.{is_named, is_any};
-ghost use Rattle.part_events.specs.Walk.{wants, StandsAt, FindsStart, FindsElement, WalkFails};
+ghost use Rattle.part_events.specs.Walk.{wants, StandsInside, StepsInside, InsideFails, StandsAt, FindsStart, FindsElement, WalkFails};
 
 use crate::cursor::Cursor;
 use crate::event::{PartEvent, StartTag};
 use crate::fault::StreamError;
 use crate::package::Package;
+
+/// What a step over the events of a section came to.
+#[derive(Clone, Copy, Debug, PartialEq, Eq)]
+pub enum Inside {
+    /// The reader stands at an event that lies in the section.
+    Event,
+    /// The section is closed, and its end was taken.
+    Closed,
+    /// The part ended in the section.
+    Ended,
+}
 
 /// How a step of a walk over a section ended.
 #[derive(Clone, Copy, Debug, PartialEq, Eq)]
@@ -53,6 +64,32 @@ impl Wanted<'_> {
 }
 
 impl Cursor {
+    /// Takes the next event of the section whose element is number `base` of the open ones, counted from 1. With a `base`
+    /// of 0 the section is the whole part.
+    pub fn next_inside<P: Package>(
+        &mut self,
+        package: &mut P,
+        base: usize,
+    ) -> Result<Inside, StreamError>
+        requires reading { IsReading (reading (P.state «package».old) self.old) }
+        requires within { base ≤ length self.old.names }
+        ensures goes { Goes (reading (P.state «package».old) self.old) (reading (P.state «package».new) self.new) }
+        ensures on { OnOk result (GoesOn (reading (P.state «package».old) self.old) (reading (P.state «package».new) self.new)) }
+        ensures stands { IfOk result (λ found. StandsInside base found (reading (P.state «package».old) self.old) (reading (P.state «package».new) self.new)) }
+        ensures inside { (P.state «package».old).told ≡ true → IfOk result (λ found. StepsInside base found (reading (P.state «package».old) self.old) (reading (P.state «package».new) self.new)) }
+        ensures err { IfErr result (InsideFails base (reading (P.state «package».old) self.old) (reading (P.state «package».new) self.new)) }
+        ensures failed { self.new.failed ≡ is_err result }
+        ensures alloc { self.new.alloc ≡ self.old.alloc }
+    {
+        if !self.next(package)? {
+            return Ok(Inside::Ended);
+        }
+        if self.depth() < base {
+            return Ok(Inside::Closed);
+        }
+        Ok(Inside::Event)
+    }
+
     /// Reads on to the next wanted start, to the end of the section whose element is number `base` of the open ones,
     /// or to the part's end. Every walk over a section goes through this loop.
     fn walk<P: Package>(
