@@ -32,21 +32,21 @@ StandsInside base step.Ended old new = StaysAtEnd old new × (base ≤ length ne
 pub record TakesInside (base : ℕ) (old new : Reading) : Type 0 where
   pub events : content (inside base old) (ahead old) ≡ new.source.current ∷ content (inside base new) (ahead new)
   pub closed : is_closed (inside base old) (ahead old) ≡ is_closed (inside base new) (ahead new)
-  pub left : behind (inside base old) (ahead old) ≡ behind (inside base new) (ahead new)
+  pub behind : behind (inside base old) (ahead old) ≡ behind (inside base new) (ahead new)
   pub steps : StepsAhead true old new
 
 -- the end of the section was taken
 pub record TakesLastEnd (base : ℕ) (old new : Reading) : Type 0 where
   pub events : content (inside base old) (ahead old) ≡ []
   pub closed : is_closed (inside base old) (ahead old) ≡ true
-  pub left : behind (inside base old) (ahead old) ≡ ahead new
+  pub behind : behind (inside base old) (ahead old) ≡ ahead new
   pub steps : StepsAhead true old new
 
 -- no event is left of the section, nor of the part
 pub record HasNoneInside (base : ℕ) (old new : Reading) : Type 0 where
   pub events : content (inside base old) (ahead old) ≡ []
   pub closed : is_closed (inside base old) (ahead old) ≡ false
-  pub left : behind (inside base old) (ahead old) ≡ []
+  pub behind : behind (inside base old) (ahead old) ≡ []
   pub steps : StepsAhead false old new
 
 -- what a step does to the section

@@ -1,8 +1,8 @@
 ghost use Rattle.std.specs.Prelude.{◌≡◌, ◌<◌, length};
 
 use crate::{
-    FailingPackage, Found, MemoryPackage, Package, PartEvent, StartTag, StreamError, XlReader,
-    XmlFault, children_are_at_depth_one, content_is_by_match, innermost_open_is_by_depth,
+    FailingPackage, Found, Inside, MemoryPackage, Package, PartEvent, StartTag, StreamError,
+    XlReader, XmlFault, children_are_at_depth_one, content_is_by_match, innermost_open_is_by_depth,
     outermost_is_in_order, whole_is_longest,
 };
 use std::alloc::{AllocError, Global};
@@ -106,6 +106,28 @@ fn count_elements<P: Package>(
         }
         reader.skip_element()?;
         count = count.saturating_add(1);
+    }
+}
+
+// How many events stand in the first section of a name, and what came behind them.
+fn count_inside<P: Package>(
+    alloc: Global,
+    package: &mut P,
+    section: &str,
+) -> Result<(u32, Inside), StreamError> {
+    let Some(mut reader) = XlReader::open(alloc, package, "part")? else {
+        return Ok((0, Inside::Ended));
+    };
+    if reader.next_start(0, &[section])? != Found::Start {
+        return Ok((0, Inside::Ended));
+    }
+    let base = reader.depth();
+    let mut count = 0u32;
+    'inside: loop {
+        match reader.next_inside(base)? {
+            Inside::Event => count = count.saturating_add(1),
+            last => return Ok((count, last)),
+        }
     }
 }
 
@@ -234,6 +256,44 @@ fn texts_are_joined(rt: HostRuntime) -> Result<(), Fail> {
         let shown = format!(in alloc; "{fault}")?;
         assert_eq!(rt; shown.as_str(), text);
     }
+    Ok(())
+}
+
+#[test]
+fn events_of_a_section_are_taken(rt: HostRuntime) -> Result<(), Fail> {
+    let alloc = rt.alloc();
+    let part = [
+        start("a"),
+        start("x:b"),
+        PartEvent::Text("t"),
+        start("b"),
+        PartEvent::End("b"),
+        PartEvent::End("x:b"),
+        PartEvent::Other,
+        PartEvent::End("a"),
+        PartEvent::Other,
+        PartEvent::End("a"),
+    ];
+    for (taken, section, want) in [
+        (9, "a", Ok((6, Inside::Closed))),
+        (9, "b", Ok((3, Inside::Closed))),
+        (5, "b", Ok((3, Inside::Ended))),
+        (2, "b", Ok((0, Inside::Ended))),
+        (10, "a", Ok((6, Inside::Closed))),
+    ] {
+        let mut package = package_of(&rt, alloc, "part", &part, taken)?;
+        assert_eq!(rt;
+            count_inside(alloc, &mut package, section),
+            want,
+            "{section} of {taken} events"
+        );
+    }
+    let broken = [start("a"), PartEvent::Other, PartEvent::End("b")];
+    let mut package = package_of(&rt, alloc, "part", &broken, 3)?;
+    assert_eq!(rt;
+        count_inside(alloc, &mut package, "a"),
+        Err(StreamError::Xml(XmlFault::EndMismatch { at: 2 }))
+    );
     Ok(())
 }
 

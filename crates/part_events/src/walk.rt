@@ -109,9 +109,11 @@ impl Cursor {
         ensures failed { self.new.failed ≡ is_err result }
         ensures alloc { self.new.alloc ≡ self.old.alloc }
     {
-        'events: while self.next(package)? {
-            if self.depth() < base {
-                return Ok(Found::Closed);
+        'events: loop {
+            match self.next_inside(package, base)? {
+                Inside::Closed => return Ok(Found::Closed),
+                Inside::Ended => return Ok(Found::Ended),
+                Inside::Event => {}
             }
             if let PartEvent::Start(tag) = package.event() {
                 if wanted.accepts(tag) {
@@ -119,7 +121,6 @@ impl Cursor {
                 }
             }
         }
-        Ok(Found::Ended)
     }
 
     /// Reads on to the next start with one of these local names, at any depth of the section whose element is number
