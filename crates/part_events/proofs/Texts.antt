@@ -1,19 +1,16 @@
 -- How the text of an element is read, event by event.
-use Rattle.std.proofs.Common.{◌≡◌, ℕ, suc, ◌+◌, ◌-◌, ◌<◌, ◌≤◌, List, [], ◌∷◌, ◌++◌, length, reverse, Bool, true, false, refl, sym, ◌∙◌, ap, arith, append_assoc, append-nil, Option, Some, None}
+use Rattle.std.proofs.Common.{◌≡◌, ℕ, suc, ◌+◌, ◌-◌, List, [], ◌∷◌, ◌++◌, length, reverse, Bool, true, false, refl, sym, ◌∙◌, ap, arith, append_assoc, append-nil, Option, Some, None}
 use Rattle.std.specs.Prelude.{if◌then◌else◌, option_map, slice_get}
 use Rattle.std.proofs.lemmas.List.{length-append, length-reverse}
 use Rattle.attr_text.specs.declared.fault.TextFault.{TextFault}
 use Rattle.attr_text.specs.declared.fault.TextFault.TheVariants as text_fault
 use Rattle.part_events.specs.Event.{Event, start, end, text, char_data, entity_ref, other}
-use Rattle.part_events.specs.JoinedText.{EventFails, text_error, text_of, joined, is_unknown, unknown_entity, PutsFront, ReadsText, TextFails, IsUnknownAt}
-use Rattle.part_events.specs.Reading.{Reading, Goes, GoesOn, StepFails, TakesEvent, StepsAhead, IsTracked, names_behind, IsEnclosed, ahead, events_of}
+use Rattle.part_events.specs.JoinedText.{EventFails, text_error, text_of, joined, is_unknown, unknown_entity, TextFails, IsUnknownAt}
+use Rattle.part_events.specs.Reading.{Reading, IsTracked, ahead, events_of}
 use Rattle.part_events.specs.Section.{content, is_closed, behind}
-use Rattle.part_events.specs.Walk.{inside}
-use Rattle.part_events.specs.declared.fault.StreamError.{StreamError}
-use Rattle.part_events.specs.declared.fault.StreamError.TheVariants.{Io, Xml, OutOfMemory}
-use Rattle.part_events.specs.declared.fault.XmlFault.TheVariants.{EndMismatch, Unclosed, Entity}
+use Rattle.part_events.specs.Walk.{inside, TakesInside}
 use Rattle.part_events.proofs.Nested.{reverse_on}
-use Rattle.part_events.proofs.Walking.{GoesInside, goes_inside}
+use Rattle.part_events.proofs.Walking.{GoesInside}
 
 -- What is kept while the text is read: a front of the content was passed, and its text was put.
 pub record HasRead (data_too : Bool) (base : ℕ) (old now : Reading) (old_text new_text : List ℕ) : Type 0 where
@@ -24,19 +21,6 @@ pub record HasRead (data_too : Bool) (base : ℕ) (old now : Reading) (old_text 
   pub known : unknown_entity front ≡ None
   pub closed : is_closed 0 (ahead old) ≡ is_closed (inside base now) (ahead now)
   pub behind : behind 0 (ahead old) ≡ behind (inside base now) (ahead now)
-
-pub has_read_none : (data_too : Bool) (base : ℕ) (old : Reading) (written : List ℕ) → base ≡ length old.names → HasRead data_too base old old written written
-has_read_none data_too base old written is =
-    let none : inside base old ≡ 0 = omega arith in
-    record {
-      front = [];
-      parts = ap (λ (n : ℕ). content n (ahead old)) (sym none);
-      size = omega arith;
-      text = sym (append-nil written);
-      known = refl;
-      closed = ap (λ (n : ℕ). is_closed n (ahead old)) (sym none);
-      behind = ap (λ (n : ℕ). behind n (ahead old)) (sym none);
-    }
 
 joined-push : (data_too : Bool) (front : List Event) (event : Event) → joined data_too (front ++ event ∷ []) ≡ joined data_too front ++ text_of data_too event
 joined-push data_too [] event = append-nil (text_of data_too event)
@@ -70,63 +54,18 @@ content_at (char_data written) before after events goes = rw goes (refl, refl, r
 content_at (entity_ref name) before after events goes = rw goes (refl, refl, refl)
 content_at other before after events goes = rw goes (refl, refl, refl)
 
-pub has_read_more : (data_too : Bool) (base : ℕ) (old mid new : Reading) (first before after : List ℕ) → HasRead data_too base old mid first before → TakesEvent mid new → StepsAhead true mid new → base ≤ length mid.names → base ≤ length new.names → after ≡ before ++ text_of data_too new.source.current → is_unknown new.source.current ≡ false → HasRead data_too base old new first after
-has_read_more data_too base old mid new first before after read takes steps was is written known =
+-- an event of the content was taken, and its text put
+pub has_read_more : (data_too : Bool) (base : ℕ) (old mid new : Reading) (first before after : List ℕ) → HasRead data_too base old mid first before → TakesInside base mid new → new.at ≡ mid.at + 1 → after ≡ before ++ text_of data_too new.source.current → is_unknown new.source.current ≡ false → HasRead data_too base old new first after
+has_read_more data_too base old mid new first before after read takes at written known =
     let event = new.source.current in
-    let goes = goes_inside event base mid.names new.names takes.names takes.enclosed was is in
-    let next = content_at event (inside base mid) (inside base new) (ahead new) goes in
     record {
       front = read.front ++ event ∷ [];
-      parts = read.parts ∙ ap (λ (events : List Event). read.front ++ content (inside base mid) events) steps.0 ∙ ap (λ (events : List Event). read.front ++ events) next.0 ∙ sym (append_assoc read.front (event ∷ []) (content (inside base new) (ahead new)));
-      size = omega (arith, read.size, takes.at, length-append read.front (event ∷ []));
+      parts = read.parts ∙ ap (λ (events : List Event). read.front ++ events) takes.events ∙ sym (append_assoc read.front (event ∷ []) (content (inside base new) (ahead new)));
+      size = omega (arith, read.size, at, length-append read.front (event ∷ []));
       text = written ∙ ap (λ (bytes : List ℕ). bytes ++ text_of data_too event) read.text ∙ append_assoc first (joined data_too read.front) (text_of data_too event) ∙ ap (λ (bytes : List ℕ). first ++ bytes) (sym (joined-push data_too read.front event));
       known = unknown_entity-push read.front event read.known known;
-      closed = read.closed ∙ ap (λ (events : List Event). is_closed (inside base mid) events) steps.0 ∙ next.1;
-      behind = read.behind ∙ ap (λ (events : List Event). behind (inside base mid) events) steps.0 ∙ next.2;
-    }
-
-pub puts_front : (data_too : Bool) (base : ℕ) (old now : Reading) (first written : List ℕ) → HasRead data_too base old now first written → PutsFront data_too (content 0 (ahead old)) first written
-puts_front data_too base old now first written read = record { front = read.front; more = content (inside base now) (ahead now); parts = read.parts; text = read.text }
-
-left_content : (event : Event) (base : ℕ) (before after : List (List ℕ)) (events : List Event) → after ≡ names_behind event before → IsEnclosed event before → base ≤ length before → length after < base → (content (length before - base) (event ∷ events) ≡ []) × (is_closed (length before - base) (event ∷ events) ≡ true) × (behind (length before - base) (event ∷ events) ≡ events)
-left_content (start tag) base before after events names enclosed was is = absurd (let same = ap length names in omega arith)
-left_content (end name) base [] after events names enclosed was is = absurd (omega arith)
-left_content (end name) base (first ∷ before) after events names enclosed was is =
-    let same = ap length names in
-    let none : length (first ∷ before) - base ≡ 0 = omega arith in
-    rw none (refl, refl, refl)
-left_content (text content) base before after events names enclosed was is = absurd (let same = ap length names in omega arith)
-left_content (char_data content) base before after events names enclosed was is = absurd (let same = ap length names in omega arith)
-left_content (entity_ref name) base before after events names enclosed was is = absurd (let same = ap length names in omega arith)
-left_content other base before after events names enclosed was is = absurd (let same = ap length names in omega arith)
-
-whole_front : (front left : List Event) (all : List Event) → all ≡ front ++ left → left ≡ [] → all ≡ front
-whole_front front left all parts none = parts ∙ ap (λ (events : List Event). front ++ events) none ∙ append-nil front
-
--- the match was taken
-pub reads_to_match : (data_too : Bool) (base : ℕ) (old mid new : Reading) (first written : List ℕ) → HasRead data_too base old mid first written → TakesEvent mid new → StepsAhead true mid new → base ≤ length mid.names → length new.names < base → ReadsText data_too true first written old new
-reads_to_match data_too base old mid new first written read takes steps was is =
-    let left = left_content new.source.current base mid.names new.names (ahead new) takes.names takes.enclosed was is in
-    let all = whole_front read.front (content (inside base mid) (ahead mid)) (content 0 (ahead old)) read.parts (rw steps.0 left.0) in
-    record {
-      closed = read.closed ∙ rw steps.0 left.1;
-      text = rw all read.text;
-      known = rw all read.known;
-      ahead = sym (read.behind ∙ rw steps.0 left.2);
-      at_end = λ never. absurd (cc);
-    }
-
--- the part ended
-pub reads_to_end : (data_too : Bool) (base : ℕ) (old mid new : Reading) (first written : List ℕ) → HasRead data_too base old mid first written → StepsAhead false mid new → ReadsText data_too false first written old new
-reads_to_end data_too base old mid new first written read steps =
-    let all = whole_front read.front (content (inside base mid) (ahead mid)) (content 0 (ahead old)) read.parts (rw steps.0 refl) in
-    let nothing : ahead new ≡ [] = rw steps.1.rest refl in
-    record {
-      closed = read.closed ∙ rw steps.0 refl;
-      text = rw all read.text;
-      known = rw all read.known;
-      ahead = nothing ∙ sym (read.behind ∙ rw steps.0 refl);
-      at_end = λ open_still. steps.1;
+      closed = read.closed ∙ takes.closed;
+      behind = read.behind ∙ takes.behind;
     }
 
 pub slice_get-append : (front more : List Event) (event : Event) → slice_get (front ++ event ∷ more) (length front) ≡ Some event
@@ -134,16 +73,12 @@ slice_get-append [] more event = refl
 slice_get-append (first ∷ front) more event = slice_get-append front more event
 
 -- a reference without a character was taken
-pub stops_at_entity : (data_too : Bool) (base : ℕ) (old mid new : Reading) (first written : List ℕ) → HasRead data_too base old mid first written → IsTracked mid → TakesEvent mid new → StepsAhead true mid new → events_of new ≡ events_of old → base ≤ length mid.names → base ≤ length new.names → is_unknown new.source.current ≡ true → (events_of new ≡ events_of old) × IsUnknownAt (events_of new) mid.at × (option_map (λ place. old.at + place) (unknown_entity (content 0 (ahead old))) ≡ Some mid.at)
-stops_at_entity data_too base old mid new first written read tracked takes steps part was is unknown =
+pub stops_at_entity : (data_too : Bool) (base : ℕ) (old mid new : Reading) (first written : List ℕ) → HasRead data_too base old mid first written → IsTracked mid → TakesInside base mid new → events_of new ≡ events_of old → is_unknown new.source.current ≡ true → (events_of new ≡ events_of old) × IsUnknownAt (events_of new) mid.at × (option_map (λ place. old.at + place) (unknown_entity (content 0 (ahead old))) ≡ Some mid.at)
+stops_at_entity data_too base old mid new first written read tracked takes part unknown =
     let event = new.source.current in
-    let goes = goes_inside event base mid.names new.names takes.names takes.enclosed was is in
-    let next = content_at event (inside base mid) (inside base new) (ahead new) goes in
-    let here : content 0 (ahead old) ≡ read.front ++ event ∷ content (inside base new) (ahead new) =
-    read.parts ∙ ap (λ (events : List Event). read.front ++ content (inside base mid) events) steps.0 ∙ ap (λ (events : List Event). read.front ++ events) next.0
-    in
+    let here : content 0 (ahead old) ≡ read.front ++ event ∷ content (inside base new) (ahead new) = read.parts ∙ ap (λ (events : List Event). read.front ++ events) takes.events in
     let taken : events_of new ≡ reverse mid.source.past ++ event ∷ new.source.rest =
-    ap (λ (past : List Event). reverse past ++ new.source.rest) steps.1 ∙ reverse_on event mid.source.past new.source.rest
+    ap (λ (past : List Event). reverse past ++ new.source.rest) takes.steps.1 ∙ reverse_on event mid.source.past new.source.rest
     in
     let place : mid.at ≡ length (reverse mid.source.past) = tracked.at ∙ sym (length-reverse mid.source.past) in (
       part,
@@ -151,17 +86,9 @@ stops_at_entity data_too base old mid new first written read tracked takes steps
       rw (here, unknown_entity-at read.front (content (inside base new) (ahead new)) event read.known unknown) (ap (λ (n : ℕ). Some n) (sym read.size)),
     )
 
-pub text_fails : (old mid new : Reading) (error : StreamError) → Goes old mid → GoesOn old mid → StepFails mid new error → TextFails old new error
-text_fails old mid new Io way first fails = omega (arith, first.faults, fails)
-text_fails old mid new (Xml (EndMismatch at)) way first fails = λ told.
-    let last = fails (way.parts.told ∙ told) in (last.0 ∙ first.part told, last.1)
-text_fails old mid new (Xml (Unclosed at)) way first fails = fails
-text_fails old mid new (Xml (Entity at)) way first fails = absurd fails
-text_fails old mid new OutOfMemory way first fails = fails
-
 -- the text of an event can't be put
-pub event_fails : (data_too : Bool) (base : ℕ) (old mid new : Reading) (first written : List ℕ) (fault : TextFault) → (old.source.told ≡ true → HasRead data_too base old mid first written) → (old.source.told ≡ true → IsTracked mid) → TakesEvent mid new → (old.source.told ≡ true → StepsAhead true mid new) → (old.source.told ≡ true → events_of new ≡ events_of old) → base ≤ length mid.names → base ≤ length new.names → EventFails new.source.current fault → TextFails old new (text_error (new.at - 1) fault)
-event_fails data_too base old mid new first written (text_fault.Entity place) read tracked takes steps part was is fails = λ told.
-    let at : new.at - 1 ≡ mid.at = omega (arith, takes.at) in
-    rw at (stops_at_entity data_too base old mid new first written (read told) (tracked told) takes (steps told) (part told) was is fails)
-event_fails data_too base old mid new first written text_fault.OutOfMemory read tracked takes steps part was is fails = tt
+pub event_fails : (data_too : Bool) (base : ℕ) (old mid new : Reading) (first written : List ℕ) (fault : TextFault) → (old.source.told ≡ true → HasRead data_too base old mid first written) → (old.source.told ≡ true → IsTracked mid) → (old.source.told ≡ true → TakesInside base mid new) → new.at ≡ mid.at + 1 → (old.source.told ≡ true → events_of new ≡ events_of old) → EventFails new.source.current fault → TextFails old new (text_error (new.at - 1) fault)
+event_fails data_too base old mid new first written (text_fault.Entity place) read tracked takes at part fails = λ told.
+    let before : new.at - 1 ≡ mid.at = omega (arith, at) in
+    rw before (stops_at_entity data_too base old mid new first written (read told) (tracked told) (takes told) (part told) fails)
+event_fails data_too base old mid new first written text_fault.OutOfMemory read tracked takes at part fails = tt

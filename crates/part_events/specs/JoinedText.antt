@@ -64,7 +64,7 @@ IsUnknownAt events at = IsSomeAnd (slice_get events at) (λ event. is_unknown ev
 -- when a text can't be read
 abbrev pub TextFails : Reading → Reading → StreamError → Type 0
 TextFails old new Io = HasCause old.source new.source
-TextFails old new (Xml (EndMismatch at)) = old.source.told ≡ true → (events_of new ≡ events_of old) × BreaksAt (events_of new) at
+TextFails old new (Xml (EndMismatch at)) = old.source.told ≡ true → (events_of new ≡ events_of old) × BreaksAt (events_of new) at × (is_closed 0 (ahead old) ≡ false)
 TextFails old new (Xml (Unclosed at)) = ⊥
 TextFails old new (Xml (Entity at)) = old.source.told ≡ true → (events_of new ≡ events_of old) × IsUnknownAt (events_of new) at × (option_map (λ place. old.at + place) (unknown_entity (content 0 (ahead old))) ≡ Some at)
 TextFails old new OutOfMemory = ⊤

@@ -162,7 +162,7 @@ pub record Skips (old new : Reading) : Type 0 where
 -- when an element can't be skipped
 abbrev pub SkipFails : Reading → Reading → StreamError → Type 0
 SkipFails old new Io = HasCause old.source new.source
-SkipFails old new (Xml (EndMismatch at)) = old.source.told ≡ true → (events_of new ≡ events_of old) × BreaksAt (events_of new) at
+SkipFails old new (Xml (EndMismatch at)) = old.source.told ≡ true → (events_of new ≡ events_of old) × BreaksAt (events_of new) at × (is_closed 0 (ahead old) ≡ false)
 SkipFails old new (Xml (Unclosed at)) = old.source.told ≡ true → (events_of new ≡ events_of old) × EndsOpen (events_of new) at × (is_closed 0 (ahead old) ≡ false)
 SkipFails old new (Xml (Entity at)) = ⊥
 SkipFails old new OutOfMemory = ⊤

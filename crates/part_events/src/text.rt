@@ -8,6 +8,7 @@ use crate::cursor::Cursor;
 use crate::event::PartEvent;
 use crate::fault::{StreamError, XmlFault};
 use crate::package::Package;
+use crate::walk::Inside;
 use attr_text::{TextFault, push_entity, push_line_ends};
 
 /// Appends the text of an event. After a refusal `out` is as it was.
@@ -57,17 +58,18 @@ impl Cursor {
         ensures err { IfErr result (TextFails (reading (P.state «package».old) self.old) (reading (P.state «package».new) self.new)) }
         ensures alloc { self.new.alloc ≡ self.old.alloc }
     {
-        let depth = self.depth();
-        'events: while self.next(package)? {
-            if self.depth() < depth {
-                return Ok(true);
+        let base = self.depth();
+        'events: loop {
+            match self.next_inside(package, base)? {
+                Inside::Closed => return Ok(true),
+                Inside::Ended => return Ok(false),
+                Inside::Event => {}
             }
             match push_text(out, package.event(), char_data) {
                 Ok(()) => {}
                 Err(fault) => return Err(self.text_error(fault)),
             }
         }
-        Ok(false)
     }
 
     /// Appends the text of the element at whose start the package stands: each Text, each CharData where `char_data`

@@ -1,7 +1,9 @@
 use Rattle.std.proofs.Common.{◌≡◌, ◌++◌, true, sym, ◌∙◌, ap, rules, string_bytes}
 use Rattle.part_events.specs.Event.{Event}
 use Rattle.part_events.specs.JoinedText.{text_of, is_unknown}
-use Rattle.part_events.specs.Reading.{reading, TakesEvent, StepsAhead}
+use Rattle.part_events.specs.Reading.{reading}
+use Rattle.part_events.specs.Walk.{StandsInside, TakesInside}
+use Rattle.part_events.specs.declared.walk.Inside.TheVariants as step
 use Rattle.part_events.proofs.Texts.{has_read_more, event_fails}
 use Rattle.part_events.proofs.cursor.Cursor.append_text.Goals as goal
 
@@ -9,21 +11,22 @@ pub returns-in-Err-clause-err : goal.returns-in-Err-clause-err
 returns-in-Err-clause-err g c =
     let old = reading (g.P.Package.state c.args.package.now) c.args.self.now in
     let mid = reading (g.P.Package.state c.events.package) c.events.self in
-    let new = reading (g.P.Package.state c.next.new.package) c.next.new.self in
+    let new = reading (g.P.Package.state c.next_inside.new.package) c.next_inside.new.self in
     let told_there : old.source.told ≡ true → mid.source.told ≡ true = λ told. c.events.invariant.goes.parts.told ∙ told in
-    let takes : TakesEvent mid new = rw c.if-branch.true at c.in_ok-next.ensures.steps in
+    let stands : StandsInside c.depth-base.result step.Event mid new = rw c.in-Event.is at c.in_ok-next_inside.ensures.stands in
     rw c.text_error.ensures
-    (event_fails c.args.char_data c.depth-depth.result old mid new _ _ c.in-Err.fault c.events.invariant.read
-    (λ told. c.events.invariant.on.reading.tracked (told_there told)) takes
-    (λ told. rw c.if-branch.true at (c.in_ok-next.ensures.ahead (told_there told)))
-    (λ told. c.in_ok-next.ensures.on.part (told_there told) ∙ c.events.invariant.on.part told)
-    c.events.invariant.within (rw (← c.depth.ensures) c.if-depth.false) (rw (← c.event.ensures) c.in-Err.ensures.err))
+    (event_fails c.args.char_data c.depth-base.result old mid new _ _ c.in-Err.fault c.events.invariant.read
+    (λ told. c.events.invariant.on.reading.tracked (told_there told))
+    (λ told. rw c.in-Event.is at (c.in_ok-next_inside.ensures.inside (told_there told)))
+    stands.0.at
+    (λ told. c.in_ok-next_inside.ensures.on.part (told_there told) ∙ c.events.invariant.on.part told)
+    (rw (← c.event.ensures) c.in-Err.ensures.err))
 
 pub events-preserved : goal.events-preserved
 events-preserved g c =
     let old = reading (g.P.Package.state c.args.package.now) c.args.self.now in
     let mid = reading (g.P.Package.state c.events.package) c.events.self in
-    let new = reading (g.P.Package.state c.next.new.package) c.next.new.self in
+    let new = reading (g.P.Package.state c.next_inside.new.package) c.next_inside.new.self in
     record {
       goes = search rules;
       on = search rules;
@@ -31,9 +34,9 @@ events-preserved g c =
       base = search rules;
       read = λ told.
           let told_there : mid.source.told ≡ true = c.events.invariant.goes.parts.told ∙ told in
-          let takes : TakesEvent mid new = rw c.if-branch.true at c.in_ok-next.ensures.steps in
-          let steps : StepsAhead true mid new = rw c.if-branch.true at (c.in_ok-next.ensures.ahead told_there) in
-          has_read_more c.args.char_data c.depth-depth.result old mid new _ _ _ (c.events.invariant.read told) takes steps c.events.invariant.within (rw (← c.depth.ensures) c.if-depth.false)
+          let stands : StandsInside c.depth-base.result step.Event mid new = rw c.in-Event.is at c.in_ok-next_inside.ensures.stands in
+          let takes : TakesInside c.depth-base.result mid new = rw c.in-Event.is at (c.in_ok-next_inside.ensures.inside told_there) in
+          has_read_more c.args.char_data c.depth-base.result old mid new _ _ _ (c.events.invariant.read told) takes stands.0.at
           (c.in-Ok.ensures.ok ∙ ap (λ (event : Event). string_bytes c.events.out ++ text_of c.args.char_data event) c.event.ensures)
           (ap is_unknown (sym c.event.ensures) ∙ c.in-Ok.ensures.known);
       alloc = search rules;

@@ -10,9 +10,9 @@ invariant-events g l =
     record {
       goes : Goes old now;
       on : GoesOn old now;
-      within : l.depth ≤ length l.self.names;
-      base : l.depth ≡ length l.fn.self.names;
-      read : old.source.told ≡ true → HasRead l.char_data l.depth old now (string_bytes l.fn.out) (string_bytes l.out);
+      within : l.base ≤ length l.self.names;
+      base : l.base ≡ length l.fn.self.names;
+      read : old.source.told ≡ true → HasRead l.char_data l.base old now (string_bytes l.fn.out) (string_bytes l.out);
       alloc : l.self.alloc ≡ l.fn.self.alloc;
     }
 
