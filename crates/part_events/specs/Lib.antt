@@ -1,5 +1,6 @@
 pub mod Event
 pub mod Failing
+pub mod Fault
 pub mod JoinedText
 pub mod Memory
 pub mod NestingLaws

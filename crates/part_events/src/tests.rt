@@ -248,12 +248,28 @@ fn texts_are_joined(rt: HostRuntime) -> Result<(), Fail> {
         Err(StreamError::Xml(XmlFault::Entity { at: 2 }))
     );
     assert_eq!(rt; out.as_str(), "a");
+    Ok(())
+}
+
+#[test]
+fn each_refusal_has_its_text(rt: HostRuntime) -> Result<(), Fail> {
+    let alloc = rt.alloc();
     for (fault, text) in [
         (XmlFault::EndMismatch { at: 4 }, "end tag mismatch at 4"),
         (XmlFault::Unclosed { at: 0 }, "unclosed element at 0"),
         (XmlFault::Entity { at: 12 }, "unknown entity at 12"),
     ] {
         let shown = format!(in alloc; "{fault}")?;
+        assert_eq!(rt; shown.as_str(), text);
+        let error = StreamError::Xml(fault);
+        let shown = format!(in alloc; "{error}")?;
+        assert_eq!(rt; shown.as_str(), text);
+    }
+    for (error, text) in [
+        (StreamError::Io, "the package could not be read"),
+        (StreamError::OutOfMemory, "out of memory"),
+    ] {
+        let shown = format!(in alloc; "{error}")?;
         assert_eq!(rt; shown.as_str(), text);
     }
     Ok(())
