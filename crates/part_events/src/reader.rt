@@ -38,6 +38,8 @@ impl<'a, P: Package> XlReader<'a, P> {
     ghost use Rattle.part_events.specs.Reader.{reading_by, package_of, reference_of, allocator_of, KeepsHold};
 
     /// Opens the part of this name. Answers None where there is none.
+    ///
+    /// A caller who has to know what became of the package without a reader calls `package.open(name)`, then `over`.
     pub fn open(
         alloc: Global,
         package: &'a mut P,
