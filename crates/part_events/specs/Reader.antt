@@ -3,7 +3,7 @@ use Rattle.std.specs.Prelude.{◌≡◌}
 use Rattle.std.specs.Borrow.{GName}
 use Rattle.std.specs.declared.alloc.Global.{Global}
 use Rattle.part_events.specs.Package.{PackageState}
-use Rattle.part_events.specs.Reading.{Reading, reading}
+use Rattle.part_events.specs.Reading.{Reading, reading, allocator_in}
 use Rattle.part_events.specs.declared.cursor.Cursor.{Cursor}
 use Rattle.part_events.specs.declared.reader.XlReader.{XlReader}
 
@@ -18,7 +18,7 @@ abbrev pub reference_of : {P : Type 0} → XlReader P Cursor → GName
 reference_of reader = reader.package.ghost_name
 
 abbrev pub allocator_of : {P : Type 0} → XlReader P Cursor → Global
-allocator_of reader = reader.cursor.alloc
+allocator_of reader = allocator_in reader.cursor
 
 -- a call keeps the reader's hold on its package, and its allocator
 pub record KeepsHold {P : Type 0} (old new : XlReader P Cursor) : Type 0 where

@@ -1,5 +1,6 @@
 -- A reader of a part: what it is to its caller, and what its calls do.
 use Rattle.std.specs.Prelude.{◌≡◌, ⊤, ℕ, ◌+◌, ◌-◌, ◌<◌, ◌≤◌, ◌^◌, min, List, [], ◌∷◌, ◌++◌, length, reverse, slice_get, Bool, true, false}
+use Rattle.std.specs.declared.alloc.Global.{Global}
 use Rattle.part_events.specs.Event.{Event, start, end, text, char_data, entity_ref, other}
 use Rattle.part_events.specs.Nesting.{starts_in, ends_in, depth, open_name, IsWhole, whole_rest, whole}
 use Rattle.part_events.specs.Package.{PackageState, HasCause, SameParts}
@@ -17,8 +18,21 @@ pub record Reading : Type 0 where
   pub at : ℕ
   pub is_failed : Bool
 
+-- what a cursor keeps beside its package, and its allocator
+abbrev pub open_elements : Cursor → List (List ℕ)
+open_elements cursor = cursor.names
+
+abbrev pub events_taken : Cursor → ℕ
+events_taken cursor = cursor.at
+
+abbrev pub has_failed : Cursor → Bool
+has_failed cursor = cursor.failed
+
+abbrev pub allocator_in : Cursor → Global
+allocator_in cursor = cursor.alloc
+
 abbrev pub reading : PackageState → Cursor → Reading
-reading source cursor = record { source = source; names = cursor.names; at = cursor.at; is_failed = cursor.failed }
+reading source cursor = record { source = source; names = open_elements cursor; at = events_taken cursor; is_failed = has_failed cursor }
 
 -- the events of the open part
 abbrev pub events_of : Reading → List Event

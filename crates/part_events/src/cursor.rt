@@ -1,7 +1,7 @@
 ghost use Rattle.std.specs.Prelude.{◌≡◌, ◌+◌, ◌<◌, ◌^◌, ℕ, [], length, true, false, is_err, IfOk, OnOk, IfErr};
 ghost use Rattle.part_events.specs.declared.fault.StreamError.TheVariants.{Xml};
 ghost use Rattle.part_events.specs.declared.fault.XmlFault.TheVariants.{Unclosed};
-ghost use Rattle.part_events.specs.Reading.{reading, IsReading, IsAtStart, Goes, GoesOn, Steps, StepsAhead, StepFails};
+ghost use Rattle.part_events.specs.Reading.{reading, events_taken, open_elements, has_failed, allocator_in, IsReading, IsAtStart, Goes, GoesOn, Steps, StepsAhead, StepFails};
 
 use crate::event::PartEvent;
 use crate::fault::{StreamError, XmlFault};
@@ -22,9 +22,9 @@ impl Cursor {
     /// A cursor over the part that was just opened.
     pub fn new<P: Package>(alloc: Global, package: &P) -> Cursor
         requires { IsAtStart (P.state «package».now) }
-        ensures start { result.at ≡ 0 }
-        ensures depth { result.names ≡ [] }
-        ensures alloc { result.alloc ≡ alloc }
+        ensures start { events_taken result ≡ 0 }
+        ensures depth { open_elements result ≡ [] }
+        ensures alloc { allocator_in result ≡ alloc }
         ensures reading { IsReading (reading (P.state «package».now) result) }
     {
         // What is left bounds the events to come, so that their number can't overflow.
@@ -44,7 +44,7 @@ impl Cursor {
         ensures steps { IfOk result (λ more. Steps more (reading (P.state «package».old) self.old) (reading (P.state «package».new) self.new)) }
         ensures ahead { (P.state «package».old).told ≡ true → IfOk result (λ more. StepsAhead more (reading (P.state «package».old) self.old) (reading (P.state «package».new) self.new)) }
         ensures err { IfErr result (StepFails (reading (P.state «package».old) self.old) (reading (P.state «package».new) self.new)) }
-        ensures alloc { self.new.alloc ≡ self.old.alloc }
+        ensures alloc { allocator_in self.new ≡ allocator_in self.old }
     {
         if !package.advance()? {
             return Ok(false);
@@ -75,8 +75,8 @@ impl Cursor {
         ensures steps { IfOk result (λ more. Steps more (reading (P.state «package».old) self.old) (reading (P.state «package».new) self.new)) }
         ensures ahead { (P.state «package».old).told ≡ true → IfOk result (λ more. StepsAhead more (reading (P.state «package».old) self.old) (reading (P.state «package».new) self.new)) }
         ensures err { IfErr result (StepFails (reading (P.state «package».old) self.old) (reading (P.state «package».new) self.new)) }
-        ensures failed { self.new.failed ≡ is_err result }
-        ensures alloc { self.new.alloc ≡ self.old.alloc }
+        ensures failed { has_failed self.new ≡ is_err result }
+        ensures alloc { allocator_in self.new ≡ allocator_in self.old }
     {
         let outcome = self.step(package);
         self.failed = outcome.is_err();
@@ -92,7 +92,7 @@ impl Cursor {
 
     /// The refusal of a part that ends inside an element.
     pub(crate) fn leave_open(&mut self) -> StreamError
-        ensures error { result ≡ Xml (Unclosed self.old.at) }
+        ensures error { result ≡ Xml (Unclosed (events_taken self.old)) }
         ensures fails { self.new ≡ record self.old { failed = true } }
     {
         self.failed = true;
@@ -101,28 +101,28 @@ impl Cursor {
 
     /// How many events of the part were taken.
     pub fn at(&self) -> u64
-        ensures { result ≡ self.now.at }
+        ensures { result ≡ events_taken self.now }
     {
         self.at
     }
 
     /// How many elements are open.
     pub fn depth(&self) -> usize
-        ensures { result ≡ length self.now.names }
+        ensures { result ≡ length (open_elements self.now) }
     {
         self.names.len()
     }
 
     /// Whether a call was refused. Then the part can't be read on.
     pub fn is_failed(&self) -> bool
-        ensures { result ≡ self.now.failed }
+        ensures { result ≡ has_failed self.now }
     {
         self.failed
     }
 
     /// The allocator that the cursor was given.
     pub fn alloc(&self) -> Global
-        ensures { result ≡ self.now.alloc }
+        ensures { result ≡ allocator_in self.now }
     {
         self.alloc
     }

@@ -1,7 +1,7 @@
 ghost use Rattle.std.specs.Prelude.{◌≡◌, ◌<◌, ◌++◌, ◌-◌, suc, length, true, false, OnOk, OnErr, IfOk, IfErr, is_err, string_bytes};
 ghost use Rattle.part_events.specs.Event.{event_of};
 ghost use Rattle.part_events.specs.JoinedText.{text_error, text_of, is_unknown, EventFails, PutsFront, ReadsText, TextFails};
-ghost use Rattle.part_events.specs.Reading.{reading, IsReading, IsAtElement, Goes, GoesOn, ahead};
+ghost use Rattle.part_events.specs.Reading.{reading, events_taken, open_elements, has_failed, allocator_in, IsReading, IsAtElement, Goes, GoesOn, ahead};
 ghost use Rattle.part_events.specs.Section.{content};
 
 use crate::cursor::Cursor;
@@ -34,8 +34,8 @@ fn push_text(out: &mut String, event: PartEvent<'_>, char_data: bool) -> Result<
 impl Cursor {
     /// The refusal of the text of the last event.
     fn text_error(&self, fault: TextFault) -> StreamError
-        requires { 0 < self.now.at }
-        ensures { result ≡ text_error (self.now.at - 1) fault }
+        requires { 0 < events_taken self.now }
+        ensures { result ≡ text_error (events_taken self.now - 1) fault }
     {
         match fault {
             TextFault::Entity { at: _ } => StreamError::Xml(XmlFault::Entity { at: self.at() - 1 }),
@@ -52,11 +52,11 @@ impl Cursor {
         requires { IsReading (reading (P.state «package».old) self.old) }
         ensures goes { Goes (reading (P.state «package».old) self.old) (reading (P.state «package».new) self.new) }
         ensures on { OnOk result (GoesOn (reading (P.state «package».old) self.old) (reading (P.state «package».new) self.new)) }
-        ensures depth { IfOk result (λ closed. closed ≡ true → length self.old.names ≡ suc (length self.new.names)) }
+        ensures depth { IfOk result (λ closed. closed ≡ true → length (open_elements self.old) ≡ suc (length (open_elements self.new))) }
         ensures text { (P.state «package».old).told ≡ true → IfOk result (λ closed. ReadsText char_data closed (string_bytes out.old) (string_bytes out.new) (reading (P.state «package».old) self.old) (reading (P.state «package».new) self.new)) }
         ensures front { (P.state «package».old).told ≡ true → OnErr result (PutsFront char_data (content 0 (ahead (reading (P.state «package».old) self.old))) (string_bytes out.old) (string_bytes out.new)) }
         ensures err { IfErr result (TextFails (reading (P.state «package».old) self.old) (reading (P.state «package».new) self.new)) }
-        ensures alloc { self.new.alloc ≡ self.old.alloc }
+        ensures alloc { allocator_in self.new ≡ allocator_in self.old }
     {
         let base = self.depth();
         'events: loop {
@@ -85,12 +85,12 @@ impl Cursor {
         requires element { IsAtElement (reading (P.state «package».old) self.old) }
         ensures goes { Goes (reading (P.state «package».old) self.old) (reading (P.state «package».new) self.new) }
         ensures on { OnOk result (GoesOn (reading (P.state «package».old) self.old) (reading (P.state «package».new) self.new)) }
-        ensures depth { IfOk result (λ closed. closed ≡ true → length self.old.names ≡ suc (length self.new.names)) }
+        ensures depth { IfOk result (λ closed. closed ≡ true → length (open_elements self.old) ≡ suc (length (open_elements self.new))) }
         ensures text { (P.state «package».old).told ≡ true → IfOk result (λ closed. ReadsText char_data closed (string_bytes out.old) (string_bytes out.new) (reading (P.state «package».old) self.old) (reading (P.state «package».new) self.new)) }
         ensures front { (P.state «package».old).told ≡ true → OnErr result (PutsFront char_data (content 0 (ahead (reading (P.state «package».old) self.old))) (string_bytes out.old) (string_bytes out.new)) }
         ensures err { IfErr result (TextFails (reading (P.state «package».old) self.old) (reading (P.state «package».new) self.new)) }
-        ensures failed { self.new.failed ≡ is_err result }
-        ensures alloc { self.new.alloc ≡ self.old.alloc }
+        ensures failed { has_failed self.new ≡ is_err result }
+        ensures alloc { allocator_in self.new ≡ allocator_in self.old }
     {
         let outcome = self.append_text(package, out, char_data);
         self.set_failed(outcome.is_err());

@@ -2,7 +2,7 @@ ghost use Rattle.std.specs.Prelude.{◌≡◌, ℕ, suc, ◌≤◌, length, map,
 ghost use Rattle.std.specs.List.{list_any};
 ghost use Rattle.std.specs.Str.{bytes_eq};
 ghost use Rattle.part_events.specs.Event.{tag_of};
-ghost use Rattle.part_events.specs.Reading.{reading, IsReading, IsAtElement, Goes, GoesOn, Skips, SkipFails};
+ghost use Rattle.part_events.specs.Reading.{reading, open_elements, has_failed, allocator_in, IsReading, IsAtElement, Goes, GoesOn, Skips, SkipFails};
 ghost use Rattle.part_events.specs.Section.{is_named, is_any};
 ghost use Rattle.part_events.specs.Walk.{wants, StandsInside, StepsInside, InsideFails, StandsAt, FindsStart, FindsElement, WalkFails};
 
@@ -72,14 +72,14 @@ impl Cursor {
         base: usize,
     ) -> Result<Inside, StreamError>
         requires reading { IsReading (reading (P.state «package».old) self.old) }
-        requires within { base ≤ length self.old.names }
+        requires within { base ≤ length (open_elements self.old) }
         ensures goes { Goes (reading (P.state «package».old) self.old) (reading (P.state «package».new) self.new) }
         ensures on { OnOk result (GoesOn (reading (P.state «package».old) self.old) (reading (P.state «package».new) self.new)) }
         ensures stands { IfOk result (λ found. StandsInside base found (reading (P.state «package».old) self.old) (reading (P.state «package».new) self.new)) }
         ensures inside { (P.state «package».old).told ≡ true → IfOk result (λ found. StepsInside base found (reading (P.state «package».old) self.old) (reading (P.state «package».new) self.new)) }
         ensures err { IfErr result (InsideFails base (reading (P.state «package».old) self.old) (reading (P.state «package».new) self.new)) }
-        ensures failed { self.new.failed ≡ is_err result }
-        ensures alloc { self.new.alloc ≡ self.old.alloc }
+        ensures failed { has_failed self.new ≡ is_err result }
+        ensures alloc { allocator_in self.new ≡ allocator_in self.old }
     {
         if !self.next(package)? {
             return Ok(Inside::Ended);
@@ -99,15 +99,15 @@ impl Cursor {
         wanted: Wanted<'_>,
     ) -> Result<Found, StreamError>
         requires reading { IsReading (reading (P.state «package».old) self.old) }
-        requires within { base ≤ length self.old.names }
+        requires within { base ≤ length (open_elements self.old) }
         ensures goes { Goes (reading (P.state «package».old) self.old) (reading (P.state «package».new) self.new) }
         ensures on { OnOk result (GoesOn (reading (P.state «package».old) self.old) (reading (P.state «package».new) self.new)) }
         ensures stands { IfOk result (λ found. StandsAt (wants wanted.entry) base found (reading (P.state «package».old) self.old) (reading (P.state «package».new) self.new)) }
         ensures starts { (P.state «package».old).told ≡ true → IfOk result (λ found. FindsStart (wants wanted.entry) base found (reading (P.state «package».old) self.old) (reading (P.state «package».new) self.new)) }
         ensures elements { (P.state «package».old).told ≡ true → IfOk result (λ found. FindsElement (wants wanted.entry) base found (reading (P.state «package».old) self.old) (reading (P.state «package».new) self.new)) }
         ensures err { IfErr result (WalkFails (wants wanted.entry) base (reading (P.state «package».old) self.old) (reading (P.state «package».new) self.new)) }
-        ensures failed { self.new.failed ≡ is_err result }
-        ensures alloc { self.new.alloc ≡ self.old.alloc }
+        ensures failed { has_failed self.new ≡ is_err result }
+        ensures alloc { allocator_in self.new ≡ allocator_in self.old }
     {
         'events: loop {
             match self.next_inside(package, base)? {
@@ -132,14 +132,14 @@ impl Cursor {
         names: &[&str],
     ) -> Result<Found, StreamError>
         requires reading { IsReading (reading (P.state «package».old) self.old) }
-        requires within { base ≤ length self.old.names }
+        requires within { base ≤ length (open_elements self.old) }
         ensures goes { Goes (reading (P.state «package».old) self.old) (reading (P.state «package».new) self.new) }
         ensures on { OnOk result (GoesOn (reading (P.state «package».old) self.old) (reading (P.state «package».new) self.new)) }
         ensures stands { IfOk result (λ found. StandsAt (is_named (map (λ name. name.now) names.now)) base found (reading (P.state «package».old) self.old) (reading (P.state «package».new) self.new)) }
         ensures found { (P.state «package».old).told ≡ true → IfOk result (λ found. FindsStart (is_named (map (λ name. name.now) names.now)) base found (reading (P.state «package».old) self.old) (reading (P.state «package».new) self.new)) }
         ensures err { IfErr result (WalkFails (is_named (map (λ name. name.now) names.now)) base (reading (P.state «package».old) self.old) (reading (P.state «package».new) self.new)) }
-        ensures failed { self.new.failed ≡ is_err result }
-        ensures alloc { self.new.alloc ≡ self.old.alloc }
+        ensures failed { has_failed self.new ≡ is_err result }
+        ensures alloc { allocator_in self.new ≡ allocator_in self.old }
     {
         self.walk(package, base, Wanted::Named(names))
     }
@@ -153,14 +153,14 @@ impl Cursor {
         names: &[&str],
     ) -> Result<Found, StreamError>
         requires reading { IsReading (reading (P.state «package».old) self.old) }
-        requires within { base ≤ length self.old.names }
+        requires within { base ≤ length (open_elements self.old) }
         ensures goes { Goes (reading (P.state «package».old) self.old) (reading (P.state «package».new) self.new) }
         ensures on { OnOk result (GoesOn (reading (P.state «package».old) self.old) (reading (P.state «package».new) self.new)) }
         ensures stands { IfOk result (λ found. StandsAt (is_named (map (λ name. name.now) names.now)) base found (reading (P.state «package».old) self.old) (reading (P.state «package».new) self.new)) }
         ensures found { (P.state «package».old).told ≡ true → IfOk result (λ found. FindsElement (is_named (map (λ name. name.now) names.now)) base found (reading (P.state «package».old) self.old) (reading (P.state «package».new) self.new)) }
         ensures err { IfErr result (WalkFails (is_named (map (λ name. name.now) names.now)) base (reading (P.state «package».old) self.old) (reading (P.state «package».new) self.new)) }
-        ensures failed { self.new.failed ≡ is_err result }
-        ensures alloc { self.new.alloc ≡ self.old.alloc }
+        ensures failed { has_failed self.new ≡ is_err result }
+        ensures alloc { allocator_in self.new ≡ allocator_in self.old }
     {
         self.walk(package, base, Wanted::Named(names))
     }
@@ -173,14 +173,14 @@ impl Cursor {
         base: usize,
     ) -> Result<Found, StreamError>
         requires reading { IsReading (reading (P.state «package».old) self.old) }
-        requires within { base ≤ length self.old.names }
+        requires within { base ≤ length (open_elements self.old) }
         ensures goes { Goes (reading (P.state «package».old) self.old) (reading (P.state «package».new) self.new) }
         ensures on { OnOk result (GoesOn (reading (P.state «package».old) self.old) (reading (P.state «package».new) self.new)) }
         ensures stands { IfOk result (λ found. StandsAt is_any base found (reading (P.state «package».old) self.old) (reading (P.state «package».new) self.new)) }
         ensures found { (P.state «package».old).told ≡ true → IfOk result (λ found. FindsElement is_any base found (reading (P.state «package».old) self.old) (reading (P.state «package».new) self.new)) }
         ensures err { IfErr result (WalkFails is_any base (reading (P.state «package».old) self.old) (reading (P.state «package».new) self.new)) }
-        ensures failed { self.new.failed ≡ is_err result }
-        ensures alloc { self.new.alloc ≡ self.old.alloc }
+        ensures failed { has_failed self.new ≡ is_err result }
+        ensures alloc { allocator_in self.new ≡ allocator_in self.old }
     {
         self.walk(package, base, Wanted::Any)
     }
@@ -191,11 +191,11 @@ impl Cursor {
         requires element { IsAtElement (reading (P.state «package».old) self.old) }
         ensures goes { Goes (reading (P.state «package».old) self.old) (reading (P.state «package».new) self.new) }
         ensures on { OnOk result (GoesOn (reading (P.state «package».old) self.old) (reading (P.state «package».new) self.new)) }
-        ensures depth { OnOk result (length self.old.names ≡ suc (length self.new.names)) }
+        ensures depth { OnOk result (length (open_elements self.old) ≡ suc (length (open_elements self.new))) }
         ensures skips { (P.state «package».old).told ≡ true → OnOk result (Skips (reading (P.state «package».old) self.old) (reading (P.state «package».new) self.new)) }
         ensures err { IfErr result (SkipFails (reading (P.state «package».old) self.old) (reading (P.state «package».new) self.new)) }
-        ensures failed { self.new.failed ≡ is_err result }
-        ensures alloc { self.new.alloc ≡ self.old.alloc }
+        ensures failed { has_failed self.new ≡ is_err result }
+        ensures alloc { allocator_in self.new ≡ allocator_in self.old }
     {
         let depth = self.depth();
         match self.walk(package, depth, Wanted::Named(&[]))? {
