@@ -1,224 +1,154 @@
--- One event of a workbook's section.
-use Rattle.std.proofs.Common.{◌≡◌, ℕ, suc, ◌-◌, ◌<◌, ◌≤◌, List, [], ◌∷◌, ◌++◌, length, Bool, true, false, Option, Some, None, Result, Ok, Err, refl, sym, ◌∙◌, ap, subst, inl, inr, ◌⊎◌, arith, append-nil, string_bytes, String, Global, OnOk}
-use Rattle.std.specs.Prelude.{slice_get, is_some, option_map, option_to_list, if◌then◌else◌, codes, reverse}
+-- How what is kept of a workbook's section goes on with the events that are taken.
+use Rattle.std.proofs.Common.{◌≡◌, ℕ, zero, suc, ◌+◌, ◌-◌, ◌≤◌, List, [], ◌∷◌, ◌++◌, length, Bool, true, false, Option, Some, None, Result, Ok, Err, refl, sym, ◌∙◌, ap, subst, inl, inr, arith, append-nil, append_assoc, string_bytes, String, Global}
+use Rattle.std.specs.Prelude.{slice_get, is_some, option_map, option_to_list, if◌then◌else◌}
 use Rattle.part_events.specs.Event.{Tag, Event, start, end, text, char_data, entity_ref, other}
 use Rattle.part_events.specs.JoinedText.{joined, text_of, is_unknown, unknown_entity, IsUnknownAt}
-use Rattle.part_events.specs.declared.fault.XmlFault.TheVariants.{Entity}
-use Rattle.cell_data.specs.declared.error.XlsxError.TheVariants.{OutOfMemory, Xml}
-use Rattle.xlsx_core.specs.DefinedNames.{with_text, defined_name, is_defined_name, names_in}
-use Rattle.xlsx_core.proofs.Kept.{prepended-and_others}
-use Rattle.part_events.specs.Reading.{Reading, IsTracked, TakesEvent, StepsAhead, ahead, events_of, names_behind, IsEnclosed}
-use Rattle.part_events.specs.Section.{Element, content, is_closed, behind, starts_by}
+use Rattle.part_events.specs.Reading.{Reading, TakesEvent, StepsAhead, ahead, events_of, names_behind}
+use Rattle.part_events.specs.Section.{Element, content, is_closed, behind, starts_by, outermost_from}
 use Rattle.part_events.specs.Walk.{inside}
-use Rattle.part_events.proofs.Walking.{GoesInside, goes_inside, next_element}
+use Rattle.part_events.specs.declared.fault.XmlFault.TheVariants.{Entity}
+use Rattle.part_events.proofs.Walking.{next_element}
 use Rattle.cell_data.specs.declared.error.XlsxError.{XlsxError}
-use Rattle.xlsx_core.specs.Refusal.{Refusal, no_character, and_others_if, some_answers, all_answers, last_answer, and_others, or_later, or_earlier, prepended}
+use Rattle.cell_data.specs.declared.error.XlsxError.TheVariants.{OutOfMemory, Xml}
+use Rattle.xlsx_core.specs.DefinedNames.{name_by, with_text, defined_name, is_defined_name, names_in}
+use Rattle.xlsx_core.specs.Refusal.{Refusal, no_character, and_others_if, some_answers, all_answers, last_answer, or_earlier, prepended}
 use Rattle.xlsx_core.specs.Relationships.{Related}
 use Rattle.xlsx_core.specs.Section.{SectionFails}
 use Rattle.xlsx_core.specs.Sheets.{is_sheet, is_properties, sheet_of, flag_of, sheets_in, flag_in}
-use Rattle.xlsx_core.specs.Workbook.{IsStartRefused, Carries, IsRefusedAhead, sheets_of, names_of}
-use Rattle.xlsx_core.specs.WorkbookEvents.{TakesTheEvent, EventFails, TextRefused, TextTaken, NameTaken, IsNameRefused, CarriesNames, is_name_start}
+use Rattle.xlsx_core.specs.Workbook.{Carries, TakesEvents, IsOneRefused, AreEventsRefused, sheets_of, names_of}
+use Rattle.xlsx_core.specs.WorkbookEvents.{TextRefused, TextTaken, IsContents, AreContentsRefused, is_name_start}
 use Rattle.xlsx_core.specs.declared.workbook.WorkbookContents.{WorkbookContents}
-use Rattle.part_events.proofs.Nested.{reverse_on}
-use Rattle.std.proofs.lemmas.List.{length-reverse}
-use Rattle.part_events.proofs.Texts.{content_at, slice_get-append}
-use Rattle.xlsx_core.proofs.Refused.{refused_by}
+use Rattle.xlsx_core.proofs.Kept.{prepended-and_others, prepended-nil, or_earlier-None}
 
--- what a step leaves of a section
-pub record StepsInside (base : ℕ) (old new : Reading) : Type 0 where
-  pub content : content (inside base old) (ahead old) ≡ new.source.current ∷ content (inside base new) (ahead new)
-  pub closed : is_closed (inside base old) (ahead old) ≡ is_closed (inside base new) (ahead new)
-  pub behind : behind (inside base old) (ahead old) ≡ behind (inside base new) (ahead new)
-
-pub steps_inside : (base : ℕ) (old new : Reading) → TakesEvent old new → StepsAhead true old new → base ≤ length old.names → base ≤ length new.names → StepsInside base old new
-steps_inside base old new takes steps was is =
-    let goes : GoesInside new.source.current (inside base old) (inside base new) = goes_inside new.source.current base old.names new.names takes.names takes.enclosed was is in
-    record {
-      content = ap (content (inside base old)) steps.0 ∙ (content_at new.source.current (inside base old) (inside base new) (ahead new) goes).0;
-      closed = ap (is_closed (inside base old)) steps.0 ∙ (content_at new.source.current (inside base old) (inside base new) (ahead new) goes).1;
-      behind = ap (behind (inside base old)) steps.0 ∙ (content_at new.source.current (inside base old) (inside base new) (ahead new) goes).2;
-    }
-
-all_if : {A : Type 0} (answer : Tag → Result A Refusal) (is : Bool) (tag : Tag) (tags : List Tag) → all_answers answer (if is then tag ∷ tags else tags) ≡ (if is then and_others (answer tag) (all_answers answer tags) else all_answers answer tags)
-all_if answer true tag tags = refl
-all_if answer false tag tags = refl
-
-last_if : {A : Type 0} (answer : Tag → Result (Option A) Refusal) (is : Bool) (tag : Tag) (tags : List Tag) → last_answer answer (if is then tag ∷ tags else tags) ≡ (if is then or_later (answer tag) (last_answer answer tags) else last_answer answer tags)
-last_if answer true tag tags = refl
-last_if answer false tag tags = refl
-
-sheets_on : (folder : List ℕ) (related : List ℕ → Option Related) (event : Event) (before after : WorkbookContents) (events : List Event) → TakesTheEvent folder related event before after → prepended (sheets_of after) (sheets_in folder related events) ≡ prepended (sheets_of before) (sheets_in folder related (event ∷ events))
-sheets_on folder related (start tag) before after events takes =
-    takes.sheets (sheets_in folder related events) ∙ ap (prepended (sheets_of before)) (sym (all_if (sheet_of folder related) (is_sheet tag) tag (starts_by is_sheet events)))
-sheets_on folder related (end name) before after events takes = rw takes refl
-sheets_on folder related (text written) before after events takes = rw takes refl
-sheets_on folder related (char_data written) before after events takes = rw takes refl
-sheets_on folder related (entity_ref name) before after events takes = rw takes refl
-sheets_on folder related other before after events takes = rw takes refl
-
-flag_on : (folder : List ℕ) (related : List ℕ → Option Related) (event : Event) (before after : WorkbookContents) (events : List Event) → TakesTheEvent folder related event before after → or_earlier after.flag (flag_in events) ≡ or_earlier before.flag (flag_in (event ∷ events))
-flag_on folder related (start tag) before after events takes =
-    takes.flag (flag_in events) ∙ ap (or_earlier before.flag) (sym (last_if flag_of (is_properties tag) tag (starts_by is_properties events)))
-flag_on folder related (end name) before after events takes = rw takes refl
-flag_on folder related (text written) before after events takes = rw takes refl
-flag_on folder related (char_data written) before after events takes = rw takes refl
-flag_on folder related (entity_ref name) before after events takes = rw takes refl
-flag_on folder related other before after events takes = rw takes refl
-
-pub same_names : (folder : List ℕ) (related : List ℕ → Option Related) (event : Event) (before after : WorkbookContents) → TakesTheEvent folder related event before after → names_of after ≡ names_of before
-same_names folder related (start tag) before after takes = takes.names
-same_names folder related (end name) before after takes = ap names_of takes
-same_names folder related (text written) before after takes = ap names_of takes
-same_names folder related (char_data written) before after takes = ap names_of takes
-same_names folder related (entity_ref name) before after takes = ap names_of takes
-same_names folder related other before after takes = ap names_of takes
-
-pub carries_event : (folder : List ℕ) (related : List ℕ → Option Related) (base : ℕ) (before after : WorkbookContents) (old new : Reading) → StepsInside base old new → TakesTheEvent folder related new.source.current before after → Carries folder related base before old after new
-carries_event folder related base before after old new steps takes = record {
-  sheets = sheets_on folder related new.source.current before after (content (inside base new) (ahead new)) takes ∙ ap (λ (events : List Event). prepended (sheets_of before) (sheets_in folder related events)) (sym steps.content);
-  flag = flag_on folder related new.source.current before after (content (inside base new) (ahead new)) takes ∙ ap (λ (events : List Event). or_earlier before.flag (flag_in events)) (sym steps.content);
-  closed = sym steps.closed;
-}
-
-pub carries_further : (folder : List ℕ) (related : List ℕ → Option Related) (base : ℕ) (first second third : WorkbookContents) (old mid new : Reading) → Carries folder related base first old second mid → Carries folder related base second mid third new → Carries folder related base first old third new
-carries_further folder related base first second third old mid new one two = record {
-  sheets = two.sheets ∙ one.sheets;
-  flag = two.flag ∙ one.flag;
-  closed = two.closed ∙ one.closed;
-}
+pub carries_further : (folder : List ℕ) (related : List ℕ → Option Related) (first found last : WorkbookContents) (all events left : List Event) → Carries folder related first all found events → Carries folder related found events last left → Carries folder related first all last left
+carries_further folder related first found last all events left one two = record { sheets = two.sheets ∙ one.sheets; flag = two.flag ∙ one.flag }
 
 -- what is refused later is refused from the start
-pub refused_earlier : (folder : List ℕ) (related : List ℕ → Option Related) (base : ℕ) (first second : WorkbookContents) (old mid : Reading) (refusal : Refusal) → Carries folder related base first old second mid → IsRefusedAhead folder related base second mid refusal → IsRefusedAhead folder related base first old refusal
-refused_earlier folder related base first second old mid refusal one (inl is) = inl (sym one.sheets ∙ is)
-refused_earlier folder related base first second old mid refusal one (inr is) = inr (sym one.flag ∙ is)
+pub refused_earlier : (folder : List ℕ) (related : List ℕ → Option Related) (first found : WorkbookContents) (all events : List Event) (refusal : Refusal) → Carries folder related first all found events → IsOneRefused folder related found events refusal → IsOneRefused folder related first all refusal
+refused_earlier folder related first found all events refusal one (inl is) = inl (sym one.sheets ∙ is)
+refused_earlier folder related first found all events refusal one (inr is) = inr (sym one.flag ∙ is)
 
-start_refused : (folder : List ℕ) (related : List ℕ → Option Related) (tag : Tag) (before : WorkbookContents) (events : List Event) (refusal : Refusal) → IsStartRefused folder related tag refusal → (prepended (sheets_of before) (sheets_in folder related (start tag ∷ events)) ≡ Err refusal) ⊎ (or_earlier before.flag (flag_in (start tag ∷ events)) ≡ Err refusal)
-start_refused folder related tag before events refusal (inl (is, refuses)) =
-    inl (ap (prepended (sheets_of before)) (all_if (sheet_of folder related) (is_sheet tag) tag (starts_by is_sheet events)) ∙ rw (is, refuses) refl)
-start_refused folder related tag before events refusal (inr (is, refuses)) =
-    inr (ap (or_earlier before.flag) (last_if flag_of (is_properties tag) tag (starts_by is_properties events)) ∙ rw (is, refuses) refl)
+-- one event of those that are left
+pub event_taken : (folder : List ℕ) (related : List ℕ → Option Related) (found last : WorkbookContents) (event : Event) (events left : List Event) → events ≡ event ∷ left → TakesEvents folder related (event ∷ []) found last → Carries folder related found events last left
+event_taken folder related found last event events left same takes = subst (λ (all : List Event). Carries folder related found all last left) (sym same) (takes left)
 
--- an event of a section is refused
-refused_event : (folder : List ℕ) (related : List ℕ → Option Related) (base : ℕ) (before : WorkbookContents) (old new : Reading) (event : Event) (place : ℕ) (error : XlsxError) → event ≡ new.source.current → (old.source.told ≡ true → StepsInside base old new) → (old.source.told ≡ true → slice_get (events_of old) place ≡ Some event) → EventFails folder related event place error → SectionFails (codes "workbook") (inside base old) (IsRefusedAhead folder related base before old) old new error
-refused_event folder related base before old new (start tag) place error is steps there fails =
-    refused_by (codes "workbook") (inside base old) (IsRefusedAhead folder related base before old) (IsStartRefused folder related tag) tag place old new error
-    (λ told refusal refuses.
-    let same : content (inside base old) (ahead old) ≡ start tag ∷ content (inside base new) (ahead new) = (steps told).content ∙ ap (λ (event : Event). event ∷ content (inside base new) (ahead new)) (sym is) in
-    subst (λ (events : List Event). (prepended (sheets_of before) (sheets_in folder related events) ≡ Err refusal) ⊎ (or_earlier before.flag (flag_in events) ≡ Err refusal)) (sym same)
-    (start_refused folder related tag before (content (inside base new) (ahead new)) refusal refuses))
-    there fails
-refused_event folder related base before old new (end name) place error is steps there fails = absurd fails
-refused_event folder related base before old new (text written) place error is steps there fails = absurd fails
-refused_event folder related base before old new (char_data written) place error is steps there fails = absurd fails
-refused_event folder related base before old new (entity_ref name) place error is steps there fails = absurd fails
-refused_event folder related base before old new other place error is steps there fails = absurd fails
+pub event_refused : (folder : List ℕ) (related : List ℕ → Option Related) (found : WorkbookContents) (event : Event) (events left : List Event) (refusal : Refusal) → events ≡ event ∷ left → AreEventsRefused folder related (event ∷ []) found refusal → IsOneRefused folder related found events refusal
+event_refused folder related found event events left refusal same refuses = subst (λ (all : List Event). IsOneRefused folder related found all refusal) (sym same) (refuses left)
 
--- the event that was taken last
-pub event_place : (old new : Reading) → IsTracked old → TakesEvent old new → StepsAhead true old new → events_of new ≡ events_of old → slice_get (events_of old) (new.at - 1) ≡ Some new.source.current
-event_place old new is takes steps same =
-    let at : new.at - 1 ≡ length (reverse old.source.past) = omega (arith, takes.at, is.at, length-reverse old.source.past) in
-    rw (← same, steps.1, reverse_on new.source.current old.source.past new.source.rest, at) (slice_get-append (reverse old.source.past) new.source.rest new.source.current)
+-- what is kept of a section, with what the events say that are left of it, is what all of it says
+pub record KeepsContents (folder : List ℕ) (related : List ℕ → Option Related) (all : List Event) (found : WorkbookContents) (left : List Event) : Type 0 where
+  pub sheets : prepended (sheets_of found) (sheets_in folder related left) ≡ sheets_in folder related all
+  pub names : prepended (names_of found) (names_in left) ≡ names_in all
+  pub flag : or_earlier found.flag (flag_in left) ≡ flag_in all
 
-pub event_refusal : (folder : List ℕ) (related : List ℕ → Option Related) (base : ℕ) (before : WorkbookContents) (old new : Reading) (error : XlsxError) → (old.source.told ≡ true → StepsInside base old new) → (old.source.told ≡ true → slice_get (events_of old) (new.at - 1) ≡ Some new.source.current) → EventFails folder related new.source.current (new.at - 1) error → SectionFails (codes "workbook") (inside base old) (IsRefusedAhead folder related base before old) old new error
-event_refusal folder related base before old new error steps there fails =
-    refused_event folder related base before old new new.source.current (new.at - 1) error refl steps there fails
+-- the element of a defined name was taken, or is refused
+pub keeps_name : (folder : List ℕ) (related : List ℕ → Option Related) (all : List Event) (found after last : WorkbookContents) (events inner left : List Event) (answer : Result (Option (List ℕ)) Refusal) (name : Option (List ℕ)) → KeepsContents folder related all found events → Carries folder related found events last left → names_of after ≡ names_of found → names_in events ≡ and_others_if (with_text inner answer) (names_in left) → answer ≡ Ok name → TextTaken name inner (names_of after) (names_of last) → KeepsContents folder related all last left
+keeps_name folder related all found after last events inner left answer name kept carries same is named taken = record {
+  sheets = carries.sheets ∙ kept.sheets;
+  names = taken (names_in left) ∙ rw (same, is, named) refl ∙ kept.names;
+  flag = carries.flag ∙ kept.flag;
+}
 
--- the text of an element, one event further
-pub joined_on : (base : ℕ) (old new : Reading) → StepsInside base old new → joined false (content (inside base old) (ahead old)) ≡ text_of false new.source.current ++ joined false (content (inside base new) (ahead new))
-joined_on base old new steps = ap (joined false) steps.content
+pub name_refused : (folder : List ℕ) (related : List ℕ → Option Related) (all : List Event) (found : WorkbookContents) (events inner left : List Event) (answer : Result (Option (List ℕ)) Refusal) (refusal : Refusal) → KeepsContents folder related all found events → names_in events ≡ and_others_if (with_text inner answer) (names_in left) → with_text inner answer ≡ Err refusal → AreContentsRefused folder related all refusal
+unfolding AreContentsRefused
+name_refused folder related all found events inner left answer refusal kept is refuses =
+    let here : prepended (names_of found) (names_in events) ≡ Err refusal = rw (is, refuses) refl in inr (inl (sym kept.names ∙ here))
+
+pub contents_refused : (folder : List ℕ) (related : List ℕ → Option Related) (all : List Event) (found : WorkbookContents) (left : List Event) (refusal : Refusal) → KeepsContents folder related all found left → IsOneRefused folder related found left refusal → AreContentsRefused folder related all refusal
+unfolding AreContentsRefused
+contents_refused folder related all found left refusal kept (inl is) = inl (sym kept.sheets ∙ is)
+contents_refused folder related all found left refusal kept (inr is) = inr (inr (sym kept.flag ∙ is))
+
+-- what is behind an element that lies in a section
+pub record LiesBehind (inner outer within : ℕ) (events : List Event) : Type 0 where
+  pub others : List Event
+  pub parts : content within events ≡ content inner events ++ others
+  pub starts : (wanted : Tag → Bool) → starts_by wanted others ≡ starts_by wanted (content outer (behind inner events))
+  pub unclosed : is_closed inner events ≡ false → is_closed within events ≡ false
+  pub closed : is_closed within events ≡ is_closed outer (behind inner events)
+
+pub lies_behind : (inner outer within : ℕ) (events : List Event) → within ≡ inner + suc outer → LiesBehind inner outer within events
+lies_behind inner outer within [] is = record { others = []; parts = refl; starts = λ _. refl; unclosed = λ _. refl; closed = refl }
+lies_behind inner outer within (start tag ∷ events) is = let more = lies_behind (suc inner) outer (suc within) events (omega arith) in record { others = more.others; parts = ap (λ (rest : List Event). start tag ∷ rest) more.parts; starts = more.starts; unclosed = more.unclosed; closed = more.closed }
+lies_behind zero outer zero (end name ∷ events) is = absurd (omega arith)
+lies_behind (suc inner) outer zero (end name ∷ events) is = absurd (omega arith)
+lies_behind zero outer (suc within) (end name ∷ events) is =
+    let same : within ≡ outer = omega arith in
+    record {
+      others = end name ∷ content within events;
+      parts = refl;
+      starts = λ wanted. ap (λ (n : ℕ). starts_by wanted (content n events)) same;
+      unclosed = λ is_open. absurd cc;
+      closed = ap (λ (n : ℕ). is_closed n events) same;
+    }
+lies_behind (suc inner) outer (suc within) (end name ∷ events) is = let more = lies_behind inner outer within events (omega arith) in record { others = more.others; parts = ap (λ (rest : List Event). end name ∷ rest) more.parts; starts = more.starts; unclosed = more.unclosed; closed = more.closed }
+lies_behind inner outer within (text written ∷ events) is = let more = lies_behind inner outer within events (omega arith) in record { others = more.others; parts = ap (λ (rest : List Event). text written ∷ rest) more.parts; starts = more.starts; unclosed = more.unclosed; closed = more.closed }
+lies_behind inner outer within (char_data written ∷ events) is = let more = lies_behind inner outer within events (omega arith) in record { others = more.others; parts = ap (λ (rest : List Event). char_data written ∷ rest) more.parts; starts = more.starts; unclosed = more.unclosed; closed = more.closed }
+lies_behind inner outer within (entity_ref name ∷ events) is = let more = lies_behind inner outer within events (omega arith) in record { others = more.others; parts = ap (λ (rest : List Event). entity_ref name ∷ rest) more.parts; starts = more.starts; unclosed = more.unclosed; closed = more.closed }
+lies_behind inner outer within (other ∷ events) is = let more = lies_behind inner outer within events (omega arith) in record { others = more.others; parts = ap (λ (rest : List Event). other ∷ rest) more.parts; starts = more.starts; unclosed = more.unclosed; closed = more.closed }
+
+-- an element of a section was taken
+pub carries_element : (folder : List ℕ) (related : List ℕ → Option Related) (found last : WorkbookContents) (outer within : ℕ) (events : List Event) → within ≡ suc outer → TakesEvents folder related (content 0 events) found last → Carries folder related found (content within events) last (content outer (behind 0 events))
+carries_element folder related found last outer within events deep takes =
+    let lies : LiesBehind 0 outer within events = lies_behind 0 outer within events (omega arith) in
+    let rest = takes lies.others in
+    record {
+      sheets = ap (λ (tags : List Tag). prepended (sheets_of last) (all_answers (sheet_of folder related) tags)) (sym (lies.starts is_sheet)) ∙ rest.sheets ∙ ap (λ (all : List Event). prepended (sheets_of found) (sheets_in folder related all)) (sym lies.parts);
+      flag = ap (λ (tags : List Tag). or_earlier last.flag (last_answer flag_of tags)) (sym (lies.starts is_properties)) ∙ rest.flag ∙ ap (λ (all : List Event). or_earlier found.flag (flag_in all)) (sym lies.parts);
+    }
+
+pub element_refused : (folder : List ℕ) (related : List ℕ → Option Related) (found : WorkbookContents) (outer within : ℕ) (events : List Event) (refusal : Refusal) → within ≡ suc outer → AreEventsRefused folder related (content 0 events) found refusal → IsOneRefused folder related found (content within events) refusal
+element_refused folder related found outer within events refusal deep refuses =
+    let lies : LiesBehind 0 outer within events = lies_behind 0 outer within events (omega arith) in
+    subst (λ (all : List Event). IsOneRefused folder related found all refusal) (sym lies.parts) (refuses lies.others)
+
+-- the event is the start of a defined name
+pub record IsNameAt (base : ℕ) (tag : Tag) (old new : Reading) : Type 0 where
+  pub deep : inside base new ≡ suc (inside base old)
+  pub names : StepsAhead true old new → names_in (content (inside base old) (ahead old)) ≡ and_others_if (with_text (content 0 (ahead new)) (name_by tag)) (names_in (content (inside base old) (behind 0 (ahead new))))
+
+pub name_at : (base : ℕ) (event : Event) (tag : Tag) (old new : Reading) → start tag ≡ new.source.current → event ≡ new.source.current → is_name_start event ≡ true → TakesEvent old new → base ≤ length old.names → IsNameAt base tag old new
+name_at base event tag old new current same named takes was =
+    let is : is_defined_name tag ≡ true = ap is_name_start (current ∙ sym same) ∙ named in
+    let names : new.names ≡ tag.name ∷ old.names = takes.names ∙ ap (λ (event : Event). names_behind event old.names) (sym current) in
+    let deep : inside base new ≡ suc (inside base old) = rw names (omega arith) in
+    let out : inside base new - 1 ≡ inside base old = omega (arith, deep) in
+    record {
+      deep = deep;
+      names = λ steps.
+          ap (λ (elements : List Element). some_answers defined_name elements) (next_element is_defined_name base tag old new takes steps current was is).elements
+          ∙ ap (λ (n : ℕ). and_others_if (with_text (content 0 (ahead new)) (name_by tag)) (names_in (content n (behind 0 (ahead new))))) out;
+    }
+
+-- the text of an element so far, with that of the events that are left of it
+pub record JoinsText (all : List Event) (written : List ℕ) (left : List Event) : Type 0 where
+  pub text : written ++ joined false left ≡ joined false all
+  pub known : is_some (unknown_entity left) ≡ is_some (unknown_entity all)
 
 some_more : (place : Option ℕ) → is_some (option_map suc place) ≡ is_some place
 some_more None = refl
 some_more (Some place) = refl
 
-unknown_first : (event : Event) (events : List Event) → is_unknown event ≡ true → is_some (unknown_entity (event ∷ events)) ≡ true
-unknown_first event events is = rw is refl
-
-unknown_after : (event : Event) (events : List Event) → is_unknown event ≡ false → is_some (unknown_entity (event ∷ events)) ≡ is_some (unknown_entity events)
-unknown_after event events is = rw is (some_more (unknown_entity events))
-
--- whether a reference without a character is there, one event further
-pub unknown_on : (base : ℕ) (old new : Reading) → StepsInside base old new → is_unknown new.source.current ≡ false → is_some (unknown_entity (content (inside base old) (ahead old))) ≡ is_some (unknown_entity (content (inside base new) (ahead new)))
-unknown_on base old new steps is = ap (λ (events : List Event). is_some (unknown_entity events)) steps.content ∙ unknown_after new.source.current (content (inside base new) (ahead new)) is
-
-pub unknown_here : (base : ℕ) (old new : Reading) → StepsInside base old new → is_unknown new.source.current ≡ true → is_some (unknown_entity (content (inside base old) (ahead old))) ≡ true
-unknown_here base old new steps is = ap (λ (events : List Event). is_some (unknown_entity events)) steps.content ∙ unknown_first new.source.current (content (inside base new) (ahead new)) is
-
--- a step that closes an element
-pub record ClosesElement (old new : Reading) (depth : ℕ) : Type 0 where
-  pub inside : inside depth old ≡ 0
-  pub outside : suc (length new.names) ≡ depth
-  pub content : content 0 (ahead old) ≡ []
-  pub closed : is_closed 0 (ahead old) ≡ true
-  pub behind : behind 0 (ahead old) ≡ ahead new
-  pub takes : (folder : List ℕ) (related : List ℕ → Option Related) (found : WorkbookContents) → TakesTheEvent folder related new.source.current found found
-
-closes_by : (depth : ℕ) (event : Event) (before after : List (List ℕ)) (events : List Event) → after ≡ names_behind event before → IsEnclosed event before → depth ≤ length before → length after < depth → (length before - depth ≡ 0) × (suc (length after) ≡ depth) × (content 0 (event ∷ events) ≡ []) × (is_closed 0 (event ∷ events) ≡ true) × (behind 0 (event ∷ events) ≡ events) × ((folder : List ℕ) (related : List ℕ → Option Related) (found : WorkbookContents) → TakesTheEvent folder related event found found)
-closes_by depth (start tag) before after events names enclosed was is = absurd (let same = ap length names in omega arith)
-closes_by depth (end name) [] after events names enclosed was is = absurd (omega arith)
-closes_by depth (end name) (first ∷ before) after events names enclosed was is = let same = ap length names in (omega arith, omega arith, refl, refl, refl, λ folder related found. refl)
-closes_by depth (text written) before after events names enclosed was is = absurd (let same = ap length names in omega arith)
-closes_by depth (char_data written) before after events names enclosed was is = absurd (let same = ap length names in omega arith)
-closes_by depth (entity_ref name) before after events names enclosed was is = absurd (let same = ap length names in omega arith)
-closes_by depth other before after events names enclosed was is = absurd (let same = ap length names in omega arith)
-
-pub closes_element : (depth : ℕ) (old new : Reading) → TakesEvent old new → StepsAhead true old new → depth ≤ length old.names → length new.names < depth → ClosesElement old new depth
-closes_element depth old new takes steps was is =
-    let by = closes_by depth new.source.current old.names new.names (ahead new) takes.names takes.enclosed was is in
+pub joins_further : (all : List Event) (written more : List ℕ) (event : Event) (events left : List Event) → events ≡ event ∷ left → more ≡ written ++ text_of false event → is_unknown event ≡ false → JoinsText all written events → JoinsText all more left
+joins_further all written more event events left same adds known joins =
+    let rest : is_some (unknown_entity events) ≡ is_some (unknown_entity left) = rw (same, known) (some_more (unknown_entity left)) in
     record {
-      inside = by.0;
-      outside = by.1;
-      content = ap (content 0) steps.0 ∙ by.2;
-      closed = ap (is_closed 0) steps.0 ∙ by.3;
-      behind = ap (behind 0) steps.0 ∙ by.4;
-      takes = by.5;
+      text = ap (λ (front : List ℕ). front ++ joined false left) adds ∙ append_assoc written (text_of false event) (joined false left) ∙ ap (λ (next : List Event). written ++ joined false next) (sym same) ∙ joins.text;
+      known = sym rest ∙ joins.known;
     }
 
-pub always : {T E P : Type 0} (r : Result T E) → P → OnOk r P
-always (Ok x) holds = holds
-always (Err e) holds = tt
+-- a reference without a character comes next
+pub unknown_first : (all : List Event) (written : List ℕ) (event : Event) (events left : List Event) → events ≡ event ∷ left → is_unknown event ≡ true → JoinsText all written events → is_some (unknown_entity all) ≡ true
+unknown_first all written event events left same is joins = let here : is_some (unknown_entity events) ≡ true = rw (same, is) refl in sym joins.known ∙ here
 
--- a name was kept with its text
-pub text_taken : (name : Option (String Global)) (written : String Global) (inside : List Event) (before after : List (List ℕ × List ℕ)) → (is_some name ≡ true → string_bytes written ≡ joined false inside) → (is_some name ≡ true → is_some (unknown_entity inside) ≡ false) → after ≡ before ++ option_to_list (option_map (λ own. (string_bytes own, string_bytes written)) name) → TextTaken (option_map string_bytes name) inside before after
-text_taken None written inside before after is known adds = λ others. ap (λ (names : List (List ℕ × List ℕ)). prepended names others) (adds ∙ append-nil before)
-text_taken (Some own) written inside before after is known adds = λ others.
-    let pair : List ℕ × List ℕ = (string_bytes own, joined false inside) in
-    let adds_pair : after ≡ before ++ pair ∷ [] = adds ∙ ap (λ (text : List ℕ). let both : List ℕ × List ℕ = (string_bytes own, text) in before ++ both ∷ []) (is refl) in
-    ap (λ (names : List (List ℕ × List ℕ)). prepended names others) adds_pair ∙ prepended-and_others before pair (Ok pair) others refl
-    ∙ ap (λ (b : Bool). prepended before (and_others_if (if b then Err no_character else Ok (Some pair)) others)) (sym (known refl))
+pub unknown_text : (name : Option (String Global)) (all : List Event) → is_some name ≡ true → is_some (unknown_entity all) ≡ true → with_text all (Ok (option_map string_bytes name)) ≡ Err no_character
+unknown_text None all some is = absurd (cc)
+unknown_text (Some own) all some is = rw is refl
 
-pub unknown_text : (name : Option (String Global)) (inside : List Event) → is_some name ≡ true → is_some (unknown_entity inside) ≡ true → with_text inside (Ok (option_map string_bytes name)) ≡ Err no_character
-unknown_text None inside some is = absurd (cc)
-unknown_text (Some own) inside some is = rw is refl
-
-pub text_refusal : (name : List ℕ) (n : ℕ) (refused : Refusal → Type 0) (wanted : Bool) (event : Event) (place : ℕ) (old new : Reading) (error : XlsxError) → (old.source.told ≡ true → wanted ≡ true → is_unknown event ≡ true → refused no_character × IsUnknownAt (events_of old) place) → TextRefused wanted event place error → SectionFails name n refused old new error
-text_refusal name n refused wanted event place old new (Xml (Entity at)) there fails = λ told. let both = there told fails.1 fails.2 in inr (rw fails.0 both.1, both.0)
-text_refusal name n refused wanted event place old new OutOfMemory there fails = tt
-text_refusal name n refused wanted event place old new _ there fails = absurd fails
-
-pub unknown_at : (events : List Event) (place : ℕ) (event : Event) → slice_get events place ≡ Some event → is_unknown event ≡ true → IsUnknownAt events place
+unknown_at : (events : List Event) (place : ℕ) (event : Event) → slice_get events place ≡ Some event → is_unknown event ≡ true → IsUnknownAt events place
 unknown_at events place event there is = rw there is
 
--- the element of a defined name was taken
-pub name_kept : (base : ℕ) (old mid new : Reading) (before after : List (List ℕ × List ℕ)) (event : Event) → event ≡ mid.source.current → TakesEvent old mid → StepsAhead true old mid → base ≤ length old.names → is_name_start event ≡ true → NameTaken event (content 0 (ahead mid)) before after → ahead new ≡ behind 0 (ahead mid) → inside base new ≡ inside base mid - 1 → CarriesNames base before old after new
-name_kept base old mid new before after (start tag) current takes steps was is taken ahead_is inside_is =
-    let next = next_element is_defined_name base tag old mid takes steps current was is in
-    taken (names_in (content (inside base new) (ahead new)))
-    ∙ ap (λ (events : List Event). prepended before (and_others_if (defined_name (record { tag = tag; inside = content 0 (ahead mid) })) (names_in (content (inside base new) events)))) ahead_is
-    ∙ ap (λ (n : ℕ). prepended before (and_others_if (defined_name (record { tag = tag; inside = content 0 (ahead mid) })) (names_in (content n (behind 0 (ahead mid)))))) inside_is
-    ∙ ap (λ (elements : List Element). prepended before (some_answers defined_name elements)) (sym next.elements)
-name_kept base old mid new before after (end name) current takes steps was is taken ahead_is inside_is = absurd taken
-name_kept base old mid new before after (text written) current takes steps was is taken ahead_is inside_is = absurd taken
-name_kept base old mid new before after (char_data written) current takes steps was is taken ahead_is inside_is = absurd taken
-name_kept base old mid new before after (entity_ref name) current takes steps was is taken ahead_is inside_is = absurd taken
-name_kept base old mid new before after other current takes steps was is taken ahead_is inside_is = absurd taken
-
-pub name_refused : (base : ℕ) (old mid : Reading) (before : List (List ℕ × List ℕ)) (refusal : Refusal) (event : Event) → event ≡ mid.source.current → TakesEvent old mid → StepsAhead true old mid → base ≤ length old.names → is_name_start event ≡ true → IsNameRefused event (content 0 (ahead mid)) refusal → prepended before (names_in (content (inside base old) (ahead old))) ≡ Err refusal
-name_refused base old mid before refusal (start tag) current takes steps was is refuses =
-    let next = next_element is_defined_name base tag old mid takes steps current was is in
-    ap (λ (elements : List Element). prepended before (some_answers defined_name elements)) next.elements ∙ rw refuses refl
-name_refused base old mid before refusal (end name) current takes steps was is refuses = absurd refuses
-name_refused base old mid before refusal (text written) current takes steps was is refuses = absurd refuses
-name_refused base old mid before refusal (char_data written) current takes steps was is refuses = absurd refuses
-name_refused base old mid before refusal (entity_ref name) current takes steps was is refuses = absurd refuses
-name_refused base old mid before refusal other current takes steps was is refuses = absurd refuses
+pub text_refusal : (name : List ℕ) (n : ℕ) (refused : Refusal → Type 0) (wanted : Bool) (event : Event) (place : ℕ) (old new : Reading) (error : XlsxError) → (old.source.told ≡ true → wanted ≡ true → is_unknown event ≡ true → refused no_character) → (old.source.told ≡ true → slice_get (events_of old) place ≡ Some event) → TextRefused wanted event place error → SectionFails name n refused old new error
+text_refusal name n refused wanted event place old new (Xml (Entity at)) weaker there fails = λ told. inr (rw fails.0 (unknown_at (events_of old) place event (there told) fails.2), weaker told fails.1 fails.2)
+text_refusal name n refused wanted event place old new OutOfMemory weaker there fails = tt
+text_refusal name n refused wanted event place old new _ weaker there fails = absurd fails

@@ -9,6 +9,8 @@ use Rattle.part_events.specs.Section.{content, is_closed, behind_start, is_named
 use Rattle.part_events.specs.declared.fault.XmlFault.TheVariants.{EndMismatch, Entity}
 use Rattle.part_events.specs.declared.walk.Found.{Found}
 use Rattle.part_events.specs.declared.walk.Found.TheVariants as found
+use Rattle.part_events.specs.declared.walk.Inside.{Inside}
+use Rattle.part_events.specs.declared.walk.Inside.TheVariants as step
 use Rattle.cell_data.specs.declared.error.XlsxError.{XlsxError}
 use Rattle.cell_data.specs.declared.error.XlsxError.TheVariants.{OutOfMemory, Io, Xml, XmlAttr, XmlEof, FileNotFound, RelationshipNotFound, Unrecognized}
 use Rattle.xlsx_core.specs.Element.{Unknown}
@@ -18,6 +20,11 @@ use Rattle.xlsx_core.specs.Refusal.{Refusal, lookup_fault, undecoded, no_charact
 abbrev pub found_by : Bool → Found
 found_by true = found.Start
 found_by false = found.Closed
+
+-- and an event of it, or its end
+abbrev pub step_by : Bool → Inside
+step_by true = step.Event
+step_by false = step.Closed
 
 -- event `at` is a start with a text that doesn't decode, or a reference without a character in a text that is joined
 abbrev pub IsUndecodedAt : (Refusal → Type 0) → List Event → ℕ → Type 0

@@ -1,13 +1,13 @@
-ghost use Rattle.std.specs.Prelude.{◌≡◌, ◌≤◌, ℕ, [], ◌∷◌, length, true, Some, IfOk, OnOk, IfErr};
+ghost use Rattle.std.specs.Prelude.{◌≡◌, ◌≤◌, [], ◌∷◌, length, true, Some, IfOk, OnOk, IfErr};
 ghost use Rattle.part_events.specs.Event.{tag_of, start};
 ghost use Rattle.part_events.specs.Reader.{reading_by, KeepsHold};
-ghost use Rattle.part_events.specs.Reading.{IsReading, IsAtElement, Goes, GoesOn, TakesEvent, StepsAhead, ahead};
+ghost use Rattle.part_events.specs.Reading.{IsReading, IsAtElement, Goes, GoesOn, ahead};
 ghost use Rattle.part_events.specs.Section.{is_named, behind_start};
-ghost use Rattle.part_events.specs.Walk.{inside, StandsAt, FindsStart};
-ghost use Rattle.xlsx_core.specs.Section.{found_by, SectionFails, StartFails};
+ghost use Rattle.part_events.specs.Walk.{inside, StandsAt, FindsStart, StandsInside, StepsInside};
+ghost use Rattle.xlsx_core.specs.Section.{found_by, step_by, SectionFails, StartFails};
 
 use cell_data::XlsxError;
-use part_events::{Found, Package, PartEvent, StartTag, XlReader};
+use part_events::{Found, Inside, Package, PartEvent, StartTag, XlReader};
 
 /// The start at which the reader stands.
 pub fn start_tag<'r, P: Package>(reader: &'r XlReader<'_, P>) -> StartTag<'r>
@@ -61,22 +61,25 @@ pub fn next_in<P: Package>(
     }
 }
 
-/// Takes the next event of a section. The part must not end there.
-pub fn next_event<P: Package>(
+/// Takes the next event of a section, whose element is number `base` of the open ones. Answers false where that was the
+/// section's end.
+pub fn next_inside<P: Package>(
     reader: &mut XlReader<'_, P>,
+    base: usize,
     section: &'static str,
-) -> Result<(), XlsxError>
-    requires { IsReading (reading_by P.state reader.old) }
+) -> Result<bool, XlsxError>
+    requires reading { IsReading (reading_by P.state reader.old) }
+    requires within { base ≤ length reader.old.cursor.names }
     ensures hold { KeepsHold reader.old reader.new }
     ensures goes { Goes (reading_by P.state reader.old) (reading_by P.state reader.new) }
     ensures on { OnOk result (GoesOn (reading_by P.state reader.old) (reading_by P.state reader.new)) }
-    ensures step { OnOk result (TakesEvent (reading_by P.state reader.old) (reading_by P.state reader.new)) }
-    ensures ahead { (P.state reader.old.package.now).told ≡ true → OnOk result (StepsAhead true (reading_by P.state reader.old) (reading_by P.state reader.new)) }
-    ensures err { IfErr result (λ e. (within : ℕ) → SectionFails section.now within (λ _. ⊥) (reading_by P.state reader.old) (reading_by P.state reader.new) e) }
+    ensures stands { IfOk result (λ more. StandsInside base (step_by more) (reading_by P.state reader.old) (reading_by P.state reader.new)) }
+    ensures inside { (P.state reader.old.package.now).told ≡ true → IfOk result (λ more. StepsInside base (step_by more) (reading_by P.state reader.old) (reading_by P.state reader.new)) }
+    ensures err { IfErr result (SectionFails section.now (inside base (reading_by P.state reader.old)) (λ _. ⊥) (reading_by P.state reader.old) (reading_by P.state reader.new)) }
 {
-    if reader.next()? {
-        Ok(())
-    } else {
-        Err(XlsxError::XmlEof(section))
+    match reader.next_inside(base)? {
+        Inside::Event => Ok(true),
+        Inside::Closed => Ok(false),
+        Inside::Ended => Err(XlsxError::XmlEof(section)),
     }
 }

@@ -127,9 +127,9 @@ pub fn push_sheet(
 }
 
 /// Keeps what a start says of the dates' first year, in place of what an earlier one said.
-pub fn keep_flag(kept: &mut Option<bool>, tag: StartTag<'_>) -> Result<(), XlsxError>
+pub fn keep_flag(kept: &mut Option<bool>, tag: StartTag<'_>) -> Result<(), AttrFault>
     ensures ok { OnOk result ((others : Result (Option Bool) Refusal) → or_earlier kept.new others ≡ or_earlier kept.old (or_later (flag_of (tag_of tag.entry)) others)) }
-    ensures err { IfErr result (λ e. (place : ℕ) → ElementFails (flag_of (tag_of tag.entry)) (tag_of tag.entry) place e) }
+    ensures err { IfErr result (λ fault. flag_of (tag_of tag.entry) ≡ Err (lookup_fault fault)) }
 {
     if let Some(flag) = flag_of(tag)? {
         *kept = Some(flag);

@@ -1,22 +1,21 @@
-ghost use Rattle.std.specs.Prelude.{◌≡◌, ◌⊎◌, ◌≤◌, ◌<◌, [], ◌∷◌, ◌++◌, ℕ, suc, codes, length, map, true, false, Some, None, slice_get, Ok, Err, Result, option_map, option_to_list, string_bytes, IfOk, OnOk, IfErr, MatchOption, IsSomeAnd};
-ghost use Rattle.part_events.specs.Event.{tag_of, event_of};
+ghost use Rattle.std.specs.Prelude.{◌≡◌, [], ◌∷◌, ◌++◌, suc, codes, length, map, true, false, None, Ok, option_map, option_to_list, string_bytes, IfOk, OnOk, IfErr, MatchOption, IsSomeAnd};
+ghost use Rattle.part_events.specs.Event.{tag_of, event_of, IsStartAnd};
 ghost use Rattle.part_events.specs.JoinedText.{text_of, is_unknown};
+ghost use Rattle.part_events.specs.Package.{SameParts, part_of};
 ghost use Rattle.part_events.specs.Reader.{reading_by, KeepsHold};
-ghost use Rattle.part_events.specs.Reading.{IsReading, IsAtElement, Goes, GoesOn, ahead, events_of};
-ghost use Rattle.part_events.specs.Section.{content, is_closed, behind};
-ghost use Rattle.part_events.specs.Walk.{inside};
+ghost use Rattle.part_events.specs.Reading.{IsReading, Goes, GoesOn, Skips, ahead};
+ghost use Rattle.part_events.specs.Section.{content, is_closed};
+ghost use Rattle.cell_data.specs.declared.error.XlsxError.TheVariants.{OutOfMemory};
 ghost use Rattle.xlsx_core.specs.DefinedNames.{name_by};
 ghost use Rattle.xlsx_core.specs.Element.{RefusedBy, ElementFails};
 ghost use Rattle.xlsx_core.specs.Kept.{kept};
-ghost use Rattle.part_events.specs.Package.{SameParts, part_of};
 ghost use Rattle.xlsx_core.specs.Section.{SectionFails, OptionalPartFails, closed_section_of};
-ghost use Rattle.xlsx_core.specs.Workbook.{TakesStart, IsStartRefused, Carries, names_of, pair_of};
-ghost use Rattle.cell_data.specs.declared.error.XlsxError.TheVariants.{OutOfMemory};
-ghost use Rattle.xlsx_core.specs.WorkbookEvents.{TakesTheEvent, EventFails, TextRefused, TextTaken, NameTaken, CarriesNames, IsOver, IsNameTextRefused, IsNameElementRefused, IsSectionRefused, is_name_start, IsContents, AreContentsRefused};
+ghost use Rattle.xlsx_core.specs.Workbook.{TakesEvents, AreEventsRefused, names_of, pair_of};
+ghost use Rattle.xlsx_core.specs.WorkbookEvents.{TextRefused, TextTaken, IsNameRefused, is_name_start, IsContents, AreContentsRefused};
 
 use crate::decode::decode_at;
 use crate::relationships::Relationship;
-use crate::section::{enter, next_event, start_tag};
+use crate::section::{enter, next_inside, start_tag};
 use crate::sheet::SheetEntry;
 use crate::sheet_element::{keep_flag, push_sheet};
 use attr_text::{RawAttributes, TextFault, push_entity, push_line_ends};
@@ -42,17 +41,21 @@ pub struct SheetPlaces<'a> {
     pub relationships: &'a BTreeMap<String, Relationship>,
 }
 
-/// Takes a start of the section, which is event number `at` of its part.
-fn take_start(
+/// Takes an event of the section, which is number `at` of its part: the start of a sheet, or of the workbook's properties.
+fn take_event(
     alloc: Global,
     found: &mut WorkbookContents,
     places: SheetPlaces<'_>,
-    tag: StartTag<'_>,
+    event: PartEvent<'_>,
     at: u64,
 ) -> Result<(), XlsxError>
-    ensures ok { OnOk result (TakesStart places.entry.folder.now (kept places.entry.relationships.now) (tag_of tag.entry) found.old found.new) }
-    ensures err { IfErr result (RefusedBy (IsStartRefused places.entry.folder.now (kept places.entry.relationships.now) (tag_of tag.entry)) (tag_of tag.entry) at) }
+    ensures ok { OnOk result (TakesEvents places.entry.folder.now (kept places.entry.relationships.now) (event_of event.entry ∷ []) found.old found.new) }
+    ensures names { OnOk result (names_of found.new ≡ names_of found.old) }
+    ensures err { IfErr result (λ e. IsStartAnd (event_of event.entry) (λ tag. RefusedBy (AreEventsRefused places.entry.folder.now (kept places.entry.relationships.now) (event_of event.entry ∷ []) found.old) tag at e)) }
 {
+    let PartEvent::Start(tag) = event else {
+        return Ok(());
+    };
     let name = tag.local_name();
     if name == "sheet" {
         push_sheet(
@@ -64,26 +67,9 @@ fn take_start(
             at,
         )
     } else if name == "workbookPr" {
-        keep_flag(&mut found.flag, tag)
+        Ok(keep_flag(&mut found.flag, tag)?)
     } else {
         Ok(())
-    }
-}
-
-/// Takes an event of the section, which is number `at` of its part.
-fn take_event(
-    alloc: Global,
-    found: &mut WorkbookContents,
-    places: SheetPlaces<'_>,
-    event: PartEvent<'_>,
-    at: u64,
-) -> Result<(), XlsxError>
-    ensures ok { OnOk result (TakesTheEvent places.entry.folder.now (kept places.entry.relationships.now) (event_of event.entry) found.old found.new) }
-    ensures err { IfErr result (EventFails places.entry.folder.now (kept places.entry.relationships.now) (event_of event.entry) at) }
-{
-    match event {
-        PartEvent::Start(tag) => take_start(alloc, found, places, tag, at),
-        _ => Ok(()),
     }
 }
 
@@ -135,65 +121,34 @@ fn push_name(
 }
 
 /// Reads on to the end of a defined name, at whose start the reader stands, with the starts inside it, and keeps its
-/// text where it has a name. The section's element is number `base` of the open ones.
-fn read_name_text<P: Package>(
-    alloc: Global,
-    found: &mut WorkbookContents,
-    places: SheetPlaces<'_>,
-    reader: &mut XlReader<'_, P>,
-    base: usize,
-    name: Option<String>,
-) -> Result<(), XlsxError>
-    requires reading { IsReading (reading_by P.state reader.old) }
-    requires within { base < length reader.old.cursor.names }
-    ensures hold { KeepsHold reader.old reader.new }
-    ensures goes { Goes (reading_by P.state reader.old) (reading_by P.state reader.new) }
-    ensures on { OnOk result (GoesOn (reading_by P.state reader.old) (reading_by P.state reader.new)) }
-    ensures depth { OnOk result (length reader.old.cursor.names ≡ suc (length reader.new.cursor.names)) }
-    ensures carries { (P.state reader.old.package.now).told ≡ true → OnOk result (Carries places.entry.folder.now (kept places.entry.relationships.now) base found.old (reading_by P.state reader.old) found.new (reading_by P.state reader.new)) }
-    ensures closed { (P.state reader.old.package.now).told ≡ true → OnOk result (is_closed 0 (ahead (reading_by P.state reader.old)) ≡ true) }
-    ensures behind { (P.state reader.old.package.now).told ≡ true → OnOk result (ahead (reading_by P.state reader.new) ≡ behind 0 (ahead (reading_by P.state reader.old))) }
-    ensures names { (P.state reader.old.package.now).told ≡ true → OnOk result (TextTaken (option_map string_bytes name) (content 0 (ahead (reading_by P.state reader.old))) (names_of found.old) (names_of found.new)) }
-    ensures err { IfErr result (SectionFails (codes "workbook") (inside base (reading_by P.state reader.old)) (IsNameTextRefused places.entry.folder.now (kept places.entry.relationships.now) base found.old (option_map string_bytes name) (reading_by P.state reader.old)) (reading_by P.state reader.old) (reading_by P.state reader.new)) }
-{
-    let depth = reader.depth();
-    let wanted = name.is_some();
-    let mut text = String::new(alloc);
-    'events: loop {
-        next_event(reader, "workbook")?;
-        if reader.depth() < depth {
-            return push_name(&mut found.names, name, text);
-        }
-        let at = reader.at() - 1;
-        take_event(alloc, found, places, reader.event(), at)?;
-        push_text(&mut text, wanted, reader.event(), at)?;
-    }
-}
-
-/// Reads a defined name, at whose start the reader stands, to its end.
+/// text where it has a name.
 fn read_name<P: Package>(
     alloc: Global,
     found: &mut WorkbookContents,
     places: SheetPlaces<'_>,
     reader: &mut XlReader<'_, P>,
-    base: usize,
-    at: u64,
+    name: Option<String>,
 ) -> Result<(), XlsxError>
-    requires reading { IsReading (reading_by P.state reader.old) }
-    requires element { IsAtElement (reading_by P.state reader.old) }
-    requires within { base < length reader.old.cursor.names }
-    requires place { (P.state reader.old.package.now).told ≡ true → slice_get (events_of (reading_by P.state reader.old)) at ≡ Some (P.state reader.old.package.now).current }
+    requires { IsReading (reading_by P.state reader.old) }
     ensures hold { KeepsHold reader.old reader.new }
     ensures goes { Goes (reading_by P.state reader.old) (reading_by P.state reader.new) }
     ensures on { OnOk result (GoesOn (reading_by P.state reader.old) (reading_by P.state reader.new)) }
     ensures depth { OnOk result (length reader.old.cursor.names ≡ suc (length reader.new.cursor.names)) }
-    ensures carries { (P.state reader.old.package.now).told ≡ true → OnOk result (Carries places.entry.folder.now (kept places.entry.relationships.now) base found.old (reading_by P.state reader.old) found.new (reading_by P.state reader.new)) }
-    ensures behind { (P.state reader.old.package.now).told ≡ true → OnOk result (ahead (reading_by P.state reader.new) ≡ behind 0 (ahead (reading_by P.state reader.old))) }
-    ensures names { (P.state reader.old.package.now).told ≡ true → OnOk result (NameTaken (P.state reader.old.package.now).current (content 0 (ahead (reading_by P.state reader.old))) (names_of found.old) (names_of found.new)) }
-    ensures err { IfErr result (SectionFails (codes "workbook") (inside base (reading_by P.state reader.old)) (IsNameElementRefused places.entry.folder.now (kept places.entry.relationships.now) base found.old (reading_by P.state reader.old)) (reading_by P.state reader.old) (reading_by P.state reader.new)) }
+    ensures skips { (P.state reader.old.package.now).told ≡ true → OnOk result (Skips (reading_by P.state reader.old) (reading_by P.state reader.new)) }
+    ensures takes { (P.state reader.old.package.now).told ≡ true → OnOk result (TakesEvents places.entry.folder.now (kept places.entry.relationships.now) (content 0 (ahead (reading_by P.state reader.old))) found.old found.new) }
+    ensures names { (P.state reader.old.package.now).told ≡ true → OnOk result (TextTaken (option_map string_bytes name) (content 0 (ahead (reading_by P.state reader.old))) (names_of found.old) (names_of found.new)) }
+    ensures err { IfErr result (SectionFails (codes "workbook") 0 (IsNameRefused places.entry.folder.now (kept places.entry.relationships.now) found.old (option_map string_bytes name) (content 0 (ahead (reading_by P.state reader.old)))) (reading_by P.state reader.old) (reading_by P.state reader.new)) }
 {
-    let name = name_by(alloc, start_tag(reader), at)?;
-    read_name_text(alloc, found, places, reader, base, name)
+    let depth = reader.depth();
+    let wanted = name.is_some();
+    let mut text = String::new(alloc);
+    'events: while next_inside(reader, depth, "workbook")? {
+        let at = reader.at() - 1;
+        let event = reader.event();
+        take_event(alloc, found, places, event, at)?;
+        push_text(&mut text, wanted, event, at)?;
+    }
+    push_name(&mut found.names, name, text)
 }
 
 fn is_name_start(event: PartEvent<'_>) -> bool
@@ -203,41 +158,6 @@ fn is_name_start(event: PartEvent<'_>) -> bool
         PartEvent::Start(tag) => tag.local_name() == "definedName",
         _ => false,
     }
-}
-
-/// Takes the next event of the section, whose element is number `base` of the open ones, and with the start of a defined
-/// name its element. Answers false at the section's end.
-fn take_next<P: Package>(
-    alloc: Global,
-    found: &mut WorkbookContents,
-    places: SheetPlaces<'_>,
-    reader: &mut XlReader<'_, P>,
-    base: usize,
-) -> Result<bool, XlsxError>
-    requires reading { IsReading (reading_by P.state reader.old) }
-    requires within { base ≤ length reader.old.cursor.names }
-    ensures hold { KeepsHold reader.old reader.new }
-    ensures goes { Goes (reading_by P.state reader.old) (reading_by P.state reader.new) }
-    ensures on { OnOk result (GoesOn (reading_by P.state reader.old) (reading_by P.state reader.new)) }
-    ensures within { IfOk result (λ more. more ≡ true → base ≤ length reader.new.cursor.names) }
-    ensures left { IfOk result (λ more. more ≡ true → (P.state reader.new.package.now).left < (P.state reader.old.package.now).left) }
-    ensures carries { (P.state reader.old.package.now).told ≡ true → IfOk result (λ more. more ≡ true → Carries places.entry.folder.now (kept places.entry.relationships.now) base found.old (reading_by P.state reader.old) found.new (reading_by P.state reader.new)) }
-    ensures names { (P.state reader.old.package.now).told ≡ true → IfOk result (λ more. more ≡ true → CarriesNames base (names_of found.old) (reading_by P.state reader.old) (names_of found.new) (reading_by P.state reader.new)) }
-    ensures over { (P.state reader.old.package.now).told ≡ true → IfOk result (λ more. more ≡ false → IsOver base (reading_by P.state reader.old)) }
-    ensures same { IfOk result (λ more. more ≡ false → found.new ≡ found.old) }
-    ensures err { IfErr result (SectionFails (codes "workbook") (inside base (reading_by P.state reader.old)) (IsSectionRefused places.entry.folder.now (kept places.entry.relationships.now) base found.old (reading_by P.state reader.old)) (reading_by P.state reader.old) (reading_by P.state reader.new)) }
-{
-    next_event(reader, "workbook")?;
-    if reader.depth() < base {
-        return Ok(false);
-    }
-    let at = reader.at() - 1;
-    take_event(alloc, found, places, reader.event(), at)?;
-    if is_name_start(reader.event()) {
-        read_name(alloc, found, places, reader, base, at)?;
-        return Ok(true);
-    }
-    Ok(true)
 }
 
 /// What a workbook's section holds, behind whose start the reader stands.
@@ -260,7 +180,15 @@ fn contents_in<P: Package>(
         names: Vec::new(alloc),
         flag: None,
     };
-    'events: while take_next(alloc, &mut found, places, reader, base)? {}
+    'events: while next_inside(reader, base, "workbook")? {
+        let at = reader.at() - 1;
+        let event = reader.event();
+        take_event(alloc, &mut found, places, event, at)?;
+        if is_name_start(event) {
+            let name = name_by(alloc, start_tag(reader), at)?;
+            read_name(alloc, &mut found, places, reader, name)?;
+        }
+    }
     Ok(found)
 }
 

@@ -1,6 +1,4 @@
-use Rattle.std.proofs.Common.{◌≡◌, ◌∷◌, [], true, refl, ◌∙◌, subst, List}
-use Rattle.part_events.specs.Event.{Event}
-use Rattle.part_events.specs.Nesting.{whole}
+use Rattle.std.proofs.Common.{◌∷◌, [], refl}
 use Rattle.part_events.specs.Reader.{reading_by}
 use Rattle.part_events.specs.Section.{is_named}
 use Rattle.part_events.specs.Walk.{EndsInSection}
@@ -14,6 +12,5 @@ returns-in-Ended-clause-err g c =
       refl,
       λ told.
           let ends : EndsInSection (is_named (c.args.name.now ∷ [])) c.args.base old new = rw c.in-Ended.is at (c.in_ok-next_start.ensures.found told) in
-          let still : new.source.told ≡ true = c.next_start.ensures.goes.parts.told ∙ told in
-          (subst (λ (events : List Event). whole events ≡ events) (c.in_ok-next_start.ensures.on.part told) (whole_at_end new (c.in_ok-next_start.ensures.on.reading.tracked still) ends.at_end.rest), ends.closed),
+          (whole_at_end old new c.next_start.ensures.goes c.in_ok-next_start.ensures.on told ends.at_end, ends.closed),
     )

@@ -1,9 +1,10 @@
 use Rattle.std.proofs.Common.{◌≡◌, ◌≤◌, length, true}
 use Rattle.part_events.specs.Reader.{reading_by, KeepsHold}
-use Rattle.part_events.specs.Reading.{Goes, GoesOn}
+use Rattle.part_events.specs.Reading.{Goes, GoesOn, ahead}
+use Rattle.part_events.specs.Section.{content, is_closed}
+use Rattle.part_events.specs.Walk.{inside}
 use Rattle.xlsx_core.specs.Kept.{kept}
-use Rattle.xlsx_core.specs.Workbook.{Carries, names_of}
-use Rattle.xlsx_core.specs.WorkbookEvents.{CarriesNames}
+use Rattle.xlsx_core.proofs.Events.{KeepsContents}
 use Rattle.xlsx_core.proofs.workbook.contents_in.Given as goal
 
 abbrev pub invariant-events : goal.invariant-events
@@ -14,10 +15,9 @@ invariant-events g l =
       hold : KeepsHold l.fn.reader l.reader;
       goes : Goes old now;
       on : GoesOn old now;
-      base : l.base ≡ length old.names;
       within : l.base ≤ length now.names;
-      carries : old.source.told ≡ true → Carries l.places.folder.now (kept l.places.relationships.now) l.base l.initial.found old l.found now;
-      names : old.source.told ≡ true → CarriesNames l.base (names_of l.initial.found) old (names_of l.found) now;
+      keeps : old.source.told ≡ true → KeepsContents l.places.folder.now (kept l.places.relationships.now) (content 0 (ahead old)) l.found (content (inside l.base now) (ahead now));
+      closed : old.source.told ≡ true → is_closed (inside l.base now) (ahead now) ≡ is_closed 0 (ahead old);
     }
 
 abbrev pub decreases-events : goal.decreases-events
