@@ -20,20 +20,20 @@ use Rattle.xlsx_core.specs.WorkbookEvents.{TextRefused, TextTaken, IsContents, A
 use Rattle.xlsx_core.specs.declared.workbook.WorkbookContents.{WorkbookContents}
 use Rattle.xlsx_core.proofs.Kept.{prepended-and_others, prepended-nil, or_earlier-None}
 
-pub carries_further : (folder : List ℕ) (related : List ℕ → Option Related) (first found last : WorkbookContents) (all events left : List Event) → Carries folder related first all found events → Carries folder related found events last left → Carries folder related first all last left
-carries_further folder related first found last all events left one two = record { sheets = two.sheets ∙ one.sheets; flag = two.flag ∙ one.flag }
+pub carries_further : {folder : List ℕ} {related : List ℕ → Option Related} {first found last : WorkbookContents} {all events left : List Event} → Carries folder related first all found events → Carries folder related found events last left → Carries folder related first all last left
+carries_further one two = record { sheets = two.sheets ∙ one.sheets; flag = two.flag ∙ one.flag }
 
 -- what is refused later is refused from the start
-pub refused_earlier : (folder : List ℕ) (related : List ℕ → Option Related) (first found : WorkbookContents) (all events : List Event) (refusal : Refusal) → Carries folder related first all found events → IsOneRefused folder related found events refusal → IsOneRefused folder related first all refusal
-refused_earlier folder related first found all events refusal one (inl is) = inl (sym one.sheets ∙ is)
-refused_earlier folder related first found all events refusal one (inr is) = inr (sym one.flag ∙ is)
+pub refused_earlier : {folder : List ℕ} {related : List ℕ → Option Related} {first found : WorkbookContents} {all events : List Event} (refusal : Refusal) → Carries folder related first all found events → IsOneRefused folder related found events refusal → IsOneRefused folder related first all refusal
+refused_earlier refusal one (inl is) = inl (sym one.sheets ∙ is)
+refused_earlier refusal one (inr is) = inr (sym one.flag ∙ is)
 
 -- one event of those that are left
-pub event_taken : (folder : List ℕ) (related : List ℕ → Option Related) (found last : WorkbookContents) (event : Event) (events left : List Event) → events ≡ event ∷ left → TakesEvents folder related (event ∷ []) found last → Carries folder related found events last left
-event_taken folder related found last event events left same takes = subst (λ (all : List Event). Carries folder related found all last left) (sym same) (takes left)
+pub event_taken : {folder : List ℕ} {related : List ℕ → Option Related} {found last : WorkbookContents} {event : Event} {events left : List Event} → events ≡ event ∷ left → TakesEvents folder related (event ∷ []) found last → Carries folder related found events last left
+event_taken {left = left} same takes = rw same (takes left)
 
-pub event_refused : (folder : List ℕ) (related : List ℕ → Option Related) (found : WorkbookContents) (event : Event) (events left : List Event) (refusal : Refusal) → events ≡ event ∷ left → AreEventsRefused folder related (event ∷ []) found refusal → IsOneRefused folder related found events refusal
-event_refused folder related found event events left refusal same refuses = subst (λ (all : List Event). IsOneRefused folder related found all refusal) (sym same) (refuses left)
+pub event_refused : {event : Event} {events left : List Event} (folder : List ℕ) (related : List ℕ → Option Related) (found : WorkbookContents) (refusal : Refusal) → events ≡ event ∷ left → AreEventsRefused folder related (event ∷ []) found refusal → IsOneRefused folder related found events refusal
+event_refused {left = left} folder related found refusal same refuses = subst (λ (all : List Event). IsOneRefused folder related found all refusal) (sym same) (refuses left)
 
 -- what is kept of a section, with what the events say that are left of it, is what all of it says
 pub record KeepsContents (folder : List ℕ) (related : List ℕ → Option Related) (all : List Event) (found : WorkbookContents) (left : List Event) : Type 0 where
@@ -42,22 +42,22 @@ pub record KeepsContents (folder : List ℕ) (related : List ℕ → Option Rela
   pub flag : or_earlier found.flag (flag_in left) ≡ flag_in all
 
 -- the element of a defined name was taken, or is refused
-pub keeps_name : (folder : List ℕ) (related : List ℕ → Option Related) (all : List Event) (found after last : WorkbookContents) (events inner left : List Event) (answer : Result (Option (List ℕ)) Refusal) (name : Option (List ℕ)) → KeepsContents folder related all found events → Carries folder related found events last left → names_of after ≡ names_of found → names_in events ≡ and_others_if (with_text inner answer) (names_in left) → answer ≡ Ok name → TextTaken name inner (names_of after) (names_of last) → KeepsContents folder related all last left
-keeps_name folder related all found after last events inner left answer name kept carries same is named taken = record {
+pub keeps_name : {folder : List ℕ} {related : List ℕ → Option Related} {all : List Event} {found last : WorkbookContents} {events left : List Event} {answer : Result (Option (List ℕ)) Refusal} {name : Option (List ℕ)} (after : WorkbookContents) (inner : List Event) → KeepsContents folder related all found events → Carries folder related found events last left → names_of after ≡ names_of found → names_in events ≡ and_others_if (with_text inner answer) (names_in left) → answer ≡ Ok name → TextTaken name inner (names_of after) (names_of last) → KeepsContents folder related all last left
+keeps_name {left = left} after inner kept carries same is named taken = record {
   sheets = carries.sheets ∙ kept.sheets;
   names = taken (names_in left) ∙ rw (same, is, named) refl ∙ kept.names;
   flag = carries.flag ∙ kept.flag;
 }
 
-pub name_refused : (folder : List ℕ) (related : List ℕ → Option Related) (all : List Event) (found : WorkbookContents) (events inner left : List Event) (answer : Result (Option (List ℕ)) Refusal) (refusal : Refusal) → KeepsContents folder related all found events → names_in events ≡ and_others_if (with_text inner answer) (names_in left) → with_text inner answer ≡ Err refusal → AreContentsRefused folder related all refusal
+pub name_refused : {folder : List ℕ} {related : List ℕ → Option Related} {all : List Event} {found : WorkbookContents} {events : List Event} (inner : List Event) (answer : Result (Option (List ℕ)) Refusal) (others : Result (List (List ℕ × List ℕ)) Refusal) (refusal : Refusal) → KeepsContents folder related all found events → names_in events ≡ and_others_if (with_text inner answer) others → with_text inner answer ≡ Err refusal → AreContentsRefused folder related all refusal
 unfolding AreContentsRefused
-name_refused folder related all found events inner left answer refusal kept is refuses =
+name_refused {found = found} {events = events} inner answer others refusal kept is refuses =
     let here : prepended (names_of found) (names_in events) ≡ Err refusal = rw (is, refuses) refl in inr (inl (sym kept.names ∙ here))
 
-pub contents_refused : (folder : List ℕ) (related : List ℕ → Option Related) (all : List Event) (found : WorkbookContents) (left : List Event) (refusal : Refusal) → KeepsContents folder related all found left → IsOneRefused folder related found left refusal → AreContentsRefused folder related all refusal
+pub contents_refused : {folder : List ℕ} {related : List ℕ → Option Related} {all : List Event} {found : WorkbookContents} {left : List Event} (refusal : Refusal) → KeepsContents folder related all found left → IsOneRefused folder related found left refusal → AreContentsRefused folder related all refusal
 unfolding AreContentsRefused
-contents_refused folder related all found left refusal kept (inl is) = inl (sym kept.sheets ∙ is)
-contents_refused folder related all found left refusal kept (inr is) = inr (inr (sym kept.flag ∙ is))
+contents_refused refusal kept (inl is) = inl (sym kept.sheets ∙ is)
+contents_refused refusal kept (inr is) = inr (inr (sym kept.flag ∙ is))
 
 -- what is behind an element that lies in a section
 pub record LiesBehind (inner outer within : ℕ) (events : List Event) : Type 0 where
@@ -87,28 +87,25 @@ lies_behind inner outer within (char_data written ∷ events) is = let more = li
 lies_behind inner outer within (entity_ref name ∷ events) is = let more = lies_behind inner outer within events (omega arith) in record { others = more.others; parts = ap (λ (rest : List Event). entity_ref name ∷ rest) more.parts; starts = more.starts; unclosed = more.unclosed; closed = more.closed }
 lies_behind inner outer within (other ∷ events) is = let more = lies_behind inner outer within events (omega arith) in record { others = more.others; parts = ap (λ (rest : List Event). other ∷ rest) more.parts; starts = more.starts; unclosed = more.unclosed; closed = more.closed }
 
--- an element of a section was taken
-pub carries_element : (folder : List ℕ) (related : List ℕ → Option Related) (found last : WorkbookContents) (outer within : ℕ) (events : List Event) → within ≡ suc outer → TakesEvents folder related (content 0 events) found last → Carries folder related found (content within events) last (content outer (behind 0 events))
-carries_element folder related found last outer within events deep takes =
-    let lies : LiesBehind 0 outer within events = lies_behind 0 outer within events (omega arith) in
+-- an element of a section was taken, or is refused
+pub carries_element : {folder : List ℕ} {related : List ℕ → Option Related} {found last : WorkbookContents} {outer within : ℕ} (events : List Event) → LiesBehind 0 outer within events → TakesEvents folder related (content 0 events) found last → Carries folder related found (content within events) last (content outer (behind 0 events))
+carries_element {folder = folder} {related = related} {found = found} {last = last} events lies takes =
     let rest = takes lies.others in
     record {
       sheets = ap (λ (tags : List Tag). prepended (sheets_of last) (all_answers (sheet_of folder related) tags)) (sym (lies.starts is_sheet)) ∙ rest.sheets ∙ ap (λ (all : List Event). prepended (sheets_of found) (sheets_in folder related all)) (sym lies.parts);
       flag = ap (λ (tags : List Tag). or_earlier last.flag (last_answer flag_of tags)) (sym (lies.starts is_properties)) ∙ rest.flag ∙ ap (λ (all : List Event). or_earlier found.flag (flag_in all)) (sym lies.parts);
     }
 
-pub element_refused : (folder : List ℕ) (related : List ℕ → Option Related) (found : WorkbookContents) (outer within : ℕ) (events : List Event) (refusal : Refusal) → within ≡ suc outer → AreEventsRefused folder related (content 0 events) found refusal → IsOneRefused folder related found (content within events) refusal
-element_refused folder related found outer within events refusal deep refuses =
-    let lies : LiesBehind 0 outer within events = lies_behind 0 outer within events (omega arith) in
-    subst (λ (all : List Event). IsOneRefused folder related found all refusal) (sym lies.parts) (refuses lies.others)
+pub element_refused : {outer within : ℕ} {events : List Event} (folder : List ℕ) (related : List ℕ → Option Related) (found : WorkbookContents) (refusal : Refusal) → LiesBehind 0 outer within events → AreEventsRefused folder related (content 0 events) found refusal → IsOneRefused folder related found (content within events) refusal
+element_refused folder related found refusal lies refuses = subst (λ (all : List Event). IsOneRefused folder related found all refusal) (sym lies.parts) (refuses lies.others)
 
 -- the event is the start of a defined name
 pub record IsNameAt (base : ℕ) (tag : Tag) (old new : Reading) : Type 0 where
   pub deep : inside base new ≡ suc (inside base old)
   pub names : StepsAhead true old new → names_in (content (inside base old) (ahead old)) ≡ and_others_if (with_text (content 0 (ahead new)) (name_by tag)) (names_in (content (inside base old) (behind 0 (ahead new))))
 
-pub name_at : (base : ℕ) (event : Event) (tag : Tag) (old new : Reading) → start tag ≡ new.source.current → event ≡ new.source.current → is_name_start event ≡ true → TakesEvent old new → base ≤ length old.names → IsNameAt base tag old new
-name_at base event tag old new current same named takes was =
+pub name_at : {base : ℕ} {event : Event} {tag : Tag} (old new : Reading) → start tag ≡ new.source.current → event ≡ new.source.current → is_name_start event ≡ true → TakesEvent old new → base ≤ length old.names → IsNameAt base tag old new
+name_at {base = base} {tag = tag} old new current same named takes was =
     let is : is_defined_name tag ≡ true = ap is_name_start (current ∙ sym same) ∙ named in
     let names : new.names ≡ tag.name ∷ old.names = takes.names ∙ ap (λ (event : Event). names_behind event old.names) (sym current) in
     let deep : inside base new ≡ suc (inside base old) = rw names (omega arith) in
@@ -129,8 +126,8 @@ some_more : (place : Option ℕ) → is_some (option_map suc place) ≡ is_some 
 some_more None = refl
 some_more (Some place) = refl
 
-pub joins_further : (all : List Event) (written more : List ℕ) (event : Event) (events left : List Event) → events ≡ event ∷ left → more ≡ written ++ text_of false event → is_unknown event ≡ false → JoinsText all written events → JoinsText all more left
-joins_further all written more event events left same adds known joins =
+pub joins_further : {all : List Event} {written more : List ℕ} {event : Event} {events left : List Event} → events ≡ event ∷ left → more ≡ written ++ text_of false event → is_unknown event ≡ false → JoinsText all written events → JoinsText all more left
+joins_further {written = written} {event = event} {events = events} {left = left} same adds known joins =
     let rest : is_some (unknown_entity events) ≡ is_some (unknown_entity left) = rw (same, known) (some_more (unknown_entity left)) in
     record {
       text = ap (λ (front : List ℕ). front ++ joined false left) adds ∙ append_assoc written (text_of false event) (joined false left) ∙ ap (λ (next : List Event). written ++ joined false next) (sym same) ∙ joins.text;
@@ -138,8 +135,8 @@ joins_further all written more event events left same adds known joins =
     }
 
 -- a reference without a character comes next
-pub unknown_first : (all : List Event) (written : List ℕ) (event : Event) (events left : List Event) → events ≡ event ∷ left → is_unknown event ≡ true → JoinsText all written events → is_some (unknown_entity all) ≡ true
-unknown_first all written event events left same is joins = let here : is_some (unknown_entity events) ≡ true = rw (same, is) refl in sym joins.known ∙ here
+pub unknown_first : {all : List Event} {written : List ℕ} {event : Event} {events left : List Event} → events ≡ event ∷ left → is_unknown event ≡ true → JoinsText all written events → is_some (unknown_entity all) ≡ true
+unknown_first {events = events} same is joins = let here : is_some (unknown_entity events) ≡ true = rw (same, is) refl in sym joins.known ∙ here
 
 pub unknown_text : (name : Option (String Global)) (all : List Event) → is_some name ≡ true → is_some (unknown_entity all) ≡ true → with_text all (Ok (option_map string_bytes name)) ≡ Err no_character
 unknown_text None all some is = absurd (cc)

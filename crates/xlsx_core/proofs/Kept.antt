@@ -1,6 +1,6 @@
 -- What is kept of many elements, with one more of them.
-use Rattle.std.proofs.Common.{◌≡◌, List, [], ◌∷◌, ◌++◌, Option, Some, None, Result, Ok, Err, refl, sym, append_assoc}
-use Rattle.xlsx_core.specs.Refusal.{Refusal, or_earlier, or_later, and_others, prepended, last_answer, all_answers}
+use Rattle.std.proofs.Common.{◌≡◌, List, [], ◌∷◌, ◌++◌, Option, Some, None, Result, Ok, Err, refl, sym, ◌∙◌, append_assoc}
+use Rattle.xlsx_core.specs.Refusal.{Refusal, or_earlier, or_later, and_others, prepended, last_answer}
 
 -- what the last of some gives, with one before them
 pub or_earlier-or_later : {A : Type 0} (kept next : Option A) (answer others : Result (Option A) Refusal) → or_earlier kept answer ≡ Ok next → or_earlier next others ≡ or_earlier kept (or_later answer others)
@@ -26,8 +26,12 @@ pub prepended-nil : {A : Type 0} (answer : Result (List A) Refusal) → prepende
 prepended-nil (Ok others) = refl
 prepended-nil (Err refusal) = refl
 
-pub refused_last : {X A : Type 0} (kept : Option A) (answer : X → Result (Option A) Refusal) (x : X) (xs : List X) (refusal : Refusal) → answer x ≡ Err refusal → or_earlier kept (last_answer answer (x ∷ xs)) ≡ Err refusal
-refused_last kept answer x xs refusal is = rw is refl
+-- with one of those that are left, the last of all is the same
+pub last_further : {X A : Type 0} {next : Option A} {x : X} {xs rest : List X} {all : Result (Option A) Refusal} (answer : X → Result (Option A) Refusal) (kept : Option A) → xs ≡ x ∷ rest → or_earlier kept (answer x) ≡ Ok next → or_earlier kept (last_answer answer xs) ≡ all → or_earlier next (last_answer answer rest) ≡ all
+last_further {next = next} {x = x} {rest = rest} answer kept same is holds =
+    or_earlier-or_later kept next (answer x) (last_answer answer rest) is ∙ (rw same at holds)
 
-pub refused_all : {X A : Type 0} (kept : List A) (answer : X → Result A Refusal) (x : X) (xs : List X) (refusal : Refusal) → answer x ≡ Err refusal → prepended kept (all_answers answer (x ∷ xs)) ≡ Err refusal
-refused_all kept answer x xs refusal is = rw is refl
+-- one of those that are left is refused
+pub last_refused : {X A : Type 0} {x : X} {xs rest : List X} {all : Result (Option A) Refusal} {refusal : Refusal} (answer : X → Result (Option A) Refusal) (kept : Option A) → xs ≡ x ∷ rest → answer x ≡ Err refusal → or_earlier kept (last_answer answer xs) ≡ all → all ≡ Err refusal
+last_refused {xs = xs} {refusal = refusal} answer kept same refuses holds =
+    let here : or_earlier kept (last_answer answer xs) ≡ Err refusal = rw (same, refuses) refl in sym holds ∙ here

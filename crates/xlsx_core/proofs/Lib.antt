@@ -8,6 +8,7 @@ pub mod PlainFails
 pub mod PlainRead
 pub mod PlainWritten
 pub mod Refused
+pub mod Sections
 pub mod Sound
 pub mod Spelled
 pub mod Taking

@@ -1,10 +1,11 @@
-use Rattle.std.proofs.Common.{◌≡◌, ◌≤◌, length, true, option_map, string_bytes}
+use Rattle.std.proofs.Common.{◌≡◌, true, option_map, string_bytes}
 use Rattle.part_events.specs.Reader.{reading_by, KeepsHold}
-use Rattle.part_events.specs.Reading.{Goes, GoesOn, ahead}
-use Rattle.part_events.specs.Section.{content, is_closed}
+use Rattle.part_events.specs.Reading.{ahead}
+use Rattle.part_events.specs.Section.{content}
 use Rattle.part_events.specs.Walk.{inside}
 use Rattle.xlsx_core.specs.Refusal.{or_earlier}
 use Rattle.xlsx_core.specs.Relationships.{path_in}
+use Rattle.xlsx_core.proofs.Sections.{ReadsOn}
 use Rattle.xlsx_core.proofs.relationship_parts.path_in.Given as goal
 
 abbrev pub invariant-starts : goal.invariant-starts
@@ -13,11 +14,8 @@ invariant-starts g l =
     let now = reading_by g.P.Package.state l.reader in
     record {
       hold : KeepsHold l.fn.reader l.reader;
-      goes : Goes old now;
-      on : GoesOn old now;
-      within : l.base ≤ length now.names;
+      reads : ReadsOn l.base old now;
       path : old.source.told ≡ true → or_earlier (option_map string_bytes l.path) (path_in (content (inside l.base now) (ahead now))) ≡ path_in (content 0 (ahead old));
-      closed : old.source.told ≡ true → is_closed (inside l.base now) (ahead now) ≡ is_closed 0 (ahead old);
     }
 
 abbrev pub decreases-starts : goal.decreases-starts

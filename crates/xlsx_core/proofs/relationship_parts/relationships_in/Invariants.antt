@@ -1,11 +1,12 @@
-use Rattle.std.proofs.Common.{◌≡◌, ◌≤◌, length, true, List, ℕ}
+use Rattle.std.proofs.Common.{◌≡◌, true, List, ℕ}
 use Rattle.part_events.specs.Reader.{reading_by, KeepsHold}
-use Rattle.part_events.specs.Reading.{Goes, GoesOn, ahead}
-use Rattle.part_events.specs.Section.{content, is_closed}
+use Rattle.part_events.specs.Reading.{ahead}
+use Rattle.part_events.specs.Section.{content}
 use Rattle.part_events.specs.Walk.{inside}
 use Rattle.xlsx_core.specs.Refusal.{or_earlier}
 use Rattle.xlsx_core.specs.Relationships.{related_in}
 use Rattle.xlsx_core.specs.Kept.{kept}
+use Rattle.xlsx_core.proofs.Sections.{ReadsOn}
 use Rattle.xlsx_core.proofs.relationship_parts.relationships_in.Given as goal
 
 abbrev pub invariant-starts : goal.invariant-starts
@@ -14,11 +15,8 @@ invariant-starts g l =
     let now = reading_by g.P.Package.state l.reader in
     record {
       hold : KeepsHold l.fn.reader l.reader;
-      goes : Goes old now;
-      on : GoesOn old now;
-      within : l.base ≤ length now.names;
+      reads : ReadsOn l.base old now;
       related : old.source.told ≡ true → (id : List ℕ) → or_earlier (kept l.map id) (related_in (content (inside l.base now) (ahead now)) id) ≡ related_in (content 0 (ahead old)) id;
-      closed : old.source.told ≡ true → is_closed (inside l.base now) (ahead now) ≡ is_closed 0 (ahead old);
     }
 
 abbrev pub decreases-starts : goal.decreases-starts

@@ -1,10 +1,11 @@
-use Rattle.std.proofs.Common.{◌≡◌, ◌≤◌, length, true}
+use Rattle.std.proofs.Common.{◌≡◌, true}
 use Rattle.part_events.specs.Reader.{reading_by, KeepsHold}
-use Rattle.part_events.specs.Reading.{Goes, GoesOn, ahead}
-use Rattle.part_events.specs.Section.{content, is_closed}
+use Rattle.part_events.specs.Reading.{ahead}
+use Rattle.part_events.specs.Section.{content}
 use Rattle.part_events.specs.Walk.{inside}
 use Rattle.xlsx_core.specs.Kept.{kept}
 use Rattle.xlsx_core.proofs.Events.{KeepsContents}
+use Rattle.xlsx_core.proofs.Sections.{ReadsOn}
 use Rattle.xlsx_core.proofs.workbook.contents_in.Given as goal
 
 abbrev pub invariant-events : goal.invariant-events
@@ -13,11 +14,8 @@ invariant-events g l =
     let now = reading_by g.P.Package.state l.reader in
     record {
       hold : KeepsHold l.fn.reader l.reader;
-      goes : Goes old now;
-      on : GoesOn old now;
-      within : l.base ≤ length now.names;
+      reads : ReadsOn l.base old now;
       keeps : old.source.told ≡ true → KeepsContents l.places.folder.now (kept l.places.relationships.now) (content 0 (ahead old)) l.found (content (inside l.base now) (ahead now));
-      closed : old.source.told ≡ true → is_closed (inside l.base now) (ahead now) ≡ is_closed 0 (ahead old);
     }
 
 abbrev pub decreases-events : goal.decreases-events

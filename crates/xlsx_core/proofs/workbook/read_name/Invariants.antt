@@ -1,13 +1,14 @@
-use Rattle.std.proofs.Common.{◌≡◌, ◌≤◌, ◌++◌, length, true, string_bytes, List}
+use Rattle.std.proofs.Common.{◌≡◌, ◌++◌, length, true, string_bytes, List}
 use Rattle.std.specs.Prelude.{is_some}
 use Rattle.part_events.specs.Event.{Event}
 use Rattle.part_events.specs.Reader.{reading_by, KeepsHold}
-use Rattle.part_events.specs.Reading.{Goes, GoesOn, ahead}
-use Rattle.part_events.specs.Section.{content, is_closed, behind}
+use Rattle.part_events.specs.Reading.{ahead}
+use Rattle.part_events.specs.Section.{content, behind}
 use Rattle.part_events.specs.Walk.{inside}
 use Rattle.xlsx_core.specs.Kept.{kept}
 use Rattle.xlsx_core.specs.Workbook.{Carries, names_of}
 use Rattle.xlsx_core.proofs.Events.{JoinsText}
+use Rattle.xlsx_core.proofs.Sections.{ReadsOn}
 use Rattle.xlsx_core.proofs.workbook.read_name.Given as goal
 
 abbrev pub invariant-events : goal.invariant-events
@@ -18,16 +19,13 @@ invariant-events g l =
     let left = content (inside l.depth now) (ahead now) in
     record {
       hold : KeepsHold l.fn.reader l.reader;
-      goes : Goes old now;
-      on : GoesOn old now;
+      reads : ReadsOn l.depth old now;
       depth : l.depth ≡ length old.names;
-      within : l.depth ≤ length now.names;
       own : l.name ≡ l.fn.name;
       wanted : l.wanted ≡ is_some l.name;
       names : names_of l.found ≡ names_of l.fn.found;
       carries : old.source.told ≡ true → (others : List Event) → Carries l.places.folder.now (kept l.places.relationships.now) l.fn.found (all ++ others) l.found (left ++ others);
       text : old.source.told ≡ true → l.wanted ≡ true → JoinsText all (string_bytes l.text) left;
-      closed : old.source.told ≡ true → is_closed (inside l.depth now) (ahead now) ≡ is_closed 0 (ahead old);
       behind : old.source.told ≡ true → behind (inside l.depth now) (ahead now) ≡ behind 0 (ahead old);
     }
 
