@@ -1,12 +1,12 @@
 pub mod Events
 pub mod Fronts
 pub mod Kept
-pub mod OneSheet
 pub mod OpeningLemmas
 pub mod Pieces
 pub mod PlainFails
 pub mod PlainRead
 pub mod PlainWritten
+pub mod Readings
 pub mod Refused
 pub mod Sections
 pub mod Sound

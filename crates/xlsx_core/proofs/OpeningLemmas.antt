@@ -1,6 +1,6 @@
 -- How the readings of a package's parts make an opening.
 use Rattle.std.proofs.Common.{◌≡◌, ℕ, ◌+◌, List, [], ◌∷◌, ◌++◌, length, true, Bool, false, Option, Some, None, Ok, refl, sym, ◌∙◌, ap, subst, inl, inr, arith, codes, string_bytes, String, Global, length-append}
-use Rattle.std.specs.Prelude.{option_and_then, unwrap_or, IsSomeAnd, MatchOption}
+use Rattle.std.specs.Prelude.{option_and_then, unwrap_or, IsSome, IsSomeAnd, MatchOption}
 use Rattle.part_events.specs.Event.{Event}
 use Rattle.part_events.specs.Package.{Part, PackageState, SameParts, part_of}
 use Rattle.cell_data.specs.declared.error.XlsxError.{XlsxError}

@@ -1,49 +1,76 @@
--- Refusals that are handed on.
-use Rattle.std.proofs.Common.{◌≡◌, ℕ, List, Bool, true, false, sym, ◌∙◌, ap, Some, None, codes}
+-- The cells of a sheet that was found, and refusals that are handed on.
+use Rattle.std.proofs.Common.{◌≡◌, ℕ, List, Bool, true, false, refl, sym, ◌∙◌, ap, subst, inl, inr, Option, Some, None, String, Global}
+use Rattle.std.specs.Prelude.{if◌then◌else◌, IsSomeAnd}
 use Rattle.part_events.specs.Event.{Event}
-use Rattle.part_events.specs.Package.{Part, part_of, PackageState, SameParts, Opens}
-use Rattle.xlsx_core.specs.PlainSheet.{PlainCell}
+use Rattle.part_events.specs.Package.{Part, PackageState, SameParts}
+use Rattle.cell_data.specs.declared.error.XlsxError.{XlsxError}
+use Rattle.cell_data.specs.declared.error.XlsxError.TheVariants.{OutOfMemory, Io, NotBuilt, WorksheetNotFound}
+use Rattle.xlsx_core.specs.Opening.{Opening, OpensAs, IsBuilt, OpeningCause, OpeningFails}
+use Rattle.xlsx_core.specs.PlainPart.{CellsFail, OfSheet, HasCells, SheetFails}
 use Rattle.xlsx_core.specs.PlainScan.{cells_from, beginning}
-use Rattle.xlsx_core.specs.PlainPackage.{HasPlainSheet, CellsFail, SheetFails, ThinFails, ReadFails}
-use Rattle.xlsx_core.specs.declared.thin.ThinError.{ThinError}
-use Rattle.xlsx_core.specs.declared.thin.ThinError.TheVariants.{NotBuilt, NoSheet, Io, OutOfMemory}
+use Rattle.xlsx_core.specs.PlainSheet.{PlainCell, IsPlainSheet}
+use Rattle.xlsx_core.specs.Sheets.{PlacedSheet}
+use Rattle.xlsx_core.specs.ThinReading.{events_named, ReadsAs, HasOtherForm, ThinFails}
 use Rattle.xlsx_core.proofs.PlainRead.{read_sheet}
 use Rattle.xlsx_core.proofs.PlainWritten.{written_sheet}
 
--- the cells of a part that was found
-pub sheet_read : (parts : List Part) (events : List Event) (cells : List PlainCell) → part_of parts (codes "xl/worksheets/sheet1.xml") ≡ Some events → cells_from beginning events ≡ Some cells → HasPlainSheet parts cells
-sheet_read parts events cells found reads = record { events = events; found = found; plain = read_sheet events cells reads }
+-- what was answered of a part that is there
+pub some_there : {A : Type 0} (found : Bool) (asked : Option A) (there : A) → found ≡ true → asked ≡ (if found then Some there else None) → asked ≡ Some there
+some_there true asked there is same = same
+some_there false asked there is same = absurd cc
 
-sheet_not_read : (parts : List Part) (events : List Event) → part_of parts (codes "xl/worksheets/sheet1.xml") ≡ Some events → cells_from beginning events ≡ None → (cells : List PlainCell) → HasPlainSheet parts cells → ⊥
-sheet_not_read parts events found none cells sheet =
-    let same : sheet.events ≡ events = let both = sym sheet.found ∙ found in cc in
-    let reads = written_sheet sheet.events cells sheet.plain in
-    let at = ap (cells_from beginning) same ∙ none in cc
+-- the cells of the sheet that was found
+pub has_cells : (name : List ℕ) (sheets : List PlacedSheet) (parts : List Part) (events : List Event) (cells : List PlainCell) → events_named name sheets parts ≡ Some events → cells_from beginning events ≡ Some cells → HasCells name sheets parts cells
+has_cells name sheets parts events cells found reads =
+    subst (λ (o : Option (List Event)). IsSomeAnd o (λ events. IsPlainSheet events cells)) (sym found) (read_sheet events cells reads)
 
-found_events : (found : Bool) (name : List ℕ) (old new : PackageState) → found ≡ true → Opens name found old new → part_of old.parts name ≡ Some new.rest
-found_events true name old new is opens = opens.part
-found_events false name old new is opens = absurd cc
+never_plain : (events : List Event) → cells_from beginning events ≡ None → (cells : List PlainCell) → IsPlainSheet events cells → ⊥
+never_plain events none cells plain = let reads = written_sheet events cells plain in cc
 
-pub opened : (found : Bool) (name : List ℕ) (old new : PackageState) → found ≡ true → Opens name found old new → part_of old.parts name ≡ Some new.rest
-opened found name old new is opens = found_events found name old new is opens
+pub sheet_fails : (name : List ℕ) (sheets : List PlacedSheet) (first old new : PackageState) (error : XlsxError) → SameParts first old → old.faults ≡ first.faults → (first.told ≡ true → events_named name sheets first.parts ≡ Some old.rest) → CellsFail old new error → SheetFails name sheets first new error
+sheet_fails name sheets first old new OutOfMemory same faults found fails = fails ∙ faults
+sheet_fails name sheets first old new Io same faults found fails = rw faults at fails
+sheet_fails name sheets first old new NotBuilt same faults found fails =
+    (fails.0 ∙ faults, λ told. subst (λ (o : Option (List Event)). IsSomeAnd o (λ events. (cells : List PlainCell) → IsPlainSheet events cells → ⊥)) (sym (found told)) (never_plain old.rest (fails.1 (same.told ∙ told))))
+sheet_fails name sheets first old new error same faults found fails = absurd fails
 
-pub sheet_fails : (e : ThinError) (first old new : PackageState) → SameParts first old → old.faults ≡ first.faults → (first.told ≡ true → part_of first.parts (codes "xl/worksheets/sheet1.xml") ≡ Some old.rest) → CellsFail e old new → SheetFails e first new
-sheet_fails NotBuilt first old new same faults found fails =
-    (fails.0 ∙ faults, λ told cells sheet. sheet_not_read first.parts old.rest (found told) (fails.1 (same.told ∙ told)) cells sheet)
-sheet_fails NoSheet first old new same faults found fails = fails
-sheet_fails Io first old new same faults found fails = rw faults at fails
-sheet_fails OutOfMemory first old new same faults found fails = fails ∙ faults
+some_of : {A : Type 0} (o : Option A) (fact : A → Type 0) → IsSomeAnd o fact → (x : A) × (o ≡ Some x) × fact x
+some_of None fact is = absurd is
+some_of (Some x) fact is = (x, refl, is)
 
-pub thin_fails : (e : ThinError) (asked : List ℕ) (first old new : PackageState) → SameParts first old → old.faults ≡ first.faults → SheetFails e old new → ThinFails e asked first new
-thin_fails NotBuilt asked first old new same faults fails =
-    (fails.0 ∙ faults, λ told name cells plain. fails.1 (same.told ∙ told) cells (rw same.parts plain.sheet))
-thin_fails NoSheet asked first old new same faults fails = absurd fails
-thin_fails Io asked first old new same faults fails = rw faults at fails
-thin_fails OutOfMemory asked first old new same faults fails = fails ∙ faults
+-- the sheet of a workbook that opens
+pub reads_as : (name : List ℕ) (old mid : PackageState) (opening : Opening) (cells : List PlainCell) → SameParts old mid → OpensAs old.parts opening → IsBuilt old.parts → HasCells name opening.sheets mid.parts cells → ReadsAs old.parts name cells
+reads_as name old mid opening cells same opens built has =
+    let here : HasCells name opening.sheets old.parts cells = subst (λ (parts : List Part). HasCells name opening.sheets parts cells) same.parts has in
+    let there = some_of (events_named name opening.sheets old.parts) (λ events. IsPlainSheet events cells) here in
+    record { opening = opening; events = there.0; opens = opens; built = built; found = there.1; plain = there.2 }
 
--- a refusal of a call that takes no memory
-pub read_fails : (e : ThinError) (asked : List ℕ) (first old new : PackageState) → old.faults ≡ first.faults → ReadFails e old new → ThinFails e asked first new
-read_fails NotBuilt asked first old new faults fails = absurd fails
-read_fails NoSheet asked first old new faults fails = absurd fails
-read_fails Io asked first old new faults fails = rw faults at fails
-read_fails OutOfMemory asked first old new faults fails = absurd fails
+other_form : (name : List ℕ) (parts : List Part) (opening : Opening) → OpensAs parts opening → OfSheet name opening.sheets parts (λ events. (cells : List PlainCell) → IsPlainSheet events cells → ⊥) → HasOtherForm parts name
+other_form name parts opening opens never =
+    let there = some_of (events_named name opening.sheets parts) (λ events. (cells : List PlainCell) → IsPlainSheet events cells → ⊥) never in
+    record { opening = opening; events = there.0; opens = opens; found = there.1; not_plain = there.2 }
+
+-- a workbook that opens, and whose sheet isn't read
+pub thin_fails : (name : List ℕ) (old mid new : PackageState) (opening : Opening) (error : XlsxError) → SameParts old mid → mid.faults ≡ old.faults → (old.told ≡ true → OpensAs old.parts opening) → SheetFails name opening.sheets mid new error → ThinFails name old new error
+thin_fails name old mid new opening OutOfMemory same faults opens fails = tt
+thin_fails name old mid new opening Io same faults opens fails = rw faults at fails
+thin_fails name old mid new opening NotBuilt same faults opens fails = λ told.
+    let never : OfSheet name opening.sheets old.parts (λ events. (cells : List PlainCell) → IsPlainSheet events cells → ⊥) =
+    subst (λ (parts : List Part). OfSheet name opening.sheets parts (λ events. (cells : List PlainCell) → IsPlainSheet events cells → ⊥)) same.parts (fails.1 (same.told ∙ told))
+    in
+    (fails.0 ∙ faults, inr (other_form name old.parts opening (opens told) never))
+thin_fails name old mid new opening (WorksheetNotFound asked) same faults opens fails = λ told.
+    let none : events_named name opening.sheets old.parts ≡ None = ap (λ (parts : List Part). events_named name opening.sheets parts) (sym same.parts) ∙ fails.2 (same.told ∙ told) in
+    (fails.0 ∙ faults, (fails.1, record { opening = opening; opens = opens told; none = none }))
+thin_fails name old mid new opening error same faults opens fails = absurd fails
+
+opens_without_sheets : (parts : List Part) (asked : String Global) → OpeningCause parts (WorksheetNotFound asked) → ⊥
+opens_without_sheets parts asked (inl cause) = cause
+opens_without_sheets parts asked (inr (path, found, inl cause)) = cause
+opens_without_sheets parts asked (inr (path, found, inr (related, has, cause))) = cause
+
+-- a workbook that doesn't open
+pub opening_refused : (name : List ℕ) (old new : PackageState) (error : XlsxError) → OpeningFails old new error → ThinFails name old new error
+opening_refused name old new NotBuilt fails = λ told. ((fails told).0, inl (fails told).1)
+opening_refused name old new (WorksheetNotFound asked) fails = λ told. absurd (opens_without_sheets old.parts asked (fails told))
+opening_refused name old new error fails = fails

@@ -94,17 +94,17 @@ contents_never folder related opening inside is refusal (inl sheets) = let both 
 contents_never folder related opening inside is refusal (inr (inl names)) = let both : Ok opening.names ≡ Err refusal = sym is.names ∙ names in absurd (cc)
 contents_never folder related opening inside is refusal (inr (inr flag)) = let both : Ok opening.is_1904 ≡ Err refusal = sym is.epoch ∙ ap epoch_by flag in absurd (cc)
 
-both_at : {A : Type 0} (o : Option A) (P Q : A → Type 0) → IsSomeAnd o P → IsSomeAnd o Q → (x : A) × P x × Q x
+pub both_at : {A : Type 0} (o : Option A) (P Q : A → Type 0) → IsSomeAnd o P → IsSomeAnd o Q → (x : A) × P x × Q x
 both_at None P Q p q = absurd p
 both_at (Some x) P Q p q = (x, p, q)
 
-same_path : (parts : List Part) (one other_one : List ℕ) → HasPath parts one → HasPath parts other_one → one ≡ other_one
+pub same_path : (parts : List Part) (one other_one : List ℕ) → HasPath parts one → HasPath parts other_one → one ≡ other_one
 same_path parts one other_one p q =
     let both = both_at (closed_section_of (codes "Relationships") (codes "_rels/.rels") parts) (λ inside. required_path_in inside ≡ Ok one) (λ inside. required_path_in inside ≡ Ok other_one) p q in
     let same : Ok one ≡ Ok other_one = sym both.1 ∙ both.2 in
     cc
 
-same_related : (parts : List Part) (path : List ℕ) (one other_one : List ℕ → Option Related) → HasRelationships parts path one → HasRelationships parts path other_one → one ≡ other_one
+pub same_related : (parts : List Part) (path : List ℕ) (one other_one : List ℕ → Option Related) → HasRelationships parts path one → HasRelationships parts path other_one → one ≡ other_one
 same_related parts path one other_one p q =
     let both = both_at (closed_section_of (codes "Relationships") (relationships_part path) parts) (λ inside. (id : List ℕ) → related_in inside id ≡ Ok (one id)) (λ inside. (id : List ℕ) → related_in inside id ≡ Ok (other_one id)) p q in
     fun_ext (λ id. let same : Ok (one id) ≡ Ok (other_one id) = sym (both.1 id) ∙ both.2 id in cc)
@@ -141,7 +141,7 @@ no_workbook_cause parts path related opening error has workbook (inr (other_rela
     no_contents_cause parts path related opening error workbook
     (subst (λ (r : List ℕ → Option Related). SectionCause (codes "workbook") (workbook_part path) (AreContentsRefused (folder_of path) r) parts error) (same_related parts path other_related related other_has has) cause)
 
-no_cause : (parts : List Part) (opening : Opening) (error : XlsxError) → OpensAs parts opening → OpeningCause parts error → ⊥
+pub no_cause : (parts : List Part) (opening : Opening) (error : XlsxError) → OpensAs parts opening → OpeningCause parts error → ⊥
 no_cause parts opening error is (inl cause) =
     no_part_cause (codes "Relationships") (codes "_rels/.rels") IsPathRefused parts (λ inside. required_path_in inside ≡ Ok is.path) error
     (is_sound (codes "Relationships") (codes "_rels/.rels") parts (λ inside. required_path_in inside ≡ Ok is.path) is.found) (path_never is.path) cause

@@ -2,26 +2,10 @@
 use Rattle.std.proofs.Common.{◌≡◌, ℕ, List, [], ◌∷◌, ◌++◌, Bool, true, false, refl, sym, ◌∙◌, ap, Option, Some, None, codes, append_assoc, arith}
 use Rattle.std.specs.Option.{option_map, option_and_then, option_to_list}
 use Rattle.std.proofs.lemmas.List.{append-nil}
-use Rattle.xlsx_core.specs.PlainSheet.{opening, PlainCell}
+use Rattle.xlsx_core.specs.PlainSheet.{PlainCell}
 use Rattle.xlsx_core.specs.PlainScan.{Scan, Step, step, cells_from, with_cell}
 use Rattle.part_events.specs.Event.{Event}
 use Rattle.part_events.specs.Package.{PackageState, SameParts, Advances}
-use Rattle.xlsx_core.specs.PlainPackage.{Takes, TakesSheet, is_plain_name, sheet_attributes}
-
--- where the next event isn't this one, nothing that begins with it comes
-pub never_taken : (yes : Bool) (event : Event) (old new : PackageState) (rest : List Event) → yes ≡ false → Takes yes event old new → old.rest ≡ event ∷ rest → ⊥
-never_taken true event old new rest is takes same = absurd cc
-never_taken false event old new rest is takes same = takes rest same
-
--- where it is, the rest is what comes behind it
-pub rest_taken : (yes : Bool) (event : Event) (old new : PackageState) (rest : List Event) → yes ≡ true → Takes yes event old new → old.rest ≡ event ∷ rest → new.rest ≡ rest
-rest_taken true event old new rest is takes same = let joined = sym takes ∙ same in cc
-rest_taken false event old new rest is takes same = absurd cc
-
--- where the next event is no sheet's start, no sheet with a plain name comes
-pub no_sheet_taken : (found : Option Bool) (asked : List ℕ) (before behind : List Event) (name : List ℕ) (rest : List Event) → found ≡ None → TakesSheet found asked before behind → is_plain_name name ≡ true → before ≡ opening (codes "sheet") (sheet_attributes name) ∷ rest → ⊥
-no_sheet_taken None asked before behind name rest is takes plain same = takes name plain (rest, same)
-no_sheet_taken (Some same-name) asked before behind name rest is takes plain same = absurd cc
 
 with_ended : (done : List PlainCell) (ended : Option PlainCell) (rest : Option (List PlainCell)) → option_map (λ cells. done ++ cells) (option_map (with_cell ended) rest) ≡ option_map (λ cells. (done ++ option_to_list ended) ++ cells) rest
 with_ended done None None = refl

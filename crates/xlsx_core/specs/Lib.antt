@@ -4,7 +4,7 @@ pub mod Kept
 pub mod Opened
 pub mod Opening
 pub mod Paths
-pub mod PlainPackage
+pub mod PlainPart
 pub mod PlainScan
 pub mod PlainSheet
 pub mod Presence
@@ -14,6 +14,6 @@ pub mod Section
 pub mod Sheets
 pub mod Texts
 pub mod ThinCell
-pub mod ThinError
+pub mod ThinReading
 pub mod Workbook
 pub mod WorkbookEvents

@@ -1,5 +1,5 @@
 -- What opening a workbook finds in the parts of a package, and why it is refused.
-use Rattle.std.specs.Prelude.{◌≡◌, ◌⊎◌, ⊤, ℕ, List, [], Bool, true, false, codes, Option, unwrap_or, Result, Ok, Err, IsSome, IsSomeAnd, MatchOption}
+use Rattle.std.specs.Prelude.{◌≡◌, ◌⊎◌, ⊤, ℕ, List, [], Bool, true, false, codes, Option, None, unwrap_or, Result, Ok, Err, IsSome, IsSomeAnd, MatchOption}
 use Rattle.part_events.specs.Event.{Event}
 use Rattle.part_events.specs.Package.{Part, PackageState, HasCause, part_of}
 use Rattle.cell_data.specs.declared.error.XlsxError.{XlsxError}
@@ -74,16 +74,23 @@ OpeningCause parts error =
 abbrev pub IsNotBuilt : List Part → Type 0
 IsNotBuilt parts = (path : List ℕ) × HasPath parts path × (IsSome (part_of parts (strings_part path)) ⊎ IsSome (part_of parts (styles_part path)))
 
+-- the workbook has no shared strings and no styles
+pub record IsBuilt (parts : List Part) : Type 0 where
+  pub path : List ℕ
+  pub found : HasPath parts path
+  pub no_strings : part_of parts (strings_part path) ≡ None
+  pub no_styles : part_of parts (styles_part path) ≡ None
+
 -- when opening is refused
 abbrev pub OpeningFails : PackageState → PackageState → XlsxError → Type 0
 OpeningFails old new Io = HasCause old new
 OpeningFails old new OutOfMemory = ⊤
-OpeningFails old new NotBuilt = old.told ≡ true → IsNotBuilt old.parts
+OpeningFails old new NotBuilt = old.told ≡ true → (new.faults ≡ old.faults) × IsNotBuilt old.parts
 OpeningFails old new error = old.told ≡ true → OpeningCause old.parts error
 
 -- when a package that opens soundly is refused
 abbrev pub SoundFails : PackageState → PackageState → XlsxError → Type 0
 SoundFails old new Io = HasCause old new
 SoundFails old new OutOfMemory = ⊤
-SoundFails old new NotBuilt = IsNotBuilt old.parts
+SoundFails old new NotBuilt = (new.faults ≡ old.faults) × IsNotBuilt old.parts
 SoundFails old new _ = ⊥

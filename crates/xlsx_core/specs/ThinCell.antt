@@ -1,10 +1,10 @@
 -- A cell as it is read, and where reading stands, apart from where their texts lie in memory.
-use Rattle.std.specs.Prelude.{◌≡◌, List, map, Option, None, option_map, string_bytes}
+use Rattle.std.specs.Prelude.{◌≡◌, ⊤, List, map, Option, None, option_map, string_bytes}
+use Rattle.cell_data.specs.declared.error.XlsxError.{XlsxError}
+use Rattle.cell_data.specs.declared.error.XlsxError.TheVariants.{OutOfMemory, NotBuilt}
 use Rattle.xlsx_core.specs.PlainSheet.{PlainCell}
 use Rattle.xlsx_core.specs.PlainScan as plain
 use Rattle.xlsx_core.specs.declared.thin.ThinCell.{ThinCell}
-use Rattle.xlsx_core.specs.declared.thin.ThinError.{ThinError}
-use Rattle.xlsx_core.specs.declared.thin.ThinError.TheVariants.{NotBuilt, NoSheet, Io, OutOfMemory}
 use Rattle.xlsx_core.specs.declared.scan.Place.{Place}
 use Rattle.xlsx_core.specs.declared.scan.Place.TheVariants.{AtWorksheet, AtSheetData, InRows, InCells, InCell, InFormula, BehindFormulaText, BehindFormula, InValue, BehindValueText, BehindValue, AtWorksheetEnd, AtEnd}
 
@@ -30,8 +30,7 @@ place_of AtWorksheetEnd = plain.at_worksheet_end
 place_of AtEnd = plain.at_end
 
 -- a refused step: there is none, unless memory ran out
-abbrev pub StepFails : ThinError → Option plain.Step → Type 0
+abbrev pub StepFails : XlsxError → Option plain.Step → Type 0
+StepFails OutOfMemory step = ⊤
 StepFails NotBuilt step = step ≡ None
-StepFails NoSheet step = ⊥
-StepFails Io step = ⊥
-StepFails OutOfMemory step = Unit {0}
+StepFails _ step = ⊥

@@ -1,9 +1,10 @@
 ghost use Rattle.std.specs.Prelude.{◌≡◌, ℕ, List, Some};
 ghost use Rattle.part_events.specs.Event.{Event};
 ghost use Rattle.part_events.specs.Package.{Part};
+ghost use Rattle.cell_data.specs.declared.error.XlsxError.{XlsxError};
 ghost use Rattle.xlsx_core.specs.PlainSheet.{PlainCell, IsPlainSheet};
-ghost use Rattle.xlsx_core.specs.PlainPackage.{IsPlain};
 ghost use Rattle.xlsx_core.specs.PlainScan.{cells_from, beginning};
+ghost use Rattle.xlsx_core.specs.ThinReading.{ReadsAs, ThinCause};
 
 /// A worksheet's part in plain form is read as its cells, and no other part is read.
 pub fn plain_sheets_are_read()
@@ -11,8 +12,12 @@ pub fn plain_sheets_are_read()
     ensures only { (events : List Event) (cells : List PlainCell) → cells_from beginning events ≡ Some cells → IsPlainSheet events cells }
 {}
 
-/// A plain package has one sheet: one name, and one list of cells.
-pub fn plain_sheet_is_one()
-    ensures name { (parts : List Part) (name another : List ℕ) (cells others : List PlainCell) → IsPlain parts name cells → IsPlain parts another others → name ≡ another }
-    ensures cells { (parts : List Part) (name another : List ℕ) (cells others : List PlainCell) → IsPlain parts name cells → IsPlain parts another others → cells ≡ others }
+/// A sheet that can be read has no cause to be refused.
+pub fn readable_sheets_are_not_refused()
+    ensures never { (parts : List Part) (name : List ℕ) (cells : List PlainCell) (error : XlsxError) → ReadsAs parts name cells → ThinCause parts name error → ⊥ }
+{}
+
+/// A sheet is read as one list of cells.
+pub fn sheets_are_read_alike()
+    ensures cells { (parts : List Part) (name : List ℕ) (cells others : List PlainCell) → ReadsAs parts name cells → ReadsAs parts name others → cells ≡ others }
 {}

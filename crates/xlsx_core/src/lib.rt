@@ -15,16 +15,17 @@ mod section;
 mod sheet;
 mod sheet_element;
 #[cfg(test)]
+mod test_packages;
+#[cfg(test)]
 mod tests;
 mod thin;
 mod workbook;
 mod xlsx;
 
-pub use laws::{plain_sheet_is_one, plain_sheets_are_read};
-pub use plain::read_thin;
+pub use laws::{plain_sheets_are_read, readable_sheets_are_not_refused, sheets_are_read_alike};
 pub use reference::{push_reference, push_row_reference};
 pub use sheet::{Metadata, Sheet, SheetType, SheetVisible};
-pub use thin::{ThinCell, ThinError};
+pub use thin::{ThinAnswer, ThinCell, read_thin};
 pub use xlsx::{OpenFailure, Xlsx};
 
 #[cfg(test)]

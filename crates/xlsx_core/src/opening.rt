@@ -1,10 +1,10 @@
-ghost use Rattle.std.specs.Prelude.{◌≡◌, map, true, false, unwrap_or, string_bytes, IfOk, OnOk, IfErr};
-ghost use Rattle.part_events.specs.Package.{SameParts};
+ghost use Rattle.std.specs.Prelude.{◌≡◌, map, true, false, None, unwrap_or, string_bytes, IfOk, OnOk, IfErr};
+ghost use Rattle.part_events.specs.Package.{SameParts, part_of};
 ghost use Rattle.xlsx_core.specs.Kept.{entry_of};
 ghost use Rattle.xlsx_core.specs.Opened.{placed, opening_of};
-ghost use Rattle.xlsx_core.specs.Opening.{OpensAs, OpeningFails, empty_opening};
+ghost use Rattle.xlsx_core.specs.Opening.{OpensAs, IsBuilt, OpeningFails, empty_opening};
 ghost use Rattle.xlsx_core.specs.Paths.{workbook_part, relationships_part};
-ghost use Rattle.xlsx_core.specs.Presence.{PresenceFails, UnbuiltFails, WorkbookOpens, WorkbookFails};
+ghost use Rattle.xlsx_core.specs.Presence.{PresenceFails, LacksUnbuilt, UnbuiltFails, WorkbookOpens, WorkbookFails};
 ghost use Rattle.xlsx_core.specs.Workbook.{pair_of};
 
 use crate::paths::{file_of, folder_of, joined};
@@ -34,6 +34,7 @@ fn relationships_part(alloc: Global, path: &str) -> Result<String, AllocError>
 fn refuse_part<P: Package>(package: &mut P, part: &str) -> Result<(), XlsxError>
     ensures keeps { SameParts (P.state «package».old) (P.state «package».new) }
     ensures faults { OnOk result ((P.state «package».new).faults ≡ (P.state «package».old).faults) }
+    ensures absent { (P.state «package».old).told ≡ true → OnOk result (part_of (P.state «package».old).parts part.now ≡ None) }
     ensures err { IfErr result (PresenceFails part.now (P.state «package».old) (P.state «package».new)) }
 {
     if package.open(part)? {
@@ -47,6 +48,7 @@ fn refuse_part<P: Package>(package: &mut P, part: &str) -> Result<(), XlsxError>
 fn refuse_unbuilt<P: Package>(alloc: Global, package: &mut P, path: &str) -> Result<(), XlsxError>
     ensures keeps { SameParts (P.state «package».old) (P.state «package».new) }
     ensures faults { OnOk result ((P.state «package».new).faults ≡ (P.state «package».old).faults) }
+    ensures absent { (P.state «package».old).told ≡ true → OnOk result (LacksUnbuilt path.now (P.state «package».old).parts) }
     ensures err { IfErr result (UnbuiltFails path.now (P.state «package».old) (P.state «package».new)) }
 {
     let strings = joined(alloc, folder_of(path), "sharedStrings.xml")?;
@@ -128,6 +130,7 @@ pub fn open<P: Package>(alloc: Global, package: &mut P) -> Result<Opened, XlsxEr
     ensures keeps { SameParts (P.state «package».old) (P.state «package».new) }
     ensures faults { OnOk result ((P.state «package».new).faults ≡ (P.state «package».old).faults) }
     ensures opens { (P.state «package».old).told ≡ true → IfOk result (λ o. OpensAs (P.state «package».old).parts (opening_of o.metadata o.paths.items o.is_1904)) }
+    ensures built { (P.state «package».old).told ≡ true → OnOk result (IsBuilt (P.state «package».old).parts) }
     ensures err { IfErr result (OpeningFails (P.state «package».old) (P.state «package».new)) }
 {
     let path = read_path(alloc, package, "_rels/.rels")?;

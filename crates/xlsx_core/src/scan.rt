@@ -7,7 +7,8 @@ ghost use Rattle.xlsx_core.specs.ThinCell.{cell_of, place_of};
 
 use crate::between::between;
 use crate::reference::{push_reference, push_row_reference};
-use crate::thin::{ThinCell, ThinError};
+use crate::thin::ThinCell;
+use cell_data::XlsxError;
 use cell_refs::{get_row, get_row_column};
 use part_events::PartEvent;
 use std::alloc::{AllocError, Global};
@@ -162,29 +163,29 @@ impl SheetScan {
         matches!(self.place, Place::AtEnd)
     }
 
-    fn go_on(&mut self, is_plain: bool, place: Place) -> Result<Option<ThinCell>, ThinError>
+    fn go_on(&mut self, is_plain: bool, place: Place) -> Result<Option<ThinCell>, XlsxError>
         ensures ok { IfOk result (λ cell. on is_plain (goes_to (place_of place) self.old.last) ≡ Some (record { scan = self.new; cell = option_map cell_of cell })) }
         ensures err { IfErr result (λ e. StepFails e (on is_plain (goes_to (place_of place) self.old.last))) }
     {
         if !is_plain {
-            return Err(ThinError::NotBuilt);
+            return Err(XlsxError::NotBuilt);
         }
         self.place = place;
         Ok(None)
     }
 
-    fn end_cell(&mut self, is_plain: bool, cell: ThinCell) -> Result<Option<ThinCell>, ThinError>
+    fn end_cell(&mut self, is_plain: bool, cell: ThinCell) -> Result<Option<ThinCell>, XlsxError>
         ensures ok { IfOk result (λ ended. on is_plain (ends_cell (cell_of cell) self.old.last) ≡ Some (record { scan = self.new; cell = option_map cell_of ended })) }
         ensures err { IfErr result (λ e. StepFails e (on is_plain (ends_cell (cell_of cell) self.old.last))) }
     {
         if !is_plain {
-            return Err(ThinError::NotBuilt);
+            return Err(XlsxError::NotBuilt);
         }
         self.place = Place::InCells;
         Ok(Some(cell))
     }
 
-    fn take_in_rows(&mut self, event: PartEvent<'_>) -> Result<Option<ThinCell>, ThinError>
+    fn take_in_rows(&mut self, event: PartEvent<'_>) -> Result<Option<ThinCell>, XlsxError>
         ensures ok { IfOk result (λ cell. step_at in_rows self.old.last (event_of event.entry) ≡ Some (record { scan = self.new; cell = option_map cell_of cell })) }
         ensures err { IfErr result (λ e. StepFails e (step_at in_rows self.old.last (event_of event.entry))) }
     {
@@ -196,11 +197,11 @@ impl SheetScan {
                 let row = row_in(attributes, &mut self.spelled)?;
                 self.go_on(row.is_some(), Place::InCells)
             }
-            None => Err(ThinError::NotBuilt),
+            None => Err(XlsxError::NotBuilt),
         }
     }
 
-    fn take_in_cells(&mut self, event: PartEvent<'_>) -> Result<Option<ThinCell>, ThinError>
+    fn take_in_cells(&mut self, event: PartEvent<'_>) -> Result<Option<ThinCell>, XlsxError>
         ensures ok { IfOk result (λ cell. step_at in_cells self.old.last (event_of event.entry) ≡ Some (record { scan = self.new; cell = option_map cell_of cell })) }
         ensures err { IfErr result (λ e. StepFails e (step_at in_cells self.old.last (event_of event.entry))) }
     {
@@ -210,19 +211,19 @@ impl SheetScan {
         match attributes_of(event, "c") {
             Some(attributes) => match position_in(attributes, &mut self.spelled)? {
                 Some(position) => self.begin_cell(position),
-                None => Err(ThinError::NotBuilt),
+                None => Err(XlsxError::NotBuilt),
             },
-            None => Err(ThinError::NotBuilt),
+            None => Err(XlsxError::NotBuilt),
         }
     }
 
-    fn begin_cell(&mut self, position: (u32, u32)) -> Result<Option<ThinCell>, ThinError>
+    fn begin_cell(&mut self, position: (u32, u32)) -> Result<Option<ThinCell>, XlsxError>
         ensures ok { IfOk result (λ cell. begins_cell self.old.last position ≡ Some (record { scan = self.new; cell = option_map cell_of cell })) }
         ensures err { IfErr result (λ e. StepFails e (begins_cell self.old.last position)) }
     {
         if let Some(last) = self.last {
             if !is_before(last, position) {
-                return Err(ThinError::NotBuilt);
+                return Err(XlsxError::NotBuilt);
             }
         }
         self.last = Some(position);
@@ -239,7 +240,7 @@ impl SheetScan {
         &mut self,
         cell: ThinCell,
         event: PartEvent<'_>,
-    ) -> Result<Option<ThinCell>, ThinError>
+    ) -> Result<Option<ThinCell>, XlsxError>
         ensures ok { IfOk result (λ ended. step_at (in_cell (cell_of cell)) self.old.last (event_of event.entry) ≡ Some (record { scan = self.new; cell = option_map cell_of ended })) }
         ensures err { IfErr result (λ e. StepFails e (step_at (in_cell (cell_of cell)) self.old.last (event_of event.entry))) }
     {
@@ -256,7 +257,7 @@ impl SheetScan {
         &mut self,
         cell: ThinCell,
         event: PartEvent<'_>,
-    ) -> Result<Option<ThinCell>, ThinError>
+    ) -> Result<Option<ThinCell>, XlsxError>
         ensures ok { IfOk result (λ ended. step_at (behind_formula (cell_of cell)) self.old.last (event_of event.entry) ≡ Some (record { scan = self.new; cell = option_map cell_of ended })) }
         ensures err { IfErr result (λ e. StepFails e (step_at (behind_formula (cell_of cell)) self.old.last (event_of event.entry))) }
     {
@@ -271,12 +272,12 @@ impl SheetScan {
         &mut self,
         mut cell: ThinCell,
         event: PartEvent<'_>,
-    ) -> Result<Option<ThinCell>, ThinError>
+    ) -> Result<Option<ThinCell>, XlsxError>
         ensures ok { IfOk result (λ ended. step_at (in_formula (cell_of cell)) self.old.last (event_of event.entry) ≡ Some (record { scan = self.new; cell = option_map cell_of ended })) }
         ensures err { IfErr result (λ e. StepFails e (step_at (in_formula (cell_of cell)) self.old.last (event_of event.entry))) }
     {
         let Some(content) = plain_text_of(event) else {
-            return Err(ThinError::NotBuilt);
+            return Err(XlsxError::NotBuilt);
         };
         cell.formula = Some(String::from_str(self.alloc, content)?);
         self.go_on(true, Place::BehindFormulaText(cell))
@@ -286,12 +287,12 @@ impl SheetScan {
         &mut self,
         mut cell: ThinCell,
         event: PartEvent<'_>,
-    ) -> Result<Option<ThinCell>, ThinError>
+    ) -> Result<Option<ThinCell>, XlsxError>
         ensures ok { IfOk result (λ ended. step_at (in_value (cell_of cell)) self.old.last (event_of event.entry) ≡ Some (record { scan = self.new; cell = option_map cell_of ended })) }
         ensures err { IfErr result (λ e. StepFails e (step_at (in_value (cell_of cell)) self.old.last (event_of event.entry))) }
     {
         let Some(content) = plain_text_of(event) else {
-            return Err(ThinError::NotBuilt);
+            return Err(XlsxError::NotBuilt);
         };
         cell.text = Some(String::from_str(self.alloc, content)?);
         self.go_on(true, Place::BehindValueText(cell))
@@ -299,7 +300,7 @@ impl SheetScan {
 
     /// Takes the next event, and answers the cell that it ends. Fails with `NotBuilt` where no event like it comes here
     /// in the plain form; then reading has no place any more.
-    pub fn take(&mut self, event: PartEvent<'_>) -> Result<Option<ThinCell>, ThinError>
+    pub fn take(&mut self, event: PartEvent<'_>) -> Result<Option<ThinCell>, XlsxError>
         ensures ok { IfOk result (λ cell. step self.old (event_of event.entry) ≡ Some (record { scan = self.new; cell = option_map cell_of cell })) }
         ensures err { IfErr result (λ e. StepFails e (step self.old (event_of event.entry))) }
     {
@@ -323,7 +324,7 @@ impl SheetScan {
             }
             Place::BehindValue(cell) => self.end_cell(is_end(event, "c"), cell),
             Place::AtWorksheetEnd => self.go_on(is_end(event, "worksheet"), Place::AtEnd),
-            Place::AtEnd => Err(ThinError::NotBuilt),
+            Place::AtEnd => Err(XlsxError::NotBuilt),
         }
     }
 }

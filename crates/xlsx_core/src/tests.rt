@@ -1,124 +1,14 @@
 use super::*;
-use part_events::{FailingPackage, MemoryPackage, PartEvent, StartTag};
+use crate::test_packages::{
+    RELATIONSHIPS, RELATIONSHIPS_NAME, ROOT, ROOT_NAME, SHEET, SHEET_NAME, WORKBOOK, WORKBOOK_NAME,
+    package_of, package_with,
+};
+use part_events::{FailingPackage, MemoryPackage, Package};
 use std::alloc::Global;
 use std::test::Fail;
 
-const ROOT_NAME: &str = "_rels/.rels";
-
-const RELATIONSHIPS_NAME: &str = "xl/_rels/workbook.xml.rels";
-
-const WORKBOOK_NAME: &str = "xl/workbook.xml";
-
-const SHEET_NAME: &str = "xl/worksheets/sheet1.xml";
-
-const ROOT_MARKUP: &str =
-    r#"<Relationships><Relationship Id="rId1" Type="http://schemas.openxmlformats.org/officeDocument/2006/relationships/officeDocument" Target="xl/workbook.xml"/></Relationships>"#;
-
-const RELATIONSHIPS_MARKUP: &str =
-    r#"<Relationships><Relationship Id="rId1" Type="http://schemas.openxmlformats.org/officeDocument/2006/relationships/worksheet" Target="worksheets/sheet1.xml"/></Relationships>"#;
-
-const WORKBOOK_MARKUP: &str =
-    r#"<workbook><sheets><sheet name="S" sheetId="1" r:id="rId1"/></sheets></workbook>"#;
-
-const ROOT: (&str, &str) = (ROOT_NAME, ROOT_MARKUP);
-
-const RELATIONSHIPS: (&str, &str) = (RELATIONSHIPS_NAME, RELATIONSHIPS_MARKUP);
-
-const WORKBOOK: (&str, &str) = (WORKBOOK_NAME, WORKBOOK_MARKUP);
-
-const SHEET: (&str, &str) = (
-    SHEET_NAME,
-    r#"<worksheet><sheetData><row r="1"><c r="A1" t="str"><v>nut</v></c></row></sheetData></worksheet>"#,
-);
-
 const NUTS: &str =
     r#"<row r="1"><c r="A1" t="str"><v>nut</v></c><c r="B1" t="str"><f>UPPER(A1)</f><v>NUT</v></c></row>"#;
-
-/// Appends the event to the package's last part.
-fn push(package: &mut MemoryPackage, event: PartEvent<'_>) -> Result<(), Fail> {
-    if package.part_count() > 0 {
-        package.push_event(event)?;
-    }
-    Ok(())
-}
-
-/// The event of a tag that is no markup: what has no other spelling here.
-fn special_event(tag: &str) -> PartEvent<'_> {
-    if tag == "!text" {
-        PartEvent::Text("")
-    } else if tag == "!data" {
-        PartEvent::CharData("x")
-    } else if tag == "!amp" {
-        PartEvent::EntityRef("amp")
-    } else {
-        PartEvent::Other
-    }
-}
-
-/// The start of a tag: its attributes are all behind its name.
-fn start_event(tag: &str) -> PartEvent<'_> {
-    let name = match tag.split_once(' ') {
-        Some((name, _)) => name,
-        None => tag,
-    };
-    PartEvent::Start(StartTag {
-        name,
-        attributes: tag.strip_prefix(name).unwrap_or(""),
-    })
-}
-
-fn push_tag(package: &mut MemoryPackage, tag: &str) -> Result<(), Fail> {
-    if let Some(name) = tag.strip_prefix("/") {
-        return push(package, PartEvent::End(name));
-    }
-    if tag.starts_with("!") {
-        return push(package, special_event(tag));
-    }
-    let Some(empty) = tag.strip_suffix("/") else {
-        return push(package, start_event(tag));
-    };
-    let start = start_event(empty);
-    push(package, start)?;
-    if let PartEvent::Start(tag) = start {
-        push(package, PartEvent::End(tag.name))?;
-    }
-    Ok(())
-}
-
-/// Adds a part of this markup. A tag that begins with `!` is an event that is neither a tag nor a text with something
-/// in it.
-fn push_part(package: &mut MemoryPackage, name: &str, markup: &str) -> Result<(), Fail> {
-    package.add_part(name)?;
-    for piece in markup.split('<') {
-        let Some((tag, content)) = piece.split_once('>') else {
-            continue;
-        };
-        push_tag(package, tag)?;
-        if !content.is_empty() {
-            push(package, PartEvent::Text(content))?;
-        }
-    }
-    Ok(())
-}
-
-/// The cells of the sheet of this name, each by its row and column, its formula behind `=` and its text behind `:`; or
-/// the refusal's name.
-fn answer(alloc: Global, parts: &[(&str, &str)], name: &str) -> Result<String, Fail> {
-    let mut package = MemoryPackage::new(alloc);
-    for (part, markup) in parts {
-        push_part(&mut package, part, markup)?;
-    }
-    let mut out = String::new(alloc);
-    match read_thin(alloc, &mut package, name) {
-        Ok(cells) => {
-            for cell in &cells {
-                show_cell(&mut out, cell)?;
-            }
-        }
-        Err(error) => write!(out, "{error:?}")?,
-    }
-    Ok(out)
-}
 
 fn show_cell(out: &mut String, cell: &ThinCell) -> Result<(), Fail> {
     write!(out, "({},{}", cell.row, cell.col)?;
@@ -132,9 +22,23 @@ fn show_cell(out: &mut String, cell: &ThinCell) -> Result<(), Fail> {
     Ok(())
 }
 
-/// The answer over the minimal package with this part in front, which is found in place of a later one of its name.
+/// The cells of the sheet of this name, each by its row and column, its formula behind `=` and its text behind `:`; or
+/// the refusal.
+fn answer<P: Package + Drop>(alloc: Global, package: P, name: &str) -> Result<String, Fail> {
+    let mut out = String::new(alloc);
+    match read_thin(alloc, package, name).result {
+        Ok(cells) => {
+            for cell in &cells {
+                show_cell(&mut out, cell)?;
+            }
+        }
+        Err(error) => write!(out, "{error:?}")?,
+    }
+    Ok(out)
+}
+
 fn answer_with(alloc: Global, part: (&str, &str), name: &str) -> Result<String, Fail> {
-    answer(alloc, &[part, ROOT, RELATIONSHIPS, WORKBOOK, SHEET], name)
+    answer(alloc, package_with(alloc, part)?, name)
 }
 
 /// The answer for `S` over the minimal package with these rows.
@@ -215,52 +119,44 @@ fn other_rows_are_not_built(rt: HostRuntime) -> Result<(), Fail> {
     Ok(())
 }
 
-const QUOTED: &str =
-    r#"<workbook><sheets><sheet name="a"b" sheetId="1" r:id="rId1"/></sheets></workbook>"#;
+const TWO_NAMED_ALIKE: &str =
+    r#"<workbook><sheets><sheet name="S" sheetId="1" r:id="rId1"/><sheet name="S" sheetId="2" r:id="rId1"/></sheets></workbook>"#;
+
+const TWO: &str =
+    r#"<workbook><sheets><sheet name="S" sheetId="1" r:id="rId1"/><sheet name="T" sheetId="2" r:id="rId1"/></sheets></workbook>"#;
 
 const ESCAPED: &str =
-    r#"<workbook><sheets><sheet name="a&amp;b" sheetId="1" r:id="rId1"/></sheets></workbook>"#;
+    r#"<workbook><sheets><sheet name="a&amp;b" sheetId="1" r:id="rId1" state="hidden"/></sheets></workbook>"#;
 
-const LEAVES: &str =
-    r#"<workbook><sheets><sheet name="Blätter 1" sheetId="1" r:id="rId1"/></sheets></workbook>"#;
+const ABSENT: &str = "WorksheetNotFound(\"X\")";
 
 /// Workbooks, the name that is asked for, and the answer.
-const ASKED: [(&str, &str, &str); 15] = [
-    (WORKBOOK_MARKUP, "S", "(0,0:nut)"),
-    (WORKBOOK_MARKUP, "X", "NoSheet"),
-    (WORKBOOK_MARKUP, "s", "NoSheet"),
-    (WORKBOOK_MARKUP, "", "NoSheet"),
-    (LEAVES, "Blätter 1", "(0,0:nut)"),
-    (LEAVES, "S", "NoSheet"),
-    (QUOTED, "a\"b", "NotBuilt"),
-    (QUOTED, "X", "NotBuilt"),
-    (ESCAPED, "a&b", "NotBuilt"),
-    (ESCAPED, "a&amp;b", "NotBuilt"),
+const ASKED: [(&str, &str, &str); 13] = [
+    (WORKBOOK.1, "S", "(0,0:nut)"),
+    (WORKBOOK.1, "X", ABSENT),
+    (WORKBOOK.1, "s", "WorksheetNotFound(\"s\")"),
+    (WORKBOOK.1, "", "WorksheetNotFound(\"\")"),
+    (ESCAPED, "a&b", "(0,0:nut)"),
+    (ESCAPED, "a&amp;b", "WorksheetNotFound(\"a&amp;b\")"),
+    (TWO, "T", "(0,0:nut)"),
+    (TWO, "X", ABSENT),
+    (TWO_NAMED_ALIKE, "S", "(0,0:nut)"),
+    (r#"<workbook><sheets/></workbook>"#, "X", ABSENT),
+    (r#"<workbook/>"#, "X", ABSENT),
     (
-        r#"<workbook><sheets><sheet name="S" sheetId="2" r:id="rId1"/></sheets></workbook>"#,
+        r#"<workbook><sheets><sheet name="S" sheetId="1" r:id="rId2"/></sheets></workbook>"#,
         "S",
-        "NotBuilt",
+        "RelationshipNotFound",
     ),
     (
-        r#"<workbook><sheets><sheet name="S" sheetId="1" r:id="rId1" state="hidden"/></sheets></workbook>"#,
+        r#"<workbook><sheets><sheet name="S" sheetId="1" r:id="rId1" state="gone"/></sheets></workbook>"#,
         "S",
-        "NotBuilt",
+        r#"Unrecognized { typ: "sheet:state", val: "gone" }"#,
     ),
-    (
-        r#"<workbook><sheets><sheet name="S" sheetId="1" r:id="rId1"/><sheet name="T" sheetId="1" r:id="rId1"/></sheets></workbook>"#,
-        "S",
-        "NotBuilt",
-    ),
-    (
-        r#"<workbook><sheets><sheet name="S" sheetId="1" r:id="rId1"/></sheets><definedNames/></workbook>"#,
-        "S",
-        "NotBuilt",
-    ),
-    (r#"<workbook><sheets/></workbook>"#, "S", "NotBuilt"),
 ];
 
 #[test]
-fn the_asked_sheet_is_the_only_one(rt: HostRuntime) -> Result<(), Fail> {
+fn the_sheet_of_the_name_is_read(rt: HostRuntime) -> Result<(), Fail> {
     for (workbook, name, want) in ASKED {
         let told = answer_with(rt.alloc(), (WORKBOOK_NAME, workbook), name)?;
         assert_eq!(rt; told.as_str(), want, "of {name:?} in {workbook}");
@@ -268,19 +164,58 @@ fn the_asked_sheet_is_the_only_one(rt: HostRuntime) -> Result<(), Fail> {
     Ok(())
 }
 
-const TWO_ROOTS: &str =
-    r#"<Relationships><Relationship Id="rId1" Type="http://schemas.openxmlformats.org/officeDocument/2006/relationships/officeDocument" Target="xl/workbook.xml"/><Relationship Id="rId2" Type="T" Target="docProps/core.xml"/></Relationships>"#;
+const TWO_PARTS: &str =
+    r#"<Relationships><Relationship Id="rId1" Type="x/worksheet" Target="a.xml"/><Relationship Id="rId2" Type="x/worksheet" Target="/b.xml"/></Relationships>"#;
+
+const FIRST_OF_TWO: &str =
+    r#"<workbook><sheets><sheet name="S" r:id="rId2"/><sheet name="S" r:id="rId1"/><sheet name="T" r:id="rId1"/></sheets></workbook>"#;
+
+const NO_CELLS: &str = "<worksheet><sheetData/></worksheet>";
+
+#[test]
+fn the_first_sheet_of_a_name_counts(rt: HostRuntime) -> Result<(), Fail> {
+    let alloc = rt.alloc();
+    let related = (RELATIONSHIPS_NAME, TWO_PARTS);
+    let book = (WORKBOOK_NAME, FIRST_OF_TWO);
+    let first = ("b.xml", SHEET.1);
+    let second = ("xl/a.xml", NO_CELLS);
+    for (parts, name, want) in [
+        ([ROOT, related, book, first, second], "S", "(0,0:nut)"),
+        ([ROOT, related, book, first, second], "T", ""),
+        (
+            [ROOT, related, book, second, second],
+            "S",
+            "WorksheetNotFound(\"S\")",
+        ),
+        ([ROOT, related, book, first, first], "S", "(0,0:nut)"),
+        (
+            [ROOT, related, book, first, first],
+            "T",
+            "WorksheetNotFound(\"T\")",
+        ),
+    ] {
+        let told = answer(alloc, package_of(alloc, &parts)?, name)?;
+        assert_eq!(rt; told.as_str(), want, "of {name:?}");
+    }
+    Ok(())
+}
 
 /// Parts that stand before those of the minimal package, and the answer.
 const MORE: [((&str, &str), &str); 15] = [
     (("xl/sharedStrings.xml", ""), "NotBuilt"),
     (("xl/styles.xml", ""), "NotBuilt"),
     ((r"XL\Styles.xml", "<styleSheet/>"), "NotBuilt"),
+    (("sharedStrings.xml", ""), "(0,0:nut)"),
     (("docProps/core.xml", "<!>"), "(0,0:nut)"),
-    ((ROOT_NAME, ""), "NotBuilt"),
-    ((ROOT_NAME, RELATIONSHIPS_MARKUP), "NotBuilt"),
-    ((ROOT_NAME, TWO_ROOTS), "NotBuilt"),
-    ((RELATIONSHIPS_NAME, ROOT_MARKUP), "NotBuilt"),
+    ((ROOT_NAME, RELATIONSHIPS.1), "RelationshipNotFound"),
+    ((ROOT_NAME, ""), "XmlEof(\"Relationships\")"),
+    (
+        (
+            ROOT_NAME,
+            r#"<Relationships><Relationship Id="rId1" Type="x/relationships/officeDocument" Target="a&b"/></Relationships>"#,
+        ),
+        "Xml(Entity { at: 1 })",
+    ),
     (
         (
             SHEET_NAME,
@@ -304,53 +239,48 @@ const MORE: [((&str, &str), &str); 15] = [
         "NotBuilt",
     ),
     ((SHEET_NAME, "<worksheet><sheetData/>"), "NotBuilt"),
-    ((SHEET_NAME, "<worksheet><sheetData/></worksheet>"), ""),
+    ((SHEET_NAME, NO_CELLS), ""),
+    ((r"XL\worksheets/SHEET1.xml", NO_CELLS), ""),
+];
+
+/// The minimal package without one of its parts, and the answer.
+const CUT: [([(&str, &str); 3], &str); 4] = [
     (
-        (
-            r"XL\worksheets/SHEET1.xml",
-            "<worksheet><sheetData/></worksheet>",
-        ),
-        "",
+        [RELATIONSHIPS, WORKBOOK, SHEET],
+        "FileNotFound(\"_rels/.rels\")",
+    ),
+    (
+        [ROOT, WORKBOOK, SHEET],
+        "FileNotFound(\"xl/_rels/workbook.xml.rels\")",
+    ),
+    ([ROOT, RELATIONSHIPS, SHEET], "WorksheetNotFound(\"S\")"),
+    (
+        [ROOT, RELATIONSHIPS, WORKBOOK],
+        "WorksheetNotFound(\"S\")",
     ),
 ];
 
-/// The minimal package without one of its parts.
-const CUT: [[(&str, &str); 3]; 4] = [
-    [RELATIONSHIPS, WORKBOOK, SHEET],
-    [ROOT, WORKBOOK, SHEET],
-    [ROOT, RELATIONSHIPS, SHEET],
-    [ROOT, RELATIONSHIPS, WORKBOOK],
-];
-
 #[test]
-fn other_packages_are_not_built(rt: HostRuntime) -> Result<(), Fail> {
+fn other_packages_are_refused(rt: HostRuntime) -> Result<(), Fail> {
     for (part, want) in MORE {
         let told = answer_with(rt.alloc(), part, "S")?;
         assert_eq!(rt; told.as_str(), want, "with {part:?}");
     }
-    for parts in CUT {
-        let told = answer(rt.alloc(), &parts, "S")?;
-        assert_eq!(rt; told.as_str(), "NotBuilt", "of {parts:?}");
+    for (parts, want) in CUT {
+        let told = answer(rt.alloc(), package_of(rt.alloc(), &parts)?, "S")?;
+        assert_eq!(rt; told.as_str(), want, "of {parts:?}");
     }
     Ok(())
 }
 
 #[test]
-fn refusals_have_texts(rt: HostRuntime) -> Result<(), Fail> {
-    let calls = vec![in rt.alloc(); 0u64]?;
-    let mut failing = FailingPackage::new(MemoryPackage::new(rt.alloc()), calls);
-    assert_eq!(rt;
-        read_thin(rt.alloc(), &mut failing, "S").err(),
-        Some(ThinError::Io)
-    );
-    for (error, want) in [
-        (ThinError::NotBuilt, "not built yet"),
-        (ThinError::NoSheet, "no sheet"),
-        (ThinError::Io, "I/O error"),
-        (ThinError::OutOfMemory, "out of memory"),
-    ] {
-        assert_eq!(rt; error.to_string(rt.alloc())?.as_str(), want);
-    }
+fn the_package_is_handed_back(rt: HostRuntime) -> Result<(), Fail> {
+    let alloc = rt.alloc();
+    let calls = vec![in alloc; 0u64]?;
+    let failing = FailingPackage::new(package_of(alloc, &[ROOT])?, calls);
+    let first = read_thin(alloc, failing, "S");
+    assert_eq!(rt; first.result.err(), Some(XlsxError::Io));
+    assert_eq!(rt; first.package.faults(), 1);
     Ok(())
 }
 

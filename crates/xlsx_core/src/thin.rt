@@ -1,9 +1,12 @@
-ghost use Rattle.std.specs.Prelude.{◌≡◌};
+ghost use Rattle.std.specs.Prelude.{◌≡◌, true, IfOk, OnOk, IfErr};
+ghost use Rattle.part_events.specs.Package.{SameParts};
+ghost use Rattle.xlsx_core.specs.ThinCell.{cells_of};
+ghost use Rattle.xlsx_core.specs.ThinReading.{ReadsAs, ThinFails};
 
-use part_events::PackageFailed;
-use std::alloc::{AllocError, AllocFailed};
-use std::error::Error;
-use std::fmt;
+use crate::xlsx::{OpenFailure, Xlsx};
+use cell_data::XlsxError;
+use part_events::Package;
+use std::alloc::Global;
 
 /// A cell of a worksheet: its position, its row and column counted from 0, and its texts.
 #[derive(Debug, Drop)]
@@ -16,62 +19,36 @@ pub struct ThinCell {
     pub formula: Option<String>,
 }
 
-/// Why a plain sheet was not read.
-#[derive(Clone, Copy, Debug, PartialEq, Eq, Hash)]
-pub enum ThinError {
-    /// The package isn't plain.
-    NotBuilt,
-    /// The package is plain, and its sheet has another name.
-    NoSheet,
-    /// The package failed.
-    Io,
-    OutOfMemory,
+/// The cells of a sheet, or why they were not read, with the package that was handed in.
+#[derive(Drop)]
+pub struct ThinAnswer<P: Package> {
+    pub result: Result<Vec<ThinCell>, XlsxError>,
+    pub package: P,
 }
 
-impl fmt::Display for ThinError {
-    ghost use Rattle.std.specs.Prelude.{Some};
-    ghost use Rattle.xlsx_core.specs.ThinError.{refusal_text};
-
-    ghost output = { λ refusal. Some (refusal_text refusal) };
-
-    fn fmt<W: fmt::Write>(&self, f: &mut fmt::Formatter<W>) -> fmt::Result {
-        match self {
-            ThinError::NotBuilt => f.write_str("not built yet"),
-            ThinError::NoSheet => f.write_str("no sheet"),
-            ThinError::Io => f.write_str("I/O error"),
-            ThinError::OutOfMemory => f.write_str("out of memory"),
+/// The cells, in order, of the first sheet of this name. Its part must be in plain form (docs/FORMAT.md).
+///
+/// Fails with `NotBuilt` where the workbook has shared strings or styles or the part has another form, with
+/// `WorksheetNotFound` where the workbook has no sheet of this name or the sheet no part, and as the workbook doesn't
+/// open. The package is handed back, with the same parts.
+pub fn read_thin<P: Package>(alloc: Global, package: P, name: &str) -> ThinAnswer<P>
+    ensures keeps { SameParts (P.state «package») (P.state result.package) }
+    ensures faults { OnOk result.result ((P.state result.package).faults ≡ (P.state «package»).faults) }
+    ensures cells { (P.state «package»).told ≡ true → IfOk result.result (λ cells. ReadsAs (P.state «package»).parts name.now (cells_of cells.items)) }
+    ensures err { IfErr result.result (ThinFails name.now (P.state «package») (P.state result.package)) }
+{
+    match Xlsx::new(alloc, package) {
+        Ok(xlsx) => {
+            let mut xlsx = xlsx;
+            let result = xlsx.thin_cells(name);
+            ThinAnswer {
+                result,
+                package: xlsx.into_package(),
+            }
         }
-    }
-}
-
-impl Error for ThinError {}
-
-impl From<PackageFailed> for ThinError {
-    ghost use Rattle.xlsx_core.specs.declared.thin.ThinError.TheVariants.{Io};
-
-    ghost from_gives = { λ _ e. e ≡ Io };
-
-    fn from(_failed: PackageFailed) -> ThinError {
-        ThinError::Io
-    }
-}
-
-impl From<AllocError> for ThinError {
-    ghost use Rattle.xlsx_core.specs.declared.thin.ThinError.TheVariants.{OutOfMemory};
-
-    ghost from_gives = { λ _ e. e ≡ OutOfMemory };
-
-    fn from(_refused: AllocError) -> ThinError {
-        ThinError::OutOfMemory
-    }
-}
-
-impl<T: Drop> From<AllocFailed<T>> for ThinError {
-    ghost use Rattle.xlsx_core.specs.declared.thin.ThinError.TheVariants.{OutOfMemory};
-
-    ghost from_gives = { λ _ e. e ≡ OutOfMemory };
-
-    fn from(_refused: AllocFailed<T>) -> ThinError {
-        ThinError::OutOfMemory
+        Err(OpenFailure { error, package }) => ThinAnswer {
+            result: Err(error),
+            package,
+        },
     }
 }

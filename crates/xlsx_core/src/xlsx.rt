@@ -1,10 +1,14 @@
-ghost use Rattle.std.specs.Prelude.{◌≡◌, true, MatchResult, IfOk, IfErr};
+ghost use Rattle.std.specs.Prelude.{◌≡◌, true, MatchResult, IfOk, OnOk, IfErr};
 ghost use Rattle.part_events.specs.Package.{SameParts};
-ghost use Rattle.xlsx_core.specs.Opened.{opening_of};
-ghost use Rattle.xlsx_core.specs.Opening.{OpensAs, OpensSoundly, OpeningFails, SoundFails};
+ghost use Rattle.xlsx_core.specs.Opened.{placed, opening_of};
+ghost use Rattle.xlsx_core.specs.Opening.{OpensAs, OpensSoundly, IsBuilt, OpeningFails, SoundFails};
+ghost use Rattle.xlsx_core.specs.PlainPart.{HasCells, SheetFails};
+ghost use Rattle.xlsx_core.specs.ThinCell.{cells_of};
 
 use crate::opening::open;
+use crate::plain::sheet_cells;
 use crate::sheet::Metadata;
+use crate::thin::ThinCell;
 use cell_data::XlsxError;
 use part_events::Package;
 use std::alloc::Global;
@@ -40,6 +44,7 @@ impl<P: Package> Xlsx<P> {
             (λ failure. SameParts (P.state «package») (P.state failure.package)) }
         ensures faults { IfOk result (λ xlsx. (P.state xlsx.package).faults ≡ (P.state «package»).faults) }
         ensures opens { (P.state «package»).told ≡ true → IfOk result (λ xlsx. OpensAs (P.state «package»).parts (opening_of xlsx.metadata xlsx.paths.items xlsx.is_1904)) }
+        ensures built { (P.state «package»).told ≡ true → OnOk result (IsBuilt (P.state «package»).parts) }
         ensures err { IfErr result (λ failure. OpeningFails (P.state «package») (P.state failure.package) failure.error) }
         ensures sound { (P.state «package»).told ≡ true → OpensSoundly (P.state «package»).parts → IfErr result (λ failure. SoundFails (P.state «package») (P.state failure.package) failure.error) }
     {
@@ -54,6 +59,22 @@ impl<P: Package> Xlsx<P> {
             }),
             Err(error) => Err(OpenFailure { error, package }),
         }
+    }
+
+    /// The cells, in order, of the first sheet of this name, where its part is in plain form.
+    pub(crate) fn thin_cells(&mut self, name: &str) -> Result<Vec<ThinCell>, XlsxError>
+        ensures keeps { SameParts (P.state self.old.package) (P.state self.new.package) }
+        ensures faults { OnOk result ((P.state self.new.package).faults ≡ (P.state self.old.package).faults) }
+        ensures cells { (P.state self.old.package).told ≡ true → IfOk result (λ cells. HasCells name.now (placed self.old.metadata.sheets.items self.old.paths.items) (P.state self.old.package).parts (cells_of cells.items)) }
+        ensures err { IfErr result (SheetFails name.now (placed self.old.metadata.sheets.items self.old.paths.items) (P.state self.old.package) (P.state self.new.package)) }
+    {
+        sheet_cells(
+            self.alloc,
+            &mut self.package,
+            &self.metadata.sheets,
+            &self.paths,
+            name,
+        )
     }
 
     /// The package, as it is now.
