@@ -1,15 +1,15 @@
 -- How the readings of a package's parts make an opening.
-use Rattle.std.proofs.Common.{◌≡◌, ℕ, ◌+◌, List, [], ◌∷◌, ◌++◌, length, true, Bool, false, Option, Some, None, Ok, refl, sym, ◌∙◌, ap, subst, inl, inr, arith, codes, string_bytes, String, Global, length-append}
-use Rattle.std.specs.Prelude.{option_and_then, unwrap_or, IsSome, IsSomeAnd, MatchOption}
+use Rattle.std.proofs.Common.{◌≡◌, ℕ, ◌+◌, List, [], ◌∷◌, ◌++◌, length, true, Bool, false, Option, Some, None, Result, Ok, Err, refl, sym, ◌∙◌, ap, subst, inl, inr, arith, codes, string_bytes, String, Global, length-append}
+use Rattle.std.specs.Prelude.{option_and_then, unwrap_or, IsSomeAnd, MatchOption, OnOk}
 use Rattle.part_events.specs.Event.{Event}
 use Rattle.part_events.specs.Package.{Part, PackageState, SameParts, part_of}
 use Rattle.cell_data.specs.declared.error.XlsxError.{XlsxError}
 use Rattle.cell_data.specs.declared.error.XlsxError.TheVariants.{OutOfMemory, Io, NotBuilt}
 use Rattle.xlsx_core.specs.Kept.{entry_of}
 use Rattle.xlsx_core.specs.Opened.{placed}
-use Rattle.xlsx_core.specs.Opening.{Opening, HasPath, HasRelationships, HasWorkbook, IsOpening, OpensAs, OpeningFails, WorkbookCause, epoch_by, empty_opening}
+use Rattle.xlsx_core.specs.Opening.{Opening, HasPath, HasRelationships, HasWorkbook, IsOpening, OpensAs, IsBuilt, OpeningFails, WorkbookCause, epoch_by, empty_opening}
 use Rattle.xlsx_core.specs.Paths.{folder_of, workbook_part}
-use Rattle.xlsx_core.specs.Presence.{WorkbookOpens, WorkbookFails}
+use Rattle.xlsx_core.specs.Presence.{LacksUnbuilt, WorkbookOpens, WorkbookFails}
 use Rattle.xlsx_core.specs.Relationships.{Related, IsPathRefused}
 use Rattle.xlsx_core.specs.Section.{closed_section, closed_section_of, PartFails, OptionalPartFails, SectionCause}
 use Rattle.xlsx_core.specs.Sheets.{PlacedSheet}
@@ -82,6 +82,16 @@ opens_as old mid path opening same found opens = record {
   relationships = subst (λ (parts : List Part). HasRelationships parts path opens.0) same.parts opens.1;
   workbook = subst (λ (parts : List Part). HasWorkbook parts path opens.0 opening) same.parts opens.2;
 }
+
+pub is_built : (old mid : PackageState) (path : List ℕ) → SameParts old mid → HasPath old.parts path → LacksUnbuilt path mid.parts → IsBuilt old.parts
+is_built old mid path same found lacks =
+    let here : LacksUnbuilt path old.parts = subst (λ (parts : List Part). LacksUnbuilt path parts) same.parts lacks in
+    record { path = path; found = found; no_strings = here.no_strings; no_styles = here.no_styles }
+
+-- what is known anyway is known of an answer
+pub on_ok : {A E Fact : Type 0} (answer : Result A E) → Fact → OnOk answer Fact
+on_ok (Ok value) fact = fact
+on_ok (Err error) fact = tt
 
 not_built_elsewhere : (parts : List Part) (path : List ℕ) → WorkbookCause parts path NotBuilt → ⊥
 not_built_elsewhere parts path (inl cause) = cause

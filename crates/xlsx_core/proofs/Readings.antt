@@ -5,7 +5,7 @@ use Rattle.part_events.specs.Event.{Event}
 use Rattle.part_events.specs.Package.{Part, part_of}
 use Rattle.cell_data.specs.declared.error.XlsxError.{XlsxError}
 use Rattle.cell_data.specs.declared.error.XlsxError.TheVariants.{NotBuilt, WorksheetNotFound}
-use Rattle.xlsx_core.specs.Opening.{Opening, HasPath, HasRelationships, HasWorkbook, IsOpening, OpensAs, IsBuilt, IsNotBuilt, empty_opening}
+use Rattle.xlsx_core.specs.Opening.{Opening, HasRelationships, HasWorkbook, IsOpening, OpensAs, IsBuilt, IsNotBuilt, empty_opening}
 use Rattle.xlsx_core.specs.Paths.{folder_of, workbook_part, strings_part, styles_part}
 use Rattle.xlsx_core.specs.PlainScan.{cells_from, beginning}
 use Rattle.xlsx_core.specs.PlainSheet.{PlainCell, IsPlainSheet}
@@ -51,7 +51,7 @@ one_list parts name cells others reads again =
     cc
 
 never_absent : {A : Type 0} (o : Option A) → o ≡ None → IsSome o → ⊥
-never_absent o none some = let there = rw none at some in absurd there
+never_absent o none some = let there = rw none at some in absurd cc
 
 built_or_not : (parts : List Part) → IsBuilt parts → IsNotBuilt parts → ⊥
 built_or_not parts built (path, found, inl strings) =

@@ -1,5 +1,5 @@
 -- The cells of a sheet's part in plain form, and why they aren't read.
-use Rattle.std.specs.Prelude.{◌≡◌, ℕ, List, true, Option, None, string_bytes, IsSomeAnd}
+use Rattle.std.specs.Prelude.{◌≡◌, ℕ, List, true, None, string_bytes, IsSomeAnd}
 use Rattle.part_events.specs.Event.{Event}
 use Rattle.part_events.specs.Package.{Part, PackageState, HasCause}
 use Rattle.cell_data.specs.declared.error.XlsxError.{XlsxError}

@@ -139,7 +139,9 @@ const CASES: [(&str, &str, &str, &str); 12] = [
 fn workbooks_open_or_are_refused(rt: HostRuntime) -> Result<(), Fail> {
     let alloc = rt.alloc();
     for (office, related, attributes, want) in CASES {
-        let book = format!(in alloc; "<workbook><sheets><sheet {attributes}/></sheets></workbook>")?;
+        let book = format!(in alloc;
+            "<workbook><sheets><sheet {attributes}/></sheets></workbook>"
+        )?;
         let parts = [
             (ROOT_NAME, office),
             ("XL\\_rels\\Workbook.xml.RELS", related),
@@ -190,7 +192,11 @@ const CUT: [((&str, &str), usize, &str); 3] = [
         4,
         "Unexpected end of xml, expecting '</Relationships>'",
     ),
-    (WORKBOOK, 6, "Unexpected end of xml, expecting '</workbook>'"),
+    (
+        WORKBOOK,
+        6,
+        "Unexpected end of xml, expecting '</workbook>'",
+    ),
 ];
 
 #[test]

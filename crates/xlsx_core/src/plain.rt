@@ -46,10 +46,13 @@ fn take_cells<P: Package>(alloc: Global, package: &mut P) -> Result<Vec<ThinCell
 fn path_named<'a>(sheets: &[Sheet], paths: &'a [String], name: &str) -> Option<&'a str>
     ensures { option_map (λ path. path.now) result ≡ path_named name.now (placed sheets.now paths.now) }
 {
-    for (sheet, path) in sheets.iter().zip(paths) {
+    let mut rest = paths;
+    for sheet in sheets {
+        let (path, others) = rest.split_first()?;
         if sheet.name.as_str() == name {
             return Some(path.as_str());
         }
+        rest = others;
     }
     None
 }

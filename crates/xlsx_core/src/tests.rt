@@ -254,10 +254,7 @@ const CUT: [([(&str, &str); 3], &str); 4] = [
         "FileNotFound(\"xl/_rels/workbook.xml.rels\")",
     ),
     ([ROOT, RELATIONSHIPS, SHEET], "WorksheetNotFound(\"S\")"),
-    (
-        [ROOT, RELATIONSHIPS, WORKBOOK],
-        "WorksheetNotFound(\"S\")",
-    ),
+    ([ROOT, RELATIONSHIPS, WORKBOOK], "WorksheetNotFound(\"S\")"),
 ];
 
 #[test]
