@@ -1,13 +1,13 @@
 use crate::test_packages::{
-    RELATIONSHIPS, RELATIONSHIPS_NAME, ROOT, ROOT_NAME, WORKBOOK, WORKBOOK_NAME, package_of,
-    push_front,
+    RELATIONSHIPS, RELATIONSHIPS_MARKUP, RELATIONSHIPS_NAME, ROOT, ROOT_MARKUP, ROOT_NAME,
+    WORKBOOK, WORKBOOK_NAME, package_of, push_front,
 };
 use crate::{SheetType, SheetVisible, Xlsx};
 use part_events::{FailingPackage, MemoryPackage, Package};
 use std::alloc::{AllocError, Global};
 use std::test::Fail;
 
-const OFFICE: &str = ROOT.1;
+const OFFICE: &str = ROOT_MARKUP;
 
 const OFFICE_ELSEWHERE: &str =
     r#"<Relationships><Relationship Type="x/relationships/officeDocument" Target="/BOOK/"/></Relationships>"#;
@@ -18,7 +18,7 @@ const OFFICE_WITHOUT_TARGET: &str =
 const OFFICE_ENTITY: &str =
     r#"<Relationships><Relationship Id="rId1" Type="x/relationships/officeDocument" Target="a&b"/></Relationships>"#;
 
-const SHEETS: &str = RELATIONSHIPS.1;
+const SHEETS: &str = RELATIONSHIPS_MARKUP;
 
 const CHARTS: &str =
     r#"<Relationships><Relationship Id="rId1" Type="x/chartsheet" Target="/other/chart.xml"/></Relationships>"#;

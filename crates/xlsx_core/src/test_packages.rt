@@ -10,20 +10,20 @@ pub const WORKBOOK_NAME: &str = "xl/workbook.xml";
 
 pub const SHEET_NAME: &str = "xl/worksheets/sheet1.xml";
 
-pub const ROOT: (&str, &str) = (
-    ROOT_NAME,
-    r#"<Relationships><Relationship Id="rId1" Type="http://schemas.openxmlformats.org/officeDocument/2006/relationships/officeDocument" Target="xl/workbook.xml"></Relationship></Relationships>"#,
-);
+pub const ROOT_MARKUP: &str =
+    r#"<Relationships><Relationship Id="rId1" Type="http://schemas.openxmlformats.org/officeDocument/2006/relationships/officeDocument" Target="xl/workbook.xml"></Relationship></Relationships>"#;
 
-pub const RELATIONSHIPS: (&str, &str) = (
-    RELATIONSHIPS_NAME,
-    r#"<Relationships><Relationship Id="rId1" Type="http://schemas.openxmlformats.org/officeDocument/2006/relationships/worksheet" Target="worksheets/sheet1.xml"></Relationship></Relationships>"#,
-);
+pub const ROOT: (&str, &str) = (ROOT_NAME, ROOT_MARKUP);
 
-pub const WORKBOOK: (&str, &str) = (
-    WORKBOOK_NAME,
-    r#"<workbook><sheets><sheet name="S" sheetId="1" r:id="rId1"></sheet></sheets></workbook>"#,
-);
+pub const RELATIONSHIPS_MARKUP: &str =
+    r#"<Relationships><Relationship Id="rId1" Type="http://schemas.openxmlformats.org/officeDocument/2006/relationships/worksheet" Target="worksheets/sheet1.xml"></Relationship></Relationships>"#;
+
+pub const RELATIONSHIPS: (&str, &str) = (RELATIONSHIPS_NAME, RELATIONSHIPS_MARKUP);
+
+pub const WORKBOOK_MARKUP: &str =
+    r#"<workbook><sheets><sheet name="S" sheetId="1" r:id="rId1"></sheet></sheets></workbook>"#;
+
+pub const WORKBOOK: (&str, &str) = (WORKBOOK_NAME, WORKBOOK_MARKUP);
 
 pub const SHEET: (&str, &str) = (
     SHEET_NAME,

@@ -1,8 +1,9 @@
 use super::*;
 use crate::test_packages::{
-    RELATIONSHIPS, RELATIONSHIPS_NAME, ROOT, ROOT_NAME, SHEET, SHEET_NAME, WORKBOOK, WORKBOOK_NAME,
-    package_of, package_with,
+    RELATIONSHIPS, RELATIONSHIPS_MARKUP, RELATIONSHIPS_NAME, ROOT, ROOT_NAME, SHEET, SHEET_NAME,
+    WORKBOOK, WORKBOOK_MARKUP, WORKBOOK_NAME, package_of, package_with,
 };
+use cell_data::XlsxError;
 use part_events::{FailingPackage, MemoryPackage, Package};
 use std::alloc::Global;
 use std::test::Fail;
@@ -132,10 +133,10 @@ const ABSENT: &str = "WorksheetNotFound(\"X\")";
 
 /// Workbooks, the name that is asked for, and the answer.
 const ASKED: [(&str, &str, &str); 13] = [
-    (WORKBOOK.1, "S", "(0,0:nut)"),
-    (WORKBOOK.1, "X", ABSENT),
-    (WORKBOOK.1, "s", "WorksheetNotFound(\"s\")"),
-    (WORKBOOK.1, "", "WorksheetNotFound(\"\")"),
+    (WORKBOOK_MARKUP, "S", "(0,0:nut)"),
+    (WORKBOOK_MARKUP, "X", ABSENT),
+    (WORKBOOK_MARKUP, "s", "WorksheetNotFound(\"s\")"),
+    (WORKBOOK_MARKUP, "", "WorksheetNotFound(\"\")"),
     (ESCAPED, "a&b", "(0,0:nut)"),
     (ESCAPED, "a&amp;b", "WorksheetNotFound(\"a&amp;b\")"),
     (TWO, "T", "(0,0:nut)"),
@@ -207,7 +208,7 @@ const MORE: [((&str, &str), &str); 15] = [
     ((r"XL\Styles.xml", "<styleSheet/>"), "NotBuilt"),
     (("sharedStrings.xml", ""), "(0,0:nut)"),
     (("docProps/core.xml", "<!>"), "(0,0:nut)"),
-    ((ROOT_NAME, RELATIONSHIPS.1), "RelationshipNotFound"),
+    ((ROOT_NAME, RELATIONSHIPS_MARKUP), "RelationshipNotFound"),
     ((ROOT_NAME, ""), "XmlEof(\"Relationships\")"),
     (
         (
