@@ -3,36 +3,22 @@ ghost use Rattle.part_events.specs.declared.fault.StreamError.TheVariants.{Io, X
 
 use crate::package::PackageFailed;
 use std::alloc::AllocError;
-use std::error::Error;
 use std::fmt;
+use thiserror::Error;
 
 /// What is wrong with the markup of a part. Events are counted from 0.
-#[derive(Clone, Copy, Debug, PartialEq, Eq)]
+#[derive(Clone, Copy, Debug, PartialEq, Eq, Error)]
 pub enum XmlFault {
     /// An end whose whole name is not that of the innermost open element.
+    #[error("end tag mismatch at {at}")]
     EndMismatch { at: u64 },
     /// The part has `at` events, and ends inside an element that was to be read to its end.
+    #[error("unclosed element at {at}")]
     Unclosed { at: u64 },
     /// A reference without a character.
+    #[error("unknown entity at {at}")]
     Entity { at: u64 },
 }
-
-impl fmt::Display for XmlFault {
-    ghost use Rattle.std.specs.Prelude.{Some};
-    ghost use Rattle.part_events.specs.Fault.{fault_text};
-
-    ghost output = { λ fault. Some (fault_text fault) };
-
-    fn fmt<W: fmt::Write>(&self, f: &mut fmt::Formatter<W>) -> fmt::Result {
-        match self {
-            XmlFault::EndMismatch { at } => write!(f, "end tag mismatch at {at}"),
-            XmlFault::Unclosed { at } => write!(f, "unclosed element at {at}"),
-            XmlFault::Entity { at } => write!(f, "unknown entity at {at}"),
-        }
-    }
-}
-
-impl Error for XmlFault {}
 
 /// Why a part could not be read on.
 #[derive(Clone, Copy, Debug, PartialEq, Eq)]
@@ -45,10 +31,9 @@ pub enum StreamError {
 }
 
 impl fmt::Display for StreamError {
-    ghost use Rattle.std.specs.Prelude.{Some};
     ghost use Rattle.part_events.specs.Fault.{stream_text};
 
-    ghost output = { λ error. Some (stream_text error) };
+    ghost output = { stream_text };
 
     fn fmt<W: fmt::Write>(&self, f: &mut fmt::Formatter<W>) -> fmt::Result {
         match self {
@@ -59,7 +44,7 @@ impl fmt::Display for StreamError {
     }
 }
 
-impl Error for StreamError {}
+impl std::error::Error for StreamError {}
 
 impl From<PackageFailed> for StreamError {
     ghost from_gives = { λ _ error. error ≡ Io };
