@@ -3,41 +3,28 @@
 
 import argparse
 import hashlib
-import json
 import os
-import pathlib
-import subprocess
 import sys
 import tempfile
-import time
 
-TOP = pathlib.Path(__file__).resolve().parent.parent
-PROGRAM = TOP / "crates" / "xlsx_tool" / "out" / "xlsx_tool"
+from measure import (
+    JSON_LOAD,
+    LIMIT,
+    OFFICE,
+    add_program,
+    add_repeats,
+    each,
+    end,
+    measured,
+    mib,
+    program_of,
+    relationships,
+    spelled,
+    start,
+    table,
+)
 
-# The most bytes that the program reads.
-LIMIT = 67_108_864
-
-TYPES = "http://schemas.openxmlformats.org/officeDocument/2006/relationships/"
 KINDS = ["nut", "bolt", "washer", "hex key", "tab\there", "back\\slash"]
-
-
-def start(name, attributes=""):
-    return ["s", name, attributes]
-
-
-def end(name):
-    return ["e", name]
-
-
-def relationship(kind, target):
-    attributes = f' Id="rId1" Type="{TYPES}{kind}" Target="{target}"'
-    return [
-        start("Relationships"),
-        start("Relationship", attributes),
-        end("Relationship"),
-        end("Relationships"),
-    ]
-
 
 WORKBOOK = [
     start("workbook"),
@@ -50,17 +37,13 @@ WORKBOOK = [
 
 # The parts before the worksheet's.
 FRAME = [
-    ("_rels/.rels", relationship("officeDocument", "xl/workbook.xml")),
+    OFFICE,
     (
         "xl/_rels/workbook.xml.rels",
-        relationship("worksheet", "worksheets/sheet1.xml"),
+        list(relationships([("worksheet", "worksheets/sheet1.xml")])),
     ),
     ("xl/workbook.xml", WORKBOOK),
 ]
-
-
-def spelled(value):
-    return json.dumps(value, separators=(",", ":"))
 
 
 def cells_of(row):
@@ -154,49 +137,25 @@ def check(path, listing):
         sys.exit("cells.py: a line between the first and the last is wrong")
 
 
-def measured(words, stdin, stdout):
-    """Runs the words, and answers the seconds that went by and the peak memory in bytes."""
-    files = [
-        (os.POSIX_SPAWN_OPEN, 0, stdin, os.O_RDONLY, 0),
-        (os.POSIX_SPAWN_OPEN, 1, stdout, os.O_WRONLY | os.O_CREAT | os.O_TRUNC, 0o600),
-    ]
-    began = time.perf_counter()
-    child = os.posix_spawn(words[0], words, os.environ, file_actions=files)
-    _, status, used = os.wait4(child, 0)
-    seconds = time.perf_counter() - began
-    if status != 0:
-        sys.exit(f"cells.py: {words[0]} ended with {os.waitstatus_to_exitcode(status)}")
-    return seconds, used.ru_maxrss * (1 if sys.platform == "darwin" else 1024)
-
-
-def best(results):
-    return tuple(map(min, zip(*results)))
-
-
 class Size:
-    def __init__(self, folder, limit):
+    def __init__(self, folder, program, limit):
+        self.words = [program, "cells", "S"]
         self.package = os.path.join(folder, f"package-{limit}.json")
         self.lines = os.path.join(folder, f"lines-{limit}.txt")
         self.size, self.rows, self.listing = write_package(self.package, limit)
         self.ours, self.json = [], []
 
     def run(self):
-        words = [str(PROGRAM), "cells", "S"]
-        self.ours.append(measured(words, self.package, self.lines))
+        self.ours.append(measured(self.words, self.package, self.lines))
         check(self.lines, self.listing)
-        words = [sys.executable, "-c", "import json, sys; json.load(sys.stdin)"]
-        self.json.append(measured(words, self.package, os.devnull))
+        self.json.append(measured(JSON_LOAD, self.package))
 
     def best(self):
-        return best(self.ours), best(self.json)
-
-
-def mib(size):
-    return f"{size / 2**20:,.0f}"
+        return each(min, self.ours), each(min, self.json)
 
 
 def row_of(name, size):
-    (seconds, peak), (json_seconds, json_peak) = size.best()
+    (seconds, _, peak), (json_seconds, _, json_peak) = size.best()
     return [
         name,
         f"{size.size:,}",
@@ -212,7 +171,7 @@ def row_of(name, size):
 
 def growth_of(half, whole):
     pairs = zip(sum(half.best(), ()), sum(whole.best(), ()))
-    seconds, peak, json_seconds, json_peak = (f"{b / a:.2f}" for a, b in pairs)
+    seconds, _, peak, json_seconds, _, json_peak = (f"{b / a:.2f}" for a, b in pairs)
     size, rows = f"{whole.size / half.size:.2f}", f"{whole.rows / half.rows:.2f}"
     return ["growth", size, rows, seconds, json_seconds, "", peak, json_peak, ""]
 
@@ -230,13 +189,6 @@ HEAD = [
 ]
 
 
-def table(rows):
-    widths = [max(map(len, column)) for column in zip(HEAD, *rows)]
-    lines = [HEAD, ["-" * width for width in widths], *rows]
-    for line in lines:
-        print("| " + " | ".join(map(str.rjust, line, widths)) + " |")
-
-
 def main():
     parser = argparse.ArgumentParser(description=__doc__)
     parser.add_argument(
@@ -245,18 +197,19 @@ def main():
         default=LIMIT - 1,
         help="the size that the larger text may have (default: just under the program's limit)",
     )
-    parser.add_argument("--repeats", type=int, default=5, help="runs of each, of which the best counts")
+    add_repeats(parser, 5)
+    add_program(parser)
     asked = parser.parse_args()
     if not 1 <= asked.bytes <= LIMIT or asked.repeats < 1:
         parser.error(f"--bytes takes 1 to {LIMIT}, and --repeats at least 1")
-    # Builds the program where that is due.
-    subprocess.run([TOP / "xlsx", "--version"], stdout=subprocess.DEVNULL, check=True)
+    program = program_of(asked)
     with tempfile.TemporaryDirectory() as folder:
-        half, whole = Size(folder, asked.bytes // 2), Size(folder, asked.bytes)
+        half, whole = Size(folder, program, asked.bytes // 2), Size(folder, program, asked.bytes)
         for _ in range(asked.repeats):
             half.run()
             whole.run()
-        table([row_of("half", half), row_of("whole", whole), growth_of(half, whole)])
+        rows = [row_of("half", half), row_of("whole", whole)]
+        table(HEAD, [*rows, growth_of(half, whole)])
 
 
 if __name__ == "__main__":

@@ -1,0 +1,112 @@
+"""What the scripts of this folder share: package texts, the program, runs that are measured, and their table."""
+
+import json
+import os
+import pathlib
+import subprocess
+import sys
+import time
+from typing import NamedTuple
+
+TOP = pathlib.Path(__file__).resolve().parent.parent
+PROGRAM = TOP / "crates" / "xlsx_tool" / "out" / "xlsx_tool"
+
+# The most bytes that the program reads.
+LIMIT = 67_108_864
+
+JSON_LOAD = [sys.executable, "-c", "import json, sys; json.load(sys.stdin)"]
+
+TYPES = "http://schemas.openxmlformats.org/officeDocument/2006/relationships/"
+
+
+def start(name, attributes=""):
+    return ["s", name, attributes]
+
+
+def end(name):
+    return ["e", name]
+
+
+def relationships(kinds_and_targets):
+    """A part of relationships, whose Ids are rId1, rId2 and so on."""
+    yield start("Relationships")
+    for number, (kind, target) in enumerate(kinds_and_targets, 1):
+        attributes = f' Id="rId{number}" Type="{TYPES}{kind}" Target="{target}"'
+        yield start("Relationship", attributes)
+        yield end("Relationship")
+    yield end("Relationships")
+
+
+# The part that says where the workbook is.
+OFFICE = ("_rels/.rels", list(relationships([("officeDocument", "xl/workbook.xml")])))
+
+
+def spelled(value):
+    return json.dumps(value, separators=(",", ":"))
+
+
+def add_repeats(parser, repeats):
+    parser.add_argument(
+        "--repeats",
+        type=int,
+        default=repeats,
+        help=f"runs of each (default: {repeats})",
+    )
+
+
+def add_program(parser):
+    parser.add_argument(
+        "--program",
+        help="a program that is built already (default: that of this repository, which is built where that is due)",
+    )
+
+
+def program_of(asked):
+    if asked.program is not None:
+        return os.path.abspath(asked.program)
+    subprocess.run([TOP / "xlsx", "--version"], stdout=subprocess.DEVNULL, check=True)
+    return str(PROGRAM)
+
+
+class Run(NamedTuple):
+    """The seconds that went by, those of processor time, and the peak memory in bytes."""
+
+    seconds: float
+    processor: float
+    peak: int
+
+
+def measured(words, stdin, stdout=os.devnull, stderr=None, statuses=(0,)):
+    """Runs the words, which are to end with one of the statuses."""
+    written = os.O_WRONLY | os.O_CREAT | os.O_TRUNC
+    files = [
+        (os.POSIX_SPAWN_OPEN, 0, stdin, os.O_RDONLY, 0),
+        (os.POSIX_SPAWN_OPEN, 1, stdout, written, 0o600),
+    ]
+    if stderr is not None:
+        files.append((os.POSIX_SPAWN_OPEN, 2, stderr, written, 0o600))
+    began = time.perf_counter()
+    child = os.posix_spawn(words[0], words, os.environ, file_actions=files)
+    _, status, used = os.wait4(child, 0)
+    seconds = time.perf_counter() - began
+    ended = os.waitstatus_to_exitcode(status)
+    if ended not in statuses:
+        sys.exit(f"{' '.join(words)} ended with {ended}")
+    peak = used.ru_maxrss * (1 if sys.platform == "darwin" else 1024)
+    return Run(seconds, used.ru_utime + used.ru_stime, peak)
+
+
+def each(choose, runs):
+    """What is chosen of each thing that was measured of the runs, as the lowest."""
+    return Run(*map(choose, zip(*runs)))
+
+
+def mib(size):
+    return f"{size / 2**20:,.0f}"
+
+
+def table(head, rows):
+    widths = [max(map(len, column)) for column in zip(head, *rows)]
+    lines = [head, ["-" * width for width in widths], *rows]
+    for line in lines:
+        print("| " + " | ".join(map(str.rjust, line, widths)) + " |")
