@@ -1,0 +1,92 @@
+#!/usr/bin/env python3
+"""Runs `cells S` over the shipped package with its first allocation refused, then with its second, and so on, until
+none is left to refuse. Each of these runs must end with the status and the text of want of memory and print nothing,
+and the last one must print the stored lines."""
+
+import argparse
+import os
+import subprocess
+import sys
+import tempfile
+
+from measure import TOP, add_program, program_of
+
+TOOL = TOP / "crates" / "xlsx_tool"
+
+# Loaded before the C library, this stands in for the calls by which the program asks for memory. It refuses the one
+# with the number REFUSED and then writes a byte to the descriptor TOLD. All others go on to the C library.
+SOURCE = """\
+#include <stdlib.h>
+#include <unistd.h>
+
+extern void *__libc_malloc(size_t size);
+extern void *__libc_calloc(size_t count, size_t size);
+extern void *__libc_realloc(void *block, size_t size);
+
+static unsigned long left;
+static int told;
+
+__attribute__((constructor)) static void begin(void) {
+    left = strtoul(getenv("REFUSED"), NULL, 10);
+    told = atoi(getenv("TOLD"));
+}
+
+static int refuses(void) {
+    return left > 0 && --left == 0 && write(told, "!", 1) == 1;
+}
+
+void *malloc(size_t size) { return refuses() ? NULL : __libc_malloc(size); }
+void *calloc(size_t count, size_t size) { return refuses() ? NULL : __libc_calloc(count, size); }
+void *realloc(void *block, size_t size) { return refuses() ? NULL : __libc_realloc(block, size); }
+"""
+
+OUT_OF_MEMORY = (8, b"", b"out of memory\n")
+
+
+def compiled(folder):
+    library = os.path.join(folder, "refusing.so")
+    words = [os.environ.get("CC", "cc"), "-shared", "-fPIC", "-O1", "-x", "c", "-", "-o", library]
+    subprocess.run(words, input=SOURCE.encode(), check=True)
+    return library
+
+
+def run(words, library, number):
+    """Whether an allocation with this number was refused; and the status, standard output and standard error."""
+    with open(TOOL / "stdin", "rb") as package, tempfile.TemporaryFile() as told:
+        given = {"LD_PRELOAD": library, "REFUSED": str(number), "TOLD": str(told.fileno())}
+        ended = subprocess.run(
+            words,
+            stdin=package,
+            capture_output=True,
+            env=given,
+            pass_fds=[told.fileno()],
+            timeout=60,
+        )
+        refused = os.fstat(told.fileno()).st_size > 0
+    return refused, (ended.returncode, ended.stdout, ended.stderr)
+
+
+def demand(wanted, found, number):
+    if found != wanted:
+        sys.exit(f"refused_memory.py: run {number} gave {found} in place of {wanted}")
+
+
+def main():
+    parser = argparse.ArgumentParser(description=__doc__)
+    add_program(parser)
+    program = program_of(parser.parse_args())
+    words = [program, *(TOOL / "args").read_text().split()]
+    number = 1
+    with tempfile.TemporaryDirectory() as folder:
+        library = compiled(folder)
+        refused, found = run(words, library, number)
+        while refused:
+            demand(OUT_OF_MEMORY, found, number)
+            number += 1
+            refused, found = run(words, library, number)
+    demand((0, (TOOL / "stdout").read_bytes(), b""), found, number)
+    print(f"{number - 1} allocations, each refused in a run of its own, and each told as want of memory")
+
+
+if __name__ == "__main__":
+    main()
