@@ -1,10 +1,10 @@
 -- How what is kept of a workbook's section goes on with the events that are taken.
-use Rattle.std.proofs.Common.{◌≡◌, ℕ, zero, suc, ◌+◌, ◌-◌, ◌≤◌, List, [], ◌∷◌, ◌++◌, length, Bool, true, false, Option, Some, None, Result, Ok, Err, refl, sym, ◌∙◌, ap, subst, inl, inr, arith, append-nil, append_assoc, string_bytes, String, Global}
-use Rattle.std.specs.Prelude.{slice_get, is_some, option_map, option_to_list, if◌then◌else◌}
+use Rattle.std.proofs.Common.{◌≡◌, ℕ, zero, suc, ◌+◌, ◌-◌, ◌≤◌, List, [], ◌∷◌, ◌++◌, length, Bool, true, false, Option, Some, None, Result, Ok, Err, refl, sym, ◌∙◌, ap, subst, inl, inr, arith, append_assoc, string_bytes, String, Global}
+use Rattle.std.specs.Prelude.{slice_get, is_some, option_map}
 use Rattle.part_events.specs.Event.{Tag, Event, start, end, text, char_data, entity_ref, other}
 use Rattle.part_events.specs.JoinedText.{joined, text_of, is_unknown, unknown_entity, IsUnknownAt}
 use Rattle.part_events.specs.Reading.{Reading, TakesEvent, StepsAhead, ahead, events_of, names_behind}
-use Rattle.part_events.specs.Section.{Element, content, is_closed, behind, starts_by, outermost_from}
+use Rattle.part_events.specs.Section.{Element, content, is_closed, behind, starts_by}
 use Rattle.part_events.specs.Walk.{inside}
 use Rattle.part_events.specs.declared.fault.XmlFault.TheVariants.{Entity}
 use Rattle.part_events.proofs.Walking.{next_element}
@@ -16,9 +16,8 @@ use Rattle.xlsx_core.specs.Relationships.{Related}
 use Rattle.xlsx_core.specs.Section.{SectionFails}
 use Rattle.xlsx_core.specs.Sheets.{is_sheet, is_properties, sheet_of, flag_of, sheets_in, flag_in}
 use Rattle.xlsx_core.specs.Workbook.{Carries, TakesEvents, IsOneRefused, AreEventsRefused, sheets_of, names_of}
-use Rattle.xlsx_core.specs.WorkbookEvents.{TextRefused, TextTaken, IsContents, AreContentsRefused, is_name_start}
+use Rattle.xlsx_core.specs.WorkbookEvents.{TextRefused, TextTaken, AreContentsRefused, is_name_start}
 use Rattle.xlsx_core.specs.declared.workbook.WorkbookContents.{WorkbookContents}
-use Rattle.xlsx_core.proofs.Kept.{prepended-and_others, prepended-nil, or_earlier-None}
 
 pub carries_further : {folder : List ℕ} {related : List ℕ → Option Related} {first found last : WorkbookContents} {all events left : List Event} → Carries folder related first all found events → Carries folder related found events last left → Carries folder related first all last left
 carries_further one two = record { sheets = two.sheets ∙ one.sheets; flag = two.flag ∙ one.flag }

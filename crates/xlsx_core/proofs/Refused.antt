@@ -1,5 +1,5 @@
 -- How a refusal passes from a step to its section.
-use Rattle.std.proofs.Common.{◌≡◌, ℕ, List, true, false, Some, Result, Err, ◌∙◌, subst, inl, inr, arith, string_bytes}
+use Rattle.std.proofs.Common.{◌≡◌, ℕ, List, true, false, Some, ◌∙◌, subst, inl, inr, arith, string_bytes}
 use Rattle.std.specs.Prelude.{slice_get}
 use Rattle.part_events.specs.Event.{Tag, Event, start, end, text, char_data, entity_ref, other, IsStartAnd}
 use Rattle.part_events.specs.Nesting.{whole}
