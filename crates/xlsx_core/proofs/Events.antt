@@ -3,7 +3,7 @@ use Rattle.std.proofs.Common.{◌≡◌, ℕ, zero, suc, ◌+◌, ◌-◌, ◌�
 use Rattle.std.specs.Prelude.{slice_get, is_some, option_map}
 use Rattle.part_events.specs.Event.{Tag, Event, start, end, text, char_data, entity_ref, other}
 use Rattle.part_events.specs.JoinedText.{joined, text_of, is_unknown, unknown_entity, IsUnknownAt}
-use Rattle.part_events.specs.Reading.{Reading, TakesEvent, StepsAhead, ahead, events_of, names_behind}
+use Rattle.part_events.specs.Reading.{Reading, Skips, ahead, events_of, names_behind}
 use Rattle.part_events.specs.Section.{Element, content, is_closed, behind, starts_by}
 use Rattle.part_events.specs.Walk.{inside}
 use Rattle.part_events.specs.declared.fault.XmlFault.TheVariants.{Entity}
@@ -18,6 +18,7 @@ use Rattle.xlsx_core.specs.Sheets.{is_sheet, is_properties, sheet_of, flag_of, s
 use Rattle.xlsx_core.specs.Workbook.{Carries, TakesEvents, IsOneRefused, AreEventsRefused, sheets_of, names_of}
 use Rattle.xlsx_core.specs.WorkbookEvents.{TextRefused, TextTaken, AreContentsRefused, is_name_start}
 use Rattle.xlsx_core.specs.declared.workbook.WorkbookContents.{WorkbookContents}
+use Rattle.xlsx_core.proofs.Sections.{IsEventInside, LiesBehind, lies_behind}
 
 pub carries_further : {folder : List ℕ} {related : List ℕ → Option Related} {first found last : WorkbookContents} {all events left : List Event} → Carries folder related first all found events → Carries folder related found events last left → Carries folder related first all last left
 carries_further one two = record { sheets = two.sheets ∙ one.sheets; flag = two.flag ∙ one.flag }
@@ -40,51 +41,10 @@ pub record KeepsContents (folder : List ℕ) (related : List ℕ → Option Rela
   pub names : prepended (names_of found) (names_in left) ≡ names_in all
   pub flag : or_earlier found.flag (flag_in left) ≡ flag_in all
 
--- the element of a defined name was taken, or is refused
-pub keeps_name : {folder : List ℕ} {related : List ℕ → Option Related} {all : List Event} {found last : WorkbookContents} {events left : List Event} {answer : Result (Option (List ℕ)) Refusal} {name : Option (List ℕ)} (after : WorkbookContents) (inner : List Event) → KeepsContents folder related all found events → Carries folder related found events last left → names_of after ≡ names_of found → names_in events ≡ and_others_if (with_text inner answer) (names_in left) → answer ≡ Ok name → TextTaken name inner (names_of after) (names_of last) → KeepsContents folder related all last left
-keeps_name {left = left} after inner kept carries same is named taken = record {
-  sheets = carries.sheets ∙ kept.sheets;
-  names = taken (names_in left) ∙ rw (same, is, named) refl ∙ kept.names;
-  flag = carries.flag ∙ kept.flag;
-}
-
-pub name_refused : {folder : List ℕ} {related : List ℕ → Option Related} {all : List Event} {found : WorkbookContents} {events : List Event} (inner : List Event) (answer : Result (Option (List ℕ)) Refusal) (others : Result (List (List ℕ × List ℕ)) Refusal) (refusal : Refusal) → KeepsContents folder related all found events → names_in events ≡ and_others_if (with_text inner answer) others → with_text inner answer ≡ Err refusal → AreContentsRefused folder related all refusal
-unfolding AreContentsRefused
-name_refused {found = found} {events = events} inner answer others refusal kept is refuses =
-    let here : prepended (names_of found) (names_in events) ≡ Err refusal = rw (is, refuses) refl in inr (inl (sym kept.names ∙ here))
-
 pub contents_refused : {folder : List ℕ} {related : List ℕ → Option Related} {all : List Event} {found : WorkbookContents} {left : List Event} (refusal : Refusal) → KeepsContents folder related all found left → IsOneRefused folder related found left refusal → AreContentsRefused folder related all refusal
 unfolding AreContentsRefused
 contents_refused refusal kept (inl is) = inl (sym kept.sheets ∙ is)
 contents_refused refusal kept (inr is) = inr (inr (sym kept.flag ∙ is))
-
--- what is behind an element that lies in a section
-pub record LiesBehind (inner outer within : ℕ) (events : List Event) : Type 0 where
-  pub others : List Event
-  pub parts : content within events ≡ content inner events ++ others
-  pub starts : (wanted : Tag → Bool) → starts_by wanted others ≡ starts_by wanted (content outer (behind inner events))
-  pub unclosed : is_closed inner events ≡ false → is_closed within events ≡ false
-  pub closed : is_closed within events ≡ is_closed outer (behind inner events)
-
-pub lies_behind : (inner outer within : ℕ) (events : List Event) → within ≡ inner + suc outer → LiesBehind inner outer within events
-lies_behind inner outer within [] is = record { others = []; parts = refl; starts = λ _. refl; unclosed = λ _. refl; closed = refl }
-lies_behind inner outer within (start tag ∷ events) is = let more = lies_behind (suc inner) outer (suc within) events (omega arith) in record { others = more.others; parts = ap (λ (rest : List Event). start tag ∷ rest) more.parts; starts = more.starts; unclosed = more.unclosed; closed = more.closed }
-lies_behind zero outer zero (end name ∷ events) is = absurd (omega arith)
-lies_behind (suc inner) outer zero (end name ∷ events) is = absurd (omega arith)
-lies_behind zero outer (suc within) (end name ∷ events) is =
-    let same : within ≡ outer = omega arith in
-    record {
-      others = end name ∷ content within events;
-      parts = refl;
-      starts = λ wanted. ap (λ (n : ℕ). starts_by wanted (content n events)) same;
-      unclosed = λ is_open. absurd cc;
-      closed = ap (λ (n : ℕ). is_closed n events) same;
-    }
-lies_behind (suc inner) outer (suc within) (end name ∷ events) is = let more = lies_behind inner outer within events (omega arith) in record { others = more.others; parts = ap (λ (rest : List Event). end name ∷ rest) more.parts; starts = more.starts; unclosed = more.unclosed; closed = more.closed }
-lies_behind inner outer within (text written ∷ events) is = let more = lies_behind inner outer within events (omega arith) in record { others = more.others; parts = ap (λ (rest : List Event). text written ∷ rest) more.parts; starts = more.starts; unclosed = more.unclosed; closed = more.closed }
-lies_behind inner outer within (char_data written ∷ events) is = let more = lies_behind inner outer within events (omega arith) in record { others = more.others; parts = ap (λ (rest : List Event). char_data written ∷ rest) more.parts; starts = more.starts; unclosed = more.unclosed; closed = more.closed }
-lies_behind inner outer within (entity_ref name ∷ events) is = let more = lies_behind inner outer within events (omega arith) in record { others = more.others; parts = ap (λ (rest : List Event). entity_ref name ∷ rest) more.parts; starts = more.starts; unclosed = more.unclosed; closed = more.closed }
-lies_behind inner outer within (other ∷ events) is = let more = lies_behind inner outer within events (omega arith) in record { others = more.others; parts = ap (λ (rest : List Event). other ∷ rest) more.parts; starts = more.starts; unclosed = more.unclosed; closed = more.closed }
 
 -- an element of a section was taken, or is refused
 pub carries_element : {folder : List ℕ} {related : List ℕ → Option Related} {found last : WorkbookContents} {outer within : ℕ} (events : List Event) → LiesBehind 0 outer within events → TakesEvents folder related (content 0 events) found last → Carries folder related found (content within events) last (content outer (behind 0 events))
@@ -99,22 +59,47 @@ pub element_refused : {outer within : ℕ} {events : List Event} (folder : List 
 element_refused folder related found refusal lies refuses = subst (λ (all : List Event). IsOneRefused folder related found all refusal) (sym lies.parts) (refuses lies.others)
 
 -- the event is the start of a defined name
-pub record IsNameAt (base : ℕ) (tag : Tag) (old new : Reading) : Type 0 where
+pub record IsNameAt (base : ℕ) (tag : Tag) (first old new : Reading) : Type 0 where
   pub deep : inside base new ≡ suc (inside base old)
-  pub names : StepsAhead true old new → names_in (content (inside base old) (ahead old)) ≡ and_others_if (with_text (content 0 (ahead new)) (name_by tag)) (names_in (content (inside base old) (behind 0 (ahead new))))
+  pub lies : LiesBehind 0 (inside base old) (inside base new) (ahead new)
+  pub is : start tag ≡ new.source.current
+  pub names : first.source.told ≡ true → names_in (content (inside base old) (ahead old)) ≡ and_others_if (with_text (content 0 (ahead new)) (name_by tag)) (names_in (content (inside base old) (behind 0 (ahead new))))
 
-pub name_at : {base : ℕ} {event : Event} {tag : Tag} (old new : Reading) → start tag ≡ new.source.current → event ≡ new.source.current → is_name_start event ≡ true → TakesEvent old new → base ≤ length old.names → IsNameAt base tag old new
-name_at {base = base} {tag = tag} old new current same named takes was =
-    let is : is_defined_name tag ≡ true = ap is_name_start (current ∙ sym same) ∙ named in
-    let names : new.names ≡ tag.name ∷ old.names = takes.names ∙ ap (λ (event : Event). names_behind event old.names) (sym current) in
-    let deep : inside base new ≡ suc (inside base old) = rw names (omega arith) in
+pub name_at : {base : ℕ} {event : Event} {tag : Tag} {place : ℕ} {first old new : Reading} → start tag ≡ new.source.current → is_name_start event ≡ true → IsEventInside base event place first old new → IsNameAt base tag first old new
+name_at {base = base} {tag = tag} {old = old} {new = new} current named step =
+    let is : is_defined_name tag ≡ true = ap is_name_start (current ∙ sym step.current) ∙ named in
+    let names : new.names ≡ tag.name ∷ old.names = step.takes.names ∙ ap (λ (event : Event). names_behind event old.names) (sym current) in
+    let was : base ≤ length old.names = step.was in
+    let deep : inside base new ≡ suc (inside base old) = rw names (omega (arith, was)) in
     let out : inside base new - 1 ≡ inside base old = omega (arith, deep) in
     record {
       deep = deep;
-      names = λ steps.
-          ap (λ (elements : List Element). some_answers defined_name elements) (next_element is_defined_name base tag old new takes steps current was is).elements
+      lies = lies_behind 0 (inside base old) (inside base new) (ahead new) (omega (arith, deep));
+      is = current;
+      names = λ told.
+          ap (λ (elements : List Element). some_answers defined_name elements) (next_element is_defined_name base tag old new step.takes (step.steps told) current step.was is).elements
           ∙ ap (λ (n : ℕ). and_others_if (with_text (content 0 (ahead new)) (name_by tag)) (names_in (content n (behind 0 (ahead new))))) out;
     }
+
+-- its element is refused
+pub name_refused : {folder : List ℕ} {related : List ℕ → Option Related} {all events : List Event} {found : WorkbookContents} {base : ℕ} {tag : Tag} {first old new : Reading} (refusal : Refusal) → IsNameAt base tag first old new → first.source.told ≡ true → events ≡ content (inside base old) (ahead old) → KeepsContents folder related all found events → with_text (content 0 (ahead new)) (name_by tag) ≡ Err refusal → AreContentsRefused folder related all refusal
+unfolding AreContentsRefused
+name_refused {events = events} {found = found} refusal starts told same kept refuses =
+    let here : prepended (names_of found) (names_in events) ≡ Err refusal = rw (same, starts.names told, refuses) refl in inr (inl (sym kept.names ∙ here))
+
+-- or was taken
+pub keeps_name : {folder : List ℕ} {related : List ℕ → Option Related} {all : List Event} {found last : WorkbookContents} {base : ℕ} {tag : Tag} {event : Event} {place : ℕ} {first old new later : Reading} {name : Option (List ℕ)} (after : WorkbookContents) → IsEventInside base event place first old new → IsNameAt base tag first old new → first.source.told ≡ true → KeepsContents folder related all found (content (inside base old) (ahead old)) → TakesEvents folder related (event ∷ []) found after → names_of after ≡ names_of found → name_by tag ≡ Ok name → TakesEvents folder related (content 0 (ahead new)) after last → TextTaken name (content 0 (ahead new)) (names_of after) (names_of last) → length new.names ≡ suc (length later.names) → Skips new later → KeepsContents folder related all last (content (inside base later) (ahead later))
+keeps_name {folder = folder} {related = related} {all = all} {last = last} {base = base} {old = old} {new = new} {later = later} after step starts told kept event_taken_is same named takes taken depth skips =
+    let out : inside base later ≡ inside base old = omega (arith, depth, starts.deep) in
+    let left = content (inside base old) (behind 0 (ahead new)) in
+    let behind_it : content (inside base later) (ahead later) ≡ left = ap (λ (n : ℕ). content n (ahead later)) out ∙ ap (content (inside base old)) skips.ahead in
+    let carries = carries_further (event_taken (step.left told) event_taken_is) (carries_element (ahead new) starts.lies takes) in
+    let keeps : KeepsContents folder related all last left = record {
+      sheets = carries.sheets ∙ kept.sheets;
+      names = taken (names_in left) ∙ rw (same, starts.names told, named) refl ∙ kept.names;
+      flag = carries.flag ∙ kept.flag;
+    } in
+    subst (λ (events : List Event). KeepsContents folder related all last events) (sym behind_it) keeps
 
 -- the text of an element so far, with that of the events that are left of it
 pub record JoinsText (all : List Event) (written : List ℕ) (left : List Event) : Type 0 where

@@ -1,10 +1,10 @@
 -- How a section is read on.
-use Rattle.std.proofs.Common.{◌≡◌, ℕ, ◌-◌, ◌≤◌, List, [], ◌∷◌, length, reverse, Bool, true, Some, sym, ◌∙◌, ap, subst, arith}
+use Rattle.std.proofs.Common.{◌≡◌, ℕ, zero, suc, ◌+◌, ◌-◌, ◌≤◌, List, [], ◌∷◌, ◌++◌, length, reverse, Bool, true, false, Some, refl, sym, ◌∙◌, ap, subst, arith}
 use Rattle.std.specs.Prelude.{slice_get}
 use Rattle.std.proofs.lemmas.List.{length-reverse}
-use Rattle.part_events.specs.Event.{Tag, Event, start, IsStartAnd}
+use Rattle.part_events.specs.Event.{Tag, Event, start, end, text, char_data, entity_ref, other, IsStartAnd}
 use Rattle.part_events.specs.Nesting.{whole}
-use Rattle.part_events.specs.Reading.{Reading, IsTracked, IsAtEnd, Goes, GoesOn, TakesEvent, StepsAhead, ahead, events_of}
+use Rattle.part_events.specs.Reading.{Reading, IsTracked, IsAtEnd, Goes, GoesOn, TakesEvent, StepsAhead, Skips, ahead, events_of}
 use Rattle.part_events.specs.Section.{content, is_closed, behind, starts_by}
 use Rattle.part_events.specs.Walk.{inside, StandsAt, FindsStart, IsNextStart, StandsInside, StepsInside, TakesInside}
 use Rattle.part_events.proofs.Nested.{reverse_on, whole_split}
@@ -34,6 +34,8 @@ last_there first new past event on is last told =
 -- an event of a section was taken, which is number `place` of its part
 pub record IsEventInside (base : ℕ) (event : Event) (place : ℕ) (first old new : Reading) : Type 0 where
   pub reads : ReadsOn base first new
+  pub current : event ≡ new.source.current
+  pub was : base ≤ length old.names
   pub takes : TakesEvent old new
   pub steps : first.source.told ≡ true → StepsAhead true old new
   pub left : first.source.told ≡ true → content (inside base old) (ahead old) ≡ event ∷ content (inside base new) (ahead new)
@@ -41,15 +43,16 @@ pub record IsEventInside (base : ℕ) (event : Event) (place : ℕ) (first old n
   pub behind : first.source.told ≡ true → behind (inside base old) (ahead old) ≡ behind (inside base new) (ahead new)
   pub there : first.source.told ≡ true → slice_get (events_of first) place ≡ Some event
 
-pub event_inside : {base : ℕ} {more : Bool} {event : Event} {at : ℕ} (first old new : Reading) → more ≡ true → event ≡ new.source.current → at ≡ new.at → ReadsOn base first old → Goes old new → GoesOn old new → StandsInside base (step_by more) old new → (old.source.told ≡ true → StepsInside base (step_by more) old new) → IsEventInside base event (at - 1) first old new
-event_inside {base = base} {at = at} first old new is current at_is before way on stands steps =
+pub event_inside : {base : ℕ} {more : Bool} {event : Event} {at : ℕ} {first old new : Reading} → more ≡ true → event ≡ new.source.current → at ≡ new.at → ReadsOn base first old → Goes old new → GoesOn old new → StandsInside base (step_by more) old new → (old.source.told ≡ true → StepsInside base (step_by more) old new) → IsEventInside base event (at - 1) first old new
+event_inside {base = base} {first = first} {old = old} {new = new} is current at_is before way on stands steps =
     let stands_at : TakesEvent old new × (base ≤ length new.names) = rw is at stands in
-    let still : first.source.told ≡ true → old.source.told ≡ true = λ told. before.goes.parts.told ∙ told in
-    let taken : first.source.told ≡ true → TakesInside base old new = λ told. rw is at (steps (still told)) in
+    let taken : first.source.told ≡ true → TakesInside base old new = λ told. rw is at (steps (before.goes.parts.told ∙ told)) in
     let goes : Goes first new = goes_further first old new before.goes way in
     let goes_on : GoesOn first new = goes_on_further first old new before.goes before.on on in
     record {
       reads = record { goes = goes; on = goes_on; within = stands_at.1; closed = λ told. sym (taken told).closed ∙ before.closed told };
+      current = current;
+      was = before.within;
       takes = stands_at.0;
       steps = λ told. (taken told).steps;
       left = λ told. (taken told).events ∙ ap (λ (next : Event). next ∷ content (inside base new) (ahead new)) (sym current);
@@ -69,8 +72,8 @@ first_there : (past : List Event) (event : Event) → slice_get past 0 ≡ Some 
 first_there [] event last = absurd (cc)
 first_there (own ∷ past) event last = let same : own ≡ event = cc in (past, ap (λ (first : Event). first ∷ past) same)
 
-pub start_found : {wanted : Tag → Bool} {base : ℕ} {more : Bool} {tag : Tag} {at : ℕ} (first old new : Reading) → more ≡ true → start tag ≡ new.source.current → at ≡ new.at → ReadsOn base first old → Goes old new → GoesOn old new → StandsAt wanted base (found_by more) old new → (old.source.told ≡ true → FindsStart wanted base (found_by more) old new) → IsStartFound wanted base tag (at - 1) first old new
-start_found {wanted = wanted} {base = base} {tag = tag} first old new is current at_is before way on stands finds =
+pub start_found : {base : ℕ} {more : Bool} {tag : Tag} {at : ℕ} {first old new : Reading} (wanted : Tag → Bool) → more ≡ true → start tag ≡ new.source.current → at ≡ new.at → ReadsOn base first old → Goes old new → GoesOn old new → StandsAt wanted base (found_by more) old new → (old.source.told ≡ true → FindsStart wanted base (found_by more) old new) → IsStartFound wanted base tag (at - 1) first old new
+start_found {base = base} {tag = tag} {first = first} {old = old} {new = new} wanted is current at_is before way on stands finds =
     let still : first.source.told ≡ true → old.source.told ≡ true = λ told. before.goes.parts.told ∙ told in
     let next : first.source.told ≡ true → IsNextStart wanted base tag old new = λ told.
     let found : IsStartAnd new.source.current (λ own. IsNextStart wanted base own old new) = rw is at (finds (still told)) in
@@ -85,4 +88,44 @@ start_found {wanted = wanted} {base = base} {tag = tag} first old new is current
       there = λ told.
           let past = first_there new.source.past (start tag) (next told).last in
           rw at_is (last_there first new past.0 (start tag) goes_on (goes_on.reading.tracked (goes.parts.told ∙ told)) past.1 told);
+    }
+
+-- what is behind an element that lies in a section
+pub record LiesBehind (inner outer within : ℕ) (events : List Event) : Type 0 where
+  pub others : List Event
+  pub parts : content within events ≡ content inner events ++ others
+  pub starts : (wanted : Tag → Bool) → starts_by wanted others ≡ starts_by wanted (content outer (behind inner events))
+  pub unclosed : is_closed inner events ≡ false → is_closed within events ≡ false
+  pub closed : is_closed within events ≡ is_closed outer (behind inner events)
+
+pub lies_behind : (inner outer within : ℕ) (events : List Event) → within ≡ inner + suc outer → LiesBehind inner outer within events
+lies_behind inner outer within [] is = record { others = []; parts = refl; starts = λ _. refl; unclosed = λ _. refl; closed = refl }
+lies_behind inner outer within (start tag ∷ events) is = let more = lies_behind (suc inner) outer (suc within) events (omega arith) in record { others = more.others; parts = ap (λ (rest : List Event). start tag ∷ rest) more.parts; starts = more.starts; unclosed = more.unclosed; closed = more.closed }
+lies_behind zero outer zero (end name ∷ events) is = absurd (omega arith)
+lies_behind (suc inner) outer zero (end name ∷ events) is = absurd (omega arith)
+lies_behind zero outer (suc within) (end name ∷ events) is =
+    let same : within ≡ outer = omega arith in
+    record {
+      others = end name ∷ content within events;
+      parts = refl;
+      starts = λ wanted. ap (λ (n : ℕ). starts_by wanted (content n events)) same;
+      unclosed = λ is_open. absurd cc;
+      closed = ap (λ (n : ℕ). is_closed n events) same;
+    }
+lies_behind (suc inner) outer (suc within) (end name ∷ events) is = let more = lies_behind inner outer within events (omega arith) in record { others = more.others; parts = ap (λ (rest : List Event). end name ∷ rest) more.parts; starts = more.starts; unclosed = more.unclosed; closed = more.closed }
+lies_behind inner outer within (text written ∷ events) is = let more = lies_behind inner outer within events (omega arith) in record { others = more.others; parts = ap (λ (rest : List Event). text written ∷ rest) more.parts; starts = more.starts; unclosed = more.unclosed; closed = more.closed }
+lies_behind inner outer within (char_data written ∷ events) is = let more = lies_behind inner outer within events (omega arith) in record { others = more.others; parts = ap (λ (rest : List Event). char_data written ∷ rest) more.parts; starts = more.starts; unclosed = more.unclosed; closed = more.closed }
+lies_behind inner outer within (entity_ref name ∷ events) is = let more = lies_behind inner outer within events (omega arith) in record { others = more.others; parts = ap (λ (rest : List Event). entity_ref name ∷ rest) more.parts; starts = more.starts; unclosed = more.unclosed; closed = more.closed }
+lies_behind inner outer within (other ∷ events) is = let more = lies_behind inner outer within events (omega arith) in record { others = more.others; parts = ap (λ (rest : List Event). other ∷ rest) more.parts; starts = more.starts; unclosed = more.unclosed; closed = more.closed }
+
+-- a section is read on behind an element that lies in it
+pub behind_element : {base outer : ℕ} {first new last : Reading} → ReadsOn base first new → inside base new ≡ suc outer → LiesBehind 0 outer (inside base new) (ahead new) → Goes new last → GoesOn new last → length new.names ≡ suc (length last.names) → (new.source.told ≡ true → Skips new last) → ReadsOn base first last
+behind_element {base = base} {outer = outer} {first = first} {new = new} {last = last} before deep lies way on depth skips =
+    let out : inside base last ≡ outer = omega (arith, depth, deep) in
+    record {
+      goes = goes_further first new last before.goes way;
+      on = goes_on_further first new last before.goes before.on on;
+      within = omega (arith, depth, deep);
+      closed = λ told.
+          ap (λ (n : ℕ). is_closed n (ahead last)) out ∙ ap (λ (events : List Event). is_closed outer events) (skips (before.goes.parts.told ∙ told)).ahead ∙ sym lies.closed ∙ before.closed told;
     }

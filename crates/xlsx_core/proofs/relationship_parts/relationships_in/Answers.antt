@@ -11,7 +11,7 @@ use Rattle.xlsx_core.specs.Refusal.{Refusal}
 use Rattle.xlsx_core.specs.Relationships.{related_by, related_of, AreRelationshipsRefused}
 use Rattle.xlsx_core.proofs.Kept.{last_further, last_refused}
 use Rattle.xlsx_core.proofs.Refused.{start_refusal}
-use Rattle.xlsx_core.proofs.Sections.{IsStartFound, start_found}
+use Rattle.xlsx_core.proofs.Sections.{start_found}
 use Rattle.xlsx_core.proofs.relationship_parts.relationships_in.Goals as goal
 
 -- a lookup is refused whichever Id is asked for
@@ -24,13 +24,7 @@ refused_for_all id tag refusal is = by_lookup id (lookup (codes "Id" ∷ codes "
 
 pub starts-preserved : goal.starts-preserved
 starts-preserved g c =
-    let old = reading_by g.P.Package.state c.args.reader.now in
-    let mid = reading_by g.P.Package.state c.starts.reader in
-    let new = reading_by g.P.Package.state c.next_in.new.reader in
-    let tag = tag_of c.start_tag.result in
-    let found : IsStartFound (is_named (codes "Relationship" ∷ [])) c.depth-base.result tag (new.at - 1) old mid new =
-    start_found old mid new c.if-branch.true c.start_tag.ensures refl c.starts.invariant.reads c.next_in.ensures.goes c.in_ok-next_in.ensures.on c.in_ok-next_in.ensures.stands c.in_ok-next_in.ensures.found
-    in
+    let found = start_found (is_named (codes "Relationship" ∷ [])) c.if-branch.true c.start_tag.ensures refl c.starts.invariant.reads c.next_in.ensures.goes c.in_ok-next_in.ensures.on c.in_ok-next_in.ensures.stands c.in_ok-next_in.ensures.found in
     record {
       hold = search rules;
       reads = found.reads;
@@ -41,12 +35,9 @@ pub returns-in_err-keep_relationship-clause-err : goal.returns-in_err-keep_relat
 unfolding AreRelationshipsRefused
 returns-in_err-keep_relationship-clause-err g c =
     let old = reading_by g.P.Package.state c.args.reader.now in
-    let mid = reading_by g.P.Package.state c.starts.reader in
     let new = reading_by g.P.Package.state c.next_in.new.reader in
     let tag = tag_of c.start_tag.result in
-    let found : IsStartFound (is_named (codes "Relationship" ∷ [])) c.depth-base.result tag (new.at - 1) old mid new =
-    start_found old mid new c.if-branch.true c.start_tag.ensures refl c.starts.invariant.reads c.next_in.ensures.goes c.in_ok-next_in.ensures.on c.in_ok-next_in.ensures.stands c.in_ok-next_in.ensures.found
-    in
+    let found = start_found (is_named (codes "Relationship" ∷ [])) c.if-branch.true c.start_tag.ensures refl c.starts.invariant.reads c.next_in.ensures.goes c.in_ok-next_in.ensures.on c.in_ok-next_in.ensures.stands c.in_ok-next_in.ensures.found in
     let p = err_from_is_err_and c.from_residual-in_err-keep_relationship.result c.from_residual-in_err-keep_relationship.ensures.1 in
     rw (p.1, p.2)
     (start_refusal (codes "Relationships") 0 (AreRelationshipsRefused (content 0 (ahead old))) (λ (refusal : Refusal). related_of [] tag ≡ Err refusal) tag (new.at - 1) old new c.in_err-keep_relationship.field-0.0

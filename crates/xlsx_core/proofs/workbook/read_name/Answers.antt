@@ -8,22 +8,19 @@ use Rattle.xlsx_core.specs.Kept.{kept}
 use Rattle.xlsx_core.specs.Workbook.{AreEventsRefused}
 use Rattle.xlsx_core.specs.WorkbookEvents.{IsNameRefused}
 use Rattle.xlsx_core.proofs.Refused.{event_refusal}
-use Rattle.xlsx_core.proofs.Sections.{IsEventInside, event_inside}
+use Rattle.xlsx_core.proofs.Sections.{event_inside}
 use Rattle.xlsx_core.proofs.Events.{carries_further, refused_earlier, event_taken, event_refused, joins_further, unknown_first, unknown_text, text_refusal}
 use Rattle.xlsx_core.proofs.workbook.read_name.Goals as goal
 
 pub returns-in_err-take_event-clause-err : goal.returns-in_err-take_event-clause-err
 returns-in_err-take_event-clause-err g c =
+    let step = event_inside c.if-branch.true c.event-event.ensures c.at-at.ensures c.events.invariant.reads c.next_inside.ensures.goes c.in_ok-next_inside.ensures.on c.in_ok-next_inside.ensures.stands c.in_ok-next_inside.ensures.inside in
+    let folder = c.args.places.folder.now in
+    let related = kept c.args.places.relationships.now in
     let old = reading_by g.P.Package.state c.args.reader.now in
-    let mid = reading_by g.P.Package.state c.events.reader in
     let new = reading_by g.P.Package.state c.next_inside.new.reader in
     let event = event_of c.event-event.result in
     let place = c.at-at.result - 1 in
-    let step : IsEventInside c.depth-depth.result event place old mid new =
-    event_inside old mid new c.if-branch.true c.event-event.ensures c.at-at.ensures c.events.invariant.reads c.next_inside.ensures.goes c.in_ok-next_inside.ensures.on c.in_ok-next_inside.ensures.stands c.in_ok-next_inside.ensures.inside
-    in
-    let folder = c.args.places.folder.now in
-    let related = kept c.args.places.relationships.now in
     let refused = IsNameRefused folder related c.args.found.now (option_map string_bytes c.args.name) (content 0 (ahead old)) in
     let p = err_from_is_err_and c.from_residual-in_err-take_event.result c.from_residual-in_err-take_event.ensures.1 in
     rw (p.1, p.2)
@@ -34,14 +31,7 @@ returns-in_err-take_event-clause-err g c =
 
 pub events-preserved : goal.events-preserved
 events-preserved g c =
-    let old = reading_by g.P.Package.state c.args.reader.now in
-    let mid = reading_by g.P.Package.state c.events.reader in
-    let new = reading_by g.P.Package.state c.next_inside.new.reader in
-    let event = event_of c.event-event.result in
-    let place = c.at-at.result - 1 in
-    let step : IsEventInside c.depth-depth.result event place old mid new =
-    event_inside old mid new c.if-branch.true c.event-event.ensures c.at-at.ensures c.events.invariant.reads c.next_inside.ensures.goes c.in_ok-next_inside.ensures.on c.in_ok-next_inside.ensures.stands c.in_ok-next_inside.ensures.inside
-    in
+    let step = event_inside c.if-branch.true c.event-event.ensures c.at-at.ensures c.events.invariant.reads c.next_inside.ensures.goes c.in_ok-next_inside.ensures.on c.in_ok-next_inside.ensures.stands c.in_ok-next_inside.ensures.inside in
     record {
       hold = search rules;
       reads = step.reads;
@@ -56,16 +46,13 @@ events-preserved g c =
 
 pub returns-in_err-push_text-clause-err : goal.returns-in_err-push_text-clause-err
 returns-in_err-push_text-clause-err g c =
+    let step = event_inside c.if-branch.true c.event-event.ensures c.at-at.ensures c.events.invariant.reads c.next_inside.ensures.goes c.in_ok-next_inside.ensures.on c.in_ok-next_inside.ensures.stands c.in_ok-next_inside.ensures.inside in
+    let folder = c.args.places.folder.now in
+    let related = kept c.args.places.relationships.now in
     let old = reading_by g.P.Package.state c.args.reader.now in
-    let mid = reading_by g.P.Package.state c.events.reader in
     let new = reading_by g.P.Package.state c.next_inside.new.reader in
     let event = event_of c.event-event.result in
     let place = c.at-at.result - 1 in
-    let step : IsEventInside c.depth-depth.result event place old mid new =
-    event_inside old mid new c.if-branch.true c.event-event.ensures c.at-at.ensures c.events.invariant.reads c.next_inside.ensures.goes c.in_ok-next_inside.ensures.on c.in_ok-next_inside.ensures.stands c.in_ok-next_inside.ensures.inside
-    in
-    let folder = c.args.places.folder.now in
-    let related = kept c.args.places.relationships.now in
     let refused = IsNameRefused folder related c.args.found.now (option_map string_bytes c.args.name) (content 0 (ahead old)) in
     let p = err_from_is_err_and c.from_residual-in_err-push_text.result c.from_residual-in_err-push_text.ensures.1 in
     rw (p.1, p.2)
