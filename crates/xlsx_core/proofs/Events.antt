@@ -1,10 +1,10 @@
 -- How what is kept of a workbook's section goes on with the events that are taken.
-use Rattle.std.proofs.Common.{◌≡◌, ℕ, zero, suc, ◌+◌, ◌-◌, ◌≤◌, List, [], ◌∷◌, ◌++◌, length, Bool, true, false, Option, Some, None, Result, Ok, Err, refl, sym, ◌∙◌, ap, subst, inl, inr, arith, append_assoc, string_bytes, String, Global}
+use Rattle.std.proofs.Common.{◌≡◌, ℕ, suc, ◌-◌, ◌≤◌, List, [], ◌∷◌, ◌++◌, length, Bool, true, false, Option, Some, None, Ok, Err, refl, sym, ◌∙◌, ap, subst, inl, inr, arith, append_assoc, string_bytes, String, Global}
 use Rattle.std.specs.Prelude.{slice_get, is_some, option_map}
-use Rattle.part_events.specs.Event.{Tag, Event, start, end, text, char_data, entity_ref, other}
+use Rattle.part_events.specs.Event.{Tag, Event, start}
 use Rattle.part_events.specs.JoinedText.{joined, text_of, is_unknown, unknown_entity, IsUnknownAt}
 use Rattle.part_events.specs.Reading.{Reading, Skips, ahead, events_of, names_behind}
-use Rattle.part_events.specs.Section.{Element, content, is_closed, behind, starts_by}
+use Rattle.part_events.specs.Section.{Element, content, behind}
 use Rattle.part_events.specs.Walk.{inside}
 use Rattle.part_events.specs.declared.fault.XmlFault.TheVariants.{Entity}
 use Rattle.part_events.proofs.Walking.{next_element}
