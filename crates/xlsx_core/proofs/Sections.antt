@@ -25,11 +25,20 @@ pub record ReadsOn (base : ℕ) (old now : Reading) : Type 0 where
   pub within : base ≤ length now.names
   pub closed : old.source.told ≡ true → is_closed (inside base now) (ahead now) ≡ is_closed 0 (ahead old)
 
+pub reads_further : {base : ℕ} {first old new : Reading} → ReadsOn base first old → Goes old new → GoesOn old new → base ≤ length new.names → (old.source.told ≡ true → is_closed (inside base new) (ahead new) ≡ is_closed (inside base old) (ahead old)) → ReadsOn base first new
+reads_further {first = first} {old = old} {new = new} before way on within closed = record {
+  goes = goes_further first old new before.goes way;
+  on = goes_on_further first old new before.goes before.on on;
+  within = within;
+  closed = λ told. closed (before.goes.parts.told ∙ told) ∙ before.closed told;
+}
+
 -- the event that was taken last stands at its place
-last_there : (first new : Reading) (past : List Event) (event : Event) → GoesOn first new → IsTracked new → new.source.past ≡ event ∷ past → first.source.told ≡ true → slice_get (events_of first) (new.at - 1) ≡ Some event
-last_there first new past event on is last told =
+last_there : {base : ℕ} (first new : Reading) (past : List Event) (event : Event) → ReadsOn base first new → new.source.past ≡ event ∷ past → first.source.told ≡ true → slice_get (events_of first) (new.at - 1) ≡ Some event
+last_there first new past event reads last told =
+    let is : IsTracked new = reads.on.reading.tracked (reads.goes.parts.told ∙ told) in
     let place : new.at - 1 ≡ length (reverse past) = omega (arith, is.at, ap length last, length-reverse past) in
-    rw (← on.part told, last, reverse_on event past new.source.rest, place) (slice_get-append (reverse past) new.source.rest event)
+    rw (← reads.on.part told, last, reverse_on event past new.source.rest, place) (slice_get-append (reverse past) new.source.rest event)
 
 -- an event of a section was taken, which is number `place` of its part
 pub record IsEventInside (base : ℕ) (event : Event) (place : ℕ) (first old new : Reading) : Type 0 where
@@ -39,27 +48,24 @@ pub record IsEventInside (base : ℕ) (event : Event) (place : ℕ) (first old n
   pub takes : TakesEvent old new
   pub steps : first.source.told ≡ true → StepsAhead true old new
   pub left : first.source.told ≡ true → content (inside base old) (ahead old) ≡ event ∷ content (inside base new) (ahead new)
-  pub closed : first.source.told ≡ true → is_closed (inside base old) (ahead old) ≡ is_closed (inside base new) (ahead new)
   pub behind : first.source.told ≡ true → behind (inside base old) (ahead old) ≡ behind (inside base new) (ahead new)
   pub there : first.source.told ≡ true → slice_get (events_of first) place ≡ Some event
 
 pub event_inside : {base : ℕ} {more : Bool} {event : Event} {at : ℕ} {first old new : Reading} → more ≡ true → event ≡ new.source.current → at ≡ new.at → ReadsOn base first old → Goes old new → GoesOn old new → StandsInside base (step_by more) old new → (old.source.told ≡ true → StepsInside base (step_by more) old new) → IsEventInside base event (at - 1) first old new
 event_inside {base = base} {first = first} {old = old} {new = new} is current at_is before way on stands steps =
     let stands_at : TakesEvent old new × (base ≤ length new.names) = rw is at stands in
-    let taken : first.source.told ≡ true → TakesInside base old new = λ told. rw is at (steps (before.goes.parts.told ∙ told)) in
-    let goes : Goes first new = goes_further first old new before.goes way in
-    let goes_on : GoesOn first new = goes_on_further first old new before.goes before.on on in
+    let taken : old.source.told ≡ true → TakesInside base old new = λ told. rw is at (steps told) in
+    let still : first.source.told ≡ true → old.source.told ≡ true = λ told. before.goes.parts.told ∙ told in
+    let reads : ReadsOn base first new = reads_further before way on stands_at.1 (λ told. sym (taken told).closed) in
     record {
-      reads = record { goes = goes; on = goes_on; within = stands_at.1; closed = λ told. sym (taken told).closed ∙ before.closed told };
+      reads = reads;
       current = current;
       was = before.within;
       takes = stands_at.0;
-      steps = λ told. (taken told).steps;
-      left = λ told. (taken told).events ∙ ap (λ (next : Event). next ∷ content (inside base new) (ahead new)) (sym current);
-      closed = λ told. (taken told).closed;
-      behind = λ told. (taken told).left;
-      there = λ told.
-          rw (at_is, current) (last_there first new old.source.past new.source.current goes_on (goes_on.reading.tracked (goes.parts.told ∙ told)) (taken told).steps.1 told);
+      steps = λ told. (taken (still told)).steps;
+      left = λ told. (taken (still told)).events ∙ ap (λ (next : Event). next ∷ content (inside base new) (ahead new)) (sym current);
+      behind = λ told. (taken (still told)).left;
+      there = λ told. rw (at_is, current) (last_there first new old.source.past new.source.current reads (taken (still told)).steps.1 told);
     }
 
 -- a wanted start of a section was found, which is event number `place` of its part
@@ -74,20 +80,18 @@ first_there (own ∷ past) event last = let same : own ≡ event = cc in (past, 
 
 pub start_found : {base : ℕ} {more : Bool} {tag : Tag} {at : ℕ} {first old new : Reading} (wanted : Tag → Bool) → more ≡ true → start tag ≡ new.source.current → at ≡ new.at → ReadsOn base first old → Goes old new → GoesOn old new → StandsAt wanted base (found_by more) old new → (old.source.told ≡ true → FindsStart wanted base (found_by more) old new) → IsStartFound wanted base tag (at - 1) first old new
 start_found {base = base} {tag = tag} {first = first} {old = old} {new = new} wanted is current at_is before way on stands finds =
-    let still : first.source.told ≡ true → old.source.told ≡ true = λ told. before.goes.parts.told ∙ told in
-    let next : first.source.told ≡ true → IsNextStart wanted base tag old new = λ told.
-    let found : IsStartAnd new.source.current (λ own. IsNextStart wanted base own old new) = rw is at (finds (still told)) in
+    let next : old.source.told ≡ true → IsNextStart wanted base tag old new = λ told.
+    let found : IsStartAnd new.source.current (λ own. IsNextStart wanted base own old new) = rw is at (finds told) in
     subst (λ (event : Event). IsStartAnd event (λ own. IsNextStart wanted base own old new)) (sym current) found
     in
+    let still : first.source.told ≡ true → old.source.told ≡ true = λ told. before.goes.parts.told ∙ told in
     let stands_at : StandsAt wanted base (found_by true) old new = rw is at stands in
-    let goes : Goes first new = goes_further first old new before.goes way in
-    let goes_on : GoesOn first new = goes_on_further first old new before.goes before.on on in
+    let reads : ReadsOn base first new = reads_further before way on (omega (arith, stands_at.1)) (λ told. sym (next told).closed) in
     record {
-      reads = record { goes = goes; on = goes_on; within = omega (arith, stands_at.1); closed = λ told. sym (next told).closed ∙ before.closed told };
-      starts = λ told. (next told).starts;
+      reads = reads;
+      starts = λ told. (next (still told)).starts;
       there = λ told.
-          let past = first_there new.source.past (start tag) (next told).last in
-          rw at_is (last_there first new past.0 (start tag) goes_on (goes_on.reading.tracked (goes.parts.told ∙ told)) past.1 told);
+          let past = first_there new.source.past (start tag) (next (still told)).last in rw at_is (last_there first new past.0 (start tag) reads past.1 told);
     }
 
 -- what is behind an element that lies in a section
@@ -120,12 +124,7 @@ lies_behind inner outer within (other ∷ events) is = let more = lies_behind in
 
 -- a section is read on behind an element that lies in it
 pub behind_element : {base outer : ℕ} {first new last : Reading} → ReadsOn base first new → inside base new ≡ suc outer → LiesBehind 0 outer (inside base new) (ahead new) → Goes new last → GoesOn new last → length new.names ≡ suc (length last.names) → (new.source.told ≡ true → Skips new last) → ReadsOn base first last
-behind_element {base = base} {outer = outer} {first = first} {new = new} {last = last} before deep lies way on depth skips =
+behind_element {base = base} {outer = outer} {new = new} {last = last} before deep lies way on depth skips =
     let out : inside base last ≡ outer = omega (arith, depth, deep) in
-    record {
-      goes = goes_further first new last before.goes way;
-      on = goes_on_further first new last before.goes before.on on;
-      within = omega (arith, depth, deep);
-      closed = λ told.
-          ap (λ (n : ℕ). is_closed n (ahead last)) out ∙ ap (λ (events : List Event). is_closed outer events) (skips (before.goes.parts.told ∙ told)).ahead ∙ sym lies.closed ∙ before.closed told;
-    }
+    reads_further before way on (omega (arith, depth, deep))
+    (λ told. ap (λ (n : ℕ). is_closed n (ahead last)) out ∙ ap (λ (events : List Event). is_closed outer events) (skips told).ahead ∙ sym lies.closed)

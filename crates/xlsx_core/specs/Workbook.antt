@@ -17,8 +17,8 @@ pair_of name = (string_bytes name.0, string_bytes name.1)
 abbrev pub names_of : WorkbookContents → List (List ℕ × List ℕ)
 names_of found = map pair_of found.names.items
 
--- what is kept in the end of the sheets and of the flag, with what the events say that are left then, is what was kept at
--- first, with what those events said
+-- the sheets and the flag that are kept at last, with what the events say that are left, are those that were kept at first,
+-- with what the events said that were left then
 pub record Carries (folder : List ℕ) (related : List ℕ → Option Related) (first : WorkbookContents) (events : List Event) (last : WorkbookContents) (left : List Event) : Type 0 where
   pub sheets : prepended (sheets_of last) (sheets_in folder related left) ≡ prepended (sheets_of first) (sheets_in folder related events)
   pub flag : or_earlier last.flag (flag_in left) ≡ or_earlier first.flag (flag_in events)
