@@ -9,7 +9,6 @@ use Rattle.part_events.specs.Section.{content, is_closed, behind, starts_by}
 use Rattle.part_events.specs.Walk.{inside, StandsAt, FindsStart, IsNextStart, StandsInside, StepsInside, TakesInside}
 use Rattle.part_events.proofs.Nested.{reverse_on, whole_split}
 use Rattle.part_events.proofs.Texts.{slice_get-append}
-use Rattle.part_events.proofs.Walking.{goes_further, goes_on_further}
 use Rattle.xlsx_core.specs.Section.{found_by, step_by}
 
 -- a part that was read to its end is whole
@@ -17,6 +16,21 @@ pub whole_at_end : {old new : Reading} → Goes old new → GoesOn old new → I
 whole_at_end {new = new} way on ended told =
     let here : whole (events_of new) ≡ events_of new = rw ended.rest (whole_split new.source.past [] (on.reading.tracked (way.parts.told ∙ told)).whole) in
     subst (λ (events : List Event). whole events ≡ events) (on.part told) here
+
+goes_further : (old mid new : Reading) → Goes old mid → Goes mid new → Goes old new
+goes_further old mid new first second = record {
+  parts = record { told = second.parts.told ∙ first.parts.told; parts = second.parts.parts ∙ first.parts.parts; faults = omega (arith, first.parts.faults, second.parts.faults) };
+  forward = omega (arith, first.forward, second.forward);
+  taken = omega (arith, first.forward, second.forward, first.taken, second.taken);
+}
+
+goes_on_further : (old mid new : Reading) → Goes old mid → GoesOn old mid → GoesOn mid new → GoesOn old new
+goes_on_further old mid new way first second = record {
+  reading = second.reading;
+  faults = second.faults ∙ first.faults;
+  left = second.left ∙ first.left;
+  part = λ told. second.part (way.parts.told ∙ told) ∙ first.part told;
+}
 
 -- a section was read on from behind its start
 pub record ReadsOn (base : ℕ) (old now : Reading) : Type 0 where
@@ -64,7 +78,7 @@ event_inside {base = base} {first = first} {old = old} {new = new} is current at
       takes = stands_at.0;
       steps = λ told. (taken (still told)).steps;
       left = λ told. (taken (still told)).events ∙ ap (λ (next : Event). next ∷ content (inside base new) (ahead new)) (sym current);
-      behind = λ told. (taken (still told)).left;
+      behind = λ told. (taken (still told)).behind;
       there = λ told. rw (at_is, current) (last_there first new old.source.past new.source.current reads (taken (still told)).steps.1 told);
     }
 
