@@ -10,7 +10,7 @@ use Rattle.serde_json.specs.Data.{Data}
 use Rattle.serde_json.specs.Read.{read}
 use Rattle.part_events.specs.Package.{Part}
 use Rattle.xlsx_core.specs.PlainSheet.{PlainCell, PlainRow, IsPlainCell, IsPlainRow, all_cells}
-use Rattle.xlsx_core.specs.ThinReading.{ReadsAs, ThinCause, ThinFails}
+use Rattle.xlsx_core.specs.ThinReading.{ReadsAs, ThinFails}
 use Rattle.cell_data.specs.declared.error.XlsxError.{XlsxError}
 use Rattle.cell_data.specs.declared.error.XlsxError.TheVariants as workbook
 use Rattle.part_events.specs.Memory.{Contents, state_of}

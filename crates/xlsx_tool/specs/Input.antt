@@ -4,7 +4,7 @@ use Rattle.part_events.specs.Package.{Rose}
 use Rattle.xlsx_tool.specs.Source.{SourceState}
 use Rattle.xlsx_tool.specs.declared.input.TheConstants.{INPUT_LIMIT}
 use Rattle.xlsx_tool.specs.declared.error.ToolError.{ToolError}
-use Rattle.xlsx_tool.specs.declared.error.ToolError.TheVariants.{Usage, ReadFault, InputTooLarge, NotAPackage, NotBuilt, Workbook, WriteFault, OutOfMemory}
+use Rattle.xlsx_tool.specs.declared.error.ToolError.TheVariants.{ReadFault, InputTooLarge, OutOfMemory}
 
 -- the whole input was read, and is these bytes
 pub record InputRead (bytes : List ℕ) (source source' : SourceState) : Type 0 where
