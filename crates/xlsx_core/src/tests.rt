@@ -27,7 +27,8 @@ fn show_cell(out: &mut String, cell: &ThinCell) -> Result<(), Fail> {
 /// the refusal.
 fn answer<P: Package + Drop>(alloc: Global, package: P, name: &str) -> Result<String, Fail> {
     let mut out = String::new(alloc);
-    match read_thin(alloc, package, name).result {
+    let ThinAnswer { result, package: _ } = read_thin(alloc, package, name);
+    match result {
         Ok(cells) => {
             for cell in &cells {
                 show_cell(&mut out, cell)?;
@@ -244,6 +245,15 @@ const MORE: [((&str, &str), &str); 15] = [
     ((r"XL\worksheets/SHEET1.xml", NO_CELLS), ""),
 ];
 
+#[test]
+fn other_packages_are_refused(rt: HostRuntime) -> Result<(), Fail> {
+    for (part, want) in MORE {
+        let told = answer_with(rt.alloc(), part, "S")?;
+        assert_eq!(rt; told.as_str(), want, "with {part:?}");
+    }
+    Ok(())
+}
+
 /// The minimal package without one of its parts, and the answer.
 const CUT: [([(&str, &str); 3], &str); 4] = [
     (
@@ -259,11 +269,7 @@ const CUT: [([(&str, &str); 3], &str); 4] = [
 ];
 
 #[test]
-fn other_packages_are_refused(rt: HostRuntime) -> Result<(), Fail> {
-    for (part, want) in MORE {
-        let told = answer_with(rt.alloc(), part, "S")?;
-        assert_eq!(rt; told.as_str(), want, "with {part:?}");
-    }
+fn absent_parts_are_refused(rt: HostRuntime) -> Result<(), Fail> {
     for (parts, want) in CUT {
         let told = answer(rt.alloc(), package_of(rt.alloc(), &parts)?, "S")?;
         assert_eq!(rt; told.as_str(), want, "of {parts:?}");
@@ -276,9 +282,9 @@ fn the_package_is_handed_back(rt: HostRuntime) -> Result<(), Fail> {
     let alloc = rt.alloc();
     let calls = vec![in alloc; 0u64]?;
     let failing = FailingPackage::new(package_of(alloc, &[ROOT])?, calls);
-    let first = read_thin(alloc, failing, "S");
-    assert_eq!(rt; first.result.err(), Some(XlsxError::Io));
-    assert_eq!(rt; first.package.faults(), 1);
+    let ThinAnswer { result, package } = read_thin(alloc, failing, "S");
+    assert_eq!(rt; result.err(), Some(XlsxError::Io));
+    assert_eq!(rt; package.faults(), 1);
     Ok(())
 }
 

@@ -28,9 +28,9 @@ pub struct ThinAnswer<P: Package> {
 
 /// The cells, in order, of the first sheet of this name. Its part must be in plain form (docs/FORMAT.md).
 ///
-/// Fails with `NotBuilt` where the workbook has shared strings or styles or the part has another form, with
-/// `WorksheetNotFound` where the workbook has no sheet of this name or the sheet no part, and as the workbook doesn't
-/// open. The package is handed back, with the same parts.
+/// Fails as `Xlsx::new` where the workbook doesn't open, with `WorksheetNotFound` where it has no sheet of this name or
+/// the sheet no part, and with `NotBuilt` where the part has another form. The package is handed back, with the same
+/// parts.
 pub fn read_thin<P: Package>(alloc: Global, package: P, name: &str) -> ThinAnswer<P>
     ensures keeps { SameParts (P.state «package») (P.state result.package) }
     ensures faults { OnOk result.result ((P.state result.package).faults ≡ (P.state «package»).faults) }
