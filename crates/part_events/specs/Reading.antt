@@ -162,6 +162,10 @@ StepFails old new (Xml (Unclosed at)) = ⊥
 StepFails old new (Xml (Entity at)) = ⊥
 StepFails old new OutOfMemory = ⊤
 
+-- a refusal leaves the count of faults as it was, but that of a fault
+abbrev pub KeepsFaults : Reading → Reading → StreamError → Type 0
+KeepsFaults old new error = (error ≡ Io → ⊥) → new.source.faults ≡ old.source.faults
+
 -- the part ends inside an element, and has `at` events
 pub record EndsOpen (events : List Event) (at : ℕ) : Type 0 where
   pub whole : whole events ≡ events

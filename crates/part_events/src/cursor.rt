@@ -1,7 +1,7 @@
 ghost use Rattle.std.specs.Prelude.{◌≡◌, ◌+◌, ◌<◌, ◌^◌, ℕ, [], length, true, false, is_err, IfOk, OnOk, IfErr};
 ghost use Rattle.part_events.specs.declared.fault.StreamError.TheVariants.{Xml};
 ghost use Rattle.part_events.specs.declared.fault.XmlFault.TheVariants.{Unclosed};
-ghost use Rattle.part_events.specs.Reading.{reading, events_taken, open_elements, has_failed, allocator_in, IsReading, IsAtStart, Goes, GoesOn, Steps, StepsAhead, StepFails};
+ghost use Rattle.part_events.specs.Reading.{reading, events_taken, open_elements, has_failed, allocator_in, IsReading, IsAtStart, Goes, GoesOn, KeepsFaults, Steps, StepsAhead, StepFails};
 
 use crate::event::PartEvent;
 use crate::fault::{StreamError, XmlFault};
@@ -44,6 +44,7 @@ impl Cursor {
         ensures steps { IfOk result (λ more. Steps more (reading (P.state «package».old) self.old) (reading (P.state «package».new) self.new)) }
         ensures ahead { (P.state «package».old).told ≡ true → IfOk result (λ more. StepsAhead more (reading (P.state «package».old) self.old) (reading (P.state «package».new) self.new)) }
         ensures err { IfErr result (StepFails (reading (P.state «package».old) self.old) (reading (P.state «package».new) self.new)) }
+        ensures counts { IfErr result (KeepsFaults (reading (P.state «package».old) self.old) (reading (P.state «package».new) self.new)) }
         ensures alloc { allocator_in self.new ≡ allocator_in self.old }
     {
         if !package.advance()? {
@@ -75,6 +76,7 @@ impl Cursor {
         ensures steps { IfOk result (λ more. Steps more (reading (P.state «package».old) self.old) (reading (P.state «package».new) self.new)) }
         ensures ahead { (P.state «package».old).told ≡ true → IfOk result (λ more. StepsAhead more (reading (P.state «package».old) self.old) (reading (P.state «package».new) self.new)) }
         ensures err { IfErr result (StepFails (reading (P.state «package».old) self.old) (reading (P.state «package».new) self.new)) }
+        ensures counts { IfErr result (KeepsFaults (reading (P.state «package».old) self.old) (reading (P.state «package».new) self.new)) }
         ensures failed { has_failed self.new ≡ is_err result }
         ensures alloc { allocator_in self.new ≡ allocator_in self.old }
     {

@@ -3,7 +3,7 @@ ghost use Rattle.part_events.specs.declared.fault.StreamError.TheVariants.{Io};
 ghost use Rattle.part_events.specs.Event.{event_of};
 ghost use Rattle.part_events.specs.JoinedText.{PutsFront, ReadsText, TextFails};
 ghost use Rattle.part_events.specs.Package.{part_of};
-ghost use Rattle.part_events.specs.Reading.{ahead, events_of, OpensReader, IsReading, IsAtStart, IsAtElement, Goes, GoesOn, Steps, StepsAhead, StepFails, Skips, SkipFails};
+ghost use Rattle.part_events.specs.Reading.{ahead, events_of, OpensReader, IsReading, IsAtStart, IsAtElement, Goes, GoesOn, KeepsFaults, Steps, StepsAhead, StepFails, Skips, SkipFails};
 ghost use Rattle.part_events.specs.Section.{content, is_named, is_any};
 ghost use Rattle.part_events.specs.Walk.{StandsInside, StepsInside, InsideFails, StandsAt, FindsStart, FindsElement, WalkFails};
 
@@ -81,6 +81,7 @@ impl<'a, P: Package> XlReader<'a, P> {
         ensures steps { IfOk result (λ more. Steps more (reading_by P.state self.old) (reading_by P.state self.new)) }
         ensures ahead { (reading_by P.state self.old).source.told ≡ true → IfOk result (λ more. StepsAhead more (reading_by P.state self.old) (reading_by P.state self.new)) }
         ensures err { IfErr result (StepFails (reading_by P.state self.old) (reading_by P.state self.new)) }
+        ensures counts { IfErr result (KeepsFaults (reading_by P.state self.old) (reading_by P.state self.new)) }
         ensures failed { (reading_by P.state self.new).is_failed ≡ is_err result }
     {
         self.cursor.next(self.package)
@@ -104,6 +105,7 @@ impl<'a, P: Package> XlReader<'a, P> {
         ensures depth { OnOk result (length (reading_by P.state self.old).names ≡ suc (length (reading_by P.state self.new).names)) }
         ensures skips { (reading_by P.state self.old).source.told ≡ true → OnOk result (Skips (reading_by P.state self.old) (reading_by P.state self.new)) }
         ensures err { IfErr result (SkipFails (reading_by P.state self.old) (reading_by P.state self.new)) }
+        ensures counts { IfErr result (KeepsFaults (reading_by P.state self.old) (reading_by P.state self.new)) }
         ensures failed { (reading_by P.state self.new).is_failed ≡ is_err result }
     {
         self.cursor.skip_element(self.package)
@@ -122,6 +124,7 @@ impl<'a, P: Package> XlReader<'a, P> {
         ensures text { (reading_by P.state self.old).source.told ≡ true → IfOk result (λ closed. ReadsText char_data closed (string_bytes out.old) (string_bytes out.new) (reading_by P.state self.old) (reading_by P.state self.new)) }
         ensures front { (reading_by P.state self.old).source.told ≡ true → OnErr result (PutsFront char_data (content 0 (ahead (reading_by P.state self.old))) (string_bytes out.old) (string_bytes out.new)) }
         ensures err { IfErr result (TextFails (reading_by P.state self.old) (reading_by P.state self.new)) }
+        ensures counts { IfErr result (KeepsFaults (reading_by P.state self.old) (reading_by P.state self.new)) }
         ensures failed { (reading_by P.state self.new).is_failed ≡ is_err result }
     {
         self.cursor.read_text(self.package, out, char_data)
@@ -138,6 +141,7 @@ impl<'a, P: Package> XlReader<'a, P> {
         ensures stands { IfOk result (λ found. StandsInside base found (reading_by P.state self.old) (reading_by P.state self.new)) }
         ensures inside { (reading_by P.state self.old).source.told ≡ true → IfOk result (λ found. StepsInside base found (reading_by P.state self.old) (reading_by P.state self.new)) }
         ensures err { IfErr result (InsideFails base (reading_by P.state self.old) (reading_by P.state self.new)) }
+        ensures counts { IfErr result (KeepsFaults (reading_by P.state self.old) (reading_by P.state self.new)) }
         ensures failed { (reading_by P.state self.new).is_failed ≡ is_err result }
     {
         self.cursor.next_inside(self.package, base)
@@ -154,6 +158,7 @@ impl<'a, P: Package> XlReader<'a, P> {
         ensures stands { IfOk result (λ found. StandsAt (is_named (map (λ name. name.now) names.now)) base found (reading_by P.state self.old) (reading_by P.state self.new)) }
         ensures found { (reading_by P.state self.old).source.told ≡ true → IfOk result (λ found. FindsStart (is_named (map (λ name. name.now) names.now)) base found (reading_by P.state self.old) (reading_by P.state self.new)) }
         ensures err { IfErr result (WalkFails (is_named (map (λ name. name.now) names.now)) base (reading_by P.state self.old) (reading_by P.state self.new)) }
+        ensures counts { IfErr result (KeepsFaults (reading_by P.state self.old) (reading_by P.state self.new)) }
         ensures failed { (reading_by P.state self.new).is_failed ≡ is_err result }
     {
         self.cursor.next_start(self.package, base, names)
@@ -170,6 +175,7 @@ impl<'a, P: Package> XlReader<'a, P> {
         ensures stands { IfOk result (λ found. StandsAt (is_named (map (λ name. name.now) names.now)) base found (reading_by P.state self.old) (reading_by P.state self.new)) }
         ensures found { (reading_by P.state self.old).source.told ≡ true → IfOk result (λ found. FindsElement (is_named (map (λ name. name.now) names.now)) base found (reading_by P.state self.old) (reading_by P.state self.new)) }
         ensures err { IfErr result (WalkFails (is_named (map (λ name. name.now) names.now)) base (reading_by P.state self.old) (reading_by P.state self.new)) }
+        ensures counts { IfErr result (KeepsFaults (reading_by P.state self.old) (reading_by P.state self.new)) }
         ensures failed { (reading_by P.state self.new).is_failed ≡ is_err result }
     {
         self.cursor.next_element(self.package, base, names)
@@ -186,6 +192,7 @@ impl<'a, P: Package> XlReader<'a, P> {
         ensures stands { IfOk result (λ found. StandsAt is_any base found (reading_by P.state self.old) (reading_by P.state self.new)) }
         ensures found { (reading_by P.state self.old).source.told ≡ true → IfOk result (λ found. FindsElement is_any base found (reading_by P.state self.old) (reading_by P.state self.new)) }
         ensures err { IfErr result (WalkFails is_any base (reading_by P.state self.old) (reading_by P.state self.new)) }
+        ensures counts { IfErr result (KeepsFaults (reading_by P.state self.old) (reading_by P.state self.new)) }
         ensures failed { (reading_by P.state self.new).is_failed ≡ is_err result }
     {
         self.cursor.next_child(self.package, base)

@@ -1,7 +1,7 @@
 ghost use Rattle.std.specs.Prelude.{◌≡◌, ◌<◌, ◌++◌, ◌-◌, suc, length, true, false, OnOk, OnErr, IfOk, IfErr, is_err, string_bytes};
 ghost use Rattle.part_events.specs.Event.{event_of};
 ghost use Rattle.part_events.specs.JoinedText.{text_error, text_of, is_unknown, EventFails, PutsFront, ReadsText, TextFails};
-ghost use Rattle.part_events.specs.Reading.{reading, events_taken, open_elements, has_failed, allocator_in, IsReading, IsAtElement, Goes, GoesOn, ahead};
+ghost use Rattle.part_events.specs.Reading.{reading, events_taken, open_elements, has_failed, allocator_in, IsReading, IsAtElement, Goes, GoesOn, KeepsFaults, ahead};
 ghost use Rattle.part_events.specs.Section.{content};
 
 use crate::cursor::Cursor;
@@ -56,6 +56,7 @@ impl Cursor {
         ensures text { (P.state «package».old).told ≡ true → IfOk result (λ closed. ReadsText char_data closed (string_bytes out.old) (string_bytes out.new) (reading (P.state «package».old) self.old) (reading (P.state «package».new) self.new)) }
         ensures front { (P.state «package».old).told ≡ true → OnErr result (PutsFront char_data (content 0 (ahead (reading (P.state «package».old) self.old))) (string_bytes out.old) (string_bytes out.new)) }
         ensures err { IfErr result (TextFails (reading (P.state «package».old) self.old) (reading (P.state «package».new) self.new)) }
+        ensures counts { IfErr result (KeepsFaults (reading (P.state «package».old) self.old) (reading (P.state «package».new) self.new)) }
         ensures alloc { allocator_in self.new ≡ allocator_in self.old }
     {
         let base = self.depth();
@@ -89,6 +90,7 @@ impl Cursor {
         ensures text { (P.state «package».old).told ≡ true → IfOk result (λ closed. ReadsText char_data closed (string_bytes out.old) (string_bytes out.new) (reading (P.state «package».old) self.old) (reading (P.state «package».new) self.new)) }
         ensures front { (P.state «package».old).told ≡ true → OnErr result (PutsFront char_data (content 0 (ahead (reading (P.state «package».old) self.old))) (string_bytes out.old) (string_bytes out.new)) }
         ensures err { IfErr result (TextFails (reading (P.state «package».old) self.old) (reading (P.state «package».new) self.new)) }
+        ensures counts { IfErr result (KeepsFaults (reading (P.state «package».old) self.old) (reading (P.state «package».new) self.new)) }
         ensures failed { has_failed self.new ≡ is_err result }
         ensures alloc { allocator_in self.new ≡ allocator_in self.old }
     {

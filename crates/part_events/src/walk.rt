@@ -2,7 +2,7 @@ ghost use Rattle.std.specs.Prelude.{◌≡◌, ℕ, suc, ◌≤◌, length, map,
 ghost use Rattle.std.specs.List.{list_any};
 ghost use Rattle.std.specs.Str.{bytes_eq};
 ghost use Rattle.part_events.specs.Event.{tag_of};
-ghost use Rattle.part_events.specs.Reading.{reading, open_elements, has_failed, allocator_in, IsReading, IsAtElement, Goes, GoesOn, Skips, SkipFails};
+ghost use Rattle.part_events.specs.Reading.{reading, open_elements, has_failed, allocator_in, IsReading, IsAtElement, Goes, GoesOn, KeepsFaults, Skips, SkipFails};
 ghost use Rattle.part_events.specs.Section.{is_named, is_any};
 ghost use Rattle.part_events.specs.Walk.{wants, StandsInside, StepsInside, InsideFails, StandsAt, FindsStart, FindsElement, WalkFails};
 
@@ -78,6 +78,7 @@ impl Cursor {
         ensures stands { IfOk result (λ found. StandsInside base found (reading (P.state «package».old) self.old) (reading (P.state «package».new) self.new)) }
         ensures inside { (P.state «package».old).told ≡ true → IfOk result (λ found. StepsInside base found (reading (P.state «package».old) self.old) (reading (P.state «package».new) self.new)) }
         ensures err { IfErr result (InsideFails base (reading (P.state «package».old) self.old) (reading (P.state «package».new) self.new)) }
+        ensures counts { IfErr result (KeepsFaults (reading (P.state «package».old) self.old) (reading (P.state «package».new) self.new)) }
         ensures failed { has_failed self.new ≡ is_err result }
         ensures alloc { allocator_in self.new ≡ allocator_in self.old }
     {
@@ -106,6 +107,7 @@ impl Cursor {
         ensures starts { (P.state «package».old).told ≡ true → IfOk result (λ found. FindsStart (wants wanted.entry) base found (reading (P.state «package».old) self.old) (reading (P.state «package».new) self.new)) }
         ensures elements { (P.state «package».old).told ≡ true → IfOk result (λ found. FindsElement (wants wanted.entry) base found (reading (P.state «package».old) self.old) (reading (P.state «package».new) self.new)) }
         ensures err { IfErr result (WalkFails (wants wanted.entry) base (reading (P.state «package».old) self.old) (reading (P.state «package».new) self.new)) }
+        ensures counts { IfErr result (KeepsFaults (reading (P.state «package».old) self.old) (reading (P.state «package».new) self.new)) }
         ensures failed { has_failed self.new ≡ is_err result }
         ensures alloc { allocator_in self.new ≡ allocator_in self.old }
     {
@@ -138,6 +140,7 @@ impl Cursor {
         ensures stands { IfOk result (λ found. StandsAt (is_named (map (λ name. name.now) names.now)) base found (reading (P.state «package».old) self.old) (reading (P.state «package».new) self.new)) }
         ensures found { (P.state «package».old).told ≡ true → IfOk result (λ found. FindsStart (is_named (map (λ name. name.now) names.now)) base found (reading (P.state «package».old) self.old) (reading (P.state «package».new) self.new)) }
         ensures err { IfErr result (WalkFails (is_named (map (λ name. name.now) names.now)) base (reading (P.state «package».old) self.old) (reading (P.state «package».new) self.new)) }
+        ensures counts { IfErr result (KeepsFaults (reading (P.state «package».old) self.old) (reading (P.state «package».new) self.new)) }
         ensures failed { has_failed self.new ≡ is_err result }
         ensures alloc { allocator_in self.new ≡ allocator_in self.old }
     {
@@ -159,6 +162,7 @@ impl Cursor {
         ensures stands { IfOk result (λ found. StandsAt (is_named (map (λ name. name.now) names.now)) base found (reading (P.state «package».old) self.old) (reading (P.state «package».new) self.new)) }
         ensures found { (P.state «package».old).told ≡ true → IfOk result (λ found. FindsElement (is_named (map (λ name. name.now) names.now)) base found (reading (P.state «package».old) self.old) (reading (P.state «package».new) self.new)) }
         ensures err { IfErr result (WalkFails (is_named (map (λ name. name.now) names.now)) base (reading (P.state «package».old) self.old) (reading (P.state «package».new) self.new)) }
+        ensures counts { IfErr result (KeepsFaults (reading (P.state «package».old) self.old) (reading (P.state «package».new) self.new)) }
         ensures failed { has_failed self.new ≡ is_err result }
         ensures alloc { allocator_in self.new ≡ allocator_in self.old }
     {
@@ -179,6 +183,7 @@ impl Cursor {
         ensures stands { IfOk result (λ found. StandsAt is_any base found (reading (P.state «package».old) self.old) (reading (P.state «package».new) self.new)) }
         ensures found { (P.state «package».old).told ≡ true → IfOk result (λ found. FindsElement is_any base found (reading (P.state «package».old) self.old) (reading (P.state «package».new) self.new)) }
         ensures err { IfErr result (WalkFails is_any base (reading (P.state «package».old) self.old) (reading (P.state «package».new) self.new)) }
+        ensures counts { IfErr result (KeepsFaults (reading (P.state «package».old) self.old) (reading (P.state «package».new) self.new)) }
         ensures failed { has_failed self.new ≡ is_err result }
         ensures alloc { allocator_in self.new ≡ allocator_in self.old }
     {
@@ -194,6 +199,7 @@ impl Cursor {
         ensures depth { OnOk result (length (open_elements self.old) ≡ suc (length (open_elements self.new))) }
         ensures skips { (P.state «package».old).told ≡ true → OnOk result (Skips (reading (P.state «package».old) self.old) (reading (P.state «package».new) self.new)) }
         ensures err { IfErr result (SkipFails (reading (P.state «package».old) self.old) (reading (P.state «package».new) self.new)) }
+        ensures counts { IfErr result (KeepsFaults (reading (P.state «package».old) self.old) (reading (P.state «package».new) self.new)) }
         ensures failed { has_failed self.new ≡ is_err result }
         ensures alloc { allocator_in self.new ≡ allocator_in self.old }
     {

@@ -16,6 +16,10 @@ use Rattle.cell_data.specs.declared.error.XlsxError.TheVariants.{OutOfMemory, Io
 use Rattle.xlsx_core.specs.Element.{Unknown}
 use Rattle.xlsx_core.specs.Refusal.{Refusal, lookup_fault, undecoded, no_character, unrelated}
 
+-- a refusal leaves the count of faults as it was, but that of a fault
+abbrev pub KeepsFaults : PackageState → PackageState → XlsxError → Type 0
+KeepsFaults old new error = (error ≡ Io → ⊥) → new.faults ≡ old.faults
+
 -- an answer of a step in a section: a start, or the section's end
 abbrev pub found_by : Bool → Found
 found_by true = found.Start

@@ -1,5 +1,6 @@
 ghost use Rattle.std.specs.Prelude.{◌≡◌, map, true, false, None, unwrap_or, string_bytes, IfOk, OnOk, IfErr};
 ghost use Rattle.part_events.specs.Package.{SameParts, part_of};
+ghost use Rattle.xlsx_core.specs.Section.{KeepsFaults};
 ghost use Rattle.xlsx_core.specs.Kept.{entry_of};
 ghost use Rattle.xlsx_core.specs.Opened.{placed, opening_of};
 ghost use Rattle.xlsx_core.specs.Opening.{OpensAs, IsBuilt, OpeningFails, empty_opening};
@@ -36,6 +37,7 @@ fn refuse_part<P: Package>(package: &mut P, part: &str) -> Result<(), XlsxError>
     ensures faults { OnOk result ((P.state «package».new).faults ≡ (P.state «package».old).faults) }
     ensures absent { (P.state «package».old).told ≡ true → OnOk result (part_of (P.state «package».old).parts part.now ≡ None) }
     ensures err { IfErr result (PresenceFails part.now (P.state «package».old) (P.state «package».new)) }
+    ensures counts { IfErr result (KeepsFaults (P.state «package».old) (P.state «package».new)) }
 {
     if package.open(part)? {
         Err(XlsxError::NotBuilt)
@@ -50,6 +52,7 @@ fn refuse_unbuilt<P: Package>(alloc: Global, package: &mut P, path: &str) -> Res
     ensures faults { OnOk result ((P.state «package».new).faults ≡ (P.state «package».old).faults) }
     ensures absent { (P.state «package».old).told ≡ true → OnOk result (LacksUnbuilt path.now (P.state «package».old).parts) }
     ensures err { IfErr result (UnbuiltFails path.now (P.state «package».old) (P.state «package».new)) }
+    ensures counts { IfErr result (KeepsFaults (P.state «package».old) (P.state «package».new)) }
 {
     let strings = joined(alloc, folder_of(path), "sharedStrings.xml")?;
     refuse_part(package, strings.as_str())?;
@@ -111,6 +114,7 @@ fn open_workbook<P: Package>(
     ensures faults { OnOk result ((P.state «package».new).faults ≡ (P.state «package».old).faults) }
     ensures opened { (P.state «package».old).told ≡ true → IfOk result (λ o. WorkbookOpens (P.state «package».old).parts path.now (opening_of o.metadata o.paths.items o.is_1904)) }
     ensures err { IfErr result (WorkbookFails path.now (P.state «package».old) (P.state «package».new)) }
+    ensures counts { IfErr result (KeepsFaults (P.state «package».old) (P.state «package».new)) }
 {
     let part = relationships_part(alloc, path)?;
     let relationships = read_relationships(alloc, package, part.as_str())?;
@@ -132,6 +136,7 @@ pub fn open<P: Package>(alloc: Global, package: &mut P) -> Result<Opened, XlsxEr
     ensures opens { (P.state «package».old).told ≡ true → IfOk result (λ o. OpensAs (P.state «package».old).parts (opening_of o.metadata o.paths.items o.is_1904)) }
     ensures built { (P.state «package».old).told ≡ true → OnOk result (IsBuilt (P.state «package».old).parts) }
     ensures err { IfErr result (OpeningFails (P.state «package».old) (P.state «package».new)) }
+    ensures counts { IfErr result (KeepsFaults (P.state «package».old) (P.state «package».new)) }
 {
     let path = read_path(alloc, package, "_rels/.rels")?;
     refuse_unbuilt(alloc, package, path.as_str())?;

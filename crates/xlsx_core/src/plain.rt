@@ -1,5 +1,6 @@
 ghost use Rattle.std.specs.Prelude.{◌≡◌, ◌++◌, option_map, option_to_list, true, if◌then◌else◌, Some, None, IfOk, OnOk, IfErr, OnErr};
 ghost use Rattle.part_events.specs.Package.{SameParts, HasCause};
+ghost use Rattle.xlsx_core.specs.Section.{KeepsFaults};
 ghost use Rattle.xlsx_core.specs.Opened.{placed};
 ghost use Rattle.xlsx_core.specs.PlainPart.{CellsFail, HasCells, SheetFails};
 ghost use Rattle.xlsx_core.specs.PlainScan.{cells_from, beginning};
@@ -28,6 +29,7 @@ fn take_cells<P: Package>(alloc: Global, package: &mut P) -> Result<Vec<ThinCell
     ensures faults { OnOk result ((P.state «package».new).faults ≡ (P.state «package».old).faults) }
     ensures cells { (P.state «package».old).told ≡ true → IfOk result (λ cells. cells_from beginning (P.state «package».old).rest ≡ Some (cells_of cells.items)) }
     ensures err { IfErr result (CellsFail (P.state «package».old) (P.state «package».new)) }
+    ensures counts { IfErr result (KeepsFaults (P.state «package».old) (P.state «package».new)) }
 {
     let mut cells = Vec::new(alloc);
     let mut scan = SheetScan::new(alloc);
@@ -87,6 +89,7 @@ pub fn sheet_cells<P: Package>(
     ensures faults { OnOk result ((P.state «package».new).faults ≡ (P.state «package».old).faults) }
     ensures cells { (P.state «package».old).told ≡ true → IfOk result (λ cells. HasCells name.now (placed sheets.now paths.now) (P.state «package».old).parts (cells_of cells.items)) }
     ensures err { IfErr result (SheetFails name.now (placed sheets.now paths.now) (P.state «package».old) (P.state «package».new)) }
+    ensures counts { IfErr result (KeepsFaults (P.state «package».old) (P.state «package».new)) }
 {
     if !open_sheet(package, sheets, paths, name)? {
         return Err(XlsxError::WorksheetNotFound(String::from_str(alloc, name)?));

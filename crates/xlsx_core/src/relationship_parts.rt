@@ -4,7 +4,7 @@ ghost use Rattle.part_events.specs.Reading.{IsReading, Goes, GoesOn, ahead};
 ghost use Rattle.part_events.specs.Section.{content, is_closed};
 ghost use Rattle.xlsx_core.specs.Kept.{kept};
 ghost use Rattle.xlsx_core.specs.Relationships.{path_in, required_path_in, related_in, IsPathRefused, AreRelationshipsRefused};
-ghost use Rattle.xlsx_core.specs.Section.{SectionFails, PartFails, closed_section_of};
+ghost use Rattle.xlsx_core.specs.Section.{KeepsFaults, SectionFails, PartFails, closed_section_of};
 ghost use Rattle.part_events.specs.Package.{SameParts};
 
 use crate::relationships::{Relationship, keep_relationship, keep_target};
@@ -26,6 +26,7 @@ fn path_in<P: Package>(
     ensures closed { (P.state reader.old.package.now).told ≡ true → OnOk result (is_closed 0 (ahead (reading_by P.state reader.old)) ≡ true) }
     ensures path { (P.state reader.old.package.now).told ≡ true → IfOk result (λ path. path_in (content 0 (ahead (reading_by P.state reader.old))) ≡ Ok (option_map string_bytes path)) }
     ensures err { IfErr result (SectionFails (codes "Relationships") 0 (λ refusal. path_in (content 0 (ahead (reading_by P.state reader.old))) ≡ Err refusal) (reading_by P.state reader.old) (reading_by P.state reader.new)) }
+    ensures counts { IfErr result (KeepsFaults (P.state reader.old.package.now) (P.state reader.new.package.now)) }
 {
     let base = reader.depth();
     let mut path = None;
@@ -49,6 +50,7 @@ fn required_path_in<P: Package>(
     ensures closed { (P.state reader.old.package.now).told ≡ true → OnOk result (is_closed 0 (ahead (reading_by P.state reader.old)) ≡ true) }
     ensures path { (P.state reader.old.package.now).told ≡ true → IfOk result (λ path. required_path_in (content 0 (ahead (reading_by P.state reader.old))) ≡ Ok (string_bytes path)) }
     ensures err { IfErr result (SectionFails (codes "Relationships") 0 (IsPathRefused (content 0 (ahead (reading_by P.state reader.old)))) (reading_by P.state reader.old) (reading_by P.state reader.new)) }
+    ensures counts { IfErr result (KeepsFaults (P.state reader.old.package.now) (P.state reader.new.package.now)) }
 {
     match path_in(alloc, reader)? {
         Some(path) => Ok(path),
@@ -68,6 +70,7 @@ fn relationships_in<P: Package>(
     ensures closed { (P.state reader.old.package.now).told ≡ true → OnOk result (is_closed 0 (ahead (reading_by P.state reader.old)) ≡ true) }
     ensures related { (P.state reader.old.package.now).told ≡ true → IfOk result (λ map. (id : List ℕ) → related_in (content 0 (ahead (reading_by P.state reader.old))) id ≡ Ok (kept map id)) }
     ensures err { IfErr result (SectionFails (codes "Relationships") 0 (AreRelationshipsRefused (content 0 (ahead (reading_by P.state reader.old)))) (reading_by P.state reader.old) (reading_by P.state reader.new)) }
+    ensures counts { IfErr result (KeepsFaults (P.state reader.old.package.now) (P.state reader.new.package.now)) }
 {
     let base = reader.depth();
     let mut map = BTreeMap::new(alloc);
@@ -87,6 +90,7 @@ pub fn read_path<P: Package>(
     ensures faults { OnOk result ((P.state «package».new).faults ≡ (P.state «package».old).faults) }
     ensures path { (P.state «package».old).told ≡ true → IfOk result (λ path. IsSomeAnd (closed_section_of (codes "Relationships") part.now (P.state «package».old).parts) (λ inside. required_path_in inside ≡ Ok (string_bytes path))) }
     ensures err { IfErr result (PartFails (codes "Relationships") part.now IsPathRefused (P.state «package».old) (P.state «package».new)) }
+    ensures counts { IfErr result (KeepsFaults (P.state «package».old) (P.state «package».new)) }
 {
     if !package.open(part)? {
         return Err(XlsxError::FileNotFound(String::from_str(alloc, part)?));
@@ -106,6 +110,7 @@ pub fn read_relationships<P: Package>(
     ensures faults { OnOk result ((P.state «package».new).faults ≡ (P.state «package».old).faults) }
     ensures related { (P.state «package».old).told ≡ true → IfOk result (λ map. IsSomeAnd (closed_section_of (codes "Relationships") part.now (P.state «package».old).parts) (λ inside. (id : List ℕ) → related_in inside id ≡ Ok (kept map id))) }
     ensures err { IfErr result (PartFails (codes "Relationships") part.now AreRelationshipsRefused (P.state «package».old) (P.state «package».new)) }
+    ensures counts { IfErr result (KeepsFaults (P.state «package».old) (P.state «package».new)) }
 {
     if !package.open(part)? {
         return Err(XlsxError::FileNotFound(String::from_str(alloc, part)?));

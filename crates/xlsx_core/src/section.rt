@@ -4,7 +4,7 @@ ghost use Rattle.part_events.specs.Reader.{reading_by, KeepsHold};
 ghost use Rattle.part_events.specs.Reading.{IsReading, IsAtElement, Goes, GoesOn, ahead};
 ghost use Rattle.part_events.specs.Section.{is_named, behind_start};
 ghost use Rattle.part_events.specs.Walk.{inside, StandsAt, FindsStart, StandsInside, StepsInside};
-ghost use Rattle.xlsx_core.specs.Section.{found_by, step_by, SectionFails, StartFails};
+ghost use Rattle.xlsx_core.specs.Section.{KeepsFaults, found_by, step_by, SectionFails, StartFails};
 
 use cell_data::XlsxError;
 use part_events::{Found, Inside, Package, PartEvent, StartTag, XlReader};
@@ -29,6 +29,7 @@ pub fn enter<P: Package>(reader: &mut XlReader<'_, P>, name: &'static str) -> Re
     ensures element { OnOk result (IsAtElement (reading_by P.state reader.new)) }
     ensures found { (P.state reader.old.package.now).told ≡ true → OnOk result (behind_start (is_named (name.now ∷ [])) (ahead (reading_by P.state reader.old)) ≡ Some (ahead (reading_by P.state reader.new))) }
     ensures err { IfErr result (StartFails name.now (reading_by P.state reader.old) (reading_by P.state reader.new)) }
+    ensures counts { IfErr result (KeepsFaults (P.state reader.old.package.now) (P.state reader.new.package.now)) }
 {
     match reader.next_start(0, &[name])? {
         Found::Start => Ok(()),
@@ -53,6 +54,7 @@ pub fn next_in<P: Package>(
     ensures stands { IfOk result (λ more. StandsAt (is_named (name.now ∷ [])) base (found_by more) (reading_by P.state reader.old) (reading_by P.state reader.new)) }
     ensures found { (P.state reader.old.package.now).told ≡ true → IfOk result (λ more. FindsStart (is_named (name.now ∷ [])) base (found_by more) (reading_by P.state reader.old) (reading_by P.state reader.new)) }
     ensures err { IfErr result (SectionFails section.now (inside base (reading_by P.state reader.old)) (λ _. ⊥) (reading_by P.state reader.old) (reading_by P.state reader.new)) }
+    ensures counts { IfErr result (KeepsFaults (P.state reader.old.package.now) (P.state reader.new.package.now)) }
 {
     match reader.next_start(base, &[name])? {
         Found::Start => Ok(true),
@@ -76,6 +78,7 @@ pub fn next_inside<P: Package>(
     ensures stands { IfOk result (λ more. StandsInside base (step_by more) (reading_by P.state reader.old) (reading_by P.state reader.new)) }
     ensures inside { (P.state reader.old.package.now).told ≡ true → IfOk result (λ more. StepsInside base (step_by more) (reading_by P.state reader.old) (reading_by P.state reader.new)) }
     ensures err { IfErr result (SectionFails section.now (inside base (reading_by P.state reader.old)) (λ _. ⊥) (reading_by P.state reader.old) (reading_by P.state reader.new)) }
+    ensures counts { IfErr result (KeepsFaults (P.state reader.old.package.now) (P.state reader.new.package.now)) }
 {
     match reader.next_inside(base)? {
         Inside::Event => Ok(true),

@@ -1,5 +1,6 @@
 ghost use Rattle.std.specs.Prelude.{◌≡◌, true, IfOk, OnOk, IfErr};
 ghost use Rattle.part_events.specs.Package.{SameParts};
+ghost use Rattle.xlsx_core.specs.Section.{KeepsFaults};
 ghost use Rattle.xlsx_core.specs.ThinCell.{cells_of};
 ghost use Rattle.xlsx_core.specs.ThinReading.{ReadsAs, ThinFails};
 
@@ -36,6 +37,7 @@ pub fn read_thin<P: Package>(alloc: Global, package: P, name: &str) -> ThinAnswe
     ensures faults { OnOk result.result ((P.state result.package).faults ≡ (P.state «package»).faults) }
     ensures cells { (P.state «package»).told ≡ true → IfOk result.result (λ cells. ReadsAs (P.state «package»).parts name.now (cells_of cells.items)) }
     ensures err { IfErr result.result (ThinFails name.now (P.state «package») (P.state result.package)) }
+    ensures counts { IfErr result.result (KeepsFaults (P.state «package») (P.state result.package)) }
 {
     match Xlsx::new(alloc, package) {
         Ok(xlsx) => {

@@ -9,7 +9,7 @@ ghost use Rattle.cell_data.specs.declared.error.XlsxError.TheVariants.{OutOfMemo
 ghost use Rattle.xlsx_core.specs.DefinedNames.{name_by};
 ghost use Rattle.xlsx_core.specs.Element.{RefusedBy, ElementFails};
 ghost use Rattle.xlsx_core.specs.Kept.{kept};
-ghost use Rattle.xlsx_core.specs.Section.{SectionFails, OptionalPartFails, closed_section_of};
+ghost use Rattle.xlsx_core.specs.Section.{KeepsFaults, SectionFails, OptionalPartFails, closed_section_of};
 ghost use Rattle.xlsx_core.specs.Workbook.{TakesEvents, AreEventsRefused, names_of, pair_of};
 ghost use Rattle.xlsx_core.specs.WorkbookEvents.{TextRefused, TextTaken, IsNameRefused, is_name_start, IsContents, AreContentsRefused};
 
@@ -138,6 +138,7 @@ fn read_name<P: Package>(
     ensures takes { (P.state reader.old.package.now).told ≡ true → OnOk result (TakesEvents places.entry.folder.now (kept places.entry.relationships.now) (content 0 (ahead (reading_by P.state reader.old))) found.old found.new) }
     ensures names { (P.state reader.old.package.now).told ≡ true → OnOk result (TextTaken (option_map string_bytes name) (content 0 (ahead (reading_by P.state reader.old))) (names_of found.old) (names_of found.new)) }
     ensures err { IfErr result (SectionFails (codes "workbook") 0 (IsNameRefused places.entry.folder.now (kept places.entry.relationships.now) found.old (option_map string_bytes name) (content 0 (ahead (reading_by P.state reader.old)))) (reading_by P.state reader.old) (reading_by P.state reader.new)) }
+    ensures counts { IfErr result (KeepsFaults (P.state reader.old.package.now) (P.state reader.new.package.now)) }
 {
     let depth = reader.depth();
     let wanted = name.is_some();
@@ -173,6 +174,7 @@ fn contents_in<P: Package>(
     ensures closed { (P.state reader.old.package.now).told ≡ true → OnOk result (is_closed 0 (ahead (reading_by P.state reader.old)) ≡ true) }
     ensures contents { (P.state reader.old.package.now).told ≡ true → IfOk result (IsContents places.entry.folder.now (kept places.entry.relationships.now) (content 0 (ahead (reading_by P.state reader.old)))) }
     ensures err { IfErr result (SectionFails (codes "workbook") 0 (AreContentsRefused places.entry.folder.now (kept places.entry.relationships.now) (content 0 (ahead (reading_by P.state reader.old)))) (reading_by P.state reader.old) (reading_by P.state reader.new)) }
+    ensures counts { IfErr result (KeepsFaults (P.state reader.old.package.now) (P.state reader.new.package.now)) }
 {
     let base = reader.depth();
     let mut found = WorkbookContents {
@@ -204,6 +206,7 @@ pub fn read_contents<P: Package>(
     ensures contents { (P.state «package».old).told ≡ true → IfOk result (λ found. MatchOption found (part_of (P.state «package».old).parts part.now ≡ None)
         (λ contents. IsSomeAnd (closed_section_of (codes "workbook") part.now (P.state «package».old).parts) (λ inside. IsContents places.entry.folder.now (kept places.entry.relationships.now) inside contents))) }
     ensures err { IfErr result (OptionalPartFails (codes "workbook") part.now (AreContentsRefused places.entry.folder.now (kept places.entry.relationships.now)) (P.state «package».old) (P.state «package».new)) }
+    ensures counts { IfErr result (KeepsFaults (P.state «package».old) (P.state «package».new)) }
 {
     if !package.open(part)? {
         return Ok(None);

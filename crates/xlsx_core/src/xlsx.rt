@@ -1,5 +1,6 @@
 ghost use Rattle.std.specs.Prelude.{◌≡◌, true, MatchResult, IfOk, OnOk, IfErr};
 ghost use Rattle.part_events.specs.Package.{SameParts};
+ghost use Rattle.xlsx_core.specs.Section.{KeepsFaults};
 ghost use Rattle.xlsx_core.specs.Opened.{placed, opening_of};
 ghost use Rattle.xlsx_core.specs.Opening.{OpensAs, OpensSoundly, IsBuilt, OpeningFails, SoundFails};
 ghost use Rattle.xlsx_core.specs.PlainPart.{HasCells, SheetFails};
@@ -46,6 +47,7 @@ impl<P: Package> Xlsx<P> {
         ensures opens { (P.state «package»).told ≡ true → IfOk result (λ xlsx. OpensAs (P.state «package»).parts (opening_of xlsx.metadata xlsx.paths.items xlsx.is_1904)) }
         ensures built { (P.state «package»).told ≡ true → OnOk result (IsBuilt (P.state «package»).parts) }
         ensures err { IfErr result (λ failure. OpeningFails (P.state «package») (P.state failure.package) failure.error) }
+        ensures counts { IfErr result (λ failure. KeepsFaults (P.state «package») (P.state failure.package) failure.error) }
         ensures sound { (P.state «package»).told ≡ true → OpensSoundly (P.state «package»).parts → IfErr result (λ failure. SoundFails (P.state «package») (P.state failure.package) failure.error) }
     {
         let mut package = package;
@@ -64,9 +66,11 @@ impl<P: Package> Xlsx<P> {
     /// The cells, in order, of the first sheet of this name, where its part is in plain form.
     pub(crate) fn thin_cells(&mut self, name: &str) -> Result<Vec<ThinCell>, XlsxError>
         ensures keeps { SameParts (P.state self.old.package) (P.state self.new.package) }
+        ensures rest { (self.new.metadata ≡ self.old.metadata) × (self.new.paths ≡ self.old.paths) × (self.new.is_1904 ≡ self.old.is_1904) }
         ensures faults { OnOk result ((P.state self.new.package).faults ≡ (P.state self.old.package).faults) }
         ensures cells { (P.state self.old.package).told ≡ true → IfOk result (λ cells. HasCells name.now (placed self.old.metadata.sheets.items self.old.paths.items) (P.state self.old.package).parts (cells_of cells.items)) }
         ensures err { IfErr result (SheetFails name.now (placed self.old.metadata.sheets.items self.old.paths.items) (P.state self.old.package) (P.state self.new.package)) }
+        ensures counts { IfErr result (KeepsFaults (P.state self.old.package) (P.state self.new.package)) }
     {
         sheet_cells(
             self.alloc,
