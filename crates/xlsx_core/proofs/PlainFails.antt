@@ -28,10 +28,10 @@ never_plain : (events : List Event) → cells_from beginning events ≡ None →
 never_plain events none cells plain = let reads = written_sheet events cells plain in cc
 
 pub sheet_fails : (name : List ℕ) (sheets : List PlacedSheet) (first old new : PackageState) (error : XlsxError) → SameParts first old → old.faults ≡ first.faults → (first.told ≡ true → events_named name sheets first.parts ≡ Some old.rest) → CellsFail old new error → SheetFails name sheets first new error
-sheet_fails name sheets first old new OutOfMemory same faults found fails = fails ∙ faults
+sheet_fails name sheets first old new OutOfMemory same faults found fails = tt
 sheet_fails name sheets first old new Io same faults found fails = rw faults at fails
-sheet_fails name sheets first old new NotBuilt same faults found fails =
-    (fails.0 ∙ faults, λ told. subst (λ (o : Option (List Event)). IsSomeAnd o (λ events. (cells : List PlainCell) → IsPlainSheet events cells → ⊥)) (sym (found told)) (never_plain old.rest (fails.1 (same.told ∙ told))))
+sheet_fails name sheets first old new NotBuilt same faults found fails = λ told.
+    subst (λ (o : Option (List Event)). IsSomeAnd o (λ events. (cells : List PlainCell) → IsPlainSheet events cells → ⊥)) (sym (found told)) (never_plain old.rest (fails (same.told ∙ told)))
 sheet_fails name sheets first old new error same faults found fails = absurd fails
 
 some_of : {A : Type 0} (o : Option A) (fact : A → Type 0) → IsSomeAnd o fact → (x : A) × (o ≡ Some x) × fact x
@@ -56,12 +56,12 @@ thin_fails name old mid new opening OutOfMemory same faults opens fails = tt
 thin_fails name old mid new opening Io same faults opens fails = rw faults at fails
 thin_fails name old mid new opening NotBuilt same faults opens fails = λ told.
     let never : OfSheet name opening.sheets old.parts (λ events. (cells : List PlainCell) → IsPlainSheet events cells → ⊥) =
-    subst (λ (parts : List Part). OfSheet name opening.sheets parts (λ events. (cells : List PlainCell) → IsPlainSheet events cells → ⊥)) same.parts (fails.1 (same.told ∙ told))
+    subst (λ (parts : List Part). OfSheet name opening.sheets parts (λ events. (cells : List PlainCell) → IsPlainSheet events cells → ⊥)) same.parts (fails (same.told ∙ told))
     in
-    (fails.0 ∙ faults, inr (other_form name old.parts opening (opens told) never))
+    inr (other_form name old.parts opening (opens told) never)
 thin_fails name old mid new opening (WorksheetNotFound asked) same faults opens fails = λ told.
-    let none : events_named name opening.sheets old.parts ≡ None = ap (λ (parts : List Part). events_named name opening.sheets parts) (sym same.parts) ∙ fails.2 (same.told ∙ told) in
-    (fails.0 ∙ faults, (fails.1, record { opening = opening; opens = opens told; none = none }))
+    let none : events_named name opening.sheets old.parts ≡ None = ap (λ (parts : List Part). events_named name opening.sheets parts) (sym same.parts) ∙ fails.1 (same.told ∙ told) in
+    (fails.0, record { opening = opening; opens = opens told; none = none })
 thin_fails name old mid new opening error same faults opens fails = absurd fails
 
 opens_without_sheets : (parts : List Part) (asked : String Global) → OpeningCause parts (WorksheetNotFound asked) → ⊥
@@ -71,6 +71,6 @@ opens_without_sheets parts asked (inr (path, found, inr (related, has, cause))) 
 
 -- a workbook that doesn't open
 pub opening_refused : (name : List ℕ) (old new : PackageState) (error : XlsxError) → OpeningFails old new error → ThinFails name old new error
-opening_refused name old new NotBuilt fails = λ told. ((fails told).0, inl (fails told).1)
+opening_refused name old new NotBuilt fails = λ told. inl (fails told)
 opening_refused name old new (WorksheetNotFound asked) fails = λ told. absurd (opens_without_sheets old.parts asked (fails told))
 opening_refused name old new error fails = fails

@@ -85,12 +85,12 @@ pub record IsBuilt (parts : List Part) : Type 0 where
 abbrev pub OpeningFails : PackageState → PackageState → XlsxError → Type 0
 OpeningFails old new Io = HasCause old new
 OpeningFails old new OutOfMemory = ⊤
-OpeningFails old new NotBuilt = old.told ≡ true → (new.faults ≡ old.faults) × IsNotBuilt old.parts
+OpeningFails old new NotBuilt = old.told ≡ true → IsNotBuilt old.parts
 OpeningFails old new error = old.told ≡ true → OpeningCause old.parts error
 
 -- when a package that opens soundly is refused
 abbrev pub SoundFails : PackageState → PackageState → XlsxError → Type 0
 SoundFails old new Io = HasCause old new
 SoundFails old new OutOfMemory = ⊤
-SoundFails old new NotBuilt = (new.faults ≡ old.faults) × IsNotBuilt old.parts
+SoundFails old new NotBuilt = IsNotBuilt old.parts
 SoundFails old new _ = ⊥

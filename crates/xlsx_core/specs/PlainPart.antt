@@ -1,5 +1,5 @@
 -- The cells of a sheet's part in plain form, and why they aren't read.
-use Rattle.std.specs.Prelude.{◌≡◌, ℕ, List, true, None, string_bytes, IsSomeAnd}
+use Rattle.std.specs.Prelude.{◌≡◌, ⊤, ℕ, List, true, None, string_bytes, IsSomeAnd}
 use Rattle.part_events.specs.Event.{Event}
 use Rattle.part_events.specs.Package.{Part, PackageState, HasCause}
 use Rattle.cell_data.specs.declared.error.XlsxError.{XlsxError}
@@ -11,9 +11,9 @@ use Rattle.xlsx_core.specs.ThinReading.{events_named}
 
 -- why the cells of the open part aren't read
 abbrev pub CellsFail : PackageState → PackageState → XlsxError → Type 0
-CellsFail old new OutOfMemory = new.faults ≡ old.faults
+CellsFail old new OutOfMemory = ⊤
 CellsFail old new Io = HasCause old new
-CellsFail old new NotBuilt = (new.faults ≡ old.faults) × (old.told ≡ true → cells_from beginning old.rest ≡ None)
+CellsFail old new NotBuilt = old.told ≡ true → cells_from beginning old.rest ≡ None
 CellsFail old new _ = ⊥
 
 -- what is said of the part of the first sheet of this name, which is there
@@ -26,10 +26,8 @@ HasCells name sheets parts cells = OfSheet name sheets parts (λ events. IsPlain
 
 -- why the cells of the sheet of this name aren't read
 abbrev pub SheetFails : List ℕ → List PlacedSheet → PackageState → PackageState → XlsxError → Type 0
-SheetFails name sheets old new OutOfMemory = new.faults ≡ old.faults
+SheetFails name sheets old new OutOfMemory = ⊤
 SheetFails name sheets old new Io = HasCause old new
-SheetFails name sheets old new NotBuilt =
-    (new.faults ≡ old.faults) × (old.told ≡ true → OfSheet name sheets old.parts (λ events. (cells : List PlainCell) → IsPlainSheet events cells → ⊥))
-SheetFails name sheets old new (WorksheetNotFound asked) =
-    (new.faults ≡ old.faults) × (string_bytes asked ≡ name) × (old.told ≡ true → events_named name sheets old.parts ≡ None)
+SheetFails name sheets old new NotBuilt = old.told ≡ true → OfSheet name sheets old.parts (λ events. (cells : List PlainCell) → IsPlainSheet events cells → ⊥)
+SheetFails name sheets old new (WorksheetNotFound asked) = (string_bytes asked ≡ name) × (old.told ≡ true → events_named name sheets old.parts ≡ None)
 SheetFails name sheets old new _ = ⊥

@@ -10,7 +10,7 @@ use Rattle.xlsx_core.specs.Relationships.{Related}
 -- a part that isn't read yet is there
 abbrev pub PresenceFails : List ℕ → PackageState → PackageState → XlsxError → Type 0
 PresenceFails part old new Io = HasCause old new
-PresenceFails part old new NotBuilt = (new.faults ≡ old.faults) × (old.told ≡ true → IsSome (part_of old.parts part))
+PresenceFails part old new NotBuilt = old.told ≡ true → IsSome (part_of old.parts part)
 PresenceFails part old new _ = ⊥
 
 -- the parts beside the workbook at this path that aren't read yet are absent
@@ -20,9 +20,8 @@ pub record LacksUnbuilt (path : List ℕ) (parts : List Part) : Type 0 where
 
 abbrev pub UnbuiltFails : List ℕ → PackageState → PackageState → XlsxError → Type 0
 UnbuiltFails path old new Io = HasCause old new
-UnbuiltFails path old new OutOfMemory = new.faults ≡ old.faults
-UnbuiltFails path old new NotBuilt =
-    (new.faults ≡ old.faults) × (old.told ≡ true → IsSome (part_of old.parts (strings_part path)) ⊎ IsSome (part_of old.parts (styles_part path)))
+UnbuiltFails path old new OutOfMemory = ⊤
+UnbuiltFails path old new NotBuilt = old.told ≡ true → IsSome (part_of old.parts (strings_part path)) ⊎ IsSome (part_of old.parts (styles_part path))
 UnbuiltFails path old new _ = ⊥
 
 -- the workbook at this path opens

@@ -74,8 +74,8 @@ err_at {A = A} {E = E} result e P is holds = subst (λ (r : Result A E). IfErr r
 pub workbook_fails : (error : XlsxError) (name : List ℕ) (old new : Contents) → ThinFails name (state_of old) (state_of new) error → LinesFail (of_workbook error) name old.parts
 workbook_fails workbook.Io name old new fails = absurd (omega (arith, fails))
 workbook_fails workbook.OutOfMemory name old new fails = tt
-workbook_fails workbook.NotBuilt name old new fails = (fails refl).1
-workbook_fails (workbook.WorksheetNotFound asked) name old new fails = (λ is. absurd (cc), (fails refl).1)
+workbook_fails workbook.NotBuilt name old new fails = fails refl
+workbook_fails (workbook.WorksheetNotFound asked) name old new fails = (λ is. absurd (cc), fails refl)
 workbook_fails error name old new fails = (λ is. absurd (cc), fails refl)
 
 -- ---- the input
