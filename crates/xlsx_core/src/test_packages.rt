@@ -1,3 +1,5 @@
+//! The packages that the tests read; `#[cfg(test)]` alone has this file.
+
 use part_events::{MemoryPackage, PartEvent, StartTag};
 use std::alloc::Global;
 use std::test::Fail;
