@@ -3,7 +3,7 @@ use Rattle.std.proofs.Common.{◌≡◌, ◌≢◌, ℕ, zero, suc, ◌+◌, ◌
 use Rattle.std.specs.Prelude.{option_map}
 use Rattle.std.specs.Option.{option_map_or}
 use Rattle.std.specs.Str.{bytes_eq}
-use Rattle.part_events.specs.Event.{Tag, Event, start, end, text, char_data, entity_ref, other}
+use Rattle.part_events.specs.Event.{Tag, Event, start, end, leaf}
 use Rattle.part_events.specs.Nesting.{Opening, starts_in, ends_in, depth, open_start, IsWhole}
 use Rattle.part_events.specs.NestingLaws.{IsLastStartOneOut}
 
@@ -32,10 +32,7 @@ balances (end name ∷ past) is =
       ends = omega (arith, was.deep 0 found.0 found.1);
       deep = λ outside opening here. omega (arith, was.deep (suc outside) opening here);
     }
-balances (text written ∷ past) is = let was = balances past is in record { ends = was.ends; deep = was.deep }
-balances (char_data written ∷ past) is = let was = balances past is in record { ends = was.ends; deep = was.deep }
-balances (entity_ref name ∷ past) is = let was = balances past is in record { ends = was.ends; deep = was.deep }
-balances (other ∷ past) is = let was = balances past is in record { ends = was.ends; deep = was.deep }
+balances (leaf kind ∷ past) is = let was = balances past is in record { ends = was.ends; deep = was.deep }
 
 pub record Finds (outside : ℕ) (past : List Event) (opening : Opening) : Type 0 where
   pub later : List Event
@@ -87,10 +84,7 @@ finds_last (start tag ∷ past) (suc outside) opening is here =
     finds_behind (start tag) past opening (suc outside) outside (finds_last past outside opening is here) (omega (arith, (balances past is).ends)) (λ other_tag same. omega arith)
 finds_last (end name ∷ past) outside opening is here =
     finds_behind (end name) past opening outside (suc outside) (finds_last past (suc outside) opening is.1 here) (omega (arith, (balances (end name ∷ past) is).ends)) (λ other_tag same. absurd (cc))
-finds_last (text written ∷ past) outside opening is here = finds_behind (text written) past opening outside outside (finds_last past outside opening is here) refl (λ other_tag same. absurd (cc))
-finds_last (char_data written ∷ past) outside opening is here = finds_behind (char_data written) past opening outside outside (finds_last past outside opening is here) refl (λ other_tag same. absurd (cc))
-finds_last (entity_ref name ∷ past) outside opening is here = finds_behind (entity_ref name) past opening outside outside (finds_last past outside opening is here) refl (λ other_tag same. absurd (cc))
-finds_last (other ∷ past) outside opening is here = finds_behind other past opening outside outside (finds_last past outside opening is here) refl (λ other_tag same. absurd (cc))
+finds_last (leaf kind ∷ past) outside opening is here = finds_behind (leaf kind) past opening outside outside (finds_last past outside opening is here) refl (λ other_tag same. absurd (cc))
 
 abbrev IsLast : ℕ → List Event → Tag → List Event → Type 0
 IsLast outside later tag before = (nearer farther : List Event) (between : Tag) → later ≡ nearer ++ start between ∷ farther → depth (farther ++ start tag ∷ before) + 1 + outside ≢ depth (later ++ start tag ∷ before)
@@ -110,10 +104,7 @@ found_back (start next ∷ later) (suc outside) tag before is out last =
 found_back (end name ∷ later) outside tag before is out last =
     let moves : depth (end name ∷ (later ++ start tag ∷ before)) + suc outside ≡ depth (later ++ start tag ∷ before) + outside = omega (arith, (balances (end name ∷ (later ++ start tag ∷ before)) is).ends) in
     found_back later (suc outside) tag before is.1 (omega (arith, out, moves)) (last_behind (end name) later tag before outside (suc outside) last moves)
-found_back (text written ∷ later) outside tag before is out last = found_back later outside tag before is out (last_behind (text written) later tag before outside outside last refl)
-found_back (char_data written ∷ later) outside tag before is out last = found_back later outside tag before is out (last_behind (char_data written) later tag before outside outside last refl)
-found_back (entity_ref name ∷ later) outside tag before is out last = found_back later outside tag before is out (last_behind (entity_ref name) later tag before outside outside last refl)
-found_back (other ∷ later) outside tag before is out last = found_back later outside tag before is out (last_behind other later tag before outside outside last refl)
+found_back (leaf kind ∷ later) outside tag before is out last = found_back later outside tag before is out (last_behind (leaf kind) later tag before outside outside last refl)
 
 pub innermost_is_last : (past : List Event) (opening : Opening) → IsWhole past → open_start 0 past ≡ Some opening → IsLastStartOneOut past opening
 innermost_is_last past opening is here =

@@ -1,6 +1,6 @@
 -- Reading forward finds the match of a start.
 use Rattle.std.proofs.Common.{◌≡◌, ◌≢◌, ℕ, zero, suc, ◌+◌, List, [], ◌∷◌, ◌++◌, reverse, true, false, refl, ◌∙◌, ap, arith}
-use Rattle.part_events.specs.Event.{Tag, Event, start, end, text, char_data, entity_ref, other}
+use Rattle.part_events.specs.Event.{Tag, Event, start, end, leaf}
 use Rattle.part_events.specs.Nesting.{starts_in, ends_in, IsWhole}
 use Rattle.part_events.specs.NestingLaws.{IsMatch, ClosesAtMatch}
 use Rattle.part_events.specs.Section.{content, is_closed, behind}
@@ -15,10 +15,7 @@ pub counts_together : (events past : List Event) → CountsTogether events past
 counts_together [] past = record { starts = omega arith; ends = omega arith }
 counts_together (start tag ∷ events) past = let rest = counts_together events (start tag ∷ past) in let same = reverse_on (start tag) events past in record { starts = omega (arith, ap starts_in same, rest.starts); ends = omega (arith, ap ends_in same, rest.ends) }
 counts_together (end name ∷ events) past = let rest = counts_together events (end name ∷ past) in let same = reverse_on (end name) events past in record { starts = omega (arith, ap starts_in same, rest.starts); ends = omega (arith, ap ends_in same, rest.ends) }
-counts_together (text written ∷ events) past = let rest = counts_together events (text written ∷ past) in let same = reverse_on (text written) events past in record { starts = omega (arith, ap starts_in same, rest.starts); ends = omega (arith, ap ends_in same, rest.ends) }
-counts_together (char_data written ∷ events) past = let rest = counts_together events (char_data written ∷ past) in let same = reverse_on (char_data written) events past in record { starts = omega (arith, ap starts_in same, rest.starts); ends = omega (arith, ap ends_in same, rest.ends) }
-counts_together (entity_ref name ∷ events) past = let rest = counts_together events (entity_ref name ∷ past) in let same = reverse_on (entity_ref name) events past in record { starts = omega (arith, ap starts_in same, rest.starts); ends = omega (arith, ap ends_in same, rest.ends) }
-counts_together (other ∷ events) past = let rest = counts_together events (other ∷ past) in let same = reverse_on other events past in record { starts = omega (arith, ap starts_in same, rest.starts); ends = omega (arith, ap ends_in same, rest.ends) }
+counts_together (leaf kind ∷ events) past = let rest = counts_together events (leaf kind ∷ past) in let same = reverse_on (leaf kind) events past in record { starts = omega (arith, ap starts_in same, rest.starts); ends = omega (arith, ap ends_in same, rest.ends) }
 
 -- no end before closes the element, where `within` elements are open in it
 abbrev IsLeast : ℕ → List Event → Type 0
@@ -61,18 +58,9 @@ closes (suc within) (end name ∷ events) is =
       balance = omega (arith, rest.balance);
       least = least_behind (end name) (content within events) (suc within) within rest.least (omega arith) (λ other_name same. omega arith) (λ front. omega arith) (λ front. omega arith);
     }
-closes within (text written ∷ events) is =
+closes within (leaf kind ∷ events) is =
     let rest = closes within events is in
-    record { name = rest.name; parts = ap (λ (more : List Event). text written ∷ more) rest.parts; balance = rest.balance; least = least_behind (text written) (content within events) within within rest.least (omega arith) (λ name never. absurd (cc)) (λ front. omega arith) (λ front. omega arith) }
-closes within (char_data written ∷ events) is =
-    let rest = closes within events is in
-    record { name = rest.name; parts = ap (λ (more : List Event). char_data written ∷ more) rest.parts; balance = rest.balance; least = least_behind (char_data written) (content within events) within within rest.least (omega arith) (λ name never. absurd (cc)) (λ front. omega arith) (λ front. omega arith) }
-closes within (entity_ref name ∷ events) is =
-    let rest = closes within events is in
-    record { name = rest.name; parts = ap (λ (more : List Event). entity_ref name ∷ more) rest.parts; balance = rest.balance; least = least_behind (entity_ref name) (content within events) within within rest.least (omega arith) (λ name never. absurd (cc)) (λ front. omega arith) (λ front. omega arith) }
-closes within (other ∷ events) is =
-    let rest = closes within events is in
-    record { name = rest.name; parts = ap (λ (more : List Event). other ∷ more) rest.parts; balance = rest.balance; least = least_behind other (content within events) within within rest.least (omega arith) (λ name never. absurd (cc)) (λ front. omega arith) (λ front. omega arith) }
+    record { name = rest.name; parts = ap (λ (more : List Event). leaf kind ∷ more) rest.parts; balance = rest.balance; least = least_behind (leaf kind) (content within events) within within rest.least (omega arith) (λ name never. absurd (cc)) (λ front. omega arith) (λ front. omega arith) }
 
 pub closes_at_match : (past : List Event) (tag : Tag) (events : List Event) → IsWhole past → is_closed 0 events ≡ true → ClosesAtMatch past tag events
 closes_at_match past tag events is_whole is =
@@ -110,18 +98,9 @@ closes_before (end other_name ∷ inside) zero name after balance least = absurd
 closes_before (end other_name ∷ inside) (suc within) name after balance least =
     closed_before (end other_name) inside name after (suc within) within refl refl refl
     (closes_before inside within name after (omega (arith, balance)) (least_later (end other_name) inside (suc within) within least (omega arith) (λ front. omega arith) (λ front. omega arith)))
-closes_before (text written ∷ inside) within name after balance least =
-    closed_before (text written) inside name after within within refl refl refl
-    (closes_before inside within name after balance (least_later (text written) inside within within least (omega arith) (λ front. omega arith) (λ front. omega arith)))
-closes_before (char_data written ∷ inside) within name after balance least =
-    closed_before (char_data written) inside name after within within refl refl refl
-    (closes_before inside within name after balance (least_later (char_data written) inside within within least (omega arith) (λ front. omega arith) (λ front. omega arith)))
-closes_before (entity_ref reference ∷ inside) within name after balance least =
-    closed_before (entity_ref reference) inside name after within within refl refl refl
-    (closes_before inside within name after balance (least_later (entity_ref reference) inside within within least (omega arith) (λ front. omega arith) (λ front. omega arith)))
-closes_before (other ∷ inside) within name after balance least =
-    closed_before other inside name after within within refl refl refl
-    (closes_before inside within name after balance (least_later other inside within within least (omega arith) (λ front. omega arith) (λ front. omega arith)))
+closes_before (leaf kind ∷ inside) within name after balance least =
+    closed_before (leaf kind) inside name after within within refl refl refl
+    (closes_before inside within name after balance (least_later (leaf kind) inside within within least (omega arith) (λ front. omega arith) (λ front. omega arith)))
 
 pub match_closes : (past : List Event) (tag : Tag) (events inside : List Event) (name : List ℕ) (after : List Event) → IsWhole past → IsMatch past tag events inside name after → (is_closed 0 events ≡ true) × (content 0 events ≡ inside) × (behind 0 events ≡ after)
 match_closes past tag events inside name after is_whole is =
@@ -135,10 +114,7 @@ stays_open within [] is = (refl, refl)
 stays_open within (start tag ∷ events) is = let rest = stays_open (suc within) events is in (ap (λ (more : List Event). start tag ∷ more) rest.0, rest.1)
 stays_open zero (end name ∷ events) is = absurd (cc)
 stays_open (suc within) (end name ∷ events) is = let rest = stays_open within events is in (ap (λ (more : List Event). end name ∷ more) rest.0, rest.1)
-stays_open within (text written ∷ events) is = let rest = stays_open within events is in (ap (λ (more : List Event). text written ∷ more) rest.0, rest.1)
-stays_open within (char_data written ∷ events) is = let rest = stays_open within events is in (ap (λ (more : List Event). char_data written ∷ more) rest.0, rest.1)
-stays_open within (entity_ref name ∷ events) is = let rest = stays_open within events is in (ap (λ (more : List Event). entity_ref name ∷ more) rest.0, rest.1)
-stays_open within (other ∷ events) is = let rest = stays_open within events is in (ap (λ (more : List Event). other ∷ more) rest.0, rest.1)
+stays_open within (leaf kind ∷ events) is = let rest = stays_open within events is in (ap (λ (more : List Event). leaf kind ∷ more) rest.0, rest.1)
 
 pub open_still : (events : List Event) → is_closed 0 events ≡ false → (content 0 events ≡ events) × (behind 0 events ≡ [])
 open_still events is = stays_open 0 events is

@@ -3,7 +3,7 @@ use Rattle.std.proofs.Common.{◌≡◌, ℕ, zero, suc, List, [], ◌∷◌, �
 use Rattle.std.specs.Prelude.{slice_get, if◌then◌else◌}
 use Rattle.std.proofs.lemmas.Grind.{reverse_onto}
 use Rattle.std.proofs.lemmas.List.{length-append, length-reverse}
-use Rattle.part_events.specs.Event.{Tag, Event, start, end, text, char_data, entity_ref, other}
+use Rattle.part_events.specs.Event.{Tag, Event, start, end, leaf}
 use Rattle.part_events.specs.Nesting.{open_name, closes, IsWhole, whole_rest, whole}
 use Rattle.part_events.specs.NestingLaws.{WholeIsLongest}
 use Rattle.part_events.specs.Reading.{BreaksAt}
@@ -26,14 +26,8 @@ whole_split (end name ∷ past) rest is =
     ap whole (reverse_on (end name) past rest) ∙ whole_split past (end name ∷ rest) is.1
     ∙ ap (λ (b : Bool). reverse past ++ (if b then end name ∷ whole_rest (end name ∷ past) rest else [])) is.0
     ∙ sym (reverse_on (end name) past (whole_rest (end name ∷ past) rest))
-whole_split (text content ∷ past) rest is =
-    ap whole (reverse_on (text content) past rest) ∙ whole_split past (text content ∷ rest) is ∙ sym (reverse_on (text content) past (whole_rest (text content ∷ past) rest))
-whole_split (char_data content ∷ past) rest is =
-    ap whole (reverse_on (char_data content) past rest) ∙ whole_split past (char_data content ∷ rest) is ∙ sym (reverse_on (char_data content) past (whole_rest (char_data content ∷ past) rest))
-whole_split (entity_ref name ∷ past) rest is =
-    ap whole (reverse_on (entity_ref name) past rest) ∙ whole_split past (entity_ref name ∷ rest) is ∙ sym (reverse_on (entity_ref name) past (whole_rest (entity_ref name ∷ past) rest))
-whole_split (other ∷ past) rest is =
-    ap whole (reverse_on other past rest) ∙ whole_split past (other ∷ rest) is ∙ sym (reverse_on other past (whole_rest (other ∷ past) rest))
+whole_split (leaf kind ∷ past) rest is =
+    ap whole (reverse_on (leaf kind) past rest) ∙ whole_split past (leaf kind ∷ rest) is ∙ sym (reverse_on (leaf kind) past (whole_rest (leaf kind ∷ past) rest))
 
 -- an end that breaks the nesting ends the longest whole front
 pub broken : (past rest : List Event) (name : List ℕ) → IsWhole past → closes past name ≡ false → BreaksAt (reverse past ++ end name ∷ rest) (length past)
@@ -53,10 +47,7 @@ whole_rest_is_whole past (start tag ∷ rest) is = rw reverse_on (whole_rest_is_
 whole_rest_is_whole past (end name ∷ rest) is =
     elim (closes past name) as (λ b. closes past name ≡ b → IsWhole (reverse (if b then end name ∷ whole_rest (end name ∷ past) rest else []) ++ past))
     [ true ↦ λ closed. rw reverse_on (whole_rest_is_whole (end name ∷ past) rest (closed, is)) | false ↦ λ breaks. is ] refl
-whole_rest_is_whole past (text content ∷ rest) is = rw reverse_on (whole_rest_is_whole (text content ∷ past) rest is)
-whole_rest_is_whole past (char_data content ∷ rest) is = rw reverse_on (whole_rest_is_whole (char_data content ∷ past) rest is)
-whole_rest_is_whole past (entity_ref name ∷ rest) is = rw reverse_on (whole_rest_is_whole (entity_ref name ∷ past) rest is)
-whole_rest_is_whole past (other ∷ rest) is = rw reverse_on (whole_rest_is_whole (other ∷ past) rest is)
+whole_rest_is_whole past (leaf kind ∷ rest) is = rw reverse_on (whole_rest_is_whole (leaf kind ∷ past) rest is)
 
 -- what follows is whole, or an end in it breaks the nesting
 record Breaks (past rest : List Event) : Type 0 where
@@ -84,10 +75,7 @@ whole_or_broken past (end name ∷ rest) =
           let none : whole_rest past (end name ∷ rest) ≡ [] = ap (λ (b : Bool). if b then end name ∷ whole_rest (end name ∷ past) rest else []) breaks in
           inr (record { name = name; more = rest; parts = rw none refl; breaks = rw none breaks })
     ] refl
-whole_or_broken past (text content ∷ rest) = breaks_behind (text content) past rest refl (whole_or_broken (text content ∷ past) rest)
-whole_or_broken past (char_data content ∷ rest) = breaks_behind (char_data content) past rest refl (whole_or_broken (char_data content ∷ past) rest)
-whole_or_broken past (entity_ref name ∷ rest) = breaks_behind (entity_ref name) past rest refl (whole_or_broken (entity_ref name ∷ past) rest)
-whole_or_broken past (other ∷ rest) = breaks_behind other past rest refl (whole_or_broken (other ∷ past) rest)
+whole_or_broken past (leaf kind ∷ rest) = breaks_behind (leaf kind) past rest refl (whole_or_broken (leaf kind ∷ past) rest)
 
 pub whole_is_longest : (events : List Event) → WholeIsLongest events
 whole_is_longest events = record {

@@ -2,7 +2,7 @@
 use Rattle.std.proofs.Common.{◌≡◌, ℕ, zero, suc, ◌+◌, List, [], ◌∷◌, map, Bool, true, false, refl, sym, ◌∙◌, ap, arith}
 use Rattle.std.specs.Prelude.{if◌then◌else◌, ◌==◌}
 use Rattle.std.proofs.lemmas.Bool.Decides.{nat_tests}
-use Rattle.part_events.specs.Event.{Tag, Event, start, end, text, char_data, entity_ref, other}
+use Rattle.part_events.specs.Event.{Tag, Event, start, end, leaf}
 use Rattle.part_events.specs.Nesting.{starts_in, ends_in, depth}
 use Rattle.part_events.specs.NestingLaws.{starts_at}
 use Rattle.part_events.specs.Section.{Element, content, behind, outermost, outermost_from, is_any, children}
@@ -12,10 +12,7 @@ left_behind wanted inner [] = refl
 left_behind wanted inner (start tag ∷ events) = left_behind wanted (suc inner) events
 left_behind wanted zero (end name ∷ events) = refl
 left_behind wanted (suc inner) (end name ∷ events) = left_behind wanted inner events
-left_behind wanted inner (text written ∷ events) = left_behind wanted inner events
-left_behind wanted inner (char_data written ∷ events) = left_behind wanted inner events
-left_behind wanted inner (entity_ref name ∷ events) = left_behind wanted inner events
-left_behind wanted inner (other ∷ events) = left_behind wanted inner events
+left_behind wanted inner (leaf kind ∷ events) = left_behind wanted inner events
 
 pub outermost-wanted : (wanted : Tag → Bool) (tag : Tag) (events : List Event) → wanted tag ≡ true → outermost wanted (start tag ∷ events) ≡ record { tag = tag; inside = content 0 events } ∷ outermost wanted (behind 0 events)
 outermost-wanted wanted tag events is =
@@ -49,10 +46,7 @@ children_from (suc within) past (start tag ∷ events) is =
     ∙ ap (λ (b : Bool). if b then tag ∷ starts_at 1 (start tag ∷ past) (content (suc (suc within)) events) else starts_at 1 (start tag ∷ past) (content (suc (suc within)) events)) (sym level)
 children_from zero past (end name ∷ events) is = refl
 children_from (suc within) past (end name ∷ events) is = children_from within (end name ∷ past) events (omega (arith, is))
-children_from within past (text written ∷ events) is = children_from within (text written ∷ past) events is
-children_from within past (char_data written ∷ events) is = children_from within (char_data written ∷ past) events is
-children_from within past (entity_ref name ∷ events) is = children_from within (entity_ref name ∷ past) events is
-children_from within past (other ∷ events) is = children_from within (other ∷ past) events is
+children_from within past (leaf kind ∷ events) is = children_from within (leaf kind ∷ past) events is
 
 pub children_at_depth_one : (tag : Tag) (events : List Event) → tags (children (content 0 events)) ≡ starts_at 1 (start tag ∷ []) (content 0 events)
 children_at_depth_one tag events = children_from 0 (start tag ∷ []) events (omega arith)

@@ -1,6 +1,6 @@
 -- Contents and elements: how those of a section and of an element in it go together.
 use Rattle.std.proofs.Common.{◌≡◌, ℕ, zero, suc, ◌+◌, ◌<◌, List, [], ◌∷◌, Bool, refl, ap, arith}
-use Rattle.part_events.specs.Event.{Tag, Event, start, end, text, char_data, entity_ref, other}
+use Rattle.part_events.specs.Event.{Tag, Event, start, end, leaf}
 use Rattle.part_events.specs.Section.{content, is_closed, behind, outermost_from}
 
 -- an element is closed before the one that it lies in
@@ -11,10 +11,7 @@ content-content zero zero (end name ∷ events) less = absurd (omega arith)
 content-content (suc inner) zero (end name ∷ events) less = absurd (omega arith)
 content-content zero (suc within) (end name ∷ events) less = refl
 content-content (suc inner) (suc within) (end name ∷ events) less = ap (λ (rest : List Event). end name ∷ rest) (content-content inner within events (omega arith))
-content-content inner within (text written ∷ events) less = ap (λ (rest : List Event). text written ∷ rest) (content-content inner within events less)
-content-content inner within (char_data written ∷ events) less = ap (λ (rest : List Event). char_data written ∷ rest) (content-content inner within events less)
-content-content inner within (entity_ref name ∷ events) less = ap (λ (rest : List Event). entity_ref name ∷ rest) (content-content inner within events less)
-content-content inner within (other ∷ events) less = ap (λ (rest : List Event). other ∷ rest) (content-content inner within events less)
+content-content inner within (leaf kind ∷ events) less = ap (λ (rest : List Event). leaf kind ∷ rest) (content-content inner within events less)
 
 -- how a section goes on behind an element that lies in it
 pub record GoesOnBehind (wanted : Tag → Bool) (inner outer within : ℕ) (events : List Event) : Type 0 where
@@ -35,7 +32,4 @@ goes_on_behind wanted zero outer (suc within) (end name ∷ events) is =
       elements = ap (λ (n : ℕ). outermost_from wanted 0 (content n events)) same;
     }
 goes_on_behind wanted (suc inner) outer (suc within) (end name ∷ events) is = let rest = goes_on_behind wanted inner outer within events (omega arith) in record { closed = rest.closed; left = rest.left; elements = rest.elements }
-goes_on_behind wanted inner outer within (text written ∷ events) is = let rest = goes_on_behind wanted inner outer within events is in record { closed = rest.closed; left = rest.left; elements = rest.elements }
-goes_on_behind wanted inner outer within (char_data written ∷ events) is = let rest = goes_on_behind wanted inner outer within events is in record { closed = rest.closed; left = rest.left; elements = rest.elements }
-goes_on_behind wanted inner outer within (entity_ref name ∷ events) is = let rest = goes_on_behind wanted inner outer within events is in record { closed = rest.closed; left = rest.left; elements = rest.elements }
-goes_on_behind wanted inner outer within (other ∷ events) is = let rest = goes_on_behind wanted inner outer within events is in record { closed = rest.closed; left = rest.left; elements = rest.elements }
+goes_on_behind wanted inner outer within (leaf kind ∷ events) is = let rest = goes_on_behind wanted inner outer within events is in record { closed = rest.closed; left = rest.left; elements = rest.elements }

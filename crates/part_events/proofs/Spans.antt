@@ -7,7 +7,7 @@ use Rattle.std.proofs.lemmas.List.Elements.{All-weaker, All-push, recursion_from
 use Rattle.std.proofs.lemmas.Str.{IsUtf8-append, IsUtf8-nil, IsCharBoundary-at_seam}
 use Rattle.std.specs.List.{All, AllByRecursion}
 use Rattle.std.specs.Str.{IsCharBoundary, IsUtf8}
-use Rattle.part_events.specs.Event.{Event, end, text, char_data, entity_ref}
+use Rattle.part_events.specs.Event.{Event, end, leaf, text, char_data, entity_ref}
 use Rattle.part_events.specs.Stored.{within, stored_event, IsSpan, LiesWithin, Extends}
 use Rattle.part_events.specs.declared.stored.Span.{Span}
 use Rattle.part_events.specs.declared.stored.StoredEvent.{StoredEvent}
@@ -67,9 +67,9 @@ pub stored_event_kept : (old new : List ℕ) (event : StoredEvent) → Extends o
 stored_event_kept old new (Start name attributes) extends fits =
     let names = within_kept old new name extends fits.0 in let texts = within_kept old new attributes extends fits.1 in cc
 stored_event_kept old new (End name) extends fits = ap end (within_kept old new name extends fits)
-stored_event_kept old new (Text content) extends fits = ap text (within_kept old new content extends fits)
-stored_event_kept old new (CharData content) extends fits = ap char_data (within_kept old new content extends fits)
-stored_event_kept old new (EntityRef name) extends fits = ap entity_ref (within_kept old new name extends fits)
+stored_event_kept old new (Text content) extends fits = ap (λ (written : List ℕ). leaf (text written)) (within_kept old new content extends fits)
+stored_event_kept old new (CharData content) extends fits = ap (λ (written : List ℕ). leaf (char_data written)) (within_kept old new content extends fits)
+stored_event_kept old new (EntityRef name) extends fits = ap (λ (written : List ℕ). leaf (entity_ref written)) (within_kept old new name extends fits)
 stored_event_kept old new Other extends fits = refl
 
 pub All_kept : (old new : List ℕ) (events : List StoredEvent) → Extends old new → All (LiesWithin old) events → All (LiesWithin new) events

@@ -4,7 +4,7 @@ use Rattle.std.specs.Prelude.{if◌then◌else◌, option_map, slice_get}
 use Rattle.std.proofs.lemmas.List.{length-append, length-reverse}
 use Rattle.attr_text.specs.declared.fault.TextFault.{TextFault}
 use Rattle.attr_text.specs.declared.fault.TextFault.TheVariants as text_fault
-use Rattle.part_events.specs.Event.{Event, start, end, text, char_data, entity_ref, other}
+use Rattle.part_events.specs.Event.{Event, start, end, leaf}
 use Rattle.part_events.specs.JoinedText.{EventFails, text_error, text_of, joined, is_unknown, unknown_entity, TextFails, IsUnknownAt}
 use Rattle.part_events.specs.Reading.{Reading, IsTracked, ahead, events_of}
 use Rattle.part_events.specs.Section.{content, is_closed, behind}
@@ -49,10 +49,7 @@ unknown_entity-at (first ∷ front) more event none unknown =
 pub content_at : (event : Event) (before after : ℕ) (events : List Event) → GoesInside event before after → (content before (event ∷ events) ≡ event ∷ content after events) × (is_closed before (event ∷ events) ≡ is_closed after events) × (behind before (event ∷ events) ≡ behind after events)
 content_at (start tag) before after events goes = rw goes (refl, refl, refl)
 content_at (end name) before after events goes = rw goes (refl, refl, refl)
-content_at (text written) before after events goes = rw goes (refl, refl, refl)
-content_at (char_data written) before after events goes = rw goes (refl, refl, refl)
-content_at (entity_ref name) before after events goes = rw goes (refl, refl, refl)
-content_at other before after events goes = rw goes (refl, refl, refl)
+content_at (leaf kind) before after events goes = rw goes (refl, refl, refl)
 
 -- an event of the content was taken, and its text put
 pub has_read_more : (data_too : Bool) (base : ℕ) (old mid new : Reading) (first before after : List ℕ) → HasRead data_too base old mid first before → TakesInside base mid new → new.at ≡ mid.at + 1 → after ≡ before ++ text_of data_too new.source.current → is_unknown new.source.current ≡ false → HasRead data_too base old new first after

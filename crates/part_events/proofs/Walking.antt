@@ -1,7 +1,7 @@
 -- A walk's way over the events of a section.
 use Rattle.std.proofs.Common.{◌≡◌, ℕ, suc, ◌-◌, ◌≤◌, List, [], ◌∷◌, length, Bool, true, refl, sym, ◌∙◌, ap, arith}
 use Rattle.std.specs.Prelude.{if◌then◌else◌}
-use Rattle.part_events.specs.Event.{Tag, Event, start, end, text, char_data, entity_ref, other}
+use Rattle.part_events.specs.Event.{Tag, Event, start, end, leaf}
 use Rattle.part_events.specs.Reading.{Reading, IsReading, Goes, GoesOn, TakesEvent, StepsAhead, names_behind, IsEnclosed, ahead}
 use Rattle.part_events.specs.Section.{Element, content, outermost_from}
 use Rattle.part_events.specs.Walk.{inside, SameAhead, IsNextElement}
@@ -17,19 +17,13 @@ stays r is = record { reading = is; faults = refl; left = refl; part = λ told. 
 abbrev pub GoesInside : Event → ℕ → ℕ → Type 0
 GoesInside (start tag) before after = after ≡ suc before
 GoesInside (end name) before after = before ≡ suc after
-GoesInside (text content) before after = after ≡ before
-GoesInside (char_data content) before after = after ≡ before
-GoesInside (entity_ref name) before after = after ≡ before
-GoesInside other before after = after ≡ before
+GoesInside (leaf kind) before after = after ≡ before
 
 pub goes_inside : (event : Event) (base : ℕ) (before after : List (List ℕ)) → after ≡ names_behind event before → IsEnclosed event before → base ≤ length before → base ≤ length after → GoesInside event (length before - base) (length after - base)
 goes_inside (start tag) base before after names enclosed was is = rw names (omega arith)
 goes_inside (end name) base [] after names enclosed was is = absurd (omega arith)
 goes_inside (end name) base (first ∷ before) after names enclosed was is = let same = ap length names in omega arith
-goes_inside (text content) base before after names enclosed was is = rw names refl
-goes_inside (char_data content) base before after names enclosed was is = rw names refl
-goes_inside (entity_ref name) base before after names enclosed was is = rw names refl
-goes_inside other base before after names enclosed was is = rw names refl
+goes_inside (leaf kind) base before after names enclosed was is = rw names refl
 
 pub next_element : (wanted : Tag → Bool) (base : ℕ) (tag : Tag) (old new : Reading) → TakesEvent old new → StepsAhead true old new → start tag ≡ new.source.current → base ≤ length old.names → wanted tag ≡ true → IsNextElement wanted base tag old new
 next_element wanted base tag old new takes steps current was is =

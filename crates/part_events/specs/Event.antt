@@ -9,13 +9,18 @@ pub record Tag : Type 0 where
   pub name : List ℕ
   pub attributes : List ℕ
 
+-- what nests nothing: text, character data, a reference by its name, or anything else
+pub data Leaf : Type 0 where
+  text : List ℕ → Leaf
+  char_data : List ℕ → Leaf
+  entity_ref : List ℕ → Leaf
+  other : Leaf
+
+-- the start or the end of an element, or what stands between them
 pub data Event : Type 0 where
   start : Tag → Event
   end : List ℕ → Event
-  text : List ℕ → Event
-  char_data : List ℕ → Event
-  entity_ref : List ℕ → Event
-  other : Event
+  leaf : Leaf → Event
 
 abbrev pub tag_of : StartTag → Tag
 tag_of tag = record { name = tag.name.now; attributes = tag.attributes.now }
@@ -23,16 +28,13 @@ tag_of tag = record { name = tag.name.now; attributes = tag.attributes.now }
 abbrev pub event_of : PartEvent → Event
 event_of (Start tag) = start (tag_of tag)
 event_of (End name) = end name.now
-event_of (Text content) = text content.now
-event_of (CharData content) = char_data content.now
-event_of (EntityRef name) = entity_ref name.now
-event_of Other = other
+event_of (Text content) = leaf (text content.now)
+event_of (CharData content) = leaf (char_data content.now)
+event_of (EntityRef name) = leaf (entity_ref name.now)
+event_of Other = leaf other
 
 -- a fact of the tag of a start, which is false of every other event
 abbrev pub IsStartAnd : Event → (Tag → Type 0) → Type 0
 IsStartAnd (start tag) P = P tag
 IsStartAnd (end name) P = ⊥
-IsStartAnd (text content) P = ⊥
-IsStartAnd (char_data content) P = ⊥
-IsStartAnd (entity_ref name) P = ⊥
-IsStartAnd other P = ⊥
+IsStartAnd (leaf kind) P = ⊥

@@ -3,7 +3,7 @@ use Rattle.std.specs.Prelude.{◌≡◌, ⊤, ℕ, suc, ◌+◌, List, [], ◌�
 use Rattle.attr_text.specs.Text.{entity_character, line_ends}
 use Rattle.attr_text.specs.declared.fault.TextFault.{TextFault}
 use Rattle.attr_text.specs.declared.fault.TextFault.TheVariants as text_fault
-use Rattle.part_events.specs.Event.{Event, start, end, text, char_data, entity_ref, other}
+use Rattle.part_events.specs.Event.{Event, start, end, leaf, text, char_data, entity_ref, other}
 use Rattle.part_events.specs.Package.{HasCause}
 use Rattle.part_events.specs.Reading.{Reading, IsAtEnd, BreaksAt, ahead, events_of}
 use Rattle.part_events.specs.Section.{content, is_closed, behind}
@@ -19,10 +19,10 @@ character_text (Some character) = encode_utf8 character
 abbrev pub text_of : Bool → Event → List ℕ
 text_of data_too (start tag) = []
 text_of data_too (end name) = []
-text_of data_too (text written) = line_ends written
-text_of data_too (char_data written) = if data_too then line_ends written else []
-text_of data_too (entity_ref name) = character_text (entity_character name)
-text_of data_too other = []
+text_of data_too (leaf (text written)) = line_ends written
+text_of data_too (leaf (char_data written)) = if data_too then line_ends written else []
+text_of data_too (leaf (entity_ref name)) = character_text (entity_character name)
+text_of data_too (leaf other) = []
 
 abbrev pub joined : Bool → List Event → List ℕ
 joined data_too [] = []
@@ -32,10 +32,10 @@ joined data_too (event ∷ events) = text_of data_too event ++ joined data_too e
 abbrev pub is_unknown : Event → Bool
 is_unknown (start tag) = false
 is_unknown (end name) = false
-is_unknown (text written) = false
-is_unknown (char_data written) = false
-is_unknown (entity_ref name) = is_none (entity_character name)
-is_unknown other = false
+is_unknown (leaf (text written)) = false
+is_unknown (leaf (char_data written)) = false
+is_unknown (leaf (entity_ref name)) = is_none (entity_character name)
+is_unknown (leaf other) = false
 
 -- the place of the first reference without a character; where there is one, the joined text is refused there
 abbrev pub unknown_entity : List Event → Option ℕ

@@ -1,6 +1,6 @@
 -- A package in memory: what its fields say, and what adding to it makes of its parts.
 use Rattle.std.specs.Prelude.{◌≡◌, ℕ, ◌-◌, ◌<◌, ◌≤◌, List, [], ◌∷◌, ◌++◌, length, take, drop, reverse, slice_index_or, Bool, true, false, Option, Some, None}
-use Rattle.part_events.specs.Event.{Event, other}
+use Rattle.part_events.specs.Event.{Event, leaf, other}
 use Rattle.part_events.specs.Package.{Part, PackageState}
 use Rattle.part_events.specs.declared.memory.Place.{Place}
 
@@ -33,7 +33,7 @@ state_of held = record {
   parts = held.parts;
   past = reverse (take (taken_of held.place) (open_events held.parts held.place));
   rest = drop (taken_of held.place) (open_events held.parts held.place);
-  current = slice_index_or (open_events held.parts held.place) (taken_of held.place - 1) other;
+  current = slice_index_or (open_events held.parts held.place) (taken_of held.place - 1) (leaf other);
   has_current = has_event held.place;
   left = length (open_events held.parts held.place) - taken_of held.place;
   taken = held.taken;

@@ -2,25 +2,19 @@
 use Rattle.std.specs.Prelude.{◌≡◌, ℕ, zero, suc, ◌+◌, ◌-◌, List, [], ◌∷◌, Bool, true, false, if◌then◌else◌, Option, Some, None, option_map}
 use Rattle.std.specs.Option.{option_map_or}
 use Rattle.std.specs.Str.{bytes_eq}
-use Rattle.part_events.specs.Event.{Tag, Event, start, end, text, char_data, entity_ref, other}
+use Rattle.part_events.specs.Event.{Tag, Event, start, end, leaf}
 
 abbrev pub starts_in : List Event → ℕ
 starts_in [] = 0
 starts_in (start tag ∷ past) = starts_in past + 1
 starts_in (end name ∷ past) = starts_in past
-starts_in (text content ∷ past) = starts_in past
-starts_in (char_data content ∷ past) = starts_in past
-starts_in (entity_ref name ∷ past) = starts_in past
-starts_in (other ∷ past) = starts_in past
+starts_in (leaf kind ∷ past) = starts_in past
 
 abbrev pub ends_in : List Event → ℕ
 ends_in [] = 0
 ends_in (start tag ∷ past) = ends_in past
 ends_in (end name ∷ past) = ends_in past + 1
-ends_in (text content ∷ past) = ends_in past
-ends_in (char_data content ∷ past) = ends_in past
-ends_in (entity_ref name ∷ past) = ends_in past
-ends_in (other ∷ past) = ends_in past
+ends_in (leaf kind ∷ past) = ends_in past
 
 -- how many starts stand before a place, less how many ends
 abbrev pub depth : List Event → ℕ
@@ -38,10 +32,7 @@ open_start outside [] = None
 open_start zero (start tag ∷ past) = Some (record { tag = tag; before = past })
 open_start (suc outside) (start tag ∷ past) = open_start outside past
 open_start outside (end name ∷ past) = open_start (suc outside) past
-open_start outside (text content ∷ past) = open_start outside past
-open_start outside (char_data content ∷ past) = open_start outside past
-open_start outside (entity_ref name ∷ past) = open_start outside past
-open_start outside (other ∷ past) = open_start outside past
+open_start outside (leaf kind ∷ past) = open_start outside past
 
 abbrev pub innermost_open : List Event → Option Opening
 innermost_open past = open_start 0 past
@@ -59,20 +50,14 @@ abbrev pub IsWhole : List Event → Type 0
 IsWhole [] = Unit {0}
 IsWhole (start tag ∷ past) = IsWhole past
 IsWhole (end name ∷ past) = (closes past name ≡ true) × IsWhole past
-IsWhole (text content ∷ past) = IsWhole past
-IsWhole (char_data content ∷ past) = IsWhole past
-IsWhole (entity_ref name ∷ past) = IsWhole past
-IsWhole (other ∷ past) = IsWhole past
+IsWhole (leaf kind ∷ past) = IsWhole past
 
 -- what follows up to the first end that breaks the nesting
 abbrev pub whole_rest : List Event → List Event → List Event
 whole_rest past [] = []
 whole_rest past (start tag ∷ rest) = start tag ∷ whole_rest (start tag ∷ past) rest
 whole_rest past (end name ∷ rest) = if closes past name then end name ∷ whole_rest (end name ∷ past) rest else []
-whole_rest past (text content ∷ rest) = text content ∷ whole_rest (text content ∷ past) rest
-whole_rest past (char_data content ∷ rest) = char_data content ∷ whole_rest (char_data content ∷ past) rest
-whole_rest past (entity_ref name ∷ rest) = entity_ref name ∷ whole_rest (entity_ref name ∷ past) rest
-whole_rest past (other ∷ rest) = other ∷ whole_rest (other ∷ past) rest
+whole_rest past (leaf kind ∷ rest) = leaf kind ∷ whole_rest (leaf kind ∷ past) rest
 
 -- the longest front of a part that is whole
 abbrev pub whole : List Event → List Event

@@ -1,6 +1,6 @@
 -- What the definitions by looking back and by reading forward say of depths and matches.
 use Rattle.std.specs.Prelude.{◌≡◌, ◌≢◌, ℕ, ◌+◌, List, [], ◌∷◌, ◌++◌, map, reverse, Bool, true, false, ◌⊎◌, ◌==◌, if◌then◌else◌, Some}
-use Rattle.part_events.specs.Event.{Tag, Event, start, end, text, char_data, entity_ref, other}
+use Rattle.part_events.specs.Event.{Tag, Event, start, end, leaf}
 use Rattle.part_events.specs.Nesting.{Opening, depth, innermost_open, closes, IsWhole, whole}
 use Rattle.part_events.specs.Section.{Element, content, is_closed, behind, outermost, children}
 
@@ -43,10 +43,7 @@ abbrev pub starts_at : ℕ → List Event → List Event → List Tag
 starts_at level past [] = []
 starts_at level past (start tag ∷ events) = if depth past == level then tag ∷ starts_at level (start tag ∷ past) events else starts_at level (start tag ∷ past) events
 starts_at level past (end name ∷ events) = starts_at level (end name ∷ past) events
-starts_at level past (text written ∷ events) = starts_at level (text written ∷ past) events
-starts_at level past (char_data written ∷ events) = starts_at level (char_data written ∷ past) events
-starts_at level past (entity_ref name ∷ events) = starts_at level (entity_ref name ∷ past) events
-starts_at level past (other ∷ events) = starts_at level (other ∷ past) events
+starts_at level past (leaf kind ∷ events) = starts_at level (leaf kind ∷ past) events
 
 -- the children of an element are those of its elements whose depth in it is 1
 abbrev pub ChildrenAreAtDepthOne : Type 0

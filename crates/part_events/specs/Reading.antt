@@ -1,7 +1,7 @@
 -- A reader of a part: what it is to its caller, and what its calls do.
 use Rattle.std.specs.Prelude.{◌≡◌, ⊤, ℕ, ◌+◌, ◌-◌, ◌<◌, ◌≤◌, ◌^◌, min, List, [], ◌∷◌, ◌++◌, length, reverse, slice_get, Bool, true, false}
 use Rattle.std.specs.declared.alloc.Global.{Global}
-use Rattle.part_events.specs.Event.{Event, start, end, text, char_data, entity_ref, other}
+use Rattle.part_events.specs.Event.{Event, start, end, leaf}
 use Rattle.part_events.specs.Nesting.{starts_in, ends_in, depth, open_name, IsWhole, whole_rest, whole}
 use Rattle.part_events.specs.Package.{PackageState, HasCause, SameParts}
 use Rattle.part_events.specs.Section.{is_closed, behind}
@@ -52,10 +52,7 @@ pub record IsTracked (r : Reading) : Type 0 where
 abbrev pub is_start : Event → Bool
 is_start (start tag) = true
 is_start (end name) = false
-is_start (text content) = false
-is_start (char_data content) = false
-is_start (entity_ref name) = false
-is_start other = false
+is_start (leaf kind) = false
 
 -- the current event is a start
 pub record IsAtElement (r : Reading) : Type 0 where
@@ -107,19 +104,13 @@ abbrev pub names_behind : Event → List (List ℕ) → List (List ℕ)
 names_behind (start tag) names = tag.name ∷ names
 names_behind (end name) [] = []
 names_behind (end name) (first ∷ names) = names
-names_behind (text content) names = names
-names_behind (char_data content) names = names
-names_behind (entity_ref name) names = names
-names_behind other names = names
+names_behind (leaf kind) names = names
 
 -- an end needs an open element
 abbrev pub IsEnclosed : Event → List (List ℕ) → Type 0
 IsEnclosed (start tag) names = Unit {0}
 IsEnclosed (end name) names = 0 < length names
-IsEnclosed (text content) names = Unit {0}
-IsEnclosed (char_data content) names = Unit {0}
-IsEnclosed (entity_ref name) names = Unit {0}
-IsEnclosed other names = Unit {0}
+IsEnclosed (leaf kind) names = Unit {0}
 
 -- a step to the next event, whether the package tells its parts or not
 pub record TakesEvent (old new : Reading) : Type 0 where

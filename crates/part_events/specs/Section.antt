@@ -4,7 +4,7 @@ use Rattle.std.specs.Prelude.{ℕ, zero, suc, List, [], ◌∷◌, Bool, true, f
 use Rattle.std.specs.List.{list_any}
 use Rattle.std.specs.Str.{bytes_eq}
 use Rattle.attr_text.specs.Attributes.{local_name_of}
-use Rattle.part_events.specs.Event.{Tag, Event, start, end, text, char_data, entity_ref, other}
+use Rattle.part_events.specs.Event.{Tag, Event, start, end, leaf}
 
 -- what stands before the end that closes the element, or all where none does
 abbrev pub content : ℕ → List Event → List Event
@@ -12,10 +12,7 @@ content inside [] = []
 content inside (start tag ∷ events) = start tag ∷ content (suc inside) events
 content zero (end name ∷ events) = []
 content (suc inside) (end name ∷ events) = end name ∷ content inside events
-content inside (text written ∷ events) = text written ∷ content inside events
-content inside (char_data written ∷ events) = char_data written ∷ content inside events
-content inside (entity_ref name ∷ events) = entity_ref name ∷ content inside events
-content inside (other ∷ events) = other ∷ content inside events
+content inside (leaf kind ∷ events) = leaf kind ∷ content inside events
 
 -- an end closes the element
 abbrev pub is_closed : ℕ → List Event → Bool
@@ -23,10 +20,7 @@ is_closed inside [] = false
 is_closed inside (start tag ∷ events) = is_closed (suc inside) events
 is_closed zero (end name ∷ events) = true
 is_closed (suc inside) (end name ∷ events) = is_closed inside events
-is_closed inside (text written ∷ events) = is_closed inside events
-is_closed inside (char_data written ∷ events) = is_closed inside events
-is_closed inside (entity_ref name ∷ events) = is_closed inside events
-is_closed inside (other ∷ events) = is_closed inside events
+is_closed inside (leaf kind ∷ events) = is_closed inside events
 
 -- what stands behind that end
 abbrev pub behind : ℕ → List Event → List Event
@@ -34,10 +28,7 @@ behind inside [] = []
 behind inside (start tag ∷ events) = behind (suc inside) events
 behind zero (end name ∷ events) = events
 behind (suc inside) (end name ∷ events) = behind inside events
-behind inside (text written ∷ events) = behind inside events
-behind inside (char_data written ∷ events) = behind inside events
-behind inside (entity_ref name ∷ events) = behind inside events
-behind inside (other ∷ events) = behind inside events
+behind inside (leaf kind ∷ events) = behind inside events
 
 -- the local name of a start is one of these
 abbrev pub is_named : List (List ℕ) → Tag → Bool
@@ -51,20 +42,14 @@ abbrev pub starts_by : (Tag → Bool) → List Event → List Tag
 starts_by wanted [] = []
 starts_by wanted (start tag ∷ events) = if wanted tag then tag ∷ starts_by wanted events else starts_by wanted events
 starts_by wanted (end name ∷ events) = starts_by wanted events
-starts_by wanted (text written ∷ events) = starts_by wanted events
-starts_by wanted (char_data written ∷ events) = starts_by wanted events
-starts_by wanted (entity_ref name ∷ events) = starts_by wanted events
-starts_by wanted (other ∷ events) = starts_by wanted events
+starts_by wanted (leaf kind ∷ events) = starts_by wanted events
 
 -- what stands behind the first start that passes a test
 abbrev pub behind_start : (Tag → Bool) → List Event → Option (List Event)
 behind_start wanted [] = None
 behind_start wanted (start tag ∷ events) = if wanted tag then Some events else behind_start wanted events
 behind_start wanted (end name ∷ events) = behind_start wanted events
-behind_start wanted (text written ∷ events) = behind_start wanted events
-behind_start wanted (char_data written ∷ events) = behind_start wanted events
-behind_start wanted (entity_ref name ∷ events) = behind_start wanted events
-behind_start wanted (other ∷ events) = behind_start wanted events
+behind_start wanted (leaf kind ∷ events) = behind_start wanted events
 
 -- an element: its start, and what stands between it and its match
 pub record Element : Type 0 where
@@ -78,10 +63,7 @@ outermost_from wanted zero (start tag ∷ events) = if wanted tag then record { 
 outermost_from wanted (suc within) (start tag ∷ events) = outermost_from wanted (suc (suc within)) events
 outermost_from wanted zero (end name ∷ events) = outermost_from wanted 0 events
 outermost_from wanted (suc within) (end name ∷ events) = outermost_from wanted within events
-outermost_from wanted within (text written ∷ events) = outermost_from wanted within events
-outermost_from wanted within (char_data written ∷ events) = outermost_from wanted within events
-outermost_from wanted within (entity_ref name ∷ events) = outermost_from wanted within events
-outermost_from wanted within (other ∷ events) = outermost_from wanted within events
+outermost_from wanted within (leaf kind ∷ events) = outermost_from wanted within events
 
 -- the elements whose starts pass a test, and that lie in no other such element
 abbrev pub outermost : (Tag → Bool) → List Event → List Element

@@ -1,7 +1,7 @@
 -- How a part keeps its events: one text with all their texts, and where each lies in it.
 use Rattle.std.specs.Prelude.{◌≡◌, ℕ, ◌-◌, ◌≤◌, List, ◌++◌, take, drop}
 use Rattle.std.specs.Str.{IsCharBoundary, IsUtf8}
-use Rattle.part_events.specs.Event.{Event, start, end, text, char_data, entity_ref, other}
+use Rattle.part_events.specs.Event.{Event, start, end, leaf, text, char_data, entity_ref, other}
 use Rattle.part_events.specs.declared.stored.Span.{Span}
 use Rattle.part_events.specs.declared.stored.StoredEvent.{StoredEvent}
 use Rattle.part_events.specs.declared.stored.StoredEvent.TheVariants.{Start, End, Text, CharData, EntityRef, Other}
@@ -13,10 +13,10 @@ within bytes span = take (span.end - span.start) (drop span.start bytes)
 abbrev pub stored_event : List ℕ → StoredEvent → Event
 stored_event bytes (Start name attributes) = start (record { name = within bytes name; attributes = within bytes attributes })
 stored_event bytes (End name) = end (within bytes name)
-stored_event bytes (Text content) = text (within bytes content)
-stored_event bytes (CharData content) = char_data (within bytes content)
-stored_event bytes (EntityRef name) = entity_ref (within bytes name)
-stored_event bytes Other = other
+stored_event bytes (Text content) = leaf (text (within bytes content))
+stored_event bytes (CharData content) = leaf (char_data (within bytes content))
+stored_event bytes (EntityRef name) = leaf (entity_ref (within bytes name))
+stored_event bytes Other = leaf other
 
 -- both ends lie between characters
 pub record IsSpan (bytes : List ℕ) (span : Span) : Type 0 where
