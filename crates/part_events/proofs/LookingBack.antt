@@ -4,19 +4,19 @@ use Rattle.std.specs.Prelude.{option_map}
 use Rattle.std.specs.Option.{option_map_or}
 use Rattle.std.specs.Str.{bytes_eq}
 use Rattle.part_events.specs.Event.{Tag, Event, start, end, leaf}
-use Rattle.part_events.specs.Nesting.{Opening, starts_in, ends_in, depth, open_start, IsWhole}
+use Rattle.part_events.specs.Nesting.{OpenStart, starts_in, ends_in, depth, open_start, IsWhole}
 use Rattle.part_events.specs.NestingLaws.{IsLastStartOneOut}
 
 -- there are no more ends than starts, and one start less for each element that is open further out
 pub record Balances (past : List Event) : Type 0 where
   pub ends : ends_in past ≤ starts_in past
-  pub deep : (outside : ℕ) (opening : Opening) → open_start outside past ≡ Some opening → ends_in past + suc outside ≤ starts_in past
+  pub deep : (outside : ℕ) (opening : OpenStart) → open_start outside past ≡ Some opening → ends_in past + suc outside ≤ starts_in past
 
-some_open : (o : Option Opening) (name : List ℕ) → option_map_or (bytes_eq name) (option_map (λ (opening : Opening). opening.tag.name) o) false ≡ true → (opening : Opening) × (o ≡ Some opening)
+some_open : (o : Option OpenStart) (name : List ℕ) → option_map_or (bytes_eq name) (option_map (λ (opening : OpenStart). opening.tag.name) o) false ≡ true → (opening : OpenStart) × (o ≡ Some opening)
 some_open None name is = absurd (cc)
 some_open (Some opening) name is = (opening, refl)
 
-deep_start : (tag : Tag) (past : List Event) → Balances past → (outside : ℕ) (opening : Opening) → open_start outside (start tag ∷ past) ≡ Some opening → ends_in past + suc outside ≤ starts_in past + 1
+deep_start : (tag : Tag) (past : List Event) → Balances past → (outside : ℕ) (opening : OpenStart) → open_start outside (start tag ∷ past) ≡ Some opening → ends_in past + suc outside ≤ starts_in past + 1
 deep_start tag past was zero opening is = omega (arith, was.ends)
 deep_start tag past was (suc outside) opening is = omega (arith, was.deep outside opening is)
 
@@ -34,7 +34,7 @@ balances (end name ∷ past) is =
     }
 balances (leaf kind ∷ past) is = let was = balances past is in record { ends = was.ends; deep = was.deep }
 
-pub record Finds (outside : ℕ) (past : List Event) (opening : Opening) : Type 0 where
+pub record Finds (outside : ℕ) (past : List Event) (opening : OpenStart) : Type 0 where
   pub later : List Event
   pub parts : past ≡ later ++ start opening.tag ∷ opening.before
   pub out : depth opening.before + 1 + outside ≡ depth past
@@ -45,19 +45,19 @@ nothing : (nearer farther : List Event) (between : Tag) → [] ≡ nearer ++ sta
 nothing [] farther between parts = cc
 nothing (first ∷ nearer) farther between parts = cc
 
-finds_here : (tag : Tag) (past : List Event) (opening : Opening) → Balances past → open_start 0 (start tag ∷ past) ≡ Some opening → Finds 0 (start tag ∷ past) opening
+finds_here : (tag : Tag) (past : List Event) (opening : OpenStart) → Balances past → open_start 0 (start tag ∷ past) ≡ Some opening → Finds 0 (start tag ∷ past) opening
 finds_here tag past opening was is =
-    let here : Opening = record { tag = tag; before = past } in
+    let here : OpenStart = record { tag = tag; before = past } in
     let same : here ≡ opening = cc in
     record {
       later = [];
-      parts = ap (λ (o : Opening). start o.tag ∷ o.before) same;
-      out = ap (λ (o : Opening). depth o.before + 1 + 0) (sym same) ∙ omega (arith, was.ends);
+      parts = ap (λ (o : OpenStart). start o.tag ∷ o.before) same;
+      out = ap (λ (o : OpenStart). depth o.before + 1 + 0) (sym same) ∙ omega (arith, was.ends);
       last = λ nearer farther between parts. absurd (nothing nearer farther between parts);
     }
 
 -- A start further out, seen from behind another event: the depth is `up` more than before that event, less `down`.
-finds_behind : (event : Event) (past : List Event) (opening : Opening) (outside before : ℕ) → Finds before past opening → depth (event ∷ past) + before ≡ depth past + outside → ((tag : Tag) → event ≡ start tag → 0 < outside) → Finds outside (event ∷ past) opening
+finds_behind : (event : Event) (past : List Event) (opening : OpenStart) (outside before : ℕ) → Finds before past opening → depth (event ∷ past) + before ≡ depth past + outside → ((tag : Tag) → event ≡ start tag → 0 < outside) → Finds outside (event ∷ past) opening
 finds_behind event past opening outside before found moves farther_out = record {
   later = event ∷ found.later;
   parts = ap (λ (events : List Event). event ∷ events) found.parts;
@@ -77,7 +77,7 @@ finds_behind event past opening outside before found moves farther_out = record 
         let not_there = found.last nearer farther between rest in
         λ same. not_there (omega (arith, found.out, moves, same))
 
-pub finds_last : (past : List Event) (outside : ℕ) (opening : Opening) → IsWhole past → open_start outside past ≡ Some opening → Finds outside past opening
+pub finds_last : (past : List Event) (outside : ℕ) (opening : OpenStart) → IsWhole past → open_start outside past ≡ Some opening → Finds outside past opening
 finds_last [] outside opening is here = absurd (cc)
 finds_last (start tag ∷ past) zero opening is here = finds_here tag past opening (balances past is) here
 finds_last (start tag ∷ past) (suc outside) opening is here =
@@ -106,7 +106,7 @@ found_back (end name ∷ later) outside tag before is out last =
     found_back later (suc outside) tag before is.1 (omega (arith, out, moves)) (last_behind (end name) later tag before outside (suc outside) last moves)
 found_back (leaf kind ∷ later) outside tag before is out last = found_back later outside tag before is out (last_behind (leaf kind) later tag before outside outside last refl)
 
-pub innermost_is_last : (past : List Event) (opening : Opening) → IsWhole past → open_start 0 past ≡ Some opening → IsLastStartOneOut past opening
+pub innermost_is_last : (past : List Event) (opening : OpenStart) → IsWhole past → open_start 0 past ≡ Some opening → IsLastStartOneOut past opening
 innermost_is_last past opening is here =
     let found = finds_last past 0 opening is here in
     record {
@@ -116,7 +116,7 @@ innermost_is_last past opening is here =
       last = λ nearer farther between parts same. found.last nearer farther between parts (omega (arith, same));
     }
 
-pub last_is_innermost : (past : List Event) (opening : Opening) → IsWhole past → IsLastStartOneOut past opening → open_start 0 past ≡ Some opening
+pub last_is_innermost : (past : List Event) (opening : OpenStart) → IsWhole past → IsLastStartOneOut past opening → open_start 0 past ≡ Some opening
 last_is_innermost past opening is found =
     ap (open_start 0) found.parts
     ∙ found_back found.later 0 opening.tag opening.before (rw found.parts at is) (omega (arith, found.one_out, ap depth found.parts))

@@ -1,7 +1,7 @@
 -- Contents and elements: how those of a section and of an element in it go together.
 use Rattle.std.proofs.Common.{◌≡◌, ℕ, zero, suc, ◌+◌, ◌<◌, List, [], ◌∷◌, Bool, refl, ap, arith}
 use Rattle.part_events.specs.Event.{Tag, Event, start, end, leaf}
-use Rattle.part_events.specs.Section.{content, is_closed, behind, outermost_from}
+use Rattle.part_events.specs.Section.{content, is_closed, behind, outermost_from, unclosed_from}
 
 -- an element is closed before the one that it lies in
 pub content-content : (inner within : ℕ) (events : List Event) → inner < within → content inner (content within events) ≡ content inner events
@@ -13,15 +13,25 @@ content-content zero (suc within) (end name ∷ events) less = refl
 content-content (suc inner) (suc within) (end name ∷ events) less = ap (λ (rest : List Event). end name ∷ rest) (content-content inner within events (omega arith))
 content-content inner within (leaf kind ∷ events) less = ap (λ (rest : List Event). leaf kind ∷ rest) (content-content inner within events less)
 
+pub is_closed-content : (inner within : ℕ) (events : List Event) → inner < within → is_closed inner (content within events) ≡ is_closed inner events
+is_closed-content inner within [] less = refl
+is_closed-content inner within (start tag ∷ events) less = is_closed-content (suc inner) (suc within) events (omega arith)
+is_closed-content zero zero (end name ∷ events) less = absurd (omega arith)
+is_closed-content (suc inner) zero (end name ∷ events) less = absurd (omega arith)
+is_closed-content zero (suc within) (end name ∷ events) less = refl
+is_closed-content (suc inner) (suc within) (end name ∷ events) less = is_closed-content inner within events (omega arith)
+is_closed-content inner within (leaf kind ∷ events) less = is_closed-content inner within events less
+
 -- how a section goes on behind an element that lies in it
 pub record GoesOnBehind (wanted : Tag → Bool) (inner outer within : ℕ) (events : List Event) : Type 0 where
   pub closed : is_closed within events ≡ is_closed outer (behind inner events)
   pub left : behind within events ≡ behind outer (behind inner events)
   pub elements : outermost_from wanted (suc inner) (content within events) ≡ outermost_from wanted 0 (content outer (behind inner events))
+  pub unclosed : unclosed_from wanted (suc inner) (content within events) ≡ unclosed_from wanted 0 (content outer (behind inner events))
 
 pub goes_on_behind : (wanted : Tag → Bool) (inner outer within : ℕ) (events : List Event) → within ≡ inner + suc outer → GoesOnBehind wanted inner outer within events
-goes_on_behind wanted inner outer within [] is = record { closed = refl; left = refl; elements = refl }
-goes_on_behind wanted inner outer within (start tag ∷ events) is = let rest = goes_on_behind wanted (suc inner) outer (suc within) events (omega arith) in record { closed = rest.closed; left = rest.left; elements = rest.elements }
+goes_on_behind wanted inner outer within [] is = record { closed = refl; left = refl; elements = refl; unclosed = refl }
+goes_on_behind wanted inner outer within (start tag ∷ events) is = let rest = goes_on_behind wanted (suc inner) outer (suc within) events (omega arith) in record { closed = rest.closed; left = rest.left; elements = rest.elements; unclosed = rest.unclosed }
 goes_on_behind wanted zero outer zero (end name ∷ events) is = absurd (omega arith)
 goes_on_behind wanted (suc inner) outer zero (end name ∷ events) is = absurd (omega arith)
 goes_on_behind wanted zero outer (suc within) (end name ∷ events) is =
@@ -30,6 +40,7 @@ goes_on_behind wanted zero outer (suc within) (end name ∷ events) is =
       closed = ap (λ (n : ℕ). is_closed n events) same;
       left = ap (λ (n : ℕ). behind n events) same;
       elements = ap (λ (n : ℕ). outermost_from wanted 0 (content n events)) same;
+      unclosed = ap (λ (n : ℕ). unclosed_from wanted 0 (content n events)) same;
     }
-goes_on_behind wanted (suc inner) outer (suc within) (end name ∷ events) is = let rest = goes_on_behind wanted inner outer within events (omega arith) in record { closed = rest.closed; left = rest.left; elements = rest.elements }
-goes_on_behind wanted inner outer within (leaf kind ∷ events) is = let rest = goes_on_behind wanted inner outer within events is in record { closed = rest.closed; left = rest.left; elements = rest.elements }
+goes_on_behind wanted (suc inner) outer (suc within) (end name ∷ events) is = let rest = goes_on_behind wanted inner outer within events (omega arith) in record { closed = rest.closed; left = rest.left; elements = rest.elements; unclosed = rest.unclosed }
+goes_on_behind wanted inner outer within (leaf kind ∷ events) is = let rest = goes_on_behind wanted inner outer within events is in record { closed = rest.closed; left = rest.left; elements = rest.elements; unclosed = rest.unclosed }

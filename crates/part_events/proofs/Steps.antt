@@ -8,7 +8,7 @@ use Rattle.part_events.specs.Event.{Tag, Event, start, end}
 use Rattle.part_events.specs.Nesting.{closes, whole_rest}
 use Rattle.part_events.specs.OpenNames.{is_innermost}
 use Rattle.part_events.specs.Package.{SameParts, Advances, AdvanceCounts}
-use Rattle.part_events.specs.Reading.{Reading, IsReading, IsTracked, GoesOn, BreaksAt, EndsOpen, ahead, events_of}
+use Rattle.part_events.specs.Reading.{Reading, IsReading, IsTracked, StaysReadable, BreaksNext, EndsOpen, ahead, events_of}
 use Rattle.part_events.proofs.Nested.{reverse_on, broken, names_at_start, whole_split}
 
 -- an event was taken of the same part
@@ -16,8 +16,8 @@ pub same_part : (old new : Reading) → Advances true old.source new.source → 
 same_part old new advances =
     ap (λ (past : List Event). reverse past ++ new.source.rest) advances.1 ∙ reverse_on new.source.current old.source.past new.source.rest ∙ ap (λ (rest : List Event). reverse old.source.past ++ rest) (sym advances.0)
 
-pub goes_on_at_start : (old new : Reading) (tag : Tag) (more : Bool) → more ≡ true → IsReading old → new.is_failed ≡ false → SameParts old.source new.source → AdvanceCounts more old.source new.source → (old.source.told ≡ true → Advances more old.source new.source) → start tag ≡ new.source.current → new.names ≡ tag.name ∷ old.names → new.at ≡ old.at + 1 → GoesOn old new
-goes_on_at_start old new tag more is was going parts counted advanced current names at =
+pub stays_at_start : (old new : Reading) (tag : Tag) (more : Bool) → more ≡ true → IsReading old → new.is_failed ≡ false → SameParts old.source new.source → AdvanceCounts more old.source new.source → (old.source.told ≡ true → Advances more old.source new.source) → start tag ≡ new.source.current → new.names ≡ tag.name ∷ old.names → new.at ≡ old.at + 1 → StaysReadable old new
+stays_at_start old new tag more is was going parts counted advanced current names at =
     let counts : AdvanceCounts true old.source new.source = rw is at counted in
     let advances : old.source.told ≡ true → Advances true old.source new.source = λ told. rw is at (advanced told) in
     record {
@@ -45,7 +45,7 @@ same_name : (name : List ℕ) (names : List (List ℕ)) → option_map_or (bytes
 same_name name [] = refl
 same_name name (first ∷ names) = refl
 
-pub breaks_at_end : (old new : Reading) (name : List ℕ) (more : Bool) → more ≡ true → IsReading old → old.source.told ≡ true → Advances more old.source new.source → end name ≡ new.source.current → is_innermost name old.names ≡ false → (events_of new ≡ events_of old) × BreaksAt (events_of new) old.at × (ahead old ≡ [])
+pub breaks_at_end : (old new : Reading) (name : List ℕ) (more : Bool) → more ≡ true → IsReading old → old.source.told ≡ true → Advances more old.source new.source → end name ≡ new.source.current → is_innermost name old.names ≡ false → BreaksNext old new old.at × (ahead old ≡ [])
 breaks_at_end old new name more is was told advanced current other =
     let advances : Advances true old.source new.source = rw is at advanced in
     let before = was.tracked told in
@@ -57,7 +57,7 @@ breaks_at_end old new name more is was told advanced current other =
     let none : ahead old ≡ [] =
     ap (whole_rest old.source.past) comes ∙ ap (λ (b : Bool). if b then end name ∷ whole_rest (end name ∷ old.source.past) new.source.rest else []) breaks
     in
-    (same, rw (same, before.at, comes) (broken old.source.past new.source.rest name before.whole breaks), none)
+    ((same, rw (same, before.at, comes) (broken old.source.past new.source.rest name before.whole breaks)), none)
 
 -- the part has ended, and some element is open
 pub ends_open : (r : Reading) → IsTracked r → r.source.rest ≡ [] → 0 < length r.names → EndsOpen (events_of r) r.at

@@ -5,7 +5,7 @@ use Rattle.std.proofs.lemmas.List.{length-append, length-reverse}
 use Rattle.attr_text.specs.declared.fault.TextFault.{TextFault}
 use Rattle.attr_text.specs.declared.fault.TextFault.TheVariants as text_fault
 use Rattle.part_events.specs.Event.{Event, start, end, leaf}
-use Rattle.part_events.specs.JoinedText.{EventFails, text_error, text_of, joined, is_unknown, unknown_entity, TextFails, IsUnknownAt}
+use Rattle.part_events.specs.JoinedText.{EventFails, text_error, event_text, joined_text, is_unknown, unknown_entity, TextFails, IsUnknownAt}
 use Rattle.part_events.specs.Reading.{Reading, IsTracked, ahead, events_of}
 use Rattle.part_events.specs.Section.{content, is_closed, behind}
 use Rattle.part_events.specs.Walk.{inside, TakesInside}
@@ -13,19 +13,19 @@ use Rattle.part_events.proofs.Nested.{reverse_on}
 use Rattle.part_events.proofs.Walking.{GoesInside}
 
 -- What is kept while the text is read: a front of the content was passed, and its text was put.
-pub record HasRead (data_too : Bool) (base : ℕ) (old now : Reading) (old_text new_text : List ℕ) : Type 0 where
+pub record HasRead (data_too : Bool) (base : ℕ) (old now : Reading) (texts : List ℕ × List ℕ) : Type 0 where
   pub front : List Event
   pub parts : content 0 (ahead old) ≡ front ++ content (inside base now) (ahead now)
   pub size : now.at ≡ old.at + length front
-  pub text : new_text ≡ old_text ++ joined data_too front
+  pub text : texts.1 ≡ texts.0 ++ joined_text data_too front
   pub known : unknown_entity front ≡ None
   pub closed : is_closed 0 (ahead old) ≡ is_closed (inside base now) (ahead now)
   pub behind : behind 0 (ahead old) ≡ behind (inside base now) (ahead now)
 
-joined-push : (data_too : Bool) (front : List Event) (event : Event) → joined data_too (front ++ event ∷ []) ≡ joined data_too front ++ text_of data_too event
-joined-push data_too [] event = append-nil (text_of data_too event)
-joined-push data_too (first ∷ front) event =
-    ap (λ (rest : List ℕ). text_of data_too first ++ rest) (joined-push data_too front event) ∙ sym (append_assoc (text_of data_too first) (joined data_too front) (text_of data_too event))
+joined_text-push : (data_too : Bool) (front : List Event) (event : Event) → joined_text data_too (front ++ event ∷ []) ≡ joined_text data_too front ++ event_text data_too event
+joined_text-push data_too [] event = append-nil (event_text data_too event)
+joined_text-push data_too (first ∷ front) event =
+    ap (λ (rest : List ℕ). event_text data_too first ++ rest) (joined_text-push data_too front event) ∙ sym (append_assoc (event_text data_too first) (joined_text data_too front) (event_text data_too event))
 
 cond_none : (b : Bool) (o : Option ℕ) → (if b then Some 0 else option_map suc o) ≡ None → (b ≡ false) × (o ≡ None)
 cond_none true o is = absurd (cc)
@@ -52,14 +52,14 @@ content_at (end name) before after events goes = rw goes (refl, refl, refl)
 content_at (leaf kind) before after events goes = rw goes (refl, refl, refl)
 
 -- an event of the content was taken, and its text put
-pub has_read_more : (data_too : Bool) (base : ℕ) (old mid new : Reading) (first before after : List ℕ) → HasRead data_too base old mid first before → TakesInside base mid new → new.at ≡ mid.at + 1 → after ≡ before ++ text_of data_too new.source.current → is_unknown new.source.current ≡ false → HasRead data_too base old new first after
+pub has_read_more : (data_too : Bool) (base : ℕ) (old mid new : Reading) (first before after : List ℕ) → HasRead data_too base old mid (first, before) → TakesInside base mid new → new.at ≡ mid.at + 1 → after ≡ before ++ event_text data_too new.source.current → is_unknown new.source.current ≡ false → HasRead data_too base old new (first, after)
 has_read_more data_too base old mid new first before after read takes at written known =
     let event = new.source.current in
     record {
       front = read.front ++ event ∷ [];
       parts = read.parts ∙ ap (λ (events : List Event). read.front ++ events) takes.events ∙ sym (append_assoc read.front (event ∷ []) (content (inside base new) (ahead new)));
       size = omega (arith, read.size, at, length-append read.front (event ∷ []));
-      text = written ∙ ap (λ (bytes : List ℕ). bytes ++ text_of data_too event) read.text ∙ append_assoc first (joined data_too read.front) (text_of data_too event) ∙ ap (λ (bytes : List ℕ). first ++ bytes) (sym (joined-push data_too read.front event));
+      text = written ∙ ap (λ (bytes : List ℕ). bytes ++ event_text data_too event) read.text ∙ append_assoc first (joined_text data_too read.front) (event_text data_too event) ∙ ap (λ (bytes : List ℕ). first ++ bytes) (sym (joined_text-push data_too read.front event));
       known = unknown_entity-push read.front event read.known known;
       closed = read.closed ∙ takes.closed;
       behind = read.behind ∙ takes.behind;
@@ -70,7 +70,7 @@ slice_get-append [] more event = refl
 slice_get-append (first ∷ front) more event = slice_get-append front more event
 
 -- a reference without a character was taken
-pub stops_at_entity : (data_too : Bool) (base : ℕ) (old mid new : Reading) (first written : List ℕ) → HasRead data_too base old mid first written → IsTracked mid → TakesInside base mid new → events_of new ≡ events_of old → is_unknown new.source.current ≡ true → (events_of new ≡ events_of old) × IsUnknownAt (events_of new) mid.at × (option_map (λ place. old.at + place) (unknown_entity (content 0 (ahead old))) ≡ Some mid.at)
+pub stops_at_entity : (data_too : Bool) (base : ℕ) (old mid new : Reading) (first written : List ℕ) → HasRead data_too base old mid (first, written) → IsTracked mid → TakesInside base mid new → events_of new ≡ events_of old → is_unknown new.source.current ≡ true → (events_of new ≡ events_of old) × IsUnknownAt (events_of new) mid.at × (option_map (λ place. old.at + place) (unknown_entity (content 0 (ahead old))) ≡ Some mid.at)
 stops_at_entity data_too base old mid new first written read tracked takes part unknown =
     let event = new.source.current in
     let here : content 0 (ahead old) ≡ read.front ++ event ∷ content (inside base new) (ahead new) = read.parts ∙ ap (λ (events : List Event). read.front ++ events) takes.events in
@@ -84,7 +84,7 @@ stops_at_entity data_too base old mid new first written read tracked takes part 
     )
 
 -- the text of an event can't be put
-pub event_fails : (data_too : Bool) (base : ℕ) (old mid new : Reading) (first written : List ℕ) (fault : TextFault) → (old.source.told ≡ true → HasRead data_too base old mid first written) → (old.source.told ≡ true → IsTracked mid) → (old.source.told ≡ true → TakesInside base mid new) → new.at ≡ mid.at + 1 → (old.source.told ≡ true → events_of new ≡ events_of old) → EventFails new.source.current fault → TextFails old new (text_error (new.at - 1) fault)
+pub event_fails : (data_too : Bool) (base : ℕ) (old mid new : Reading) (first written : List ℕ) (fault : TextFault) → (old.source.told ≡ true → HasRead data_too base old mid (first, written)) → (old.source.told ≡ true → IsTracked mid) → (old.source.told ≡ true → TakesInside base mid new) → new.at ≡ mid.at + 1 → (old.source.told ≡ true → events_of new ≡ events_of old) → EventFails new.source.current fault → TextFails old new (text_error (new.at - 1) fault)
 event_fails data_too base old mid new first written (text_fault.Entity place) read tracked takes at part fails = λ told.
     let before : new.at - 1 ≡ mid.at = omega (arith, at) in
     rw before (stops_at_entity data_too base old mid new first written (read told) (tracked told) (takes told) (part told) fails)

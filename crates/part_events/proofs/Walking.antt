@@ -1,17 +1,11 @@
 -- A walk's way over the events of a section.
-use Rattle.std.proofs.Common.{◌≡◌, ℕ, suc, ◌-◌, ◌≤◌, List, [], ◌∷◌, length, Bool, true, refl, sym, ◌∙◌, ap, arith}
+use Rattle.std.proofs.Common.{◌≡◌, ℕ, suc, ◌-◌, ◌≤◌, List, [], ◌∷◌, length, Bool, true, Option, Some, refl, sym, ◌∙◌, ap, arith}
 use Rattle.std.specs.Prelude.{if◌then◌else◌}
 use Rattle.part_events.specs.Event.{Tag, Event, start, end, leaf}
-use Rattle.part_events.specs.Reading.{Reading, IsReading, Goes, GoesOn, TakesEvent, StepsAhead, names_behind, IsEnclosed, ahead}
-use Rattle.part_events.specs.Section.{Element, content, outermost_from}
+use Rattle.part_events.specs.Reading.{Reading, TakesEvent, StepsAhead, names_behind, IsEnclosed, ahead}
+use Rattle.part_events.specs.Section.{Element, content, is_closed, outermost_from, unclosed_from}
 use Rattle.part_events.specs.Walk.{inside, SameAhead, IsNextElement}
-use Rattle.part_events.proofs.Sections.{content-content, goes_on_behind}
-
-pub goes_nowhere : (r : Reading) → Goes r r
-goes_nowhere r = record { parts = record { told = refl; parts = refl; faults = omega arith }; forward = omega arith; taken = omega arith }
-
-pub stays : (r : Reading) → IsReading r → GoesOn r r
-stays r is = record { reading = is; faults = refl; left = refl; part = λ told. refl }
+use Rattle.part_events.proofs.Sections.{content-content, is_closed-content, goes_on_behind}
 
 -- how many elements are open before and behind an event
 abbrev pub GoesInside : Event → ℕ → ℕ → Type 0
@@ -31,21 +25,30 @@ next_element wanted base tag old new takes steps current was is =
     let names : new.names ≡ tag.name ∷ old.names = takes.names ∙ ap (λ (event : Event). names_behind event old.names) (sym current) in
     let out : inside base new - 1 ≡ inside base old = rw names (omega arith) in
     let n = inside base old in
+    let all = content (suc n) (ahead new) in
+    let first : Element = record { tag = tag; inside = content 0 (ahead new) } in
+    let within = content-content 0 (suc n) (ahead new) (omega arith) in
     let behind_it = goes_on_behind wanted 0 n (suc n) (ahead new) (omega arith) in
     record {
       is_wanted = is;
       elements = rw (taken, out)
-          (ap (λ (b : Bool). if b then record { tag = tag; inside = content 0 (content (suc n) (ahead new)) } ∷ outermost_from wanted 1 (content (suc n) (ahead new)) else outermost_from wanted 0 (content (suc n) (ahead new))) is
-          ∙ ap (λ (within : List Event). let first : Element = record { tag = tag; inside = within } in first ∷ outermost_from wanted 1 (content (suc n) (ahead new))) (content-content 0 (suc n) (ahead new) (omega arith))
-          ∙ ap (λ (others : List Element). let first : Element = record { tag = tag; inside = content 0 (ahead new) } in first ∷ others) behind_it.elements);
+          (ap (λ (b : Bool). if b then record { tag = tag; inside = content 0 all } ∷ outermost_from wanted 1 all else outermost_from wanted 0 all) is
+          ∙ ap (λ (inner : List Event). let here : Element = record { tag = tag; inside = inner } in here ∷ outermost_from wanted 1 all) within
+          ∙ ap (λ (others : List Element). first ∷ others) behind_it.elements);
+      unclosed = rw (taken, out)
+          (ap (λ (b : Bool). if b then (if is_closed 0 all then unclosed_from wanted 1 all else Some (record { tag = tag; inside = content 0 all })) else unclosed_from wanted 0 all) is
+          ∙ ap (λ (inner : List Event). if is_closed 0 all then unclosed_from wanted 1 all else Some (record { tag = tag; inside = inner })) within
+          ∙ ap (λ (b : Bool). if b then unclosed_from wanted 1 all else Some first) (is_closed-content 0 (suc n) (ahead new) (omega arith))
+          ∙ ap (λ (others : Option Element). if is_closed 0 (ahead new) then others else Some first) behind_it.unclosed);
       closed = rw (taken, out) behind_it.closed;
       behind = rw (taken, out) behind_it.left;
     }
 
-pub element_later : (wanted : Tag → Bool) (base : ℕ) (tag : Tag) (old mid new : Reading) → SameAhead wanted (inside base old) (ahead old) (inside base mid) (ahead mid) → IsNextElement wanted base tag mid new → IsNextElement wanted base tag old new
+pub element_later : (wanted : Tag → Bool) (base : ℕ) (tag : Tag) (old mid new : Reading) → SameAhead wanted base old mid → IsNextElement wanted base tag mid new → IsNextElement wanted base tag old new
 element_later wanted base tag old mid new same next = record {
   is_wanted = next.is_wanted;
   elements = same.elements ∙ next.elements;
+  unclosed = same.unclosed ∙ next.unclosed;
   closed = same.closed ∙ next.closed;
   behind = same.behind ∙ next.behind;
 }

@@ -5,7 +5,7 @@ use Rattle.attr_text.specs.declared.fault.TextFault.{TextFault}
 use Rattle.attr_text.specs.declared.fault.TextFault.TheVariants as text_fault
 use Rattle.part_events.specs.Event.{Event, start, end, leaf, text, char_data, entity_ref, other}
 use Rattle.part_events.specs.Package.{HasCause}
-use Rattle.part_events.specs.Reading.{Reading, IsAtEnd, BreaksAt, ahead, events_of}
+use Rattle.part_events.specs.Reading.{Reading, IsAtEnd, BreaksNext, ahead, events_of}
 use Rattle.part_events.specs.Section.{content, is_closed, behind}
 use Rattle.part_events.specs.declared.fault.StreamError.{StreamError}
 use Rattle.part_events.specs.declared.fault.StreamError.TheVariants.{Io, Xml, OutOfMemory}
@@ -16,17 +16,17 @@ character_text None = []
 character_text (Some character) = encode_utf8 character
 
 -- the text of an event, where `data_too` says whether that of character data is wanted
-abbrev pub text_of : Bool → Event → List ℕ
-text_of data_too (start tag) = []
-text_of data_too (end name) = []
-text_of data_too (leaf (text written)) = line_ends written
-text_of data_too (leaf (char_data written)) = if data_too then line_ends written else []
-text_of data_too (leaf (entity_ref name)) = character_text (entity_character name)
-text_of data_too (leaf other) = []
+abbrev pub event_text : Bool → Event → List ℕ
+event_text data_too (start tag) = []
+event_text data_too (end name) = []
+event_text data_too (leaf (text written)) = line_ends written
+event_text data_too (leaf (char_data written)) = if data_too then line_ends written else []
+event_text data_too (leaf (entity_ref name)) = character_text (entity_character name)
+event_text data_too (leaf other) = []
 
-abbrev pub joined : Bool → List Event → List ℕ
-joined data_too [] = []
-joined data_too (event ∷ events) = text_of data_too event ++ joined data_too events
+abbrev pub joined_text : Bool → List Event → List ℕ
+joined_text data_too [] = []
+joined_text data_too (event ∷ events) = event_text data_too event ++ joined_text data_too events
 
 -- a reference without a character
 abbrev pub is_unknown : Event → Bool
@@ -42,17 +42,17 @@ abbrev pub unknown_entity : List Event → Option ℕ
 unknown_entity [] = None
 unknown_entity (event ∷ events) = if is_unknown event then Some 0 else option_map suc (unknown_entity events)
 
--- what became of the buffer: the text of a front of the events was put behind its old text
-pub record PutsFront (data_too : Bool) (events : List Event) (old new : List ℕ) : Type 0 where
+-- what became of the buffer, from its old text to its new one: the text of a front of the events was put behind it
+pub record PutsFront (data_too : Bool) (events : List Event) (texts : List ℕ × List ℕ) : Type 0 where
   pub front : List Event
   pub more : List Event
   pub parts : events ≡ front ++ more
-  pub text : new ≡ old ++ joined data_too front
+  pub text : texts.1 ≡ texts.0 ++ joined_text data_too front
 
 -- the text of the element was read, up to its match, or to the part's end
-pub record ReadsText (data_too is_whole : Bool) (old_text new_text : List ℕ) (old new : Reading) : Type 0 where
+pub record ReadsText (data_too is_whole : Bool) (texts : List ℕ × List ℕ) (old new : Reading) : Type 0 where
   pub closed : is_closed 0 (ahead old) ≡ is_whole
-  pub text : new_text ≡ old_text ++ joined data_too (content 0 (ahead old))
+  pub text : texts.1 ≡ texts.0 ++ joined_text data_too (content 0 (ahead old))
   pub known : unknown_entity (content 0 (ahead old)) ≡ None
   pub ahead : ahead new ≡ behind 0 (ahead old)
   pub at_end : is_whole ≡ false → IsAtEnd new
@@ -61,12 +61,18 @@ pub record ReadsText (data_too is_whole : Bool) (old_text new_text : List ℕ) (
 abbrev pub IsUnknownAt : List Event → ℕ → Type 0
 IsUnknownAt events at = IsSomeAnd (slice_get events at) (λ event. is_unknown event ≡ true)
 
--- when a text can't be read
+-- when a text can't be read; a break of the nesting is told only where no reference without a character comes before
 abbrev pub TextFails : Reading → Reading → StreamError → Type 0
 TextFails old new Io = HasCause old.source new.source
-TextFails old new (Xml (EndMismatch at)) = old.source.told ≡ true → (events_of new ≡ events_of old) × BreaksAt (events_of new) at × (is_closed 0 (ahead old) ≡ false)
+TextFails old new (Xml (EndMismatch at)) =
+    old.source.told ≡ true →
+    BreaksNext old new at × (is_closed 0 (ahead old) ≡ false)
+    × (unknown_entity (content 0 (ahead old)) ≡ None)
 TextFails old new (Xml (Unclosed at)) = ⊥
-TextFails old new (Xml (Entity at)) = old.source.told ≡ true → (events_of new ≡ events_of old) × IsUnknownAt (events_of new) at × (option_map (λ place. old.at + place) (unknown_entity (content 0 (ahead old))) ≡ Some at)
+TextFails old new (Xml (Entity at)) =
+    old.source.told ≡ true →
+    (events_of new ≡ events_of old) × IsUnknownAt (events_of new) at
+    × (option_map (λ place. old.at + place) (unknown_entity (content 0 (ahead old))) ≡ Some at)
 TextFails old new OutOfMemory = ⊤
 
 -- when the text of an event can't be put

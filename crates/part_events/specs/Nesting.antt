@@ -21,25 +21,25 @@ abbrev pub depth : List Event → ℕ
 depth past = starts_in past - ends_in past
 
 -- a start, and what stands before it
-pub record Opening : Type 0 where
+pub record OpenStart : Type 0 where
   pub tag : Tag
   pub before : List Event
 
 -- Looking back, the start of the element that is open `outside` levels further out than the innermost one: an end
 -- hides the start that comes before it.
-abbrev pub open_start : ℕ → List Event → Option Opening
+abbrev pub open_start : ℕ → List Event → Option OpenStart
 open_start outside [] = None
 open_start zero (start tag ∷ past) = Some (record { tag = tag; before = past })
 open_start (suc outside) (start tag ∷ past) = open_start outside past
 open_start outside (end name ∷ past) = open_start (suc outside) past
 open_start outside (leaf kind ∷ past) = open_start outside past
 
-abbrev pub innermost_open : List Event → Option Opening
+abbrev pub innermost_open : List Event → Option OpenStart
 innermost_open past = open_start 0 past
 
 -- the name of that element
 abbrev pub open_name : ℕ → List Event → Option (List ℕ)
-open_name outside past = option_map (λ (opening : Opening). opening.tag.name) (open_start outside past)
+open_name outside past = option_map (λ (opening : OpenStart). opening.tag.name) (open_start outside past)
 
 -- the innermost open element has this name
 abbrev pub closes : List Event → List ℕ → Bool

@@ -1,11 +1,11 @@
 -- What the definitions by looking back and by reading forward say of depths and matches.
 use Rattle.std.specs.Prelude.{◌≡◌, ◌≢◌, ℕ, ◌+◌, List, [], ◌∷◌, ◌++◌, map, reverse, Bool, true, false, ◌⊎◌, ◌==◌, if◌then◌else◌, Some}
 use Rattle.part_events.specs.Event.{Tag, Event, start, end, leaf}
-use Rattle.part_events.specs.Nesting.{Opening, depth, innermost_open, closes, IsWhole, whole}
+use Rattle.part_events.specs.Nesting.{OpenStart, depth, innermost_open, closes, IsWhole, whole}
 use Rattle.part_events.specs.Section.{Element, content, is_closed, behind, outermost, children}
 
 -- the last start whose depth is one less than that of the place
-pub record IsLastStartOneOut (past : List Event) (opening : Opening) : Type 0 where
+pub record IsLastStartOneOut (past : List Event) (opening : OpenStart) : Type 0 where
   pub later : List Event
   pub parts : past ≡ later ++ start opening.tag ∷ opening.before
   pub one_out : depth opening.before + 1 ≡ depth past
@@ -14,7 +14,7 @@ pub record IsLastStartOneOut (past : List Event) (opening : Opening) : Type 0 wh
 -- looking back finds the innermost open start
 abbrev pub InnermostOpenIsByDepth : Type 0
 InnermostOpenIsByDepth =
-    (past : List Event) (opening : Opening) → IsWhole past → (innermost_open past ≡ Some opening → IsLastStartOneOut past opening) × (IsLastStartOneOut past opening → innermost_open past ≡ Some opening)
+    (past : List Event) (opening : OpenStart) → IsWhole past → (innermost_open past ≡ Some opening → IsLastStartOneOut past opening) × (IsLastStartOneOut past opening → innermost_open past ≡ Some opening)
 
 -- The least end behind a start at which the depth is one more than at the start; `inside` stands between the two.
 pub record IsMatch (past : List Event) (tag : Tag) (events inside : List Event) (name : List ℕ) (after : List Event) : Type 0 where

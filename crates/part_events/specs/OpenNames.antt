@@ -3,9 +3,9 @@ use Rattle.std.specs.Prelude.{ℕ, ◌-◌, List, [], ◌∷◌, length, take, d
 use Rattle.std.specs.Str.{bytes_eq}
 
 -- the names, the innermost first, where their lengths are listed the innermost first
-abbrev pub names_in : List ℕ → List ℕ → List (List ℕ)
-names_in text [] = []
-names_in text (size ∷ sizes) = drop (length text - size) text ∷ names_in (take (length text - size) text) sizes
+abbrev pub names_cut : List ℕ → List ℕ → List (List ℕ)
+names_cut text [] = []
+names_cut text (size ∷ sizes) = drop (length text - size) text ∷ names_cut (take (length text - size) text) sizes
 
 -- the innermost of the names is this one
 abbrev pub is_innermost : List ℕ → List (List ℕ) → Bool

@@ -40,12 +40,16 @@ pub record PackageState : Type 0 where
   pub faults : ℕ
 
 -- a count of 64 bits rose, or stands at its end
-abbrev pub Rose : ℕ → ℕ → Type 0
-Rose old new = min (old + 1) (2 ^ 64 - 1) ≤ new
+abbrev pub RisesByOne : ℕ → ℕ → Type 0
+RisesByOne old new = min (old + 1) (2 ^ 64 - 1) ≤ new
 
 -- the count of faults rose, or stands at its end
 abbrev pub HasCause : PackageState → PackageState → Type 0
-HasCause old new = Rose old.faults new.faults
+HasCause old new = RisesByOne old.faults new.faults
+
+-- a refusal leaves the count of faults as it was, but that of a fault
+abbrev pub KeepsFaults : {E : Type 0} → E → PackageState → PackageState → E → Type 0
+KeepsFaults fault old new error = (error ≡ fault → ⊥) → new.faults ≡ old.faults
 
 -- what no call of the trait changes
 pub record SameParts (old new : PackageState) : Type 0 where

@@ -1,9 +1,9 @@
 -- A reader of a part: what it is to its caller, and what its calls do.
-use Rattle.std.specs.Prelude.{◌≡◌, ⊤, ℕ, ◌+◌, ◌-◌, ◌<◌, ◌≤◌, ◌^◌, min, List, [], ◌∷◌, ◌++◌, length, reverse, slice_get, Bool, true, false}
+use Rattle.std.specs.Prelude.{◌≡◌, ⊤, ℕ, ◌+◌, ◌-◌, ◌<◌, ◌≤◌, ◌^◌, min, List, [], ◌∷◌, ◌++◌, length, reverse, slice_get, Bool, true, false, Result, MatchResult}
 use Rattle.std.specs.declared.alloc.Global.{Global}
 use Rattle.part_events.specs.Event.{Event, start, end, leaf}
 use Rattle.part_events.specs.Nesting.{starts_in, ends_in, depth, open_name, IsWhole, whole_rest, whole}
-use Rattle.part_events.specs.Package.{PackageState, HasCause, SameParts}
+use Rattle.part_events.specs.Package.{PackageState, HasCause, KeepsFaults, SameParts}
 use Rattle.part_events.specs.Section.{is_closed, behind}
 use Rattle.part_events.specs.declared.cursor.Cursor.{Cursor}
 use Rattle.part_events.specs.declared.fault.StreamError.{StreamError}
@@ -11,12 +11,13 @@ use Rattle.part_events.specs.declared.fault.StreamError.TheVariants.{Io, Xml, Ou
 use Rattle.part_events.specs.declared.fault.XmlFault.TheVariants.{EndMismatch, Unclosed, Entity}
 
 -- what a reader is to its caller: its package, the names of the open elements, the innermost first, how many events of
--- the part it took, and whether a call of it was refused
+-- the part it took, whether a call of it was refused, and its allocator
 pub record Reading : Type 0 where
   pub source : PackageState
   pub names : List (List ℕ)
   pub at : ℕ
   pub is_failed : Bool
+  pub alloc : Global
 
 -- what a cursor keeps beside its package, and its allocator
 abbrev pub open_elements : Cursor → List (List ℕ)
@@ -32,7 +33,13 @@ abbrev pub allocator_in : Cursor → Global
 allocator_in cursor = cursor.alloc
 
 abbrev pub reading : PackageState → Cursor → Reading
-reading source cursor = record { source = source; names = open_elements cursor; at = events_taken cursor; is_failed = has_failed cursor }
+reading source cursor = record {
+  source = source;
+  names = open_elements cursor;
+  at = events_taken cursor;
+  is_failed = has_failed cursor;
+  alloc = allocator_in cursor;
+}
 
 -- the events of the open part
 abbrev pub events_of : Reading → List Event
@@ -81,23 +88,43 @@ pub record OpensReader (old : PackageState) (new : Reading) : Type 0 where
   pub at : new.at ≡ 0
   pub past : old.told ≡ true → new.source.past ≡ []
 
--- What every call keeps: the parts are the same, and the package's count of taken events rose by those that were taken
--- of the part, up to its last value.
-pub record Goes (old new : Reading) : Type 0 where
+-- What every call keeps: the parts and the allocator are the same, the package's count of taken events rose by those
+-- that were taken of the part, up to its last value, and no more were taken than were left.
+pub record MovesForward (old new : Reading) : Type 0 where
   pub parts : SameParts old.source new.source
+  pub alloc : new.alloc ≡ old.alloc
   pub forward : old.at ≤ new.at
   pub taken : min new.source.taken (2 ^ 64 - 1) ≡ min (old.source.taken + (new.at - old.at)) (2 ^ 64 - 1)
+  pub bounded : new.source.taken + new.source.left ≤ old.source.taken + old.source.left
+  pub within :
+    old.source.told ≡ true →
+    new.source.taken + length new.source.rest ≤ old.source.taken + length old.source.rest
 
 -- the same events of the same part
 abbrev pub SamePart : Reading → Reading → Type 0
 SamePart old new = old.source.told ≡ true → events_of new ≡ events_of old
 
 -- what every call keeps that isn't refused
-pub record GoesOn (old new : Reading) : Type 0 where
+pub record StaysReadable (old new : Reading) : Type 0 where
   pub reading : IsReading new
   pub faults : new.source.faults ≡ old.source.faults
   pub left : new.at + new.source.left ≡ old.at + old.source.left
   pub part : SamePart old new
+
+-- a call that isn't refused
+pub record ReadsOn (old new : Reading) : Type 0 where
+  pub moves : MovesForward old new
+  pub stays : StaysReadable old new
+
+-- a refused call: the part can't be read on, and `fault` alone may come with a higher count of faults
+pub record StopsReading {E : Type 0} (fault : E) (old new : Reading) (error : E) : Type 0 where
+  pub moves : MovesForward old new
+  pub faults : KeepsFaults fault old.source new.source error
+  pub failed : new.is_failed ≡ true
+
+-- what each call of a reader keeps, by its answer
+abbrev pub Reads : {A E : Type 0} → E → Result A E → Reading → Reading → Type 0
+Reads fault result old new = MatchResult result (λ _. ReadsOn old new) (StopsReading fault old new)
 
 -- the names of the open elements behind an event
 abbrev pub names_behind : Event → List (List ℕ) → List (List ℕ)
@@ -145,17 +172,18 @@ pub record BreaksAt (events : List Event) (at : ℕ) : Type 0 where
   pub before : length (whole events) ≡ at
   pub breaks : at < length events
 
--- when a step is refused; want of memory may come at any time
-abbrev pub StepFails : Reading → Reading → StreamError → Type 0
-StepFails old new Io = HasCause old.source new.source
-StepFails old new (Xml (EndMismatch at)) = old.source.told ≡ true → (events_of new ≡ events_of old) × BreaksAt (events_of new) at × (ahead old ≡ [])
-StepFails old new (Xml (Unclosed at)) = ⊥
-StepFails old new (Xml (Entity at)) = ⊥
-StepFails old new OutOfMemory = ⊤
+-- a call was refused at event `at` of the same part, which breaks the nesting
+abbrev pub BreaksNext : Reading → Reading → ℕ → Type 0
+BreaksNext old new at = (events_of new ≡ events_of old) × BreaksAt (events_of new) at
 
--- a refusal leaves the count of faults as it was, but that of a fault
-abbrev pub KeepsFaults : Reading → Reading → StreamError → Type 0
-KeepsFaults old new error = (error ≡ Io → ⊥) → new.source.faults ≡ old.source.faults
+-- when a step is refused; want of memory may come at any time
+abbrev pub NextFails : Reading → Reading → StreamError → Type 0
+NextFails old new Io = HasCause old.source new.source
+NextFails old new (Xml (EndMismatch at)) =
+    old.source.told ≡ true → BreaksNext old new at × (ahead old ≡ [])
+NextFails old new (Xml (Unclosed at)) = ⊥
+NextFails old new (Xml (Entity at)) = ⊥
+NextFails old new OutOfMemory = ⊤
 
 -- the part ends inside an element, and has `at` events
 pub record EndsOpen (events : List Event) (at : ℕ) : Type 0 where
@@ -171,7 +199,11 @@ pub record Skips (old new : Reading) : Type 0 where
 -- when an element can't be skipped
 abbrev pub SkipFails : Reading → Reading → StreamError → Type 0
 SkipFails old new Io = HasCause old.source new.source
-SkipFails old new (Xml (EndMismatch at)) = old.source.told ≡ true → (events_of new ≡ events_of old) × BreaksAt (events_of new) at × (is_closed 0 (ahead old) ≡ false)
-SkipFails old new (Xml (Unclosed at)) = old.source.told ≡ true → (events_of new ≡ events_of old) × EndsOpen (events_of new) at × (is_closed 0 (ahead old) ≡ false)
+SkipFails old new (Xml (EndMismatch at)) =
+    old.source.told ≡ true → BreaksNext old new at × (is_closed 0 (ahead old) ≡ false)
+SkipFails old new (Xml (Unclosed at)) =
+    old.source.told ≡ true →
+    (events_of new ≡ events_of old) × EndsOpen (events_of new) at
+    × (is_closed 0 (ahead old) ≡ false)
 SkipFails old new (Xml (Entity at)) = ⊥
 SkipFails old new OutOfMemory = ⊤

@@ -59,7 +59,10 @@ pub record Element : Type 0 where
 -- The outermost elements whose starts pass a test, where `open` elements are open since the start of one of them.
 abbrev pub outermost_from : (Tag → Bool) → ℕ → List Event → List Element
 outermost_from wanted within [] = []
-outermost_from wanted zero (start tag ∷ events) = if wanted tag then record { tag = tag; inside = content 0 events } ∷ outermost_from wanted 1 events else outermost_from wanted 0 events
+outermost_from wanted zero (start tag ∷ events) =
+    if wanted tag
+    then record { tag = tag; inside = content 0 events } ∷ outermost_from wanted 1 events
+    else outermost_from wanted 0 events
 outermost_from wanted (suc within) (start tag ∷ events) = outermost_from wanted (suc (suc within)) events
 outermost_from wanted zero (end name ∷ events) = outermost_from wanted 0 events
 outermost_from wanted (suc within) (end name ∷ events) = outermost_from wanted within events
@@ -68,6 +71,24 @@ outermost_from wanted within (leaf kind ∷ events) = outermost_from wanted with
 -- the elements whose starts pass a test, and that lie in no other such element
 abbrev pub outermost : (Tag → Bool) → List Event → List Element
 outermost wanted events = outermost_from wanted 0 events
+
+-- The outermost element that passes a test and that no end closes, where `within` elements are open since the start of
+-- one of those that pass.
+abbrev pub unclosed_from : (Tag → Bool) → ℕ → List Event → Option Element
+unclosed_from wanted within [] = None
+unclosed_from wanted zero (start tag ∷ events) =
+    if wanted tag
+    then (if is_closed 0 events then unclosed_from wanted 1 events
+      else Some (record { tag = tag; inside = content 0 events }))
+    else unclosed_from wanted 0 events
+unclosed_from wanted (suc within) (start tag ∷ events) = unclosed_from wanted (suc (suc within)) events
+unclosed_from wanted zero (end name ∷ events) = unclosed_from wanted 0 events
+unclosed_from wanted (suc within) (end name ∷ events) = unclosed_from wanted within events
+unclosed_from wanted within (leaf kind ∷ events) = unclosed_from wanted within events
+
+-- the outermost element that passes a test and in which the events end
+abbrev pub unclosed : (Tag → Bool) → List Event → Option Element
+unclosed wanted events = unclosed_from wanted 0 events
 
 -- the elements that lie in no other
 abbrev pub children : List Event → List Element

@@ -1,7 +1,7 @@
 ghost use Rattle.std.specs.Prelude.{◌≡◌, ◌+◌, ◌<◌, ◌^◌, ℕ, [], length, true, false, is_err, IfOk, OnOk, IfErr};
-ghost use Rattle.part_events.specs.declared.fault.StreamError.TheVariants.{Xml};
+ghost use Rattle.part_events.specs.declared.fault.StreamError.TheVariants.{Io, Xml};
 ghost use Rattle.part_events.specs.declared.fault.XmlFault.TheVariants.{Unclosed};
-ghost use Rattle.part_events.specs.Reading.{reading, events_taken, open_elements, has_failed, allocator_in, IsReading, IsAtStart, Goes, GoesOn, KeepsFaults, Steps, StepsAhead, StepFails};
+ghost use Rattle.part_events.specs.Reading.{reading, events_taken, open_elements, has_failed, allocator_in, IsReading, IsAtStart, Reads, Steps, StepsAhead, NextFails};
 
 use crate::event::PartEvent;
 use crate::fault::{StreamError, XmlFault};
@@ -37,17 +37,35 @@ impl Cursor {
         }
     }
 
-    fn step<P: Package>(&mut self, package: &mut P) -> Result<bool, StreamError>
+    /// Takes the next event of the part. Answers false at the part's end. An end has to have the whole name of the
+    /// innermost open element.
+    pub fn next<P: Package>(&mut self, package: &mut P) -> Result<bool, StreamError>
         requires { IsReading (reading (P.state «package».old) self.old) }
-        ensures goes { Goes (reading (P.state «package».old) self.old) (reading (P.state «package».new) self.new) }
-        ensures on { OnOk result (GoesOn (reading (P.state «package».old) self.old) (reading (P.state «package».new) self.new)) }
-        ensures steps { IfOk result (λ more. Steps more (reading (P.state «package».old) self.old) (reading (P.state «package».new) self.new)) }
-        ensures ahead { (P.state «package».old).told ≡ true → IfOk result (λ more. StepsAhead more (reading (P.state «package».old) self.old) (reading (P.state «package».new) self.new)) }
-        ensures err { IfErr result (StepFails (reading (P.state «package».old) self.old) (reading (P.state «package».new) self.new)) }
-        ensures counts { IfErr result (KeepsFaults (reading (P.state «package».old) self.old) (reading (P.state «package».new) self.new)) }
-        ensures alloc { allocator_in self.new ≡ allocator_in self.old }
+        ensures reads {
+            let old = reading (P.state «package».old) self.old in
+            let new = reading (P.state «package».new) self.new in
+            Reads Io result old new
+        }
+        ensures steps {
+            let old = reading (P.state «package».old) self.old in
+            let new = reading (P.state «package».new) self.new in
+            IfOk result (λ more. Steps more old new)
+        }
+        ensures ahead {
+            let old = reading (P.state «package».old) self.old in
+            let new = reading (P.state «package».new) self.new in
+            old.source.told ≡ true → IfOk result (λ more. StepsAhead more old new)
+        }
+        ensures err {
+            let old = reading (P.state «package».old) self.old in
+            let new = reading (P.state «package».new) self.new in
+            IfErr result (NextFails old new)
+        }
     {
+        // Each refusal leaves it so.
+        self.failed = true;
         if !package.advance()? {
+            self.failed = false;
             return Ok(false);
         }
         let at = self.at;
@@ -64,32 +82,15 @@ impl Cursor {
             | PartEvent::EntityRef(_)
             | PartEvent::Other => {}
         }
+        self.failed = false;
         Ok(true)
     }
 
-    /// Takes the next event of the part. Answers false at the part's end. An end has to have the whole name of the
-    /// innermost open element.
-    pub fn next<P: Package>(&mut self, package: &mut P) -> Result<bool, StreamError>
-        requires { IsReading (reading (P.state «package».old) self.old) }
-        ensures goes { Goes (reading (P.state «package».old) self.old) (reading (P.state «package».new) self.new) }
-        ensures on { OnOk result (GoesOn (reading (P.state «package».old) self.old) (reading (P.state «package».new) self.new)) }
-        ensures steps { IfOk result (λ more. Steps more (reading (P.state «package».old) self.old) (reading (P.state «package».new) self.new)) }
-        ensures ahead { (P.state «package».old).told ≡ true → IfOk result (λ more. StepsAhead more (reading (P.state «package».old) self.old) (reading (P.state «package».new) self.new)) }
-        ensures err { IfErr result (StepFails (reading (P.state «package».old) self.old) (reading (P.state «package».new) self.new)) }
-        ensures counts { IfErr result (KeepsFaults (reading (P.state «package».old) self.old) (reading (P.state «package».new) self.new)) }
-        ensures failed { has_failed self.new ≡ is_err result }
-        ensures alloc { allocator_in self.new ≡ allocator_in self.old }
+    /// Leaves the part, which can't be read on.
+    pub(crate) fn give_up(&mut self)
+        ensures { self.new ≡ record self.old { failed = true } }
     {
-        let outcome = self.step(package);
-        self.failed = outcome.is_err();
-        outcome
-    }
-
-    /// Sets whether a call was refused.
-    pub(crate) fn set_failed(&mut self, failed: bool)
-        ensures { self.new ≡ record self.old { failed = failed } }
-    {
-        self.failed = failed;
+        self.failed = true;
     }
 
     /// The refusal of a part that ends inside an element.

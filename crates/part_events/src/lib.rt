@@ -27,4 +27,4 @@ pub use laws::{
 pub use memory::MemoryPackage;
 pub use package::{Package, PackageFailed};
 pub use reader::XlReader;
-pub use walk::{Found, Inside};
+pub use walk::Step;

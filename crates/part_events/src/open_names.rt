@@ -14,11 +14,11 @@ pub struct OpenNames {
 
 impl Model for OpenNames {
     ghost use Rattle.std.specs.Prelude.{ℕ, ◌≤◌, List, length, reverse, sum};
-    ghost use Rattle.part_events.specs.OpenNames.{names_in};
+    ghost use Rattle.part_events.specs.OpenNames.{names_cut};
 
     ghost Value = { List (List ℕ) };
 
-    ghost view = { λ a. names_in a.text.items (reverse a.sizes.items) };
+    ghost view = { λ a. names_cut a.text.items (reverse a.sizes.items) };
 
     ghost invariant = { λ a. sum a.sizes.items ≤ length a.text.items };
 }

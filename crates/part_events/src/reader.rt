@@ -1,9 +1,9 @@
-ghost use Rattle.std.specs.Prelude.{◌≡◌, ℕ, suc, [], ◌<◌, ◌≤◌, length, map, true, None, Some, MatchOption, OnOk, OnErr, IfOk, IfErr, string_bytes, IfSome, is_err};
+ghost use Rattle.std.specs.Prelude.{◌≡◌, ℕ, List, suc, [], ◌≤◌, length, map, true, None, Some, MatchOption, OnOk, OnErr, IfOk, IfErr, string_bytes, IfSome};
 ghost use Rattle.part_events.specs.declared.fault.StreamError.TheVariants.{Io};
 ghost use Rattle.part_events.specs.Event.{event_of};
 ghost use Rattle.part_events.specs.JoinedText.{PutsFront, ReadsText, TextFails};
 ghost use Rattle.part_events.specs.Package.{part_of};
-ghost use Rattle.part_events.specs.Reading.{ahead, events_of, OpensReader, IsReading, IsAtStart, IsAtElement, Goes, GoesOn, KeepsFaults, Steps, StepsAhead, StepFails, Skips, SkipFails};
+ghost use Rattle.part_events.specs.Reading.{ahead, events_of, OpensReader, IsReading, IsAtStart, IsAtElement, Reads, Steps, StepsAhead, NextFails, Skips, SkipFails};
 ghost use Rattle.part_events.specs.Section.{content, is_named, is_any};
 ghost use Rattle.part_events.specs.Walk.{StandsInside, StepsInside, InsideFails, StandsAt, FindsStart, FindsElement, WalkFails};
 
@@ -11,7 +11,7 @@ use crate::cursor::Cursor;
 use crate::event::PartEvent;
 use crate::fault::StreamError;
 use crate::package::Package;
-use crate::walk::{Found, Inside};
+use crate::walk::Step;
 use std::alloc::Global;
 
 /// Reads a part of a package from its start, and keeps the names of the open elements.
@@ -19,8 +19,9 @@ use std::alloc::Global;
 /// What it keeps beside the package is a type parameter, so that a caller knows what became of the package once the
 /// reader is gone.
 pub struct XlReader<'a, P: Package, C: Drop = Cursor> {
-    package: &'a mut P,
-    cursor: C,
+    pub package: &'a mut P,
+    /// Where reading stands in the open part of the package.
+    pub cursor: C,
 }
 
 impl<P: Package, C: Drop> Drop for XlReader<'_, P, C> {
@@ -35,7 +36,7 @@ impl<P: Package, C: Drop> Drop for XlReader<'_, P, C> {
 }
 
 impl<'a, P: Package> XlReader<'a, P> {
-    ghost use Rattle.part_events.specs.Reader.{reading_by, package_of, reference_of, allocator_of, KeepsHold};
+    ghost use Rattle.part_events.specs.Reader.{reading_by, reference_of, SamePackage};
 
     /// Opens the part of this name. Answers None where there is none.
     ///
@@ -45,10 +46,24 @@ impl<'a, P: Package> XlReader<'a, P> {
         package: &'a mut P,
         name: &str,
     ) -> Result<Option<XlReader<'a, P>>, StreamError>
-        ensures same_reference { IfOk result (λ found. IfSome found (λ reader. reference_of reader ≡ «package».entry.ghost_name)) }
-        ensures opens { IfOk result (λ found. IfSome found (λ reader. OpensReader (P.state «package».old) (reading_by P.state reader))) }
-        ensures part { (P.state «package».old).told ≡ true → IfOk result (λ found. MatchOption found (part_of (P.state «package».old).parts name.now ≡ None) (λ reader. part_of (P.state «package».old).parts name.now ≡ Some (events_of (reading_by P.state reader)))) }
-        ensures alloc { IfOk result (λ found. IfSome found (λ reader. allocator_of reader ≡ alloc)) }
+        ensures same_reference {
+            IfOk result (λ found. IfSome found
+                (λ reader. reference_of reader ≡ «package».entry.ghost_name))
+        }
+        ensures opens {
+            IfOk result (λ found. IfSome found
+                (λ reader. OpensReader (P.state «package».old) (reading_by P.state reader)))
+        }
+        ensures part {
+            let part = part_of (P.state «package».old).parts name.now in
+            (P.state «package».old).told ≡ true → IfOk result (λ found. MatchOption found
+                (part ≡ None)
+                (λ reader. part ≡ Some (events_of (reading_by P.state reader))))
+        }
+        ensures alloc {
+            IfOk result (λ found. IfSome found
+                (λ reader. (reading_by P.state reader).alloc ≡ alloc))
+        }
         ensures err { IfErr result (λ error. error ≡ Io) }
     {
         if !package.open(name)? {
@@ -61,28 +76,47 @@ impl<'a, P: Package> XlReader<'a, P> {
     pub fn over(alloc: Global, package: &'a mut P) -> XlReader<'a, P>
         requires { IsAtStart (P.state «package».old) }
         ensures same_reference { reference_of result ≡ «package».entry.ghost_name }
-        ensures same { package_of result ≡ «package».old }
+        ensures same { result.package.now ≡ «package».old }
         ensures start { (reading_by P.state result).at ≡ 0 }
         ensures depth { (reading_by P.state result).names ≡ [] }
-        ensures alloc { allocator_of result ≡ alloc }
+        ensures alloc { (reading_by P.state result).alloc ≡ alloc }
         ensures reading { IsReading (reading_by P.state result) }
     {
         let cursor = Cursor::new(alloc, package);
         XlReader { package, cursor }
     }
 
+    /// The package that the reader holds, and its cursor, for a reader that keeps more beside it.
+    pub fn into_parts(self) -> (&'a mut P, Cursor)
+        ensures same_reference { result.0.ghost_name ≡ reference_of self.entry }
+        ensures same { result.0.now ≡ self.entry.package.now }
+        ensures cursor { result.1 ≡ self.entry.cursor }
+    {
+        let XlReader { package, cursor } = self;
+        (package, cursor)
+    }
+
     /// Takes the next event of the part. Answers false at the part's end. An end has to have the whole name of the
     /// innermost open element.
     pub fn next(&mut self) -> Result<bool, StreamError>
         requires reading { IsReading (reading_by P.state self.old) }
-        ensures hold { KeepsHold self.old self.new }
-        ensures goes { Goes (reading_by P.state self.old) (reading_by P.state self.new) }
-        ensures on { OnOk result (GoesOn (reading_by P.state self.old) (reading_by P.state self.new)) }
-        ensures steps { IfOk result (λ more. Steps more (reading_by P.state self.old) (reading_by P.state self.new)) }
-        ensures ahead { (reading_by P.state self.old).source.told ≡ true → IfOk result (λ more. StepsAhead more (reading_by P.state self.old) (reading_by P.state self.new)) }
-        ensures err { IfErr result (StepFails (reading_by P.state self.old) (reading_by P.state self.new)) }
-        ensures counts { IfErr result (KeepsFaults (reading_by P.state self.old) (reading_by P.state self.new)) }
-        ensures failed { (reading_by P.state self.new).is_failed ≡ is_err result }
+        ensures same_package { SamePackage self.old self.new }
+        ensures reads { Reads Io result (reading_by P.state self.old) (reading_by P.state self.new) }
+        ensures steps {
+            let old = reading_by P.state self.old in
+            let new = reading_by P.state self.new in
+            IfOk result (λ more. Steps more old new)
+        }
+        ensures ahead {
+            let old = reading_by P.state self.old in
+            let new = reading_by P.state self.new in
+            old.source.told ≡ true → IfOk result (λ more. StepsAhead more old new)
+        }
+        ensures err {
+            let old = reading_by P.state self.old in
+            let new = reading_by P.state self.new in
+            IfErr result (NextFails old new)
+        }
     {
         self.cursor.next(self.package)
     }
@@ -99,14 +133,23 @@ impl<'a, P: Package> XlReader<'a, P> {
     pub fn skip_element(&mut self) -> Result<(), StreamError>
         requires reading { IsReading (reading_by P.state self.old) }
         requires element { IsAtElement (reading_by P.state self.old) }
-        ensures hold { KeepsHold self.old self.new }
-        ensures goes { Goes (reading_by P.state self.old) (reading_by P.state self.new) }
-        ensures on { OnOk result (GoesOn (reading_by P.state self.old) (reading_by P.state self.new)) }
-        ensures depth { OnOk result (length (reading_by P.state self.old).names ≡ suc (length (reading_by P.state self.new).names)) }
-        ensures skips { (reading_by P.state self.old).source.told ≡ true → OnOk result (Skips (reading_by P.state self.old) (reading_by P.state self.new)) }
-        ensures err { IfErr result (SkipFails (reading_by P.state self.old) (reading_by P.state self.new)) }
-        ensures counts { IfErr result (KeepsFaults (reading_by P.state self.old) (reading_by P.state self.new)) }
-        ensures failed { (reading_by P.state self.new).is_failed ≡ is_err result }
+        ensures same_package { SamePackage self.old self.new }
+        ensures reads { Reads Io result (reading_by P.state self.old) (reading_by P.state self.new) }
+        ensures depth {
+            let old = reading_by P.state self.old in
+            let new = reading_by P.state self.new in
+            OnOk result (length old.names ≡ suc (length new.names))
+        }
+        ensures skips {
+            let old = reading_by P.state self.old in
+            let new = reading_by P.state self.new in
+            old.source.told ≡ true → OnOk result (Skips old new)
+        }
+        ensures err {
+            let old = reading_by P.state self.old in
+            let new = reading_by P.state self.new in
+            IfErr result (SkipFails old new)
+        }
     {
         self.cursor.skip_element(self.package)
     }
@@ -117,83 +160,139 @@ impl<'a, P: Package> XlReader<'a, P> {
     pub fn read_text(&mut self, out: &mut String, char_data: bool) -> Result<bool, StreamError>
         requires reading { IsReading (reading_by P.state self.old) }
         requires element { IsAtElement (reading_by P.state self.old) }
-        ensures hold { KeepsHold self.old self.new }
-        ensures goes { Goes (reading_by P.state self.old) (reading_by P.state self.new) }
-        ensures on { OnOk result (GoesOn (reading_by P.state self.old) (reading_by P.state self.new)) }
-        ensures depth { IfOk result (λ closed. closed ≡ true → length (reading_by P.state self.old).names ≡ suc (length (reading_by P.state self.new).names)) }
-        ensures text { (reading_by P.state self.old).source.told ≡ true → IfOk result (λ closed. ReadsText char_data closed (string_bytes out.old) (string_bytes out.new) (reading_by P.state self.old) (reading_by P.state self.new)) }
-        ensures front { (reading_by P.state self.old).source.told ≡ true → OnErr result (PutsFront char_data (content 0 (ahead (reading_by P.state self.old))) (string_bytes out.old) (string_bytes out.new)) }
-        ensures err { IfErr result (TextFails (reading_by P.state self.old) (reading_by P.state self.new)) }
-        ensures counts { IfErr result (KeepsFaults (reading_by P.state self.old) (reading_by P.state self.new)) }
-        ensures failed { (reading_by P.state self.new).is_failed ≡ is_err result }
+        ensures same_package { SamePackage self.old self.new }
+        ensures reads { Reads Io result (reading_by P.state self.old) (reading_by P.state self.new) }
+        ensures depth {
+            let old = reading_by P.state self.old in
+            let new = reading_by P.state self.new in
+            IfOk result (λ closed. closed ≡ true → length old.names ≡ suc (length new.names))
+        }
+        ensures text {
+            let old = reading_by P.state self.old in
+            let new = reading_by P.state self.new in
+            let texts : List ℕ × List ℕ = (string_bytes out.old, string_bytes out.new) in
+            old.source.told ≡ true → IfOk result (λ closed. ReadsText char_data closed texts old new)
+        }
+        ensures front {
+            let old = reading_by P.state self.old in
+            let texts : List ℕ × List ℕ = (string_bytes out.old, string_bytes out.new) in
+            old.source.told ≡ true → OnErr result (PutsFront char_data (content 0 (ahead old)) texts)
+        }
+        ensures err {
+            let old = reading_by P.state self.old in
+            let new = reading_by P.state self.new in
+            IfErr result (TextFails old new)
+        }
     {
         self.cursor.read_text(self.package, out, char_data)
     }
 
     /// Takes the next event of the section whose element is number `base` of the open ones, counted from 1. With a `base`
     /// of 0 the section is the whole part.
-    pub fn next_inside(&mut self, base: usize) -> Result<Inside, StreamError>
+    pub fn next_inside(&mut self, base: usize) -> Result<Step, StreamError>
         requires reading { IsReading (reading_by P.state self.old) }
         requires within { base ≤ length (reading_by P.state self.old).names }
-        ensures hold { KeepsHold self.old self.new }
-        ensures goes { Goes (reading_by P.state self.old) (reading_by P.state self.new) }
-        ensures on { OnOk result (GoesOn (reading_by P.state self.old) (reading_by P.state self.new)) }
-        ensures stands { IfOk result (λ found. StandsInside base found (reading_by P.state self.old) (reading_by P.state self.new)) }
-        ensures inside { (reading_by P.state self.old).source.told ≡ true → IfOk result (λ found. StepsInside base found (reading_by P.state self.old) (reading_by P.state self.new)) }
-        ensures err { IfErr result (InsideFails base (reading_by P.state self.old) (reading_by P.state self.new)) }
-        ensures counts { IfErr result (KeepsFaults (reading_by P.state self.old) (reading_by P.state self.new)) }
-        ensures failed { (reading_by P.state self.new).is_failed ≡ is_err result }
+        ensures same_package { SamePackage self.old self.new }
+        ensures reads { Reads Io result (reading_by P.state self.old) (reading_by P.state self.new) }
+        ensures stands {
+            let old = reading_by P.state self.old in
+            let new = reading_by P.state self.new in
+            IfOk result (λ step. StandsInside base step old new)
+        }
+        ensures inside {
+            let old = reading_by P.state self.old in
+            let new = reading_by P.state self.new in
+            old.source.told ≡ true → IfOk result (λ step. StepsInside base step old new)
+        }
+        ensures err {
+            let old = reading_by P.state self.old in
+            let new = reading_by P.state self.new in
+            IfErr result (InsideFails base old new)
+        }
     {
         self.cursor.next_inside(self.package, base)
     }
 
     /// Reads on to the next start with one of these local names, at any depth of the section whose element is number
     /// `base` of the open ones, counted from 1. With a `base` of 0 the whole part is walked over.
-    pub fn next_start(&mut self, base: usize, names: &[&str]) -> Result<Found, StreamError>
+    pub fn next_start(&mut self, base: usize, names: &[&str]) -> Result<Step, StreamError>
         requires reading { IsReading (reading_by P.state self.old) }
         requires within { base ≤ length (reading_by P.state self.old).names }
-        ensures hold { KeepsHold self.old self.new }
-        ensures goes { Goes (reading_by P.state self.old) (reading_by P.state self.new) }
-        ensures on { OnOk result (GoesOn (reading_by P.state self.old) (reading_by P.state self.new)) }
-        ensures stands { IfOk result (λ found. StandsAt (is_named (map (λ name. name.now) names.now)) base found (reading_by P.state self.old) (reading_by P.state self.new)) }
-        ensures found { (reading_by P.state self.old).source.told ≡ true → IfOk result (λ found. FindsStart (is_named (map (λ name. name.now) names.now)) base found (reading_by P.state self.old) (reading_by P.state self.new)) }
-        ensures err { IfErr result (WalkFails (is_named (map (λ name. name.now) names.now)) base (reading_by P.state self.old) (reading_by P.state self.new)) }
-        ensures counts { IfErr result (KeepsFaults (reading_by P.state self.old) (reading_by P.state self.new)) }
-        ensures failed { (reading_by P.state self.new).is_failed ≡ is_err result }
+        ensures same_package { SamePackage self.old self.new }
+        ensures reads { Reads Io result (reading_by P.state self.old) (reading_by P.state self.new) }
+        ensures stands {
+            let old = reading_by P.state self.old in
+            let new = reading_by P.state self.new in
+            let wanted = is_named (map (λ name. name.now) names.now) in
+            IfOk result (λ step. StandsAt wanted base step old new)
+        }
+        ensures found {
+            let old = reading_by P.state self.old in
+            let new = reading_by P.state self.new in
+            let wanted = is_named (map (λ name. name.now) names.now) in
+            old.source.told ≡ true → IfOk result (λ step. FindsStart wanted base step old new)
+        }
+        ensures err {
+            let old = reading_by P.state self.old in
+            let new = reading_by P.state self.new in
+            let wanted = is_named (map (λ name. name.now) names.now) in
+            IfErr result (WalkFails wanted base old new)
+        }
     {
         self.cursor.next_start(self.package, base, names)
     }
 
     /// Reads on to the next element with one of these local names in such a section. Each element that is found has to
     /// be read to its end before the next one is asked for, so that those that lie in it are left aside.
-    pub fn next_element(&mut self, base: usize, names: &[&str]) -> Result<Found, StreamError>
+    pub fn next_element(&mut self, base: usize, names: &[&str]) -> Result<Step, StreamError>
         requires reading { IsReading (reading_by P.state self.old) }
         requires within { base ≤ length (reading_by P.state self.old).names }
-        ensures hold { KeepsHold self.old self.new }
-        ensures goes { Goes (reading_by P.state self.old) (reading_by P.state self.new) }
-        ensures on { OnOk result (GoesOn (reading_by P.state self.old) (reading_by P.state self.new)) }
-        ensures stands { IfOk result (λ found. StandsAt (is_named (map (λ name. name.now) names.now)) base found (reading_by P.state self.old) (reading_by P.state self.new)) }
-        ensures found { (reading_by P.state self.old).source.told ≡ true → IfOk result (λ found. FindsElement (is_named (map (λ name. name.now) names.now)) base found (reading_by P.state self.old) (reading_by P.state self.new)) }
-        ensures err { IfErr result (WalkFails (is_named (map (λ name. name.now) names.now)) base (reading_by P.state self.old) (reading_by P.state self.new)) }
-        ensures counts { IfErr result (KeepsFaults (reading_by P.state self.old) (reading_by P.state self.new)) }
-        ensures failed { (reading_by P.state self.new).is_failed ≡ is_err result }
+        ensures same_package { SamePackage self.old self.new }
+        ensures reads { Reads Io result (reading_by P.state self.old) (reading_by P.state self.new) }
+        ensures stands {
+            let old = reading_by P.state self.old in
+            let new = reading_by P.state self.new in
+            let wanted = is_named (map (λ name. name.now) names.now) in
+            IfOk result (λ step. StandsAt wanted base step old new)
+        }
+        ensures found {
+            let old = reading_by P.state self.old in
+            let new = reading_by P.state self.new in
+            let wanted = is_named (map (λ name. name.now) names.now) in
+            old.source.told ≡ true → IfOk result (λ step. FindsElement wanted base step old new)
+        }
+        ensures err {
+            let old = reading_by P.state self.old in
+            let new = reading_by P.state self.new in
+            let wanted = is_named (map (λ name. name.now) names.now) in
+            IfErr result (WalkFails wanted base old new)
+        }
     {
         self.cursor.next_element(self.package, base, names)
     }
 
     /// Reads on to the next child of the element that is number `base` of the open ones. Each child has to be read to its
     /// end before the next one is asked for.
-    pub fn next_child(&mut self, base: usize) -> Result<Found, StreamError>
+    pub fn next_child(&mut self, base: usize) -> Result<Step, StreamError>
         requires reading { IsReading (reading_by P.state self.old) }
         requires within { base ≤ length (reading_by P.state self.old).names }
-        ensures hold { KeepsHold self.old self.new }
-        ensures goes { Goes (reading_by P.state self.old) (reading_by P.state self.new) }
-        ensures on { OnOk result (GoesOn (reading_by P.state self.old) (reading_by P.state self.new)) }
-        ensures stands { IfOk result (λ found. StandsAt is_any base found (reading_by P.state self.old) (reading_by P.state self.new)) }
-        ensures found { (reading_by P.state self.old).source.told ≡ true → IfOk result (λ found. FindsElement is_any base found (reading_by P.state self.old) (reading_by P.state self.new)) }
-        ensures err { IfErr result (WalkFails is_any base (reading_by P.state self.old) (reading_by P.state self.new)) }
-        ensures counts { IfErr result (KeepsFaults (reading_by P.state self.old) (reading_by P.state self.new)) }
-        ensures failed { (reading_by P.state self.new).is_failed ≡ is_err result }
+        ensures same_package { SamePackage self.old self.new }
+        ensures reads { Reads Io result (reading_by P.state self.old) (reading_by P.state self.new) }
+        ensures stands {
+            let old = reading_by P.state self.old in
+            let new = reading_by P.state self.new in
+            IfOk result (λ step. StandsAt is_any base step old new)
+        }
+        ensures found {
+            let old = reading_by P.state self.old in
+            let new = reading_by P.state self.new in
+            old.source.told ≡ true → IfOk result (λ step. FindsElement is_any base step old new)
+        }
+        ensures err {
+            let old = reading_by P.state self.old in
+            let new = reading_by P.state self.new in
+            IfErr result (WalkFails is_any base old new)
+        }
     {
         self.cursor.next_child(self.package, base)
     }
@@ -228,7 +327,7 @@ impl<'a, P: Package> XlReader<'a, P> {
 
     /// The allocator that the reader was given.
     pub fn alloc(&self) -> Global
-        ensures { result ≡ allocator_of self.now }
+        ensures { result ≡ (reading_by P.state self.now).alloc }
     {
         self.cursor.alloc()
     }

@@ -17,7 +17,7 @@ fn start(name: &str) -> PartEvent<'_> {
 }
 
 // A package whose last part has the first events of a list.
-fn package_of(
+fn held_package(
     rt: &impl Abort,
     alloc: Global,
     name: &str,
@@ -134,7 +134,7 @@ fn count_inside<P: Package>(
 #[test]
 fn parts_are_opened_read_and_skipped(rt: HostRuntime) -> Result<(), Fail> {
     let alloc = rt.alloc();
-    let mut workbook = package_of(
+    let mut workbook = held_package(
         &rt,
         alloc,
         "xl/workbook.xml",
@@ -165,14 +165,14 @@ fn parts_are_opened_read_and_skipped(rt: HostRuntime) -> Result<(), Fail> {
         PartEvent::End("a"),
     ];
     for cut in 1..8u64 {
-        let mut package = package_of(&rt, alloc, "part", &element, cut)?;
+        let mut package = held_package(&rt, alloc, "part", &element, cut)?;
         assert_eq!(rt;
             skip_first(alloc, &mut package),
             Err(StreamError::Xml(XmlFault::Unclosed { at: cut })),
             "cut at {cut}"
         );
     }
-    let mut package = package_of(&rt, alloc, "part", &element, 8)?;
+    let mut package = held_package(&rt, alloc, "part", &element, 8)?;
     assert_eq!(rt; skip_first(alloc, &mut package), Ok(0));
     assert_eq!(rt; package.taken(), 8);
     let sheet = [
@@ -182,7 +182,7 @@ fn parts_are_opened_read_and_skipped(rt: HostRuntime) -> Result<(), Fail> {
         start("c"),
         PartEvent::End("row"),
     ];
-    let mut package = package_of(&rt, alloc, "part", &sheet, 5)?;
+    let mut package = held_package(&rt, alloc, "part", &sheet, 5)?;
     assert_eq!(rt;
         count_events(alloc, &mut package, "part"),
         Err(StreamError::Xml(XmlFault::EndMismatch { at: 4 }))
@@ -192,7 +192,7 @@ fn parts_are_opened_read_and_skipped(rt: HostRuntime) -> Result<(), Fail> {
         ([start("x:a"), PartEvent::End("a")], 1),
         ([start("a"), PartEvent::End("x:a")], 1),
     ] {
-        let mut package = package_of(&rt, alloc, "part", &events, 2)?;
+        let mut package = held_package(&rt, alloc, "part", &events, 2)?;
         assert_eq!(rt;
             count_events(alloc, &mut package, "part"),
             Err(StreamError::Xml(XmlFault::EndMismatch { at })),
@@ -225,7 +225,7 @@ fn texts_are_joined(rt: HostRuntime) -> Result<(), Fail> {
         (4, false, Ok(false), ">a\nb&"),
         (1, false, Ok(false), ">"),
     ] {
-        let mut package = package_of(&rt, alloc, "part", &written, taken)?;
+        let mut package = held_package(&rt, alloc, "part", &written, taken)?;
         let mut out = String::from_str(alloc, ">")?;
         assert_eq!(rt;
             first_text(alloc, &mut package, &mut out, char_data),
@@ -241,7 +241,7 @@ fn texts_are_joined(rt: HostRuntime) -> Result<(), Fail> {
         PartEvent::Text("b"),
         PartEvent::End("t"),
     ];
-    let mut package = package_of(&rt, alloc, "part", &unknown, 5)?;
+    let mut package = held_package(&rt, alloc, "part", &unknown, 5)?;
     let mut out = String::new(alloc);
     assert_eq!(rt;
         first_text(alloc, &mut package, &mut out, false),
@@ -297,7 +297,7 @@ fn events_of_a_section_are_taken(rt: HostRuntime) -> Result<(), Fail> {
         (2, "b", Ok((0, Inside::Ended))),
         (10, "a", Ok((6, Inside::Closed))),
     ] {
-        let mut package = package_of(&rt, alloc, "part", &part, taken)?;
+        let mut package = held_package(&rt, alloc, "part", &part, taken)?;
         assert_eq!(rt;
             count_inside(alloc, &mut package, section),
             want,
@@ -305,7 +305,7 @@ fn events_of_a_section_are_taken(rt: HostRuntime) -> Result<(), Fail> {
         );
     }
     let broken = [start("a"), PartEvent::Other, PartEvent::End("b")];
-    let mut package = package_of(&rt, alloc, "part", &broken, 3)?;
+    let mut package = held_package(&rt, alloc, "part", &broken, 3)?;
     assert_eq!(rt;
         count_inside(alloc, &mut package, "a"),
         Err(StreamError::Xml(XmlFault::EndMismatch { at: 2 }))
@@ -340,7 +340,7 @@ fn elements_are_found_and_planned_calls_fail(rt: HostRuntime) -> Result<(), Fail
         (10, "sheets", Some("sheet"), (2, Found::Ended)),
         (14, "none", Some("sheet"), (0, Found::Ended)),
     ] {
-        let mut package = package_of(&rt, alloc, "part", &sheets, taken)?;
+        let mut package = held_package(&rt, alloc, "part", &sheets, taken)?;
         assert_eq!(rt;
             count_elements(alloc, &mut package, section, name),
             Ok(want),
@@ -349,7 +349,7 @@ fn elements_are_found_and_planned_calls_fail(rt: HostRuntime) -> Result<(), Fail
     }
 
     for number in 0..16u64 {
-        let inner = package_of(&rt, alloc, "part", &sheets, 14)?;
+        let inner = held_package(&rt, alloc, "part", &sheets, 14)?;
         let mut package = FailingPackage::new(inner, vec![in alloc; number, 16]?);
         let (want, faults) = if number < 15 {
             (Err(StreamError::Io), 1)

@@ -1,19 +1,20 @@
-ghost use Rattle.std.specs.Prelude.{◌≡◌, ◌<◌, ◌++◌, ◌-◌, suc, length, true, false, OnOk, OnErr, IfOk, IfErr, is_err, string_bytes};
+ghost use Rattle.std.specs.Prelude.{◌≡◌, ℕ, List, ◌<◌, ◌++◌, ◌-◌, suc, length, true, false, OnOk, OnErr, IfOk, IfErr, string_bytes};
+ghost use Rattle.part_events.specs.declared.fault.StreamError.TheVariants.{Io};
 ghost use Rattle.part_events.specs.Event.{event_of};
-ghost use Rattle.part_events.specs.JoinedText.{text_error, text_of, is_unknown, EventFails, PutsFront, ReadsText, TextFails};
-ghost use Rattle.part_events.specs.Reading.{reading, events_taken, open_elements, has_failed, allocator_in, IsReading, IsAtElement, Goes, GoesOn, KeepsFaults, ahead};
+ghost use Rattle.part_events.specs.JoinedText.{text_error, event_text, is_unknown, EventFails, PutsFront, ReadsText, TextFails};
+ghost use Rattle.part_events.specs.Reading.{reading, events_taken, open_elements, IsReading, IsAtElement, Reads, ahead};
 ghost use Rattle.part_events.specs.Section.{content};
 
 use crate::cursor::Cursor;
 use crate::event::PartEvent;
 use crate::fault::{StreamError, XmlFault};
 use crate::package::Package;
-use crate::walk::Inside;
+use crate::walk::Step;
 use attr_text::{TextFault, push_entity, push_line_ends};
 
 /// Appends the text of an event. After a refusal `out` is as it was.
 fn push_text(out: &mut String, event: PartEvent<'_>, char_data: bool) -> Result<(), TextFault>
-    ensures ok { OnOk result (string_bytes out.new ≡ string_bytes out.old ++ text_of char_data (event_of event.entry)) }
+    ensures ok { OnOk result (string_bytes out.new ≡ string_bytes out.old ++ event_text char_data (event_of event.entry)) }
     ensures known { OnOk result (is_unknown (event_of event.entry) ≡ false) }
     ensures err { IfErr result (EventFails (event_of event.entry)) }
     ensures unchanged { OnErr result (string_bytes out.new ≡ string_bytes out.old) }
@@ -32,44 +33,16 @@ fn push_text(out: &mut String, event: PartEvent<'_>, char_data: bool) -> Result<
 }
 
 impl Cursor {
-    /// The refusal of the text of the last event.
-    fn text_error(&self, fault: TextFault) -> StreamError
-        requires { 0 < events_taken self.now }
-        ensures { result ≡ text_error (events_taken self.now - 1) fault }
+    /// The refusal of the text of the last event. The part can't be read on.
+    fn text_error(&mut self, fault: TextFault) -> StreamError
+        requires { 0 < events_taken self.old }
+        ensures error { result ≡ text_error (events_taken self.old - 1) fault }
+        ensures fails { self.new ≡ record self.old { failed = true } }
     {
+        self.give_up();
         match fault {
             TextFault::Entity { at: _ } => StreamError::Xml(XmlFault::Entity { at: self.at() - 1 }),
             TextFault::OutOfMemory => StreamError::OutOfMemory,
-        }
-    }
-
-    fn append_text<P: Package>(
-        &mut self,
-        package: &mut P,
-        out: &mut String,
-        char_data: bool,
-    ) -> Result<bool, StreamError>
-        requires { IsReading (reading (P.state «package».old) self.old) }
-        ensures goes { Goes (reading (P.state «package».old) self.old) (reading (P.state «package».new) self.new) }
-        ensures on { OnOk result (GoesOn (reading (P.state «package».old) self.old) (reading (P.state «package».new) self.new)) }
-        ensures depth { IfOk result (λ closed. closed ≡ true → length (open_elements self.old) ≡ suc (length (open_elements self.new))) }
-        ensures text { (P.state «package».old).told ≡ true → IfOk result (λ closed. ReadsText char_data closed (string_bytes out.old) (string_bytes out.new) (reading (P.state «package».old) self.old) (reading (P.state «package».new) self.new)) }
-        ensures front { (P.state «package».old).told ≡ true → OnErr result (PutsFront char_data (content 0 (ahead (reading (P.state «package».old) self.old))) (string_bytes out.old) (string_bytes out.new)) }
-        ensures err { IfErr result (TextFails (reading (P.state «package».old) self.old) (reading (P.state «package».new) self.new)) }
-        ensures counts { IfErr result (KeepsFaults (reading (P.state «package».old) self.old) (reading (P.state «package».new) self.new)) }
-        ensures alloc { allocator_in self.new ≡ allocator_in self.old }
-    {
-        let base = self.depth();
-        'events: loop {
-            match self.next_inside(package, base)? {
-                Inside::Closed => return Ok(true),
-                Inside::Ended => return Ok(false),
-                Inside::Event => {}
-            }
-            match push_text(out, package.event(), char_data) {
-                Ok(()) => {}
-                Err(fault) => return Err(self.text_error(fault)),
-            }
         }
     }
 
@@ -84,18 +57,43 @@ impl Cursor {
     ) -> Result<bool, StreamError>
         requires reading { IsReading (reading (P.state «package».old) self.old) }
         requires element { IsAtElement (reading (P.state «package».old) self.old) }
-        ensures goes { Goes (reading (P.state «package».old) self.old) (reading (P.state «package».new) self.new) }
-        ensures on { OnOk result (GoesOn (reading (P.state «package».old) self.old) (reading (P.state «package».new) self.new)) }
-        ensures depth { IfOk result (λ closed. closed ≡ true → length (open_elements self.old) ≡ suc (length (open_elements self.new))) }
-        ensures text { (P.state «package».old).told ≡ true → IfOk result (λ closed. ReadsText char_data closed (string_bytes out.old) (string_bytes out.new) (reading (P.state «package».old) self.old) (reading (P.state «package».new) self.new)) }
-        ensures front { (P.state «package».old).told ≡ true → OnErr result (PutsFront char_data (content 0 (ahead (reading (P.state «package».old) self.old))) (string_bytes out.old) (string_bytes out.new)) }
-        ensures err { IfErr result (TextFails (reading (P.state «package».old) self.old) (reading (P.state «package».new) self.new)) }
-        ensures counts { IfErr result (KeepsFaults (reading (P.state «package».old) self.old) (reading (P.state «package».new) self.new)) }
-        ensures failed { has_failed self.new ≡ is_err result }
-        ensures alloc { allocator_in self.new ≡ allocator_in self.old }
+        ensures reads {
+            let old = reading (P.state «package».old) self.old in
+            let new = reading (P.state «package».new) self.new in
+            Reads Io result old new
+        }
+        ensures depth {
+            let before = length (open_elements self.old) in
+            IfOk result (λ closed. closed ≡ true → before ≡ suc (length (open_elements self.new)))
+        }
+        ensures text {
+            let old = reading (P.state «package».old) self.old in
+            let new = reading (P.state «package».new) self.new in
+            let texts : List ℕ × List ℕ = (string_bytes out.old, string_bytes out.new) in
+            old.source.told ≡ true → IfOk result (λ closed. ReadsText char_data closed texts old new)
+        }
+        ensures front {
+            let old = reading (P.state «package».old) self.old in
+            let texts : List ℕ × List ℕ = (string_bytes out.old, string_bytes out.new) in
+            old.source.told ≡ true → OnErr result (PutsFront char_data (content 0 (ahead old)) texts)
+        }
+        ensures err {
+            let old = reading (P.state «package».old) self.old in
+            let new = reading (P.state «package».new) self.new in
+            IfErr result (TextFails old new)
+        }
     {
-        let outcome = self.append_text(package, out, char_data);
-        self.set_failed(outcome.is_err());
-        outcome
+        let base = self.depth();
+        'events: loop {
+            match self.next_inside(package, base)? {
+                Step::Closed => return Ok(true),
+                Step::Ended => return Ok(false),
+                Step::Found => {}
+            }
+            match push_text(out, package.event(), char_data) {
+                Ok(()) => {}
+                Err(fault) => return Err(self.text_error(fault)),
+            }
+        }
     }
 }

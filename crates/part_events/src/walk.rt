@@ -1,8 +1,9 @@
-ghost use Rattle.std.specs.Prelude.{◌≡◌, ℕ, suc, ◌≤◌, length, map, true, false, IfOk, OnOk, IfErr, is_err};
+ghost use Rattle.std.specs.Prelude.{◌≡◌, ℕ, suc, ◌≤◌, length, map, true, IfOk, OnOk, IfErr};
 ghost use Rattle.std.specs.List.{list_any};
 ghost use Rattle.std.specs.Str.{bytes_eq};
+ghost use Rattle.part_events.specs.declared.fault.StreamError.TheVariants.{Io};
 ghost use Rattle.part_events.specs.Event.{tag_of};
-ghost use Rattle.part_events.specs.Reading.{reading, open_elements, has_failed, allocator_in, IsReading, IsAtElement, Goes, GoesOn, KeepsFaults, Skips, SkipFails};
+ghost use Rattle.part_events.specs.Reading.{reading, open_elements, IsReading, IsAtElement, Reads, Skips, SkipFails};
 ghost use Rattle.part_events.specs.Section.{is_named, is_any};
 ghost use Rattle.part_events.specs.Walk.{wants, StandsInside, StepsInside, InsideFails, StandsAt, FindsStart, FindsElement, WalkFails};
 
@@ -11,22 +12,11 @@ use crate::event::{PartEvent, StartTag};
 use crate::fault::StreamError;
 use crate::package::Package;
 
-/// What a step over the events of a section came to.
+/// What a step over a section came to.
 #[derive(Clone, Copy, Debug, PartialEq, Eq)]
-pub enum Inside {
-    /// The reader stands at an event that lies in the section.
-    Event,
-    /// The section is closed, and its end was taken.
-    Closed,
-    /// The part ended in the section.
-    Ended,
-}
-
-/// How a step of a walk over a section ended.
-#[derive(Clone, Copy, Debug, PartialEq, Eq)]
-pub enum Found {
-    /// The reader stands at a wanted start.
-    Start,
+pub enum Step {
+    /// The reader stands at what was asked for: the section's next event, or its next wanted start.
+    Found,
     /// The section is closed, and its end was taken.
     Closed,
     /// The part ended in the section.
@@ -70,25 +60,37 @@ impl Cursor {
         &mut self,
         package: &mut P,
         base: usize,
-    ) -> Result<Inside, StreamError>
+    ) -> Result<Step, StreamError>
         requires reading { IsReading (reading (P.state «package».old) self.old) }
         requires within { base ≤ length (open_elements self.old) }
-        ensures goes { Goes (reading (P.state «package».old) self.old) (reading (P.state «package».new) self.new) }
-        ensures on { OnOk result (GoesOn (reading (P.state «package».old) self.old) (reading (P.state «package».new) self.new)) }
-        ensures stands { IfOk result (λ found. StandsInside base found (reading (P.state «package».old) self.old) (reading (P.state «package».new) self.new)) }
-        ensures inside { (P.state «package».old).told ≡ true → IfOk result (λ found. StepsInside base found (reading (P.state «package».old) self.old) (reading (P.state «package».new) self.new)) }
-        ensures err { IfErr result (InsideFails base (reading (P.state «package».old) self.old) (reading (P.state «package».new) self.new)) }
-        ensures counts { IfErr result (KeepsFaults (reading (P.state «package».old) self.old) (reading (P.state «package».new) self.new)) }
-        ensures failed { has_failed self.new ≡ is_err result }
-        ensures alloc { allocator_in self.new ≡ allocator_in self.old }
+        ensures reads {
+            let old = reading (P.state «package».old) self.old in
+            let new = reading (P.state «package».new) self.new in
+            Reads Io result old new
+        }
+        ensures stands {
+            let old = reading (P.state «package».old) self.old in
+            let new = reading (P.state «package».new) self.new in
+            IfOk result (λ step. StandsInside base step old new)
+        }
+        ensures inside {
+            let old = reading (P.state «package».old) self.old in
+            let new = reading (P.state «package».new) self.new in
+            old.source.told ≡ true → IfOk result (λ step. StepsInside base step old new)
+        }
+        ensures err {
+            let old = reading (P.state «package».old) self.old in
+            let new = reading (P.state «package».new) self.new in
+            IfErr result (InsideFails base old new)
+        }
     {
         if !self.next(package)? {
-            return Ok(Inside::Ended);
+            return Ok(Step::Ended);
         }
         if self.depth() < base {
-            return Ok(Inside::Closed);
+            return Ok(Step::Closed);
         }
-        Ok(Inside::Event)
+        Ok(Step::Found)
     }
 
     /// Reads on to the next wanted start, to the end of the section whose element is number `base` of the open ones,
@@ -98,28 +100,46 @@ impl Cursor {
         package: &mut P,
         base: usize,
         wanted: Wanted<'_>,
-    ) -> Result<Found, StreamError>
+    ) -> Result<Step, StreamError>
         requires reading { IsReading (reading (P.state «package».old) self.old) }
         requires within { base ≤ length (open_elements self.old) }
-        ensures goes { Goes (reading (P.state «package».old) self.old) (reading (P.state «package».new) self.new) }
-        ensures on { OnOk result (GoesOn (reading (P.state «package».old) self.old) (reading (P.state «package».new) self.new)) }
-        ensures stands { IfOk result (λ found. StandsAt (wants wanted.entry) base found (reading (P.state «package».old) self.old) (reading (P.state «package».new) self.new)) }
-        ensures starts { (P.state «package».old).told ≡ true → IfOk result (λ found. FindsStart (wants wanted.entry) base found (reading (P.state «package».old) self.old) (reading (P.state «package».new) self.new)) }
-        ensures elements { (P.state «package».old).told ≡ true → IfOk result (λ found. FindsElement (wants wanted.entry) base found (reading (P.state «package».old) self.old) (reading (P.state «package».new) self.new)) }
-        ensures err { IfErr result (WalkFails (wants wanted.entry) base (reading (P.state «package».old) self.old) (reading (P.state «package».new) self.new)) }
-        ensures counts { IfErr result (KeepsFaults (reading (P.state «package».old) self.old) (reading (P.state «package».new) self.new)) }
-        ensures failed { has_failed self.new ≡ is_err result }
-        ensures alloc { allocator_in self.new ≡ allocator_in self.old }
+        ensures reads {
+            let old = reading (P.state «package».old) self.old in
+            let new = reading (P.state «package».new) self.new in
+            Reads Io result old new
+        }
+        ensures stands {
+            let old = reading (P.state «package».old) self.old in
+            let new = reading (P.state «package».new) self.new in
+            IfOk result (λ step. StandsAt (wants wanted.entry) base step old new)
+        }
+        ensures starts {
+            let old = reading (P.state «package».old) self.old in
+            let new = reading (P.state «package».new) self.new in
+            old.source.told ≡ true →
+            IfOk result (λ step. FindsStart (wants wanted.entry) base step old new)
+        }
+        ensures elements {
+            let old = reading (P.state «package».old) self.old in
+            let new = reading (P.state «package».new) self.new in
+            old.source.told ≡ true →
+            IfOk result (λ step. FindsElement (wants wanted.entry) base step old new)
+        }
+        ensures err {
+            let old = reading (P.state «package».old) self.old in
+            let new = reading (P.state «package».new) self.new in
+            IfErr result (WalkFails (wants wanted.entry) base old new)
+        }
     {
         'events: loop {
             match self.next_inside(package, base)? {
-                Inside::Closed => return Ok(Found::Closed),
-                Inside::Ended => return Ok(Found::Ended),
-                Inside::Event => {}
+                Step::Closed => return Ok(Step::Closed),
+                Step::Ended => return Ok(Step::Ended),
+                Step::Found => {}
             }
             if let PartEvent::Start(tag) = package.event() {
                 if wanted.accepts(tag) {
-                    return Ok(Found::Start);
+                    return Ok(Step::Found);
                 }
             }
         }
@@ -132,17 +152,32 @@ impl Cursor {
         package: &mut P,
         base: usize,
         names: &[&str],
-    ) -> Result<Found, StreamError>
+    ) -> Result<Step, StreamError>
         requires reading { IsReading (reading (P.state «package».old) self.old) }
         requires within { base ≤ length (open_elements self.old) }
-        ensures goes { Goes (reading (P.state «package».old) self.old) (reading (P.state «package».new) self.new) }
-        ensures on { OnOk result (GoesOn (reading (P.state «package».old) self.old) (reading (P.state «package».new) self.new)) }
-        ensures stands { IfOk result (λ found. StandsAt (is_named (map (λ name. name.now) names.now)) base found (reading (P.state «package».old) self.old) (reading (P.state «package».new) self.new)) }
-        ensures found { (P.state «package».old).told ≡ true → IfOk result (λ found. FindsStart (is_named (map (λ name. name.now) names.now)) base found (reading (P.state «package».old) self.old) (reading (P.state «package».new) self.new)) }
-        ensures err { IfErr result (WalkFails (is_named (map (λ name. name.now) names.now)) base (reading (P.state «package».old) self.old) (reading (P.state «package».new) self.new)) }
-        ensures counts { IfErr result (KeepsFaults (reading (P.state «package».old) self.old) (reading (P.state «package».new) self.new)) }
-        ensures failed { has_failed self.new ≡ is_err result }
-        ensures alloc { allocator_in self.new ≡ allocator_in self.old }
+        ensures reads {
+            let old = reading (P.state «package».old) self.old in
+            let new = reading (P.state «package».new) self.new in
+            Reads Io result old new
+        }
+        ensures stands {
+            let old = reading (P.state «package».old) self.old in
+            let new = reading (P.state «package».new) self.new in
+            let wanted = is_named (map (λ name. name.now) names.now) in
+            IfOk result (λ step. StandsAt wanted base step old new)
+        }
+        ensures found {
+            let old = reading (P.state «package».old) self.old in
+            let new = reading (P.state «package».new) self.new in
+            let wanted = is_named (map (λ name. name.now) names.now) in
+            old.source.told ≡ true → IfOk result (λ step. FindsStart wanted base step old new)
+        }
+        ensures err {
+            let old = reading (P.state «package».old) self.old in
+            let new = reading (P.state «package».new) self.new in
+            let wanted = is_named (map (λ name. name.now) names.now) in
+            IfErr result (WalkFails wanted base old new)
+        }
     {
         self.walk(package, base, Wanted::Named(names))
     }
@@ -154,17 +189,32 @@ impl Cursor {
         package: &mut P,
         base: usize,
         names: &[&str],
-    ) -> Result<Found, StreamError>
+    ) -> Result<Step, StreamError>
         requires reading { IsReading (reading (P.state «package».old) self.old) }
         requires within { base ≤ length (open_elements self.old) }
-        ensures goes { Goes (reading (P.state «package».old) self.old) (reading (P.state «package».new) self.new) }
-        ensures on { OnOk result (GoesOn (reading (P.state «package».old) self.old) (reading (P.state «package».new) self.new)) }
-        ensures stands { IfOk result (λ found. StandsAt (is_named (map (λ name. name.now) names.now)) base found (reading (P.state «package».old) self.old) (reading (P.state «package».new) self.new)) }
-        ensures found { (P.state «package».old).told ≡ true → IfOk result (λ found. FindsElement (is_named (map (λ name. name.now) names.now)) base found (reading (P.state «package».old) self.old) (reading (P.state «package».new) self.new)) }
-        ensures err { IfErr result (WalkFails (is_named (map (λ name. name.now) names.now)) base (reading (P.state «package».old) self.old) (reading (P.state «package».new) self.new)) }
-        ensures counts { IfErr result (KeepsFaults (reading (P.state «package».old) self.old) (reading (P.state «package».new) self.new)) }
-        ensures failed { has_failed self.new ≡ is_err result }
-        ensures alloc { allocator_in self.new ≡ allocator_in self.old }
+        ensures reads {
+            let old = reading (P.state «package».old) self.old in
+            let new = reading (P.state «package».new) self.new in
+            Reads Io result old new
+        }
+        ensures stands {
+            let old = reading (P.state «package».old) self.old in
+            let new = reading (P.state «package».new) self.new in
+            let wanted = is_named (map (λ name. name.now) names.now) in
+            IfOk result (λ step. StandsAt wanted base step old new)
+        }
+        ensures found {
+            let old = reading (P.state «package».old) self.old in
+            let new = reading (P.state «package».new) self.new in
+            let wanted = is_named (map (λ name. name.now) names.now) in
+            old.source.told ≡ true → IfOk result (λ step. FindsElement wanted base step old new)
+        }
+        ensures err {
+            let old = reading (P.state «package».old) self.old in
+            let new = reading (P.state «package».new) self.new in
+            let wanted = is_named (map (λ name. name.now) names.now) in
+            IfErr result (WalkFails wanted base old new)
+        }
     {
         self.walk(package, base, Wanted::Named(names))
     }
@@ -175,17 +225,29 @@ impl Cursor {
         &mut self,
         package: &mut P,
         base: usize,
-    ) -> Result<Found, StreamError>
+    ) -> Result<Step, StreamError>
         requires reading { IsReading (reading (P.state «package».old) self.old) }
         requires within { base ≤ length (open_elements self.old) }
-        ensures goes { Goes (reading (P.state «package».old) self.old) (reading (P.state «package».new) self.new) }
-        ensures on { OnOk result (GoesOn (reading (P.state «package».old) self.old) (reading (P.state «package».new) self.new)) }
-        ensures stands { IfOk result (λ found. StandsAt is_any base found (reading (P.state «package».old) self.old) (reading (P.state «package».new) self.new)) }
-        ensures found { (P.state «package».old).told ≡ true → IfOk result (λ found. FindsElement is_any base found (reading (P.state «package».old) self.old) (reading (P.state «package».new) self.new)) }
-        ensures err { IfErr result (WalkFails is_any base (reading (P.state «package».old) self.old) (reading (P.state «package».new) self.new)) }
-        ensures counts { IfErr result (KeepsFaults (reading (P.state «package».old) self.old) (reading (P.state «package».new) self.new)) }
-        ensures failed { has_failed self.new ≡ is_err result }
-        ensures alloc { allocator_in self.new ≡ allocator_in self.old }
+        ensures reads {
+            let old = reading (P.state «package».old) self.old in
+            let new = reading (P.state «package».new) self.new in
+            Reads Io result old new
+        }
+        ensures stands {
+            let old = reading (P.state «package».old) self.old in
+            let new = reading (P.state «package».new) self.new in
+            IfOk result (λ step. StandsAt is_any base step old new)
+        }
+        ensures found {
+            let old = reading (P.state «package».old) self.old in
+            let new = reading (P.state «package».new) self.new in
+            old.source.told ≡ true → IfOk result (λ step. FindsElement is_any base step old new)
+        }
+        ensures err {
+            let old = reading (P.state «package».old) self.old in
+            let new = reading (P.state «package».new) self.new in
+            IfErr result (WalkFails is_any base old new)
+        }
     {
         self.walk(package, base, Wanted::Any)
     }
@@ -194,20 +256,30 @@ impl Cursor {
     pub fn skip_element<P: Package>(&mut self, package: &mut P) -> Result<(), StreamError>
         requires reading { IsReading (reading (P.state «package».old) self.old) }
         requires element { IsAtElement (reading (P.state «package».old) self.old) }
-        ensures goes { Goes (reading (P.state «package».old) self.old) (reading (P.state «package».new) self.new) }
-        ensures on { OnOk result (GoesOn (reading (P.state «package».old) self.old) (reading (P.state «package».new) self.new)) }
-        ensures depth { OnOk result (length (open_elements self.old) ≡ suc (length (open_elements self.new))) }
-        ensures skips { (P.state «package».old).told ≡ true → OnOk result (Skips (reading (P.state «package».old) self.old) (reading (P.state «package».new) self.new)) }
-        ensures err { IfErr result (SkipFails (reading (P.state «package».old) self.old) (reading (P.state «package».new) self.new)) }
-        ensures counts { IfErr result (KeepsFaults (reading (P.state «package».old) self.old) (reading (P.state «package».new) self.new)) }
-        ensures failed { has_failed self.new ≡ is_err result }
-        ensures alloc { allocator_in self.new ≡ allocator_in self.old }
+        ensures reads {
+            let old = reading (P.state «package».old) self.old in
+            let new = reading (P.state «package».new) self.new in
+            Reads Io result old new
+        }
+        ensures depth {
+            OnOk result (length (open_elements self.old) ≡ suc (length (open_elements self.new)))
+        }
+        ensures skips {
+            let old = reading (P.state «package».old) self.old in
+            let new = reading (P.state «package».new) self.new in
+            old.source.told ≡ true → OnOk result (Skips old new)
+        }
+        ensures err {
+            let old = reading (P.state «package».old) self.old in
+            let new = reading (P.state «package».new) self.new in
+            IfErr result (SkipFails old new)
+        }
     {
         let depth = self.depth();
         match self.walk(package, depth, Wanted::Named(&[]))? {
-            Found::Closed => Ok(()),
-            Found::Ended => Err(self.leave_open()),
-            Found::Start => unreachable!(),
+            Step::Closed => Ok(()),
+            Step::Ended => Err(self.leave_open()),
+            Step::Found => unreachable!(),
         }
     }
 }

@@ -2,7 +2,7 @@ use Rattle.std.proofs.Common.{◌≡◌, true, sym, ◌∙◌}
 use Rattle.part_events.specs.Event.{tag_of}
 use Rattle.part_events.specs.Reading.{reading}
 use Rattle.part_events.specs.Walk.{wants, StandsInside, StepsInside}
-use Rattle.part_events.specs.declared.walk.Inside.TheVariants as step
+use Rattle.part_events.specs.declared.walk.Step.TheVariants.{Found}
 use Rattle.part_events.proofs.Walking.{element_later, next_element}
 use Rattle.part_events.proofs.cursor.Cursor.walk.Goals as goal
 
@@ -12,9 +12,9 @@ returns-then-accepts-clause-elements g c = λ told.
     let mid = reading (g.P.Package.state c.events.package) c.events.self in
     let new = reading (g.P.Package.state c.next_inside.new.package) c.next_inside.new.self in
     let tag = tag_of c.in-Start.tag in
-    let told_there : mid.source.told ≡ true = c.events.invariant.goes.parts.told ∙ told in
-    let stands : StandsInside c.args.base step.Event mid new = rw c.in-Event.is at c.in_ok-next_inside.ensures.stands in
-    let steps : StepsInside c.args.base step.Event mid new = rw c.in-Event.is at (c.in_ok-next_inside.ensures.inside told_there) in
+    let told_there : mid.source.told ≡ true = c.events.invariant.reads.moves.parts.told ∙ told in
+    let stands : StandsInside c.args.base Found mid new = rw c.in-Found.is at c.in_ok-next_inside.ensures.stands in
+    let steps : StepsInside c.args.base Found mid new = rw c.in-Found.is at (c.in_ok-next_inside.ensures.inside told_there) in
     rw (← c.in-Start.ensures)
     (element_later (wants c.args.wanted) c.args.base tag old mid new (c.events.invariant.ahead told)
     (next_element (wants c.args.wanted) c.args.base tag mid new stands.0 steps.steps c.in-Start.ensures c.events.invariant.within (sym c.accepts.ensures ∙ c.if-accepts.true)))

@@ -3,7 +3,7 @@ use Rattle.std.specs.Prelude.{slice_get}
 use Rattle.std.specs.Str.{bytes_eq}
 use Rattle.std.proofs.lemmas.Slice.Eq.{bytes_eq-Decides}
 use Rattle.std.proofs.lemmas.Grind.{common_steps}
-use Rattle.part_events.specs.OpenNames.{names_in}
+use Rattle.part_events.specs.OpenNames.{names_cut}
 use Rattle.part_events.proofs.Opened.{innermost_first}
 use Rattle.part_events.proofs.open_names.OpenNames.close.Goals as goal
 use Rattle.part_events.proofs.open_names.OpenNames.close.Goals.{In-Some}
@@ -12,7 +12,7 @@ first : (c : In-Some) → slice_get c.self.inside.sizes.items (length c.self.ins
 first c = grind (arith, common_steps)
 
 -- where the innermost name begins, and what the others are
-innermost : (c : In-Some) (begins : ℕ) → begins ≡ length c.self.inside.text.items - c.in-Some.size → c.args.self.now ≡ drop begins c.self.inside.text.items ∷ names_in (take begins c.self.inside.text.items) (reverse (take (length c.self.inside.sizes.items - 1) c.self.inside.sizes.items))
+innermost : (c : In-Some) (begins : ℕ) → begins ≡ length c.self.inside.text.items - c.in-Some.size → c.args.self.now ≡ drop begins c.self.inside.text.items ∷ names_cut (take begins c.self.inside.text.items) (reverse (take (length c.self.inside.sizes.items - 1) c.self.inside.sizes.items))
 innermost c begins at = innermost_first c.self.inside.text.items c.self.inside.sizes.items c.args.self.now c.in-Some.size begins c.self.view_is (first c) at
 
 pub returns-then-ne-clause-answer : goal.returns-then-ne-clause-answer

@@ -1,25 +1,25 @@
 use Rattle.std.proofs.Common.{◌≡◌, ◌++◌, true, sym, ◌∙◌, ap, rules, string_bytes}
 use Rattle.part_events.specs.Event.{Event}
-use Rattle.part_events.specs.JoinedText.{text_of, is_unknown}
+use Rattle.part_events.specs.JoinedText.{event_text, is_unknown}
 use Rattle.part_events.specs.Reading.{reading}
 use Rattle.part_events.specs.Walk.{StandsInside, TakesInside}
-use Rattle.part_events.specs.declared.walk.Inside.TheVariants as step
+use Rattle.part_events.specs.declared.walk.Step.TheVariants.{Found}
 use Rattle.part_events.proofs.Texts.{has_read_more, event_fails}
-use Rattle.part_events.proofs.cursor.Cursor.append_text.Goals as goal
+use Rattle.part_events.proofs.cursor.Cursor.read_text.Goals as goal
 
 pub returns-in-Err-clause-err : goal.returns-in-Err-clause-err
 returns-in-Err-clause-err g c =
     let old = reading (g.P.Package.state c.args.package.now) c.args.self.now in
     let mid = reading (g.P.Package.state c.events.package) c.events.self in
     let new = reading (g.P.Package.state c.next_inside.new.package) c.next_inside.new.self in
-    let told_there : old.source.told ≡ true → mid.source.told ≡ true = λ told. c.events.invariant.goes.parts.told ∙ told in
-    let stands : StandsInside c.depth-base.result step.Event mid new = rw c.in-Event.is at c.in_ok-next_inside.ensures.stands in
-    rw c.text_error.ensures
+    let told_there : old.source.told ≡ true → mid.source.told ≡ true = λ told. c.events.invariant.reads.moves.parts.told ∙ told in
+    let stands : StandsInside c.depth-base.result Found mid new = rw c.in-Found.is at c.in_ok-next_inside.ensures.stands in
+    rw (c.text_error.ensures.fails, c.text_error.ensures.error)
     (event_fails c.args.char_data c.depth-base.result old mid new _ _ c.in-Err.fault c.events.invariant.read
-    (λ told. c.events.invariant.on.reading.tracked (told_there told))
-    (λ told. rw c.in-Event.is at (c.in_ok-next_inside.ensures.inside (told_there told)))
+    (λ told. c.events.invariant.reads.stays.reading.tracked (told_there told))
+    (λ told. rw c.in-Found.is at (c.in_ok-next_inside.ensures.inside (told_there told)))
     stands.0.at
-    (λ told. c.in_ok-next_inside.ensures.on.part (told_there told) ∙ c.events.invariant.on.part told)
+    (λ told. c.in_ok-next_inside.ensures.reads.stays.part (told_there told) ∙ c.events.invariant.reads.stays.part told)
     (rw (← c.event.ensures) c.in-Err.ensures.err))
 
 pub events-preserved : goal.events-preserved
@@ -28,16 +28,14 @@ events-preserved g c =
     let mid = reading (g.P.Package.state c.events.package) c.events.self in
     let new = reading (g.P.Package.state c.next_inside.new.package) c.next_inside.new.self in
     record {
-      goes = search rules;
-      on = search rules;
+      reads = search rules;
       within = search rules;
       base = search rules;
       read = λ told.
-          let told_there : mid.source.told ≡ true = c.events.invariant.goes.parts.told ∙ told in
-          let stands : StandsInside c.depth-base.result step.Event mid new = rw c.in-Event.is at c.in_ok-next_inside.ensures.stands in
-          let takes : TakesInside c.depth-base.result mid new = rw c.in-Event.is at (c.in_ok-next_inside.ensures.inside told_there) in
+          let told_there : mid.source.told ≡ true = c.events.invariant.reads.moves.parts.told ∙ told in
+          let stands : StandsInside c.depth-base.result Found mid new = rw c.in-Found.is at c.in_ok-next_inside.ensures.stands in
+          let takes : TakesInside c.depth-base.result mid new = rw c.in-Found.is at (c.in_ok-next_inside.ensures.inside told_there) in
           has_read_more c.args.char_data c.depth-base.result old mid new _ _ _ (c.events.invariant.read told) takes stands.0.at
-          (c.in-Ok.ensures.ok ∙ ap (λ (event : Event). string_bytes c.events.out ++ text_of c.args.char_data event) c.event.ensures)
+          (c.in-Ok.ensures.ok ∙ ap (λ (event : Event). string_bytes c.events.out ++ event_text c.args.char_data event) c.event.ensures)
           (ap is_unknown (sym c.event.ensures) ∙ c.in-Ok.ensures.known);
-      alloc = search rules;
     }

@@ -1,19 +1,17 @@
 use Rattle.std.proofs.Common.{◌≡◌, ◌≤◌, length, true, string_bytes}
-use Rattle.part_events.specs.Reading.{reading, Goes, GoesOn}
+use Rattle.part_events.specs.Reading.{reading, ReadsOn}
 use Rattle.part_events.proofs.Texts.{HasRead}
-use Rattle.part_events.proofs.cursor.Cursor.append_text.Given as goal
+use Rattle.part_events.proofs.cursor.Cursor.read_text.Given as goal
 
 abbrev pub invariant-events : goal.invariant-events
 invariant-events g l =
     let old = reading (g.P.Package.state l.fn.package) l.fn.self in
     let now = reading (g.P.Package.state l.package) l.self in
     record {
-      goes : Goes old now;
-      on : GoesOn old now;
+      reads : ReadsOn old now;
       within : l.base ≤ length l.self.names;
       base : l.base ≡ length l.fn.self.names;
-      read : old.source.told ≡ true → HasRead l.char_data l.base old now (string_bytes l.fn.out) (string_bytes l.out);
-      alloc : l.self.alloc ≡ l.fn.self.alloc;
+      read : old.source.told ≡ true → HasRead l.char_data l.base old now (string_bytes l.fn.out, string_bytes l.out);
     }
 
 abbrev pub decreases-events : goal.decreases-events
