@@ -2,10 +2,10 @@
 use Rattle.std.proofs.Common.{◌≡◌, ℕ, zero, suc, ◌+◌, List, [], ◌∷◌, map, Bool, true, false, refl, sym, ◌∙◌, ap, arith}
 use Rattle.std.specs.Prelude.{if◌then◌else◌, ◌==◌}
 use Rattle.std.proofs.lemmas.Bool.Decides.{nat_tests}
-use Rattle.part_events.specs.Event.{Tag, Event, start, end, leaf}
+use Rattle.part_events.specs.Event.{Tag, Event, start, end, leaf, is_start}
 use Rattle.part_events.specs.Nesting.{starts_in, ends_in, depth}
 use Rattle.part_events.specs.NestingLaws.{starts_at}
-use Rattle.part_events.specs.Section.{Element, content, behind, outermost, outermost_from, is_any, children}
+use Rattle.part_events.specs.Section.{Element, element_of, content, behind, outermost, outermost_from, is_any, children}
 
 left_behind : (wanted : Tag → Bool) (inner : ℕ) (events : List Event) → outermost_from wanted (suc inner) events ≡ outermost_from wanted 0 (behind inner events)
 left_behind wanted inner [] = refl
@@ -14,16 +14,21 @@ left_behind wanted zero (end name ∷ events) = refl
 left_behind wanted (suc inner) (end name ∷ events) = left_behind wanted inner events
 left_behind wanted inner (leaf kind ∷ events) = left_behind wanted inner events
 
-pub outermost-wanted : (wanted : Tag → Bool) (tag : Tag) (events : List Event) → wanted tag ≡ true → outermost wanted (start tag ∷ events) ≡ record { tag = tag; inside = content 0 events } ∷ outermost wanted (behind 0 events)
+pub outermost-wanted : (wanted : Tag → Bool) (tag : Tag) (events : List Event) → wanted tag ≡ true → outermost wanted (start tag ∷ events) ≡ element_of tag events ∷ outermost wanted (behind 0 events)
 outermost-wanted wanted tag events is =
-    let first : Element = record { tag = tag; inside = content 0 events } in
+    let first = element_of tag events in
     ap (λ (b : Bool). if b then first ∷ outermost_from wanted 1 events else outermost_from wanted 0 events) is
     ∙ ap (λ (others : List Element). first ∷ others) (left_behind wanted 0 events)
 
 pub outermost-unwanted : (wanted : Tag → Bool) (tag : Tag) (events : List Event) → wanted tag ≡ false → outermost wanted (start tag ∷ events) ≡ outermost wanted events
 outermost-unwanted wanted tag events is =
-    let first : Element = record { tag = tag; inside = content 0 events } in
+    let first = element_of tag events in
     ap (λ (b : Bool). if b then first ∷ outermost_from wanted 1 events else outermost_from wanted 0 events) is
+
+pub outermost-other : (wanted : Tag → Bool) (event : Event) (events : List Event) → is_start event ≡ false → outermost wanted (event ∷ events) ≡ outermost wanted events
+outermost-other wanted (start tag) events is = absurd (cc)
+outermost-other wanted (end name) events is = refl
+outermost-other wanted (leaf kind) events is = refl
 
 abbrev tags : List Element → List Tag
 tags elements = map (λ (element : Element). element.tag) elements

@@ -16,17 +16,17 @@ pub same_part : (old new : Reading) → Advances true old.source new.source → 
 same_part old new advances =
     ap (λ (past : List Event). reverse past ++ new.source.rest) advances.1 ∙ reverse_on new.source.current old.source.past new.source.rest ∙ ap (λ (rest : List Event). reverse old.source.past ++ rest) (sym advances.0)
 
-pub stays_at_start : (old new : Reading) (tag : Tag) (more : Bool) → more ≡ true → IsReading old → new.is_failed ≡ false → SameParts old.source new.source → AdvanceCounts more old.source new.source → (old.source.told ≡ true → Advances more old.source new.source) → start tag ≡ new.source.current → new.names ≡ tag.name ∷ old.names → new.at ≡ old.at + 1 → StaysReadable old new
+pub stays_at_start : (old new : Reading) (tag : Tag) (more : Bool) → more ≡ true → IsReading old → new.is_failed ≡ false → SameParts old.source new.source → AdvanceCounts more old.source new.source → (old.source.is_told ≡ true → Advances more old.source new.source) → start tag ≡ new.source.current → new.names ≡ tag.name ∷ old.names → new.at ≡ old.at + 1 → StaysReadable old new
 stays_at_start old new tag more is was going parts counted advanced current names at =
     let counts : AdvanceCounts true old.source new.source = rw is at counted in
-    let advances : old.source.told ≡ true → Advances true old.source new.source = λ told. rw is at (advanced told) in
+    let advances : old.source.is_told ≡ true → Advances true old.source new.source = λ told. rw is at (advanced told) in
     record {
       reading = record {
         going = going;
         element = λ at_element. rw names (omega arith);
         fits = omega (arith, was.fits, counts.left);
         tracked = λ told.
-            let told_before : old.source.told ≡ true = sym parts.told ∙ told in
+            let told_before : old.source.is_told ≡ true = sym parts.is_told ∙ told in
             let before = was.tracked told_before in
             let taken : new.source.past ≡ start tag ∷ old.source.past = (advances told_before).1 ∙ ap (λ (event : Event). event ∷ old.source.past) (sym current) in
             record {
@@ -45,7 +45,7 @@ same_name : (name : List ℕ) (names : List (List ℕ)) → option_map_or (bytes
 same_name name [] = refl
 same_name name (first ∷ names) = refl
 
-pub breaks_at_end : (old new : Reading) (name : List ℕ) (more : Bool) → more ≡ true → IsReading old → old.source.told ≡ true → Advances more old.source new.source → end name ≡ new.source.current → is_innermost name old.names ≡ false → BreaksNext old new old.at × (ahead old ≡ [])
+pub breaks_at_end : (old new : Reading) (name : List ℕ) (more : Bool) → more ≡ true → IsReading old → old.source.is_told ≡ true → Advances more old.source new.source → end name ≡ new.source.current → is_innermost name old.names ≡ false → BreaksNext old new old.at × (ahead old ≡ [])
 breaks_at_end old new name more is was told advanced current other =
     let advances : Advances true old.source new.source = rw is at advanced in
     let before = was.tracked told in

@@ -1,6 +1,6 @@
 -- How the text of an element is read, event by event.
 use Rattle.std.proofs.Common.{◌≡◌, ℕ, suc, ◌+◌, ◌-◌, List, [], ◌∷◌, ◌++◌, length, reverse, Bool, true, false, refl, sym, ◌∙◌, ap, arith, append_assoc, append-nil, Option, Some, None}
-use Rattle.std.specs.Prelude.{if◌then◌else◌, option_map, slice_get}
+use Rattle.std.specs.Prelude.{if◌then◌else◌, slice_get, IsSomeAnd}
 use Rattle.std.proofs.lemmas.List.{length-append, length-reverse}
 use Rattle.attr_text.specs.declared.fault.TextFault.{TextFault}
 use Rattle.attr_text.specs.declared.fault.TextFault.TheVariants as text_fault
@@ -27,24 +27,18 @@ joined_text-push data_too [] event = append-nil (event_text data_too event)
 joined_text-push data_too (first ∷ front) event =
     ap (λ (rest : List ℕ). event_text data_too first ++ rest) (joined_text-push data_too front event) ∙ sym (append_assoc (event_text data_too first) (joined_text data_too front) (event_text data_too event))
 
-cond_none : (b : Bool) (o : Option ℕ) → (if b then Some 0 else option_map suc o) ≡ None → (b ≡ false) × (o ≡ None)
-cond_none true o is = absurd (cc)
-cond_none false None is = (refl, refl)
-cond_none false (Some n) is = absurd (cc)
+known_first : (event : Event) (events : List Event) → unknown_entity (event ∷ events) ≡ None → (is_unknown event ≡ false) × (unknown_entity events ≡ None)
+known_first event events none =
+    elim (is_unknown event) as (λ b. is_unknown event ≡ b → (is_unknown event ≡ false) × (unknown_entity events ≡ None)) [
+      | true ↦ λ is. let here : unknown_entity (event ∷ events) ≡ Some (length events) = rw is refl in absurd (cc)
+      | false ↦ λ is. let here : unknown_entity (event ∷ events) ≡ unknown_entity events = rw is refl in (is, sym here ∙ none)
+    ] refl
 
-unknown_entity-push : (front : List Event) (event : Event) → unknown_entity front ≡ None → is_unknown event ≡ false → unknown_entity (front ++ event ∷ []) ≡ None
-unknown_entity-push [] event none known = ap (λ (b : Bool). if b then Some 0 else None) known
-unknown_entity-push (first ∷ front) event none known =
-    let both = cond_none (is_unknown first) (unknown_entity front) none in
-    let rest = unknown_entity-push front event both.1 known in
-    rw (both.0, rest) refl
-
-unknown_entity-at : (front more : List Event) (event : Event) → unknown_entity front ≡ None → is_unknown event ≡ true → unknown_entity (front ++ event ∷ more) ≡ Some (length front)
-unknown_entity-at [] more event none unknown = ap (λ (b : Bool). if b then Some 0 else option_map suc (unknown_entity more)) unknown
-unknown_entity-at (first ∷ front) more event none unknown =
-    let both = cond_none (is_unknown first) (unknown_entity front) none in
-    let rest = unknown_entity-at front more event both.1 unknown in
-    rw (both.0, rest) refl
+-- known events in front change nothing
+pub unknown_entity-behind : (front events : List Event) → unknown_entity front ≡ None → unknown_entity (front ++ events) ≡ unknown_entity events
+unknown_entity-behind [] events none = refl
+unknown_entity-behind (first ∷ front) events none =
+    let both = known_first first front none in rw both.0 (unknown_entity-behind front events both.1)
 
 pub content_at : (event : Event) (before after : ℕ) (events : List Event) → GoesInside event before after → (content before (event ∷ events) ≡ event ∷ content after events) × (is_closed before (event ∷ events) ≡ is_closed after events) × (behind before (event ∷ events) ≡ behind after events)
 content_at (start tag) before after events goes = rw goes (refl, refl, refl)
@@ -60,7 +54,7 @@ has_read_more data_too base old mid new first before after read takes at written
       parts = read.parts ∙ ap (λ (events : List Event). read.front ++ events) takes.events ∙ sym (append_assoc read.front (event ∷ []) (content (inside base new) (ahead new)));
       size = omega (arith, read.size, at, length-append read.front (event ∷ []));
       text = written ∙ ap (λ (bytes : List ℕ). bytes ++ event_text data_too event) read.text ∙ append_assoc first (joined_text data_too read.front) (event_text data_too event) ∙ ap (λ (bytes : List ℕ). first ++ bytes) (sym (joined_text-push data_too read.front event));
-      known = unknown_entity-push read.front event read.known known;
+      known = unknown_entity-behind read.front (event ∷ []) read.known ∙ (rw known refl);
       closed = read.closed ∙ takes.closed;
       behind = read.behind ∙ takes.behind;
     }
@@ -70,7 +64,7 @@ slice_get-append [] more event = refl
 slice_get-append (first ∷ front) more event = slice_get-append front more event
 
 -- a reference without a character was taken
-pub stops_at_entity : (data_too : Bool) (base : ℕ) (old mid new : Reading) (first written : List ℕ) → HasRead data_too base old mid (first, written) → IsTracked mid → TakesInside base mid new → events_of new ≡ events_of old → is_unknown new.source.current ≡ true → (events_of new ≡ events_of old) × IsUnknownAt (events_of new) mid.at × (option_map (λ place. old.at + place) (unknown_entity (content 0 (ahead old))) ≡ Some mid.at)
+pub stops_at_entity : (data_too : Bool) (base : ℕ) (old mid new : Reading) (first written : List ℕ) → HasRead data_too base old mid (first, written) → IsTracked mid → TakesInside base mid new → events_of new ≡ events_of old → is_unknown new.source.current ≡ true → (events_of new ≡ events_of old) × IsUnknownAt (events_of new) mid.at × IsSomeAnd (unknown_entity (content 0 (ahead old))) (λ behind. mid.at + suc behind ≡ old.at + length (content 0 (ahead old)))
 stops_at_entity data_too base old mid new first written read tracked takes part unknown =
     let event = new.source.current in
     let here : content 0 (ahead old) ≡ read.front ++ event ∷ content (inside base new) (ahead new) = read.parts ∙ ap (λ (events : List Event). read.front ++ events) takes.events in
@@ -80,11 +74,12 @@ stops_at_entity data_too base old mid new first written read tracked takes part 
     let place : mid.at ≡ length (reverse mid.source.past) = tracked.at ∙ sym (length-reverse mid.source.past) in (
       part,
       rw (taken, place, slice_get-append (reverse mid.source.past) new.source.rest event) unknown,
-      rw (here, unknown_entity-at read.front (content (inside base new) (ahead new)) event read.known unknown) (ap (λ (n : ℕ). Some n) (sym read.size)),
+      rw (here, unknown_entity-behind read.front (event ∷ content (inside base new) (ahead new)) read.known, unknown)
+      (omega (arith, read.size, length-append read.front (event ∷ content (inside base new) (ahead new)))),
     )
 
 -- the text of an event can't be put
-pub event_fails : (data_too : Bool) (base : ℕ) (old mid new : Reading) (first written : List ℕ) (fault : TextFault) → (old.source.told ≡ true → HasRead data_too base old mid (first, written)) → (old.source.told ≡ true → IsTracked mid) → (old.source.told ≡ true → TakesInside base mid new) → new.at ≡ mid.at + 1 → (old.source.told ≡ true → events_of new ≡ events_of old) → EventFails new.source.current fault → TextFails old new (text_error (new.at - 1) fault)
+pub event_fails : (data_too : Bool) (base : ℕ) (old mid new : Reading) (first written : List ℕ) (fault : TextFault) → (old.source.is_told ≡ true → HasRead data_too base old mid (first, written)) → (old.source.is_told ≡ true → IsTracked mid) → (old.source.is_told ≡ true → TakesInside base mid new) → new.at ≡ mid.at + 1 → (old.source.is_told ≡ true → events_of new ≡ events_of old) → EventFails new.source.current fault → TextFails old new (text_error (new.at - 1) fault)
 event_fails data_too base old mid new first written (text_fault.Entity place) read tracked takes at part fails = λ told.
     let before : new.at - 1 ≡ mid.at = omega (arith, at) in
     rw before (stops_at_entity data_too base old mid new first written (read told) (tracked told) (takes told) (part told) fails)

@@ -3,8 +3,8 @@ use Rattle.std.proofs.Common.{◌≡◌, ℕ, suc, ◌-◌, ◌≤◌, List, [],
 use Rattle.std.specs.Prelude.{if◌then◌else◌}
 use Rattle.part_events.specs.Event.{Tag, Event, start, end, leaf}
 use Rattle.part_events.specs.Reading.{Reading, TakesEvent, StepsAhead, names_behind, IsEnclosed, ahead}
-use Rattle.part_events.specs.Section.{Element, content, is_closed, outermost_from, unclosed_from}
-use Rattle.part_events.specs.Walk.{inside, SameAhead, IsNextElement}
+use Rattle.part_events.specs.Section.{Element, element_of, content, is_closed, behind, outermost_from, unclosed_from}
+use Rattle.part_events.specs.Walk.{inside, element_at, SameAhead, IsNextElement}
 use Rattle.part_events.proofs.Sections.{content-content, is_closed-content, goes_on_behind}
 
 -- how many elements are open before and behind an event
@@ -26,20 +26,26 @@ next_element wanted base tag old new takes steps current was is =
     let out : inside base new - 1 ≡ inside base old = rw names (omega arith) in
     let n = inside base old in
     let all = content (suc n) (ahead new) in
-    let first : Element = record { tag = tag; inside = content 0 (ahead new) } in
+    let first : Element = record { tag = tag; inside = content 0 (ahead new); behind = length all } in
+    let deep : inside base new ≡ suc n = rw names (omega arith) in
+    let here : first ≡ element_at base tag new =
+    ap (λ (m : ℕ). let own : Element = record { tag = tag; inside = content 0 (ahead new); behind = length (content m (ahead new)) } in own) (sym deep)
+    in
     let within = content-content 0 (suc n) (ahead new) (omega arith) in
     let behind_it = goes_on_behind wanted 0 n (suc n) (ahead new) (omega arith) in
     record {
       is_wanted = is;
       elements = rw (taken, out)
-          (ap (λ (b : Bool). if b then record { tag = tag; inside = content 0 all } ∷ outermost_from wanted 1 all else outermost_from wanted 0 all) is
-          ∙ ap (λ (inner : List Event). let here : Element = record { tag = tag; inside = inner } in here ∷ outermost_from wanted 1 all) within
-          ∙ ap (λ (others : List Element). first ∷ others) behind_it.elements);
+          (ap (λ (b : Bool). if b then element_of tag all ∷ outermost_from wanted 1 all else outermost_from wanted 0 all) is
+          ∙ ap (λ (inner : List Event). let here : Element = record { tag = tag; inside = inner; behind = length all } in here ∷ outermost_from wanted 1 all) within
+          ∙ ap (λ (others : List Element). first ∷ others) behind_it.elements
+          ∙ ap (λ (own : Element). own ∷ outermost_from wanted 0 (content n (behind 0 (ahead new)))) here);
       unclosed = rw (taken, out)
-          (ap (λ (b : Bool). if b then (if is_closed 0 all then unclosed_from wanted 1 all else Some (record { tag = tag; inside = content 0 all })) else unclosed_from wanted 0 all) is
-          ∙ ap (λ (inner : List Event). if is_closed 0 all then unclosed_from wanted 1 all else Some (record { tag = tag; inside = inner })) within
+          (ap (λ (b : Bool). if b then (if is_closed 0 all then unclosed_from wanted 1 all else Some (element_of tag all)) else unclosed_from wanted 0 all) is
+          ∙ ap (λ (inner : List Event). if is_closed 0 all then unclosed_from wanted 1 all else Some (record { tag = tag; inside = inner; behind = length all })) within
           ∙ ap (λ (b : Bool). if b then unclosed_from wanted 1 all else Some first) (is_closed-content 0 (suc n) (ahead new) (omega arith))
-          ∙ ap (λ (others : Option Element). if is_closed 0 (ahead new) then others else Some first) behind_it.unclosed);
+          ∙ ap (λ (others : Option Element). if is_closed 0 (ahead new) then others else Some first) behind_it.unclosed
+          ∙ ap (λ (own : Element). if is_closed 0 (ahead new) then unclosed_from wanted 0 (content n (behind 0 (ahead new))) else Some own) here);
       closed = rw (taken, out) behind_it.closed;
       behind = rw (taken, out) behind_it.left;
     }

@@ -1,5 +1,5 @@
 -- What an event is, apart from where its texts lie in memory.
-use Rattle.std.specs.Prelude.{ℕ, List}
+use Rattle.std.specs.Prelude.{ℕ, List, Bool, true, false}
 use Rattle.part_events.specs.declared.event.StartTag.{StartTag}
 use Rattle.part_events.specs.declared.event.PartEvent.{PartEvent}
 use Rattle.part_events.specs.declared.event.PartEvent.TheVariants.{Start, End, Text, CharData, EntityRef, Other}
@@ -32,6 +32,11 @@ event_of (Text content) = leaf (text content.now)
 event_of (CharData content) = leaf (char_data content.now)
 event_of (EntityRef name) = leaf (entity_ref name.now)
 event_of Other = leaf other
+
+abbrev pub is_start : Event → Bool
+is_start (start tag) = true
+is_start (end name) = false
+is_start (leaf kind) = false
 
 -- a fact of the tag of a start, which is false of every other event
 abbrev pub IsStartAnd : Event → (Tag → Type 0) → Type 0

@@ -1,5 +1,5 @@
 -- The text of an element: that of its Text events and references, with character data where it is asked for.
-use Rattle.std.specs.Prelude.{◌≡◌, ⊤, ℕ, suc, ◌+◌, List, [], ◌∷◌, ◌++◌, Bool, true, false, if◌then◌else◌, Option, None, Some, option_map, is_none, encode_utf8, slice_get, IsSomeAnd}
+use Rattle.std.specs.Prelude.{◌≡◌, ⊤, ℕ, suc, ◌+◌, List, [], ◌∷◌, ◌++◌, length, Bool, true, false, if◌then◌else◌, Option, None, Some, is_none, encode_utf8, slice_get, IsSomeAnd}
 use Rattle.attr_text.specs.Text.{entity_character, line_ends}
 use Rattle.attr_text.specs.declared.fault.TextFault.{TextFault}
 use Rattle.attr_text.specs.declared.fault.TextFault.TheVariants as text_fault
@@ -37,10 +37,12 @@ is_unknown (leaf (char_data written)) = false
 is_unknown (leaf (entity_ref name)) = is_none (entity_character name)
 is_unknown (leaf other) = false
 
--- the place of the first reference without a character; where there is one, the joined text is refused there
+-- How many events stand behind the first reference without a character. Where there is one, the joined text is refused
+-- there.
 abbrev pub unknown_entity : List Event → Option ℕ
 unknown_entity [] = None
-unknown_entity (event ∷ events) = if is_unknown event then Some 0 else option_map suc (unknown_entity events)
+unknown_entity (event ∷ events) =
+    if is_unknown event then Some (length events) else unknown_entity events
 
 -- what became of the buffer, from its old text to its new one: the text of a front of the events was put behind it
 pub record PutsFront (data_too : Bool) (events : List Event) (texts : List ℕ × List ℕ) : Type 0 where
@@ -65,14 +67,15 @@ IsUnknownAt events at = IsSomeAnd (slice_get events at) (λ event. is_unknown ev
 abbrev pub TextFails : Reading → Reading → StreamError → Type 0
 TextFails old new Io = HasCause old.source new.source
 TextFails old new (Xml (EndMismatch at)) =
-    old.source.told ≡ true →
+    old.source.is_told ≡ true →
     BreaksNext old new at × (is_closed 0 (ahead old) ≡ false)
     × (unknown_entity (content 0 (ahead old)) ≡ None)
 TextFails old new (Xml (Unclosed at)) = ⊥
 TextFails old new (Xml (Entity at)) =
-    old.source.told ≡ true →
+    old.source.is_told ≡ true →
     (events_of new ≡ events_of old) × IsUnknownAt (events_of new) at
-    × (option_map (λ place. old.at + place) (unknown_entity (content 0 (ahead old))) ≡ Some at)
+    × IsSomeAnd (unknown_entity (content 0 (ahead old)))
+      (λ behind. at + suc behind ≡ old.at + length (content 0 (ahead old)))
 TextFails old new OutOfMemory = ⊤
 
 -- when the text of an event can't be put

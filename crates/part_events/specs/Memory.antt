@@ -29,7 +29,7 @@ pub record Contents : Type 0 where
 -- what it is to its reader; no call of it fails
 abbrev pub state_of : Contents → PackageState
 state_of held = record {
-  told = true;
+  is_told = true;
   parts = held.parts;
   past = reverse (take (taken_of held.place) (open_events held.parts held.place));
   rest = drop (taken_of held.place) (open_events held.parts held.place);

@@ -1,8 +1,8 @@
 -- What the definitions by looking back and by reading forward say of depths and matches.
 use Rattle.std.specs.Prelude.{◌≡◌, ◌≢◌, ℕ, ◌+◌, List, [], ◌∷◌, ◌++◌, map, reverse, Bool, true, false, ◌⊎◌, ◌==◌, if◌then◌else◌, Some}
-use Rattle.part_events.specs.Event.{Tag, Event, start, end, leaf}
+use Rattle.part_events.specs.Event.{Tag, Event, start, end, leaf, is_start}
 use Rattle.part_events.specs.Nesting.{OpenStart, depth, innermost_open, closes, IsWhole, whole}
-use Rattle.part_events.specs.Section.{Element, content, is_closed, behind, outermost, children}
+use Rattle.part_events.specs.Section.{Element, element_of, content, is_closed, behind, outermost, children}
 
 -- the last start whose depth is one less than that of the place
 pub record IsLastStartOneOut (past : List Event) (opening : OpenStart) : Type 0 where
@@ -33,10 +33,18 @@ pub record ContentIsByMatch : Type 0 where
   pub match : (past : List Event) (tag : Tag) (events inside : List Event) (name : List ℕ) (after : List Event) → IsWhole past → IsMatch past tag events inside name after → (is_closed 0 events ≡ true) × (content 0 events ≡ inside) × (behind 0 events ≡ after)
   pub open_still : (events : List Event) → is_closed 0 events ≡ false → (content 0 events ≡ events) × (behind 0 events ≡ [])
 
--- outermost elements come in order, each ending at its match
+-- Outermost elements come in order, each ending at its match. What isn't the start of a wanted one is passed over.
 pub record OutermostInOrder : Type 0 where
-  pub wanted : (wanted : Tag → Bool) (tag : Tag) (events : List Event) → wanted tag ≡ true → outermost wanted (start tag ∷ events) ≡ record { tag = tag; inside = content 0 events } ∷ outermost wanted (behind 0 events)
-  pub unwanted : (wanted : Tag → Bool) (tag : Tag) (events : List Event) → wanted tag ≡ false → outermost wanted (start tag ∷ events) ≡ outermost wanted events
+  pub nothing : (wanted : Tag → Bool) → outermost wanted [] ≡ []
+  pub wanted :
+    (wanted : Tag → Bool) (tag : Tag) (events : List Event) → wanted tag ≡ true →
+    outermost wanted (start tag ∷ events) ≡ element_of tag events ∷ outermost wanted (behind 0 events)
+  pub unwanted :
+    (wanted : Tag → Bool) (tag : Tag) (events : List Event) → wanted tag ≡ false →
+    outermost wanted (start tag ∷ events) ≡ outermost wanted events
+  pub other :
+    (wanted : Tag → Bool) (event : Event) (events : List Event) → is_start event ≡ false →
+    outermost wanted (event ∷ events) ≡ outermost wanted events
 
 -- the starts of a list at a depth, where `past` stands before the list
 abbrev pub starts_at : ℕ → List Event → List Event → List Tag

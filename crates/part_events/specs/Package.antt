@@ -26,7 +26,7 @@ part_of (part ∷ parts) name = if has_name name part then Some part.events else
 
 -- What a package is to its reader. Where it doesn't tell its content, only the last five fields mean something.
 pub record PackageState : Type 0 where
-  pub told : Bool
+  pub is_told : Bool
   pub parts : List Part
   -- the events of the open part that were taken, the latest first, and those to come
   pub past : List Event
@@ -53,7 +53,7 @@ KeepsFaults fault old new error = (error ≡ fault → ⊥) → new.faults ≡ o
 
 -- what no call of the trait changes
 pub record SameParts (old new : PackageState) : Type 0 where
-  pub told : new.told ≡ old.told
+  pub is_told : new.is_told ≡ old.is_told
   pub parts : new.parts ≡ old.parts
   pub faults : old.faults ≤ new.faults
 

@@ -1,7 +1,7 @@
 -- A reader of a part: what it is to its caller, and what its calls do.
 use Rattle.std.specs.Prelude.{◌≡◌, ⊤, ℕ, ◌+◌, ◌-◌, ◌<◌, ◌≤◌, ◌^◌, min, List, [], ◌∷◌, ◌++◌, length, reverse, slice_get, Bool, true, false, Result, MatchResult}
 use Rattle.std.specs.declared.alloc.Global.{Global}
-use Rattle.part_events.specs.Event.{Event, start, end, leaf}
+use Rattle.part_events.specs.Event.{Event, start, end, leaf, is_start}
 use Rattle.part_events.specs.Nesting.{starts_in, ends_in, depth, open_name, IsWhole, whole_rest, whole}
 use Rattle.part_events.specs.Package.{PackageState, HasCause, KeepsFaults, SameParts}
 use Rattle.part_events.specs.Section.{is_closed, behind}
@@ -56,11 +56,6 @@ pub record IsTracked (r : Reading) : Type 0 where
   pub names : (outside : ℕ) → open_name outside r.source.past ≡ slice_get r.names outside
   pub depth : length r.names + ends_in r.source.past ≡ starts_in r.source.past
 
-abbrev pub is_start : Event → Bool
-is_start (start tag) = true
-is_start (end name) = false
-is_start (leaf kind) = false
-
 -- the current event is a start
 pub record IsAtElement (r : Reading) : Type 0 where
   pub has_current : r.source.has_current ≡ true
@@ -71,11 +66,11 @@ pub record IsReading (r : Reading) : Type 0 where
   pub going : r.is_failed ≡ false
   pub element : IsAtElement r → 0 < length r.names
   pub fits : r.at + r.source.left < 2 ^ 64
-  pub tracked : r.source.told ≡ true → IsTracked r
+  pub tracked : r.source.is_told ≡ true → IsTracked r
 
 -- the package stands before the first event of its part, or no part is open
 pub record IsAtStart (source : PackageState) : Type 0 where
-  pub past : source.told ≡ true → source.past ≡ []
+  pub past : source.is_told ≡ true → source.past ≡ []
   pub has_current : source.has_current ≡ false
 
 -- a reader that was just made
@@ -86,7 +81,7 @@ pub record OpensReader (old : PackageState) (new : Reading) : Type 0 where
   pub taken : new.source.taken ≡ old.taken
   pub names : new.names ≡ []
   pub at : new.at ≡ 0
-  pub past : old.told ≡ true → new.source.past ≡ []
+  pub past : old.is_told ≡ true → new.source.past ≡ []
 
 -- What every call keeps: the parts and the allocator are the same, the package's count of taken events rose by those
 -- that were taken of the part, up to its last value, and no more were taken than were left.
@@ -97,12 +92,12 @@ pub record MovesForward (old new : Reading) : Type 0 where
   pub taken : min new.source.taken (2 ^ 64 - 1) ≡ min (old.source.taken + (new.at - old.at)) (2 ^ 64 - 1)
   pub bounded : new.source.taken + new.source.left ≤ old.source.taken + old.source.left
   pub within :
-    old.source.told ≡ true →
+    old.source.is_told ≡ true →
     new.source.taken + length new.source.rest ≤ old.source.taken + length old.source.rest
 
 -- the same events of the same part
 abbrev pub SamePart : Reading → Reading → Type 0
-SamePart old new = old.source.told ≡ true → events_of new ≡ events_of old
+SamePart old new = old.source.is_told ≡ true → events_of new ≡ events_of old
 
 -- what every call keeps that isn't refused
 pub record StaysReadable (old new : Reading) : Type 0 where
@@ -180,7 +175,7 @@ BreaksNext old new at = (events_of new ≡ events_of old) × BreaksAt (events_of
 abbrev pub NextFails : Reading → Reading → StreamError → Type 0
 NextFails old new Io = HasCause old.source new.source
 NextFails old new (Xml (EndMismatch at)) =
-    old.source.told ≡ true → BreaksNext old new at × (ahead old ≡ [])
+    old.source.is_told ≡ true → BreaksNext old new at × (ahead old ≡ [])
 NextFails old new (Xml (Unclosed at)) = ⊥
 NextFails old new (Xml (Entity at)) = ⊥
 NextFails old new OutOfMemory = ⊤
@@ -200,9 +195,9 @@ pub record Skips (old new : Reading) : Type 0 where
 abbrev pub SkipFails : Reading → Reading → StreamError → Type 0
 SkipFails old new Io = HasCause old.source new.source
 SkipFails old new (Xml (EndMismatch at)) =
-    old.source.told ≡ true → BreaksNext old new at × (is_closed 0 (ahead old) ≡ false)
+    old.source.is_told ≡ true → BreaksNext old new at × (is_closed 0 (ahead old) ≡ false)
 SkipFails old new (Xml (Unclosed at)) =
-    old.source.told ≡ true →
+    old.source.is_told ≡ true →
     (events_of new ≡ events_of old) × EndsOpen (events_of new) at
     × (is_closed 0 (ahead old) ≡ false)
 SkipFails old new (Xml (Entity at)) = ⊥

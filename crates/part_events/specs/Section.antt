@@ -1,6 +1,6 @@
 -- What stands inside an element, and which elements stand there. These read forward, with the number of elements that
 -- are open inside the element.
-use Rattle.std.specs.Prelude.{ℕ, zero, suc, List, [], ◌∷◌, Bool, true, false, if◌then◌else◌, Option, Some, None, option_map}
+use Rattle.std.specs.Prelude.{ℕ, zero, suc, List, [], ◌∷◌, length, Bool, true, false, if◌then◌else◌, Option, Some, None, option_map}
 use Rattle.std.specs.List.{list_any}
 use Rattle.std.specs.Str.{bytes_eq}
 use Rattle.attr_text.specs.Attributes.{local_name_of}
@@ -37,10 +37,18 @@ is_named names tag = list_any (bytes_eq (local_name_of tag.name)) names
 abbrev pub is_any : Tag → Bool
 is_any tag = true
 
+-- the start of an element, and how many events of its list stand behind it
+pub record PlacedTag : Type 0 where
+  pub tag : Tag
+  pub behind : ℕ
+
 -- the starts that pass a test
-abbrev pub starts_by : (Tag → Bool) → List Event → List Tag
+abbrev pub starts_by : (Tag → Bool) → List Event → List PlacedTag
 starts_by wanted [] = []
-starts_by wanted (start tag ∷ events) = if wanted tag then tag ∷ starts_by wanted events else starts_by wanted events
+starts_by wanted (start tag ∷ events) =
+    if wanted tag
+    then record { tag = tag; behind = length events } ∷ starts_by wanted events
+    else starts_by wanted events
 starts_by wanted (end name ∷ events) = starts_by wanted events
 starts_by wanted (leaf kind ∷ events) = starts_by wanted events
 
@@ -51,17 +59,22 @@ behind_start wanted (start tag ∷ events) = if wanted tag then Some events else
 behind_start wanted (end name ∷ events) = behind_start wanted events
 behind_start wanted (leaf kind ∷ events) = behind_start wanted events
 
--- an element: its start, and what stands between it and its match
+-- an element: its start, what stands between it and its match, and how many events of its list stand behind its start
 pub record Element : Type 0 where
   pub tag : Tag
   pub inside : List Event
+  pub behind : ℕ
+
+-- the element of a start and of what stands behind it
+abbrev pub element_of : Tag → List Event → Element
+element_of tag events = record { tag = tag; inside = content 0 events; behind = length events }
 
 -- The outermost elements whose starts pass a test, where `open` elements are open since the start of one of them.
 abbrev pub outermost_from : (Tag → Bool) → ℕ → List Event → List Element
 outermost_from wanted within [] = []
 outermost_from wanted zero (start tag ∷ events) =
     if wanted tag
-    then record { tag = tag; inside = content 0 events } ∷ outermost_from wanted 1 events
+    then element_of tag events ∷ outermost_from wanted 1 events
     else outermost_from wanted 0 events
 outermost_from wanted (suc within) (start tag ∷ events) = outermost_from wanted (suc (suc within)) events
 outermost_from wanted zero (end name ∷ events) = outermost_from wanted 0 events
@@ -78,8 +91,7 @@ abbrev pub unclosed_from : (Tag → Bool) → ℕ → List Event → Option Elem
 unclosed_from wanted within [] = None
 unclosed_from wanted zero (start tag ∷ events) =
     if wanted tag
-    then (if is_closed 0 events then unclosed_from wanted 1 events
-      else Some (record { tag = tag; inside = content 0 events }))
+    then (if is_closed 0 events then unclosed_from wanted 1 events else Some (element_of tag events))
     else unclosed_from wanted 0 events
 unclosed_from wanted (suc within) (start tag ∷ events) = unclosed_from wanted (suc (suc within)) events
 unclosed_from wanted zero (end name ∷ events) = unclosed_from wanted 0 events

@@ -69,7 +69,7 @@ StepsInside base Ended old new = HasNoneInside base old new
 abbrev pub InsideFails : ℕ → Reading → Reading → StreamError → Type 0
 InsideFails base old new Io = HasCause old.source new.source
 InsideFails base old new (Xml (EndMismatch at)) =
-    old.source.told ≡ true →
+    old.source.is_told ≡ true →
     BreaksNext old new at × (is_closed_ahead base old ≡ false) × (ahead old ≡ [])
 InsideFails base old new (Xml (Unclosed at)) = ⊥
 InsideFails base old new (Xml (Entity at)) = ⊥
@@ -96,13 +96,23 @@ pub record SameAhead (wanted : Tag → Bool) (base : ℕ) (old new : Reading) : 
 pub record IsNextStart (wanted : Tag → Bool) (base : ℕ) (tag : Tag) (old new : Reading) : Type 0 where
   pub is_wanted : wanted tag ≡ true
   pub starts :
-    starts_by wanted (section_ahead base old) ≡ tag ∷ starts_by wanted (section_ahead base new)
+    starts_by wanted (section_ahead base old)
+    ≡ record { tag = tag; behind = length (section_ahead base new) }
+      ∷ starts_by wanted (section_ahead base new)
   pub closed : is_closed_ahead base old ≡ is_closed_ahead base new
   pub behind : behind_section base old ≡ behind_section base new
   pub first : behind_start wanted (ahead old) ≡ Some (ahead new)
   pub last : slice_get new.source.past 0 ≡ Some (start tag)
 
--- what is left of the section behind the element at whose start the reader stands
+-- the element of this start, behind which the reader stands
+abbrev pub element_at : ℕ → Tag → Reading → Element
+element_at base tag r = record {
+  tag = tag;
+  inside = content 0 (ahead r);
+  behind = length (section_ahead base r);
+}
+
+-- what is left of the section behind it
 abbrev pub section_behind : ℕ → Reading → List Event
 section_behind base r = content (inside base r - 1) (behind 0 (ahead r))
 
@@ -111,11 +121,11 @@ pub record IsNextElement (wanted : Tag → Bool) (base : ℕ) (tag : Tag) (old n
   pub is_wanted : wanted tag ≡ true
   pub elements :
     outermost wanted (section_ahead base old)
-    ≡ record { tag = tag; inside = content 0 (ahead new) } ∷ outermost wanted (section_behind base new)
+    ≡ element_at base tag new ∷ outermost wanted (section_behind base new)
   pub unclosed :
     unclosed wanted (section_ahead base old)
     ≡ (if is_closed 0 (ahead new) then unclosed wanted (section_behind base new)
-      else Some (record { tag = tag; inside = content 0 (ahead new) }))
+      else Some (element_at base tag new))
   pub closed : is_closed_ahead base old ≡ is_closed (inside base new - 1) (behind 0 (ahead new))
   pub behind : behind_section base old ≡ behind (inside base new - 1) (behind 0 (ahead new))
 
@@ -154,7 +164,7 @@ FindsElement wanted base Ended old new = EndsInSection wanted base old new
 abbrev pub WalkFails : (Tag → Bool) → ℕ → Reading → Reading → StreamError → Type 0
 WalkFails wanted base old new Io = HasCause old.source new.source
 WalkFails wanted base old new (Xml (EndMismatch at)) =
-    old.source.told ≡ true →
+    old.source.is_told ≡ true →
     BreaksNext old new at × (is_closed_ahead base old ≡ false)
     × (behind_start wanted (ahead old) ≡ None)
 WalkFails wanted base old new (Xml (Unclosed at)) = ⊥

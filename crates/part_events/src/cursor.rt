@@ -54,7 +54,7 @@ impl Cursor {
         ensures ahead {
             let old = reading (P.state «package».old) self.old in
             let new = reading (P.state «package».new) self.new in
-            old.source.told ≡ true → IfOk result (λ more. StepsAhead more old new)
+            old.source.is_told ≡ true → IfOk result (λ more. StepsAhead more old new)
         }
         ensures err {
             let old = reading (P.state «package».old) self.old in

@@ -76,7 +76,7 @@ impl Package for FailingPackage {
     fn open(&mut self, name: &str) -> Result<bool, PackageFailed>
         ensures keeps { SameParts (planned_state self.old) (planned_state self.new) }
         ensures counts { IfOk result (λ found. OpenCounts found (planned_state self.old) (planned_state self.new)) }
-        ensures opens { (planned_state self.old).told ≡ true → IfOk result (λ found. Opens name.now found (planned_state self.old) (planned_state self.new)) }
+        ensures opens { (planned_state self.old).is_told ≡ true → IfOk result (λ found. Opens name.now found (planned_state self.old) (planned_state self.new)) }
         ensures failed { OnErr result (Fails (planned_state self.old) (planned_state self.new)) }
         ensures planned { CountsCall (is_err result) self.old self.new }
     {
@@ -87,7 +87,7 @@ impl Package for FailingPackage {
     fn advance(&mut self) -> Result<bool, PackageFailed>
         ensures keeps { SameParts (planned_state self.old) (planned_state self.new) }
         ensures counts { IfOk result (λ more. AdvanceCounts more (planned_state self.old) (planned_state self.new)) }
-        ensures events { (planned_state self.old).told ≡ true → IfOk result (λ more. Advances more (planned_state self.old) (planned_state self.new)) }
+        ensures events { (planned_state self.old).is_told ≡ true → IfOk result (λ more. Advances more (planned_state self.old) (planned_state self.new)) }
         ensures failed { OnErr result (Fails (planned_state self.old) (planned_state self.new)) }
         ensures planned { CountsCall (is_err result) self.old self.new }
     {

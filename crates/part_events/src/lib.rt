@@ -27,4 +27,5 @@ pub use laws::{
 pub use memory::MemoryPackage;
 pub use package::{Package, PackageFailed};
 pub use reader::XlReader;
+pub use text::push_text;
 pub use walk::Step;

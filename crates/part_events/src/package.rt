@@ -21,14 +21,14 @@ pub trait Package {
     fn open(&mut self, name: &str) -> Result<bool, PackageFailed>
         ensures keeps { SameParts (state self.old) (state self.new) }
         ensures counts { IfOk result (λ found. OpenCounts found (state self.old) (state self.new)) }
-        ensures opens { (state self.old).told ≡ true → IfOk result (λ found. Opens name.now found (state self.old) (state self.new)) }
+        ensures opens { (state self.old).is_told ≡ true → IfOk result (λ found. Opens name.now found (state self.old) (state self.new)) }
         ensures failed { OnErr result (Fails (state self.old) (state self.new)) };
 
     /// Takes the next event of the open part. Answers false at its end, or where no part is open.
     fn advance(&mut self) -> Result<bool, PackageFailed>
         ensures keeps { SameParts (state self.old) (state self.new) }
         ensures counts { IfOk result (λ more. AdvanceCounts more (state self.old) (state self.new)) }
-        ensures events { (state self.old).told ≡ true → IfOk result (λ more. Advances more (state self.old) (state self.new)) }
+        ensures events { (state self.old).is_told ≡ true → IfOk result (λ more. Advances more (state self.old) (state self.new)) }
         ensures failed { OnErr result (Fails (state self.old) (state self.new)) };
 
     /// The event that the last call took.
@@ -39,7 +39,7 @@ pub trait Package {
     /// How many events the open part still gives, at most.
     fn left(&self) -> u64
         ensures value { result ≡ (state self.now).left }
-        ensures bound { (state self.now).told ≡ true → length (state self.now).rest ≤ result };
+        ensures bound { (state self.now).is_told ≡ true → length (state self.now).rest ≤ result };
 
     /// How many events were taken of any part. The count stops at its last value.
     fn taken(&self) -> u64

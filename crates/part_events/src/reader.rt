@@ -56,7 +56,7 @@ impl<'a, P: Package> XlReader<'a, P> {
         }
         ensures part {
             let part = part_of (P.state «package».old).parts name.now in
-            (P.state «package».old).told ≡ true → IfOk result (λ found. MatchOption found
+            (P.state «package».old).is_told ≡ true → IfOk result (λ found. MatchOption found
                 (part ≡ None)
                 (λ reader. part ≡ Some (events_of (reading_by P.state reader))))
         }
@@ -110,7 +110,7 @@ impl<'a, P: Package> XlReader<'a, P> {
         ensures ahead {
             let old = reading_by P.state self.old in
             let new = reading_by P.state self.new in
-            old.source.told ≡ true → IfOk result (λ more. StepsAhead more old new)
+            old.source.is_told ≡ true → IfOk result (λ more. StepsAhead more old new)
         }
         ensures err {
             let old = reading_by P.state self.old in
@@ -143,7 +143,7 @@ impl<'a, P: Package> XlReader<'a, P> {
         ensures skips {
             let old = reading_by P.state self.old in
             let new = reading_by P.state self.new in
-            old.source.told ≡ true → OnOk result (Skips old new)
+            old.source.is_told ≡ true → OnOk result (Skips old new)
         }
         ensures err {
             let old = reading_by P.state self.old in
@@ -171,12 +171,12 @@ impl<'a, P: Package> XlReader<'a, P> {
             let old = reading_by P.state self.old in
             let new = reading_by P.state self.new in
             let texts : List ℕ × List ℕ = (string_bytes out.old, string_bytes out.new) in
-            old.source.told ≡ true → IfOk result (λ closed. ReadsText char_data closed texts old new)
+            old.source.is_told ≡ true → IfOk result (λ closed. ReadsText char_data closed texts old new)
         }
         ensures front {
             let old = reading_by P.state self.old in
             let texts : List ℕ × List ℕ = (string_bytes out.old, string_bytes out.new) in
-            old.source.told ≡ true → OnErr result (PutsFront char_data (content 0 (ahead old)) texts)
+            old.source.is_told ≡ true → OnErr result (PutsFront char_data (content 0 (ahead old)) texts)
         }
         ensures err {
             let old = reading_by P.state self.old in
@@ -202,7 +202,7 @@ impl<'a, P: Package> XlReader<'a, P> {
         ensures inside {
             let old = reading_by P.state self.old in
             let new = reading_by P.state self.new in
-            old.source.told ≡ true → IfOk result (λ step. StepsInside base step old new)
+            old.source.is_told ≡ true → IfOk result (λ step. StepsInside base step old new)
         }
         ensures err {
             let old = reading_by P.state self.old in
@@ -230,7 +230,7 @@ impl<'a, P: Package> XlReader<'a, P> {
             let old = reading_by P.state self.old in
             let new = reading_by P.state self.new in
             let wanted = is_named (map (λ name. name.now) names.now) in
-            old.source.told ≡ true → IfOk result (λ step. FindsStart wanted base step old new)
+            old.source.is_told ≡ true → IfOk result (λ step. FindsStart wanted base step old new)
         }
         ensures err {
             let old = reading_by P.state self.old in
@@ -259,7 +259,7 @@ impl<'a, P: Package> XlReader<'a, P> {
             let old = reading_by P.state self.old in
             let new = reading_by P.state self.new in
             let wanted = is_named (map (λ name. name.now) names.now) in
-            old.source.told ≡ true → IfOk result (λ step. FindsElement wanted base step old new)
+            old.source.is_told ≡ true → IfOk result (λ step. FindsElement wanted base step old new)
         }
         ensures err {
             let old = reading_by P.state self.old in
@@ -286,7 +286,7 @@ impl<'a, P: Package> XlReader<'a, P> {
         ensures found {
             let old = reading_by P.state self.old in
             let new = reading_by P.state self.new in
-            old.source.told ≡ true → IfOk result (λ step. FindsElement is_any base step old new)
+            old.source.is_told ≡ true → IfOk result (λ step. FindsElement is_any base step old new)
         }
         ensures err {
             let old = reading_by P.state self.old in

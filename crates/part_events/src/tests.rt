@@ -1,7 +1,7 @@
 ghost use Rattle.std.specs.Prelude.{◌≡◌, ◌<◌, length};
 
 use crate::{
-    FailingPackage, Found, Inside, MemoryPackage, Package, PartEvent, StartTag, StreamError,
+    FailingPackage, MemoryPackage, Package, PartEvent, StartTag, Step, StreamError,
     XlReader, XmlFault, children_are_at_depth_one, content_is_by_match, innermost_open_is_by_depth,
     outermost_is_in_order, whole_is_longest,
 };
@@ -87,12 +87,12 @@ fn count_elements<P: Package>(
     package: &mut P,
     section: &str,
     name: Option<&str>,
-) -> Result<(u32, Found), StreamError> {
+) -> Result<(u32, Step), StreamError> {
     let Some(mut reader) = XlReader::open(alloc, package, "part")? else {
-        return Ok((0, Found::Ended));
+        return Ok((0, Step::Ended));
     };
-    if reader.next_start(0, &[section])? != Found::Start {
-        return Ok((0, Found::Ended));
+    if reader.next_start(0, &[section])? != Step::Found {
+        return Ok((0, Step::Ended));
     }
     let base = reader.depth();
     let mut count = 0u32;
@@ -101,7 +101,7 @@ fn count_elements<P: Package>(
             Some(name) => reader.next_element(base, &["none", name])?,
             None => reader.next_child(base)?,
         };
-        if found != Found::Start {
+        if found != Step::Found {
             return Ok((count, found));
         }
         reader.skip_element()?;
@@ -114,18 +114,18 @@ fn count_inside<P: Package>(
     alloc: Global,
     package: &mut P,
     section: &str,
-) -> Result<(u32, Inside), StreamError> {
+) -> Result<(u32, Step), StreamError> {
     let Some(mut reader) = XlReader::open(alloc, package, "part")? else {
-        return Ok((0, Inside::Ended));
+        return Ok((0, Step::Ended));
     };
-    if reader.next_start(0, &[section])? != Found::Start {
-        return Ok((0, Inside::Ended));
+    if reader.next_start(0, &[section])? != Step::Found {
+        return Ok((0, Step::Ended));
     }
     let base = reader.depth();
     let mut count = 0u32;
     'inside: loop {
         match reader.next_inside(base)? {
-            Inside::Event => count = count.saturating_add(1),
+            Step::Found => count = count.saturating_add(1),
             last => return Ok((count, last)),
         }
     }
@@ -291,11 +291,11 @@ fn events_of_a_section_are_taken(rt: HostRuntime) -> Result<(), Fail> {
         PartEvent::End("a"),
     ];
     for (taken, section, want) in [
-        (9, "a", Ok((6, Inside::Closed))),
-        (9, "b", Ok((3, Inside::Closed))),
-        (5, "b", Ok((3, Inside::Ended))),
-        (2, "b", Ok((0, Inside::Ended))),
-        (10, "a", Ok((6, Inside::Closed))),
+        (9, "a", Ok((6, Step::Closed))),
+        (9, "b", Ok((3, Step::Closed))),
+        (5, "b", Ok((3, Step::Ended))),
+        (2, "b", Ok((0, Step::Ended))),
+        (10, "a", Ok((6, Step::Closed))),
     ] {
         let mut package = held_package(&rt, alloc, "part", &part, taken)?;
         assert_eq!(rt;
@@ -333,12 +333,12 @@ fn elements_are_found_and_planned_calls_fail(rt: HostRuntime) -> Result<(), Fail
         PartEvent::End("workbook"),
     ];
     for (taken, section, name, want) in [
-        (14, "sheets", Some("sheet"), (2, Found::Closed)),
-        (14, "sheets", None, (2, Found::Closed)),
-        (14, "workbook", Some("sheet"), (3, Found::Closed)),
-        (14, "sheets", Some("y:sheet"), (0, Found::Closed)),
-        (10, "sheets", Some("sheet"), (2, Found::Ended)),
-        (14, "none", Some("sheet"), (0, Found::Ended)),
+        (14, "sheets", Some("sheet"), (2, Step::Closed)),
+        (14, "sheets", None, (2, Step::Closed)),
+        (14, "workbook", Some("sheet"), (3, Step::Closed)),
+        (14, "sheets", Some("y:sheet"), (0, Step::Closed)),
+        (10, "sheets", Some("sheet"), (2, Step::Ended)),
+        (14, "none", Some("sheet"), (0, Step::Ended)),
     ] {
         let mut package = held_package(&rt, alloc, "part", &sheets, taken)?;
         assert_eq!(rt;
@@ -354,7 +354,7 @@ fn elements_are_found_and_planned_calls_fail(rt: HostRuntime) -> Result<(), Fail
         let (want, faults) = if number < 15 {
             (Err(StreamError::Io), 1)
         } else {
-            (Ok((0, Found::Closed)), 0)
+            (Ok((0, Step::Closed)), 0)
         };
         assert_eq!(rt;
             count_elements(alloc, &mut package, "workbook", Some("none")),

@@ -12,9 +12,17 @@ use crate::package::Package;
 use crate::walk::Step;
 use attr_text::{TextFault, push_entity, push_line_ends};
 
-/// Appends the text of an event. After a refusal `out` is as it was.
-fn push_text(out: &mut String, event: PartEvent<'_>, char_data: bool) -> Result<(), TextFault>
-    ensures ok { OnOk result (string_bytes out.new ≡ string_bytes out.old ++ event_text char_data (event_of event.entry)) }
+/// Appends the text of an event: a Text, or a CharData where `char_data` says so, with its line ends as LF, or the
+/// character of a reference. After a refusal `out` is as it was.
+pub fn push_text(
+    out: &mut String,
+    event: PartEvent<'_>,
+    char_data: bool,
+) -> Result<(), TextFault>
+    ensures ok {
+        let text = event_text char_data (event_of event.entry) in
+        OnOk result (string_bytes out.new ≡ string_bytes out.old ++ text)
+    }
     ensures known { OnOk result (is_unknown (event_of event.entry) ≡ false) }
     ensures err { IfErr result (EventFails (event_of event.entry)) }
     ensures unchanged { OnErr result (string_bytes out.new ≡ string_bytes out.old) }
@@ -70,12 +78,12 @@ impl Cursor {
             let old = reading (P.state «package».old) self.old in
             let new = reading (P.state «package».new) self.new in
             let texts : List ℕ × List ℕ = (string_bytes out.old, string_bytes out.new) in
-            old.source.told ≡ true → IfOk result (λ closed. ReadsText char_data closed texts old new)
+            old.source.is_told ≡ true → IfOk result (λ closed. ReadsText char_data closed texts old new)
         }
         ensures front {
             let old = reading (P.state «package».old) self.old in
             let texts : List ℕ × List ℕ = (string_bytes out.old, string_bytes out.new) in
-            old.source.told ≡ true → OnErr result (PutsFront char_data (content 0 (ahead old)) texts)
+            old.source.is_told ≡ true → OnErr result (PutsFront char_data (content 0 (ahead old)) texts)
         }
         ensures err {
             let old = reading (P.state «package».old) self.old in

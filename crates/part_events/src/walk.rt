@@ -76,7 +76,7 @@ impl Cursor {
         ensures inside {
             let old = reading (P.state «package».old) self.old in
             let new = reading (P.state «package».new) self.new in
-            old.source.told ≡ true → IfOk result (λ step. StepsInside base step old new)
+            old.source.is_told ≡ true → IfOk result (λ step. StepsInside base step old new)
         }
         ensures err {
             let old = reading (P.state «package».old) self.old in
@@ -116,13 +116,13 @@ impl Cursor {
         ensures starts {
             let old = reading (P.state «package».old) self.old in
             let new = reading (P.state «package».new) self.new in
-            old.source.told ≡ true →
+            old.source.is_told ≡ true →
             IfOk result (λ step. FindsStart (wants wanted.entry) base step old new)
         }
         ensures elements {
             let old = reading (P.state «package».old) self.old in
             let new = reading (P.state «package».new) self.new in
-            old.source.told ≡ true →
+            old.source.is_told ≡ true →
             IfOk result (λ step. FindsElement (wants wanted.entry) base step old new)
         }
         ensures err {
@@ -170,7 +170,7 @@ impl Cursor {
             let old = reading (P.state «package».old) self.old in
             let new = reading (P.state «package».new) self.new in
             let wanted = is_named (map (λ name. name.now) names.now) in
-            old.source.told ≡ true → IfOk result (λ step. FindsStart wanted base step old new)
+            old.source.is_told ≡ true → IfOk result (λ step. FindsStart wanted base step old new)
         }
         ensures err {
             let old = reading (P.state «package».old) self.old in
@@ -207,7 +207,7 @@ impl Cursor {
             let old = reading (P.state «package».old) self.old in
             let new = reading (P.state «package».new) self.new in
             let wanted = is_named (map (λ name. name.now) names.now) in
-            old.source.told ≡ true → IfOk result (λ step. FindsElement wanted base step old new)
+            old.source.is_told ≡ true → IfOk result (λ step. FindsElement wanted base step old new)
         }
         ensures err {
             let old = reading (P.state «package».old) self.old in
@@ -241,7 +241,7 @@ impl Cursor {
         ensures found {
             let old = reading (P.state «package».old) self.old in
             let new = reading (P.state «package».new) self.new in
-            old.source.told ≡ true → IfOk result (λ step. FindsElement is_any base step old new)
+            old.source.is_told ≡ true → IfOk result (λ step. FindsElement is_any base step old new)
         }
         ensures err {
             let old = reading (P.state «package».old) self.old in
@@ -267,7 +267,7 @@ impl Cursor {
         ensures skips {
             let old = reading (P.state «package».old) self.old in
             let new = reading (P.state «package».new) self.new in
-            old.source.told ≡ true → OnOk result (Skips old new)
+            old.source.is_told ≡ true → OnOk result (Skips old new)
         }
         ensures err {
             let old = reading (P.state «package».old) self.old in

@@ -63,7 +63,7 @@ pub record IsNameAt (base : ℕ) (tag : Tag) (first old new : Reading) : Type 0 
   pub deep : inside base new ≡ suc (inside base old)
   pub lies : LiesBehind 0 (inside base old) (inside base new) (ahead new)
   pub is : start tag ≡ new.source.current
-  pub names : first.source.told ≡ true → names_in (content (inside base old) (ahead old)) ≡ and_others_if (with_text (content 0 (ahead new)) (name_by tag)) (names_in (content (inside base old) (behind 0 (ahead new))))
+  pub names : first.source.is_told ≡ true → names_in (content (inside base old) (ahead old)) ≡ and_others_if (with_text (content 0 (ahead new)) (name_by tag)) (names_in (content (inside base old) (behind 0 (ahead new))))
 
 pub name_at : {base : ℕ} {event : Event} {tag : Tag} {place : ℕ} {first old new : Reading} → start tag ≡ new.source.current → is_name_start event ≡ true → IsEventInside base event place first old new → IsNameAt base tag first old new
 name_at {base = base} {tag = tag} {old = old} {new = new} current named step =
@@ -82,13 +82,13 @@ name_at {base = base} {tag = tag} {old = old} {new = new} current named step =
     }
 
 -- its element is refused
-pub name_refused : {folder : List ℕ} {related : List ℕ → Option Related} {all events : List Event} {found : WorkbookContents} {base : ℕ} {tag : Tag} {first old new : Reading} (refusal : Refusal) → IsNameAt base tag first old new → first.source.told ≡ true → events ≡ content (inside base old) (ahead old) → KeepsContents folder related all found events → with_text (content 0 (ahead new)) (name_by tag) ≡ Err refusal → AreContentsRefused folder related all refusal
+pub name_refused : {folder : List ℕ} {related : List ℕ → Option Related} {all events : List Event} {found : WorkbookContents} {base : ℕ} {tag : Tag} {first old new : Reading} (refusal : Refusal) → IsNameAt base tag first old new → first.source.is_told ≡ true → events ≡ content (inside base old) (ahead old) → KeepsContents folder related all found events → with_text (content 0 (ahead new)) (name_by tag) ≡ Err refusal → AreContentsRefused folder related all refusal
 unfolding AreContentsRefused
 name_refused {events = events} {found = found} refusal starts told same kept refuses =
     let here : prepended (names_of found) (names_in events) ≡ Err refusal = rw (same, starts.names told, refuses) refl in inr (inl (sym kept.names ∙ here))
 
 -- or was taken
-pub keeps_name : {folder : List ℕ} {related : List ℕ → Option Related} {all : List Event} {found last : WorkbookContents} {base : ℕ} {tag : Tag} {event : Event} {place : ℕ} {first old new later : Reading} {name : Option (List ℕ)} (after : WorkbookContents) → IsEventInside base event place first old new → IsNameAt base tag first old new → first.source.told ≡ true → KeepsContents folder related all found (content (inside base old) (ahead old)) → TakesEvents folder related (event ∷ []) found after → names_of after ≡ names_of found → name_by tag ≡ Ok name → TakesEvents folder related (content 0 (ahead new)) after last → TextTaken name (content 0 (ahead new)) (names_of after) (names_of last) → length new.names ≡ suc (length later.names) → Skips new later → KeepsContents folder related all last (content (inside base later) (ahead later))
+pub keeps_name : {folder : List ℕ} {related : List ℕ → Option Related} {all : List Event} {found last : WorkbookContents} {base : ℕ} {tag : Tag} {event : Event} {place : ℕ} {first old new later : Reading} {name : Option (List ℕ)} (after : WorkbookContents) → IsEventInside base event place first old new → IsNameAt base tag first old new → first.source.is_told ≡ true → KeepsContents folder related all found (content (inside base old) (ahead old)) → TakesEvents folder related (event ∷ []) found after → names_of after ≡ names_of found → name_by tag ≡ Ok name → TakesEvents folder related (content 0 (ahead new)) after last → TextTaken name (content 0 (ahead new)) (names_of after) (names_of last) → length new.names ≡ suc (length later.names) → Skips new later → KeepsContents folder related all last (content (inside base later) (ahead later))
 keeps_name {folder = folder} {related = related} {all = all} {last = last} {base = base} {old = old} {new = new} {later = later} after step starts told kept event_taken_is same named takes taken depth skips =
     let out : inside base later ≡ inside base old = omega (arith, depth, starts.deep) in
     let left = content (inside base old) (behind 0 (ahead new)) in
@@ -129,7 +129,7 @@ unknown_text (Some own) all some is = rw is refl
 unknown_at : (events : List Event) (place : ℕ) (event : Event) → slice_get events place ≡ Some event → is_unknown event ≡ true → IsUnknownAt events place
 unknown_at events place event there is = rw there is
 
-pub text_refusal : (name : List ℕ) (n : ℕ) (refused : Refusal → Type 0) (wanted : Bool) (event : Event) (place : ℕ) (old new : Reading) (error : XlsxError) → (old.source.told ≡ true → wanted ≡ true → is_unknown event ≡ true → refused no_character) → (old.source.told ≡ true → slice_get (events_of old) place ≡ Some event) → TextRefused wanted event place error → SectionFails name n refused old new error
+pub text_refusal : (name : List ℕ) (n : ℕ) (refused : Refusal → Type 0) (wanted : Bool) (event : Event) (place : ℕ) (old new : Reading) (error : XlsxError) → (old.source.is_told ≡ true → wanted ≡ true → is_unknown event ≡ true → refused no_character) → (old.source.is_told ≡ true → slice_get (events_of old) place ≡ Some event) → TextRefused wanted event place error → SectionFails name n refused old new error
 text_refusal name n refused wanted event place old new (Xml (Entity at)) weaker there fails = λ told. inr (rw fails.0 (unknown_at (events_of old) place event (there told) fails.2), weaker told fails.1 fails.2)
 text_refusal name n refused wanted event place old new OutOfMemory weaker there fails = tt
 text_refusal name n refused wanted event place old new _ weaker there fails = absurd fails

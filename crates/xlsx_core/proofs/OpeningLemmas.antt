@@ -37,10 +37,10 @@ same_workbook_cause : (old mid : PackageState) (path : List ℕ) (error : XlsxEr
 same_workbook_cause old mid path error same cause = subst (λ (parts : List Part). WorkbookCause parts path error) same cause
 
 -- a part of a workbook is refused
-pub contents_fail : (path : List ℕ) (related : List ℕ → Option Related) (old mid new : PackageState) (error : XlsxError) → SameParts old mid → mid.faults ≡ old.faults → (old.told ≡ true → HasRelationships old.parts path related) → OptionalPartFails (codes "workbook") (workbook_part path) (AreContentsRefused (folder_of path) related) mid new error → WorkbookFails path old new error
+pub contents_fail : (path : List ℕ) (related : List ℕ → Option Related) (old mid new : PackageState) (error : XlsxError) → SameParts old mid → mid.faults ≡ old.faults → (old.is_told ≡ true → HasRelationships old.parts path related) → OptionalPartFails (codes "workbook") (workbook_part path) (AreContentsRefused (folder_of path) related) mid new error → WorkbookFails path old new error
 contents_fail path related old mid new Io same faults has fails = omega (arith, faults, fails)
 contents_fail path related old mid new OutOfMemory same faults has fails = tt
-contents_fail path related old mid new error same faults has fails = λ told. inr (related, has told, same_cause path related old mid error same.parts (fails (same.told ∙ told)))
+contents_fail path related old mid new error same faults has fails = λ told. inr (related, has told, same_cause path related old mid error same.parts (fails (same.is_told ∙ told)))
 
 some_weaker : {A : Type 0} (o : Option A) (P Q : A → Type 0) → ((x : A) → P x → Q x) → IsSomeAnd o P → IsSomeAnd o Q
 some_weaker None P Q weaker is = is
@@ -98,11 +98,11 @@ not_built_elsewhere parts path (inl cause) = cause
 not_built_elsewhere parts path (inr cause) = cause.2
 
 -- the workbook is refused
-pub workbook_fails : (old mid new : PackageState) (path : List ℕ) (error : XlsxError) → SameParts old mid → mid.faults ≡ old.faults → (old.told ≡ true → HasPath old.parts path) → WorkbookFails path mid new error → OpeningFails old new error
+pub workbook_fails : (old mid new : PackageState) (path : List ℕ) (error : XlsxError) → SameParts old mid → mid.faults ≡ old.faults → (old.is_told ≡ true → HasPath old.parts path) → WorkbookFails path mid new error → OpeningFails old new error
 workbook_fails old mid new path Io same faults found fails = omega (arith, faults, fails)
 workbook_fails old mid new path OutOfMemory same faults found fails = tt
-workbook_fails old mid new path NotBuilt same faults found fails = λ told. absurd (not_built_elsewhere mid.parts path (fails (same.told ∙ told)))
-workbook_fails old mid new path error same faults found fails = λ told. inr (path, found told, same_workbook_cause old mid path error same.parts (fails (same.told ∙ told)))
+workbook_fails old mid new path NotBuilt same faults found fails = λ told. absurd (not_built_elsewhere mid.parts path (fails (same.is_told ∙ told)))
+workbook_fails old mid new path error same faults found fails = λ told. inr (path, found told, same_workbook_cause old mid path error same.parts (fails (same.is_told ∙ told)))
 
 pub further : (old mid new : PackageState) → SameParts old mid → SameParts mid new → SameParts old new
-further old mid new first second = record { told = second.told ∙ first.told; parts = second.parts ∙ first.parts; faults = omega (arith, first.faults, second.faults) }
+further old mid new first second = record { is_told = second.is_told ∙ first.is_told; parts = second.parts ∙ first.parts; faults = omega (arith, first.faults, second.faults) }

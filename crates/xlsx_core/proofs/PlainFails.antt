@@ -27,11 +27,11 @@ has_cells name sheets parts events cells found reads =
 never_plain : (events : List Event) → cells_from beginning events ≡ None → (cells : List PlainCell) → IsPlainSheet events cells → ⊥
 never_plain events none cells plain = let reads = written_sheet events cells plain in cc
 
-pub sheet_fails : (name : List ℕ) (sheets : List PlacedSheet) (first old new : PackageState) (error : XlsxError) → SameParts first old → old.faults ≡ first.faults → (first.told ≡ true → events_named name sheets first.parts ≡ Some old.rest) → CellsFail old new error → SheetFails name sheets first new error
+pub sheet_fails : (name : List ℕ) (sheets : List PlacedSheet) (first old new : PackageState) (error : XlsxError) → SameParts first old → old.faults ≡ first.faults → (first.is_told ≡ true → events_named name sheets first.parts ≡ Some old.rest) → CellsFail old new error → SheetFails name sheets first new error
 sheet_fails name sheets first old new OutOfMemory same faults found fails = tt
 sheet_fails name sheets first old new Io same faults found fails = rw faults at fails
 sheet_fails name sheets first old new NotBuilt same faults found fails = λ told.
-    subst (λ (o : Option (List Event)). IsSomeAnd o (λ events. (cells : List PlainCell) → IsPlainSheet events cells → ⊥)) (sym (found told)) (never_plain old.rest (fails (same.told ∙ told)))
+    subst (λ (o : Option (List Event)). IsSomeAnd o (λ events. (cells : List PlainCell) → IsPlainSheet events cells → ⊥)) (sym (found told)) (never_plain old.rest (fails (same.is_told ∙ told)))
 sheet_fails name sheets first old new error same faults found fails = absurd fails
 
 some_of : {A : Type 0} (o : Option A) (fact : A → Type 0) → IsSomeAnd o fact → (x : A) × (o ≡ Some x) × fact x
@@ -51,16 +51,16 @@ other_form name parts opening opens never =
     record { opening = opening; events = there.0; opens = opens; found = there.1; not_plain = there.2 }
 
 -- a workbook that opens, and whose sheet isn't read
-pub thin_fails : (name : List ℕ) (old mid new : PackageState) (opening : Opening) (error : XlsxError) → SameParts old mid → mid.faults ≡ old.faults → (old.told ≡ true → OpensAs old.parts opening) → SheetFails name opening.sheets mid new error → ThinFails name old new error
+pub thin_fails : (name : List ℕ) (old mid new : PackageState) (opening : Opening) (error : XlsxError) → SameParts old mid → mid.faults ≡ old.faults → (old.is_told ≡ true → OpensAs old.parts opening) → SheetFails name opening.sheets mid new error → ThinFails name old new error
 thin_fails name old mid new opening OutOfMemory same faults opens fails = tt
 thin_fails name old mid new opening Io same faults opens fails = rw faults at fails
 thin_fails name old mid new opening NotBuilt same faults opens fails = λ told.
     let never : OfSheet name opening.sheets old.parts (λ events. (cells : List PlainCell) → IsPlainSheet events cells → ⊥) =
-    subst (λ (parts : List Part). OfSheet name opening.sheets parts (λ events. (cells : List PlainCell) → IsPlainSheet events cells → ⊥)) same.parts (fails (same.told ∙ told))
+    subst (λ (parts : List Part). OfSheet name opening.sheets parts (λ events. (cells : List PlainCell) → IsPlainSheet events cells → ⊥)) same.parts (fails (same.is_told ∙ told))
     in
     inr (other_form name old.parts opening (opens told) never)
 thin_fails name old mid new opening (WorksheetNotFound asked) same faults opens fails = λ told.
-    let none : events_named name opening.sheets old.parts ≡ None = ap (λ (parts : List Part). events_named name opening.sheets parts) (sym same.parts) ∙ fails.1 (same.told ∙ told) in
+    let none : events_named name opening.sheets old.parts ≡ None = ap (λ (parts : List Part). events_named name opening.sheets parts) (sym same.parts) ∙ fails.1 (same.is_told ∙ told) in
     (fails.0, record { opening = opening; opens = opens told; none = none })
 thin_fails name old mid new opening error same faults opens fails = absurd fails
 

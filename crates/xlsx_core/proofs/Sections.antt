@@ -12,14 +12,14 @@ use Rattle.part_events.proofs.Texts.{slice_get-append}
 use Rattle.xlsx_core.specs.Section.{found_by, step_by}
 
 -- a part that was read to its end is whole
-pub whole_at_end : {old new : Reading} → Goes old new → GoesOn old new → IsAtEnd new → old.source.told ≡ true → whole (events_of old) ≡ events_of old
+pub whole_at_end : {old new : Reading} → Goes old new → GoesOn old new → IsAtEnd new → old.source.is_told ≡ true → whole (events_of old) ≡ events_of old
 whole_at_end {new = new} way on ended told =
-    let here : whole (events_of new) ≡ events_of new = rw ended.rest (whole_split new.source.past [] (on.reading.tracked (way.parts.told ∙ told)).whole) in
+    let here : whole (events_of new) ≡ events_of new = rw ended.rest (whole_split new.source.past [] (on.reading.tracked (way.parts.is_told ∙ told)).whole) in
     subst (λ (events : List Event). whole events ≡ events) (on.part told) here
 
 goes_further : (old mid new : Reading) → Goes old mid → Goes mid new → Goes old new
 goes_further old mid new first second = record {
-  parts = record { told = second.parts.told ∙ first.parts.told; parts = second.parts.parts ∙ first.parts.parts; faults = omega (arith, first.parts.faults, second.parts.faults) };
+  parts = record { is_told = second.parts.is_told ∙ first.parts.is_told; parts = second.parts.parts ∙ first.parts.parts; faults = omega (arith, first.parts.faults, second.parts.faults) };
   forward = omega (arith, first.forward, second.forward);
   taken = omega (arith, first.forward, second.forward, first.taken, second.taken);
 }
@@ -29,7 +29,7 @@ goes_on_further old mid new way first second = record {
   reading = second.reading;
   faults = second.faults ∙ first.faults;
   left = second.left ∙ first.left;
-  part = λ told. second.part (way.parts.told ∙ told) ∙ first.part told;
+  part = λ told. second.part (way.parts.is_told ∙ told) ∙ first.part told;
 }
 
 -- a section was read on from behind its start
@@ -37,20 +37,20 @@ pub record ReadsOn (base : ℕ) (old now : Reading) : Type 0 where
   pub goes : Goes old now
   pub on : GoesOn old now
   pub within : base ≤ length now.names
-  pub closed : old.source.told ≡ true → is_closed (inside base now) (ahead now) ≡ is_closed 0 (ahead old)
+  pub closed : old.source.is_told ≡ true → is_closed (inside base now) (ahead now) ≡ is_closed 0 (ahead old)
 
-pub reads_further : {base : ℕ} {first old new : Reading} → ReadsOn base first old → Goes old new → GoesOn old new → base ≤ length new.names → (old.source.told ≡ true → is_closed (inside base new) (ahead new) ≡ is_closed (inside base old) (ahead old)) → ReadsOn base first new
+pub reads_further : {base : ℕ} {first old new : Reading} → ReadsOn base first old → Goes old new → GoesOn old new → base ≤ length new.names → (old.source.is_told ≡ true → is_closed (inside base new) (ahead new) ≡ is_closed (inside base old) (ahead old)) → ReadsOn base first new
 reads_further {first = first} {old = old} {new = new} before way on within closed = record {
   goes = goes_further first old new before.goes way;
   on = goes_on_further first old new before.goes before.on on;
   within = within;
-  closed = λ told. closed (before.goes.parts.told ∙ told) ∙ before.closed told;
+  closed = λ told. closed (before.goes.parts.is_told ∙ told) ∙ before.closed told;
 }
 
 -- the event that was taken last stands at its place
-last_there : {base : ℕ} (first new : Reading) (past : List Event) (event : Event) → ReadsOn base first new → new.source.past ≡ event ∷ past → first.source.told ≡ true → slice_get (events_of first) (new.at - 1) ≡ Some event
+last_there : {base : ℕ} (first new : Reading) (past : List Event) (event : Event) → ReadsOn base first new → new.source.past ≡ event ∷ past → first.source.is_told ≡ true → slice_get (events_of first) (new.at - 1) ≡ Some event
 last_there first new past event reads last told =
-    let is : IsTracked new = reads.on.reading.tracked (reads.goes.parts.told ∙ told) in
+    let is : IsTracked new = reads.on.reading.tracked (reads.goes.parts.is_told ∙ told) in
     let place : new.at - 1 ≡ length (reverse past) = omega (arith, is.at, ap length last, length-reverse past) in
     rw (← reads.on.part told, last, reverse_on event past new.source.rest, place) (slice_get-append (reverse past) new.source.rest event)
 
@@ -60,16 +60,16 @@ pub record IsEventInside (base : ℕ) (event : Event) (place : ℕ) (first old n
   pub current : event ≡ new.source.current
   pub was : base ≤ length old.names
   pub takes : TakesEvent old new
-  pub steps : first.source.told ≡ true → StepsAhead true old new
-  pub left : first.source.told ≡ true → content (inside base old) (ahead old) ≡ event ∷ content (inside base new) (ahead new)
-  pub behind : first.source.told ≡ true → behind (inside base old) (ahead old) ≡ behind (inside base new) (ahead new)
-  pub there : first.source.told ≡ true → slice_get (events_of first) place ≡ Some event
+  pub steps : first.source.is_told ≡ true → StepsAhead true old new
+  pub left : first.source.is_told ≡ true → content (inside base old) (ahead old) ≡ event ∷ content (inside base new) (ahead new)
+  pub behind : first.source.is_told ≡ true → behind (inside base old) (ahead old) ≡ behind (inside base new) (ahead new)
+  pub there : first.source.is_told ≡ true → slice_get (events_of first) place ≡ Some event
 
-pub event_inside : {base : ℕ} {more : Bool} {event : Event} {at : ℕ} {first old new : Reading} → more ≡ true → event ≡ new.source.current → at ≡ new.at → ReadsOn base first old → Goes old new → GoesOn old new → StandsInside base (step_by more) old new → (old.source.told ≡ true → StepsInside base (step_by more) old new) → IsEventInside base event (at - 1) first old new
+pub event_inside : {base : ℕ} {more : Bool} {event : Event} {at : ℕ} {first old new : Reading} → more ≡ true → event ≡ new.source.current → at ≡ new.at → ReadsOn base first old → Goes old new → GoesOn old new → StandsInside base (step_by more) old new → (old.source.is_told ≡ true → StepsInside base (step_by more) old new) → IsEventInside base event (at - 1) first old new
 event_inside {base = base} {first = first} {old = old} {new = new} is current at_is before way on stands steps =
     let stands_at : TakesEvent old new × (base ≤ length new.names) = rw is at stands in
-    let taken : old.source.told ≡ true → TakesInside base old new = λ told. rw is at (steps told) in
-    let still : first.source.told ≡ true → old.source.told ≡ true = λ told. before.goes.parts.told ∙ told in
+    let taken : old.source.is_told ≡ true → TakesInside base old new = λ told. rw is at (steps told) in
+    let still : first.source.is_told ≡ true → old.source.is_told ≡ true = λ told. before.goes.parts.is_told ∙ told in
     let reads : ReadsOn base first new = reads_further before way on stands_at.1 (λ told. sym (taken told).closed) in
     record {
       reads = reads;
@@ -85,20 +85,20 @@ event_inside {base = base} {first = first} {old = old} {new = new} is current at
 -- a wanted start of a section was found, which is event number `place` of its part
 pub record IsStartFound (wanted : Tag → Bool) (base : ℕ) (tag : Tag) (place : ℕ) (first old new : Reading) : Type 0 where
   pub reads : ReadsOn base first new
-  pub starts : first.source.told ≡ true → starts_by wanted (content (inside base old) (ahead old)) ≡ tag ∷ starts_by wanted (content (inside base new) (ahead new))
-  pub there : first.source.told ≡ true → slice_get (events_of first) place ≡ Some (start tag)
+  pub starts : first.source.is_told ≡ true → starts_by wanted (content (inside base old) (ahead old)) ≡ tag ∷ starts_by wanted (content (inside base new) (ahead new))
+  pub there : first.source.is_told ≡ true → slice_get (events_of first) place ≡ Some (start tag)
 
 first_there : (past : List Event) (event : Event) → slice_get past 0 ≡ Some event → (before : List Event) × (past ≡ event ∷ before)
 first_there [] event last = absurd (cc)
 first_there (own ∷ past) event last = let same : own ≡ event = cc in (past, ap (λ (first : Event). first ∷ past) same)
 
-pub start_found : {base : ℕ} {more : Bool} {tag : Tag} {at : ℕ} {first old new : Reading} (wanted : Tag → Bool) → more ≡ true → start tag ≡ new.source.current → at ≡ new.at → ReadsOn base first old → Goes old new → GoesOn old new → StandsAt wanted base (found_by more) old new → (old.source.told ≡ true → FindsStart wanted base (found_by more) old new) → IsStartFound wanted base tag (at - 1) first old new
+pub start_found : {base : ℕ} {more : Bool} {tag : Tag} {at : ℕ} {first old new : Reading} (wanted : Tag → Bool) → more ≡ true → start tag ≡ new.source.current → at ≡ new.at → ReadsOn base first old → Goes old new → GoesOn old new → StandsAt wanted base (found_by more) old new → (old.source.is_told ≡ true → FindsStart wanted base (found_by more) old new) → IsStartFound wanted base tag (at - 1) first old new
 start_found {base = base} {tag = tag} {first = first} {old = old} {new = new} wanted is current at_is before way on stands finds =
-    let next : old.source.told ≡ true → IsNextStart wanted base tag old new = λ told.
+    let next : old.source.is_told ≡ true → IsNextStart wanted base tag old new = λ told.
     let found : IsStartAnd new.source.current (λ own. IsNextStart wanted base own old new) = rw is at (finds told) in
     subst (λ (event : Event). IsStartAnd event (λ own. IsNextStart wanted base own old new)) (sym current) found
     in
-    let still : first.source.told ≡ true → old.source.told ≡ true = λ told. before.goes.parts.told ∙ told in
+    let still : first.source.is_told ≡ true → old.source.is_told ≡ true = λ told. before.goes.parts.is_told ∙ told in
     let stands_at : StandsAt wanted base (found_by true) old new = rw is at stands in
     let reads : ReadsOn base first new = reads_further before way on (omega (arith, stands_at.1)) (λ told. sym (next told).closed) in
     record {
@@ -137,7 +137,7 @@ lies_behind inner outer within (entity_ref name ∷ events) is = let more = lies
 lies_behind inner outer within (other ∷ events) is = let more = lies_behind inner outer within events (omega arith) in record { others = more.others; parts = ap (λ (rest : List Event). other ∷ rest) more.parts; starts = more.starts; unclosed = more.unclosed; closed = more.closed }
 
 -- a section is read on behind an element that lies in it
-pub behind_element : {base outer : ℕ} {first new last : Reading} → ReadsOn base first new → inside base new ≡ suc outer → LiesBehind 0 outer (inside base new) (ahead new) → Goes new last → GoesOn new last → length new.names ≡ suc (length last.names) → (new.source.told ≡ true → Skips new last) → ReadsOn base first last
+pub behind_element : {base outer : ℕ} {first new last : Reading} → ReadsOn base first new → inside base new ≡ suc outer → LiesBehind 0 outer (inside base new) (ahead new) → Goes new last → GoesOn new last → length new.names ≡ suc (length last.names) → (new.source.is_told ≡ true → Skips new last) → ReadsOn base first last
 behind_element {base = base} {outer = outer} {new = new} {last = last} before deep lies way on depth skips =
     let out : inside base last ≡ outer = omega (arith, depth, deep) in
     reads_further before way on (omega (arith, depth, deep))

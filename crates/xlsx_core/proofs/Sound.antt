@@ -149,7 +149,7 @@ no_cause parts opening error is (inr (path, found, cause)) =
     no_workbook_cause parts is.path is.related opening error is.relationships is.workbook (subst (λ (p : List ℕ). WorkbookCause parts p error) (same_path parts path is.path found is.found) cause)
 
 -- what refuses a package that opens soundly
-pub sound_fails : (old new : PackageState) (error : XlsxError) → old.told ≡ true → OpensSoundly old.parts → OpeningFails old new error → SoundFails old new error
+pub sound_fails : (old new : PackageState) (error : XlsxError) → old.is_told ≡ true → OpensSoundly old.parts → OpeningFails old new error → SoundFails old new error
 sound_fails old new Io told sound fails = fails
 sound_fails old new OutOfMemory told sound fails = tt
 sound_fails old new NotBuilt told sound fails = fails told

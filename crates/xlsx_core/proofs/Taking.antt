@@ -34,4 +34,4 @@ advanced true old new is goes = goes.0
 advanced false old new is goes = absurd cc
 
 pub same_parts : (first old new : PackageState) → SameParts first old → SameParts old new → SameParts first new
-same_parts first old new before after = record { told = after.told ∙ before.told; parts = after.parts ∙ before.parts; faults = omega (arith, before.faults, after.faults) }
+same_parts first old new before after = record { is_told = after.is_told ∙ before.is_told; parts = after.parts ∙ before.parts; faults = omega (arith, before.faults, after.faults) }

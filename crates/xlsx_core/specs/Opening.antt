@@ -85,8 +85,8 @@ pub record IsBuilt (parts : List Part) : Type 0 where
 abbrev pub OpeningFails : PackageState → PackageState → XlsxError → Type 0
 OpeningFails old new Io = HasCause old new
 OpeningFails old new OutOfMemory = ⊤
-OpeningFails old new NotBuilt = old.told ≡ true → IsNotBuilt old.parts
-OpeningFails old new error = old.told ≡ true → OpeningCause old.parts error
+OpeningFails old new NotBuilt = old.is_told ≡ true → IsNotBuilt old.parts
+OpeningFails old new error = old.is_told ≡ true → OpeningCause old.parts error
 
 -- when a package that opens soundly is refused
 abbrev pub SoundFails : PackageState → PackageState → XlsxError → Type 0

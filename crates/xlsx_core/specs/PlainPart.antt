@@ -13,7 +13,7 @@ use Rattle.xlsx_core.specs.ThinReading.{events_named}
 abbrev pub CellsFail : PackageState → PackageState → XlsxError → Type 0
 CellsFail old new OutOfMemory = ⊤
 CellsFail old new Io = HasCause old new
-CellsFail old new NotBuilt = old.told ≡ true → cells_from beginning old.rest ≡ None
+CellsFail old new NotBuilt = old.is_told ≡ true → cells_from beginning old.rest ≡ None
 CellsFail old new _ = ⊥
 
 -- what is said of the part of the first sheet of this name, which is there
@@ -28,6 +28,6 @@ HasCells name sheets parts cells = OfSheet name sheets parts (λ events. IsPlain
 abbrev pub SheetFails : List ℕ → List PlacedSheet → PackageState → PackageState → XlsxError → Type 0
 SheetFails name sheets old new OutOfMemory = ⊤
 SheetFails name sheets old new Io = HasCause old new
-SheetFails name sheets old new NotBuilt = old.told ≡ true → OfSheet name sheets old.parts (λ events. (cells : List PlainCell) → IsPlainSheet events cells → ⊥)
-SheetFails name sheets old new (WorksheetNotFound asked) = (string_bytes asked ≡ name) × (old.told ≡ true → events_named name sheets old.parts ≡ None)
+SheetFails name sheets old new NotBuilt = old.is_told ≡ true → OfSheet name sheets old.parts (λ events. (cells : List PlainCell) → IsPlainSheet events cells → ⊥)
+SheetFails name sheets old new (WorksheetNotFound asked) = (string_bytes asked ≡ name) × (old.is_told ≡ true → events_named name sheets old.parts ≡ None)
 SheetFails name sheets old new _ = ⊥

@@ -10,7 +10,7 @@ use Rattle.xlsx_core.specs.Relationships.{Related}
 -- a part that isn't read yet is there
 abbrev pub PresenceFails : List ℕ → PackageState → PackageState → XlsxError → Type 0
 PresenceFails part old new Io = HasCause old new
-PresenceFails part old new NotBuilt = old.told ≡ true → IsSome (part_of old.parts part)
+PresenceFails part old new NotBuilt = old.is_told ≡ true → IsSome (part_of old.parts part)
 PresenceFails part old new _ = ⊥
 
 -- the parts beside the workbook at this path that aren't read yet are absent
@@ -21,7 +21,7 @@ pub record LacksUnbuilt (path : List ℕ) (parts : List Part) : Type 0 where
 abbrev pub UnbuiltFails : List ℕ → PackageState → PackageState → XlsxError → Type 0
 UnbuiltFails path old new Io = HasCause old new
 UnbuiltFails path old new OutOfMemory = ⊤
-UnbuiltFails path old new NotBuilt = old.told ≡ true → IsSome (part_of old.parts (strings_part path)) ⊎ IsSome (part_of old.parts (styles_part path))
+UnbuiltFails path old new NotBuilt = old.is_told ≡ true → IsSome (part_of old.parts (strings_part path)) ⊎ IsSome (part_of old.parts (styles_part path))
 UnbuiltFails path old new _ = ⊥
 
 -- the workbook at this path opens
@@ -31,4 +31,4 @@ WorkbookOpens parts path opening = (related : List ℕ → Option Related) × Ha
 abbrev pub WorkbookFails : List ℕ → PackageState → PackageState → XlsxError → Type 0
 WorkbookFails path old new Io = HasCause old new
 WorkbookFails path old new OutOfMemory = ⊤
-WorkbookFails path old new error = old.told ≡ true → WorkbookCause old.parts path error
+WorkbookFails path old new error = old.is_told ≡ true → WorkbookCause old.parts path error

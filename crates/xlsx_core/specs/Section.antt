@@ -39,22 +39,22 @@ IsUndecodedAt refused events at =
 -- or the part ends before the section's end, or one of its elements is refused.
 abbrev pub SectionFails : List ℕ → ℕ → (Refusal → Type 0) → Reading → Reading → XlsxError → Type 0
 SectionFails name inside refused old new Io = HasCause old.source new.source
-SectionFails name inside refused old new (Xml (EndMismatch at)) = old.source.told ≡ true → BreaksAt (events_of old) at × (is_closed inside (ahead old) ≡ false)
-SectionFails name inside refused old new (Xml (Entity at)) = old.source.told ≡ true → IsUndecodedAt refused (events_of old) at
-SectionFails name inside refused old new (XmlAttr fault) = old.source.told ≡ true → refused (lookup_fault fault)
+SectionFails name inside refused old new (Xml (EndMismatch at)) = old.source.is_told ≡ true → BreaksAt (events_of old) at × (is_closed inside (ahead old) ≡ false)
+SectionFails name inside refused old new (Xml (Entity at)) = old.source.is_told ≡ true → IsUndecodedAt refused (events_of old) at
+SectionFails name inside refused old new (XmlAttr fault) = old.source.is_told ≡ true → refused (lookup_fault fault)
 SectionFails name inside refused old new (XmlEof element) =
-    (element.now ≡ name) × (old.source.told ≡ true → (whole (events_of old) ≡ events_of old) × (is_closed inside (ahead old) ≡ false))
-SectionFails name inside refused old new RelationshipNotFound = old.source.told ≡ true → refused unrelated
-SectionFails name inside refused old new (Unrecognized typ val) = old.source.told ≡ true → Unknown refused typ.now (string_bytes val)
+    (element.now ≡ name) × (old.source.is_told ≡ true → (whole (events_of old) ≡ events_of old) × (is_closed inside (ahead old) ≡ false))
+SectionFails name inside refused old new RelationshipNotFound = old.source.is_told ≡ true → refused unrelated
+SectionFails name inside refused old new (Unrecognized typ val) = old.source.is_told ≡ true → Unknown refused typ.now (string_bytes val)
 SectionFails name inside refused old new OutOfMemory = ⊤
 SectionFails name inside refused old new _ = ⊥
 
 -- when the start of a section is not found
 abbrev pub StartFails : List ℕ → Reading → Reading → XlsxError → Type 0
 StartFails name old new Io = HasCause old.source new.source
-StartFails name old new (Xml (EndMismatch at)) = old.source.told ≡ true → BreaksAt (events_of old) at × (behind_start (is_named (name ∷ [])) (ahead old) ≡ None)
+StartFails name old new (Xml (EndMismatch at)) = old.source.is_told ≡ true → BreaksAt (events_of old) at × (behind_start (is_named (name ∷ [])) (ahead old) ≡ None)
 StartFails name old new (XmlEof element) =
-    (element.now ≡ name) × (old.source.told ≡ true → (whole (events_of old) ≡ events_of old) × (behind_start (is_named (name ∷ [])) (ahead old) ≡ None))
+    (element.now ≡ name) × (old.source.is_told ≡ true → (whole (events_of old) ≡ events_of old) × (behind_start (is_named (name ∷ [])) (ahead old) ≡ None))
 StartFails name old new OutOfMemory = ⊤
 StartFails name old new _ = ⊥
 
@@ -96,10 +96,10 @@ PartCause name part refused parts error = SectionCause name part refused parts e
 abbrev pub PartFails : List ℕ → List ℕ → (List Event → Refusal → Type 0) → PackageState → PackageState → XlsxError → Type 0
 PartFails name part refused old new Io = HasCause old new
 PartFails name part refused old new OutOfMemory = ⊤
-PartFails name part refused old new error = old.told ≡ true → PartCause name part refused old.parts error
+PartFails name part refused old new error = old.is_told ≡ true → PartCause name part refused old.parts error
 
 -- and in a part that may be absent
 abbrev pub OptionalPartFails : List ℕ → List ℕ → (List Event → Refusal → Type 0) → PackageState → PackageState → XlsxError → Type 0
 OptionalPartFails name part refused old new Io = HasCause old new
 OptionalPartFails name part refused old new OutOfMemory = ⊤
-OptionalPartFails name part refused old new error = old.told ≡ true → SectionCause name part refused old.parts error
+OptionalPartFails name part refused old new error = old.is_told ≡ true → SectionCause name part refused old.parts error

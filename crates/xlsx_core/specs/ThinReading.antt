@@ -53,6 +53,6 @@ ThinCause parts name error = OpeningCause parts error
 
 -- When the reading of a sheet is refused: by the form of its part, since there is none, or as the workbook doesn't open.
 abbrev pub ThinFails : List ℕ → PackageState → PackageState → XlsxError → Type 0
-ThinFails name old new NotBuilt = old.told ≡ true → ThinCause old.parts name NotBuilt
-ThinFails name old new (WorksheetNotFound asked) = old.told ≡ true → ThinCause old.parts name (WorksheetNotFound asked)
+ThinFails name old new NotBuilt = old.is_told ≡ true → ThinCause old.parts name NotBuilt
+ThinFails name old new (WorksheetNotFound asked) = old.is_told ≡ true → ThinCause old.parts name (WorksheetNotFound asked)
 ThinFails name old new error = OpeningFails old new error

@@ -35,7 +35,7 @@ fn relationships_part(alloc: Global, path: &str) -> Result<String, AllocError>
 fn refuse_part<P: Package>(package: &mut P, part: &str) -> Result<(), XlsxError>
     ensures keeps { SameParts (P.state «package».old) (P.state «package».new) }
     ensures faults { OnOk result ((P.state «package».new).faults ≡ (P.state «package».old).faults) }
-    ensures absent { (P.state «package».old).told ≡ true → OnOk result (part_of (P.state «package».old).parts part.now ≡ None) }
+    ensures absent { (P.state «package».old).is_told ≡ true → OnOk result (part_of (P.state «package».old).parts part.now ≡ None) }
     ensures err { IfErr result (PresenceFails part.now (P.state «package».old) (P.state «package».new)) }
     ensures counts { IfErr result (KeepsFaults (P.state «package».old) (P.state «package».new)) }
 {
@@ -50,7 +50,7 @@ fn refuse_part<P: Package>(package: &mut P, part: &str) -> Result<(), XlsxError>
 fn refuse_unbuilt<P: Package>(alloc: Global, package: &mut P, path: &str) -> Result<(), XlsxError>
     ensures keeps { SameParts (P.state «package».old) (P.state «package».new) }
     ensures faults { OnOk result ((P.state «package».new).faults ≡ (P.state «package».old).faults) }
-    ensures absent { (P.state «package».old).told ≡ true → OnOk result (LacksUnbuilt path.now (P.state «package».old).parts) }
+    ensures absent { (P.state «package».old).is_told ≡ true → OnOk result (LacksUnbuilt path.now (P.state «package».old).parts) }
     ensures err { IfErr result (UnbuiltFails path.now (P.state «package».old) (P.state «package».new)) }
     ensures counts { IfErr result (KeepsFaults (P.state «package».old) (P.state «package».new)) }
 {
@@ -112,7 +112,7 @@ fn open_workbook<P: Package>(
 ) -> Result<Opened, XlsxError>
     ensures keeps { SameParts (P.state «package».old) (P.state «package».new) }
     ensures faults { OnOk result ((P.state «package».new).faults ≡ (P.state «package».old).faults) }
-    ensures opened { (P.state «package».old).told ≡ true → IfOk result (λ o. WorkbookOpens (P.state «package».old).parts path.now (opening_of o.metadata o.paths.items o.is_1904)) }
+    ensures opened { (P.state «package».old).is_told ≡ true → IfOk result (λ o. WorkbookOpens (P.state «package».old).parts path.now (opening_of o.metadata o.paths.items o.is_1904)) }
     ensures err { IfErr result (WorkbookFails path.now (P.state «package».old) (P.state «package».new)) }
     ensures counts { IfErr result (KeepsFaults (P.state «package».old) (P.state «package».new)) }
 {
@@ -133,8 +133,8 @@ fn open_workbook<P: Package>(
 pub fn open<P: Package>(alloc: Global, package: &mut P) -> Result<Opened, XlsxError>
     ensures keeps { SameParts (P.state «package».old) (P.state «package».new) }
     ensures faults { OnOk result ((P.state «package».new).faults ≡ (P.state «package».old).faults) }
-    ensures opens { (P.state «package».old).told ≡ true → IfOk result (λ o. OpensAs (P.state «package».old).parts (opening_of o.metadata o.paths.items o.is_1904)) }
-    ensures built { (P.state «package».old).told ≡ true → OnOk result (IsBuilt (P.state «package».old).parts) }
+    ensures opens { (P.state «package».old).is_told ≡ true → IfOk result (λ o. OpensAs (P.state «package».old).parts (opening_of o.metadata o.paths.items o.is_1904)) }
+    ensures built { (P.state «package».old).is_told ≡ true → OnOk result (IsBuilt (P.state «package».old).parts) }
     ensures err { IfErr result (OpeningFails (P.state «package».old) (P.state «package».new)) }
     ensures counts { IfErr result (KeepsFaults (P.state «package».old) (P.state «package».new)) }
 {

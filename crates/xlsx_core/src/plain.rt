@@ -27,7 +27,7 @@ fn keep(cells: &mut Vec<ThinCell>, cell: Option<ThinCell>) -> Result<(), AllocEr
 fn take_cells<P: Package>(alloc: Global, package: &mut P) -> Result<Vec<ThinCell>, XlsxError>
     ensures keeps { SameParts (P.state «package».old) (P.state «package».new) }
     ensures faults { OnOk result ((P.state «package».new).faults ≡ (P.state «package».old).faults) }
-    ensures cells { (P.state «package».old).told ≡ true → IfOk result (λ cells. cells_from beginning (P.state «package».old).rest ≡ Some (cells_of cells.items)) }
+    ensures cells { (P.state «package».old).is_told ≡ true → IfOk result (λ cells. cells_from beginning (P.state «package».old).rest ≡ Some (cells_of cells.items)) }
     ensures err { IfErr result (CellsFail (P.state «package».old) (P.state «package».new)) }
     ensures counts { IfErr result (KeepsFaults (P.state «package».old) (P.state «package».new)) }
 {
@@ -68,7 +68,7 @@ fn open_sheet<P: Package>(
 ) -> Result<bool, PackageFailed>
     ensures keeps { SameParts (P.state «package».old) (P.state «package».new) }
     ensures faults { OnOk result ((P.state «package».new).faults ≡ (P.state «package».old).faults) }
-    ensures opens { (P.state «package».old).told ≡ true → IfOk result (λ found. events_named name.now (placed sheets.now paths.now) (P.state «package».old).parts ≡ (if found then Some (P.state «package».new).rest else None)) }
+    ensures opens { (P.state «package».old).is_told ≡ true → IfOk result (λ found. events_named name.now (placed sheets.now paths.now) (P.state «package».old).parts ≡ (if found then Some (P.state «package».new).rest else None)) }
     ensures err { OnErr result (HasCause (P.state «package».old) (P.state «package».new)) }
 {
     match path_named(sheets, paths, name) {
@@ -87,7 +87,7 @@ pub fn sheet_cells<P: Package>(
 ) -> Result<Vec<ThinCell>, XlsxError>
     ensures keeps { SameParts (P.state «package».old) (P.state «package».new) }
     ensures faults { OnOk result ((P.state «package».new).faults ≡ (P.state «package».old).faults) }
-    ensures cells { (P.state «package».old).told ≡ true → IfOk result (λ cells. HasCells name.now (placed sheets.now paths.now) (P.state «package».old).parts (cells_of cells.items)) }
+    ensures cells { (P.state «package».old).is_told ≡ true → IfOk result (λ cells. HasCells name.now (placed sheets.now paths.now) (P.state «package».old).parts (cells_of cells.items)) }
     ensures err { IfErr result (SheetFails name.now (placed sheets.now paths.now) (P.state «package».old) (P.state «package».new)) }
     ensures counts { IfErr result (KeepsFaults (P.state «package».old) (P.state «package».new)) }
 {

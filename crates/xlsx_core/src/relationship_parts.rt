@@ -23,8 +23,8 @@ fn path_in<P: Package>(
     ensures hold { KeepsHold reader.old reader.new }
     ensures goes { Goes (reading_by P.state reader.old) (reading_by P.state reader.new) }
     ensures on { OnOk result (GoesOn (reading_by P.state reader.old) (reading_by P.state reader.new)) }
-    ensures closed { (P.state reader.old.package.now).told ≡ true → OnOk result (is_closed 0 (ahead (reading_by P.state reader.old)) ≡ true) }
-    ensures path { (P.state reader.old.package.now).told ≡ true → IfOk result (λ path. path_in (content 0 (ahead (reading_by P.state reader.old))) ≡ Ok (option_map string_bytes path)) }
+    ensures closed { (P.state reader.old.package.now).is_told ≡ true → OnOk result (is_closed 0 (ahead (reading_by P.state reader.old)) ≡ true) }
+    ensures path { (P.state reader.old.package.now).is_told ≡ true → IfOk result (λ path. path_in (content 0 (ahead (reading_by P.state reader.old))) ≡ Ok (option_map string_bytes path)) }
     ensures err { IfErr result (SectionFails (codes "Relationships") 0 (λ refusal. path_in (content 0 (ahead (reading_by P.state reader.old))) ≡ Err refusal) (reading_by P.state reader.old) (reading_by P.state reader.new)) }
     ensures counts { IfErr result (KeepsFaults (P.state reader.old.package.now) (P.state reader.new.package.now)) }
 {
@@ -47,8 +47,8 @@ fn required_path_in<P: Package>(
     ensures hold { KeepsHold reader.old reader.new }
     ensures goes { Goes (reading_by P.state reader.old) (reading_by P.state reader.new) }
     ensures on { OnOk result (GoesOn (reading_by P.state reader.old) (reading_by P.state reader.new)) }
-    ensures closed { (P.state reader.old.package.now).told ≡ true → OnOk result (is_closed 0 (ahead (reading_by P.state reader.old)) ≡ true) }
-    ensures path { (P.state reader.old.package.now).told ≡ true → IfOk result (λ path. required_path_in (content 0 (ahead (reading_by P.state reader.old))) ≡ Ok (string_bytes path)) }
+    ensures closed { (P.state reader.old.package.now).is_told ≡ true → OnOk result (is_closed 0 (ahead (reading_by P.state reader.old)) ≡ true) }
+    ensures path { (P.state reader.old.package.now).is_told ≡ true → IfOk result (λ path. required_path_in (content 0 (ahead (reading_by P.state reader.old))) ≡ Ok (string_bytes path)) }
     ensures err { IfErr result (SectionFails (codes "Relationships") 0 (IsPathRefused (content 0 (ahead (reading_by P.state reader.old)))) (reading_by P.state reader.old) (reading_by P.state reader.new)) }
     ensures counts { IfErr result (KeepsFaults (P.state reader.old.package.now) (P.state reader.new.package.now)) }
 {
@@ -67,8 +67,8 @@ fn relationships_in<P: Package>(
     ensures hold { KeepsHold reader.old reader.new }
     ensures goes { Goes (reading_by P.state reader.old) (reading_by P.state reader.new) }
     ensures on { OnOk result (GoesOn (reading_by P.state reader.old) (reading_by P.state reader.new)) }
-    ensures closed { (P.state reader.old.package.now).told ≡ true → OnOk result (is_closed 0 (ahead (reading_by P.state reader.old)) ≡ true) }
-    ensures related { (P.state reader.old.package.now).told ≡ true → IfOk result (λ map. (id : List ℕ) → related_in (content 0 (ahead (reading_by P.state reader.old))) id ≡ Ok (kept map id)) }
+    ensures closed { (P.state reader.old.package.now).is_told ≡ true → OnOk result (is_closed 0 (ahead (reading_by P.state reader.old)) ≡ true) }
+    ensures related { (P.state reader.old.package.now).is_told ≡ true → IfOk result (λ map. (id : List ℕ) → related_in (content 0 (ahead (reading_by P.state reader.old))) id ≡ Ok (kept map id)) }
     ensures err { IfErr result (SectionFails (codes "Relationships") 0 (AreRelationshipsRefused (content 0 (ahead (reading_by P.state reader.old)))) (reading_by P.state reader.old) (reading_by P.state reader.new)) }
     ensures counts { IfErr result (KeepsFaults (P.state reader.old.package.now) (P.state reader.new.package.now)) }
 {
@@ -88,7 +88,7 @@ pub fn read_path<P: Package>(
 ) -> Result<String, XlsxError>
     ensures keeps { SameParts (P.state «package».old) (P.state «package».new) }
     ensures faults { OnOk result ((P.state «package».new).faults ≡ (P.state «package».old).faults) }
-    ensures path { (P.state «package».old).told ≡ true → IfOk result (λ path. IsSomeAnd (closed_section_of (codes "Relationships") part.now (P.state «package».old).parts) (λ inside. required_path_in inside ≡ Ok (string_bytes path))) }
+    ensures path { (P.state «package».old).is_told ≡ true → IfOk result (λ path. IsSomeAnd (closed_section_of (codes "Relationships") part.now (P.state «package».old).parts) (λ inside. required_path_in inside ≡ Ok (string_bytes path))) }
     ensures err { IfErr result (PartFails (codes "Relationships") part.now IsPathRefused (P.state «package».old) (P.state «package».new)) }
     ensures counts { IfErr result (KeepsFaults (P.state «package».old) (P.state «package».new)) }
 {
@@ -108,7 +108,7 @@ pub fn read_relationships<P: Package>(
 ) -> Result<BTreeMap<String, Relationship>, XlsxError>
     ensures keeps { SameParts (P.state «package».old) (P.state «package».new) }
     ensures faults { OnOk result ((P.state «package».new).faults ≡ (P.state «package».old).faults) }
-    ensures related { (P.state «package».old).told ≡ true → IfOk result (λ map. IsSomeAnd (closed_section_of (codes "Relationships") part.now (P.state «package».old).parts) (λ inside. (id : List ℕ) → related_in inside id ≡ Ok (kept map id))) }
+    ensures related { (P.state «package».old).is_told ≡ true → IfOk result (λ map. IsSomeAnd (closed_section_of (codes "Relationships") part.now (P.state «package».old).parts) (λ inside. (id : List ℕ) → related_in inside id ≡ Ok (kept map id))) }
     ensures err { IfErr result (PartFails (codes "Relationships") part.now AreRelationshipsRefused (P.state «package».old) (P.state «package».new)) }
     ensures counts { IfErr result (KeepsFaults (P.state «package».old) (P.state «package».new)) }
 {

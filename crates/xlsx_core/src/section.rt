@@ -27,7 +27,7 @@ pub fn enter<P: Package>(reader: &mut XlReader<'_, P>, name: &'static str) -> Re
     ensures goes { Goes (reading_by P.state reader.old) (reading_by P.state reader.new) }
     ensures on { OnOk result (GoesOn (reading_by P.state reader.old) (reading_by P.state reader.new)) }
     ensures element { OnOk result (IsAtElement (reading_by P.state reader.new)) }
-    ensures found { (P.state reader.old.package.now).told ≡ true → OnOk result (behind_start (is_named (name.now ∷ [])) (ahead (reading_by P.state reader.old)) ≡ Some (ahead (reading_by P.state reader.new))) }
+    ensures found { (P.state reader.old.package.now).is_told ≡ true → OnOk result (behind_start (is_named (name.now ∷ [])) (ahead (reading_by P.state reader.old)) ≡ Some (ahead (reading_by P.state reader.new))) }
     ensures err { IfErr result (StartFails name.now (reading_by P.state reader.old) (reading_by P.state reader.new)) }
     ensures counts { IfErr result (KeepsFaults (P.state reader.old.package.now) (P.state reader.new.package.now)) }
 {
@@ -52,7 +52,7 @@ pub fn next_in<P: Package>(
     ensures goes { Goes (reading_by P.state reader.old) (reading_by P.state reader.new) }
     ensures on { OnOk result (GoesOn (reading_by P.state reader.old) (reading_by P.state reader.new)) }
     ensures stands { IfOk result (λ more. StandsAt (is_named (name.now ∷ [])) base (found_by more) (reading_by P.state reader.old) (reading_by P.state reader.new)) }
-    ensures found { (P.state reader.old.package.now).told ≡ true → IfOk result (λ more. FindsStart (is_named (name.now ∷ [])) base (found_by more) (reading_by P.state reader.old) (reading_by P.state reader.new)) }
+    ensures found { (P.state reader.old.package.now).is_told ≡ true → IfOk result (λ more. FindsStart (is_named (name.now ∷ [])) base (found_by more) (reading_by P.state reader.old) (reading_by P.state reader.new)) }
     ensures err { IfErr result (SectionFails section.now (inside base (reading_by P.state reader.old)) (λ _. ⊥) (reading_by P.state reader.old) (reading_by P.state reader.new)) }
     ensures counts { IfErr result (KeepsFaults (P.state reader.old.package.now) (P.state reader.new.package.now)) }
 {
@@ -76,7 +76,7 @@ pub fn next_inside<P: Package>(
     ensures goes { Goes (reading_by P.state reader.old) (reading_by P.state reader.new) }
     ensures on { OnOk result (GoesOn (reading_by P.state reader.old) (reading_by P.state reader.new)) }
     ensures stands { IfOk result (λ more. StandsInside base (step_by more) (reading_by P.state reader.old) (reading_by P.state reader.new)) }
-    ensures inside { (P.state reader.old.package.now).told ≡ true → IfOk result (λ more. StepsInside base (step_by more) (reading_by P.state reader.old) (reading_by P.state reader.new)) }
+    ensures inside { (P.state reader.old.package.now).is_told ≡ true → IfOk result (λ more. StepsInside base (step_by more) (reading_by P.state reader.old) (reading_by P.state reader.new)) }
     ensures err { IfErr result (SectionFails section.now (inside base (reading_by P.state reader.old)) (λ _. ⊥) (reading_by P.state reader.old) (reading_by P.state reader.new)) }
     ensures counts { IfErr result (KeepsFaults (P.state reader.old.package.now) (P.state reader.new.package.now)) }
 {

@@ -35,7 +35,7 @@ pub struct ThinAnswer<P: Package> {
 pub fn read_thin<P: Package>(alloc: Global, package: P, name: &str) -> ThinAnswer<P>
     ensures keeps { SameParts (P.state «package») (P.state result.package) }
     ensures faults { OnOk result.result ((P.state result.package).faults ≡ (P.state «package»).faults) }
-    ensures cells { (P.state «package»).told ≡ true → IfOk result.result (λ cells. ReadsAs (P.state «package»).parts name.now (cells_of cells.items)) }
+    ensures cells { (P.state «package»).is_told ≡ true → IfOk result.result (λ cells. ReadsAs (P.state «package»).parts name.now (cells_of cells.items)) }
     ensures err { IfErr result.result (ThinFails name.now (P.state «package») (P.state result.package)) }
     ensures counts { IfErr result.result (KeepsFaults (P.state «package») (P.state result.package)) }
 {

@@ -134,9 +134,9 @@ fn read_name<P: Package>(
     ensures goes { Goes (reading_by P.state reader.old) (reading_by P.state reader.new) }
     ensures on { OnOk result (GoesOn (reading_by P.state reader.old) (reading_by P.state reader.new)) }
     ensures depth { OnOk result (length reader.old.cursor.names ≡ suc (length reader.new.cursor.names)) }
-    ensures skips { (P.state reader.old.package.now).told ≡ true → OnOk result (Skips (reading_by P.state reader.old) (reading_by P.state reader.new)) }
-    ensures takes { (P.state reader.old.package.now).told ≡ true → OnOk result (TakesEvents places.entry.folder.now (kept places.entry.relationships.now) (content 0 (ahead (reading_by P.state reader.old))) found.old found.new) }
-    ensures names { (P.state reader.old.package.now).told ≡ true → OnOk result (TextTaken (option_map string_bytes name) (content 0 (ahead (reading_by P.state reader.old))) (names_of found.old) (names_of found.new)) }
+    ensures skips { (P.state reader.old.package.now).is_told ≡ true → OnOk result (Skips (reading_by P.state reader.old) (reading_by P.state reader.new)) }
+    ensures takes { (P.state reader.old.package.now).is_told ≡ true → OnOk result (TakesEvents places.entry.folder.now (kept places.entry.relationships.now) (content 0 (ahead (reading_by P.state reader.old))) found.old found.new) }
+    ensures names { (P.state reader.old.package.now).is_told ≡ true → OnOk result (TextTaken (option_map string_bytes name) (content 0 (ahead (reading_by P.state reader.old))) (names_of found.old) (names_of found.new)) }
     ensures err { IfErr result (SectionFails (codes "workbook") 0 (IsNameRefused places.entry.folder.now (kept places.entry.relationships.now) found.old (option_map string_bytes name) (content 0 (ahead (reading_by P.state reader.old)))) (reading_by P.state reader.old) (reading_by P.state reader.new)) }
     ensures counts { IfErr result (KeepsFaults (P.state reader.old.package.now) (P.state reader.new.package.now)) }
 {
@@ -171,8 +171,8 @@ fn contents_in<P: Package>(
     ensures hold { KeepsHold reader.old reader.new }
     ensures goes { Goes (reading_by P.state reader.old) (reading_by P.state reader.new) }
     ensures on { OnOk result (GoesOn (reading_by P.state reader.old) (reading_by P.state reader.new)) }
-    ensures closed { (P.state reader.old.package.now).told ≡ true → OnOk result (is_closed 0 (ahead (reading_by P.state reader.old)) ≡ true) }
-    ensures contents { (P.state reader.old.package.now).told ≡ true → IfOk result (IsContents places.entry.folder.now (kept places.entry.relationships.now) (content 0 (ahead (reading_by P.state reader.old)))) }
+    ensures closed { (P.state reader.old.package.now).is_told ≡ true → OnOk result (is_closed 0 (ahead (reading_by P.state reader.old)) ≡ true) }
+    ensures contents { (P.state reader.old.package.now).is_told ≡ true → IfOk result (IsContents places.entry.folder.now (kept places.entry.relationships.now) (content 0 (ahead (reading_by P.state reader.old)))) }
     ensures err { IfErr result (SectionFails (codes "workbook") 0 (AreContentsRefused places.entry.folder.now (kept places.entry.relationships.now) (content 0 (ahead (reading_by P.state reader.old)))) (reading_by P.state reader.old) (reading_by P.state reader.new)) }
     ensures counts { IfErr result (KeepsFaults (P.state reader.old.package.now) (P.state reader.new.package.now)) }
 {
@@ -203,7 +203,7 @@ pub fn read_contents<P: Package>(
 ) -> Result<Option<WorkbookContents>, XlsxError>
     ensures keeps { SameParts (P.state «package».old) (P.state «package».new) }
     ensures faults { OnOk result ((P.state «package».new).faults ≡ (P.state «package».old).faults) }
-    ensures contents { (P.state «package».old).told ≡ true → IfOk result (λ found. MatchOption found (part_of (P.state «package».old).parts part.now ≡ None)
+    ensures contents { (P.state «package».old).is_told ≡ true → IfOk result (λ found. MatchOption found (part_of (P.state «package».old).parts part.now ≡ None)
         (λ contents. IsSomeAnd (closed_section_of (codes "workbook") part.now (P.state «package».old).parts) (λ inside. IsContents places.entry.folder.now (kept places.entry.relationships.now) inside contents))) }
     ensures err { IfErr result (OptionalPartFails (codes "workbook") part.now (AreContentsRefused places.entry.folder.now (kept places.entry.relationships.now)) (P.state «package».old) (P.state «package».new)) }
     ensures counts { IfErr result (KeepsFaults (P.state «package».old) (P.state «package».new)) }

@@ -44,11 +44,11 @@ impl<P: Package> Xlsx<P> {
             (λ xlsx. SameParts (P.state «package») (P.state xlsx.package))
             (λ failure. SameParts (P.state «package») (P.state failure.package)) }
         ensures faults { IfOk result (λ xlsx. (P.state xlsx.package).faults ≡ (P.state «package»).faults) }
-        ensures opens { (P.state «package»).told ≡ true → IfOk result (λ xlsx. OpensAs (P.state «package»).parts (opening_of xlsx.metadata xlsx.paths.items xlsx.is_1904)) }
-        ensures built { (P.state «package»).told ≡ true → OnOk result (IsBuilt (P.state «package»).parts) }
+        ensures opens { (P.state «package»).is_told ≡ true → IfOk result (λ xlsx. OpensAs (P.state «package»).parts (opening_of xlsx.metadata xlsx.paths.items xlsx.is_1904)) }
+        ensures built { (P.state «package»).is_told ≡ true → OnOk result (IsBuilt (P.state «package»).parts) }
         ensures err { IfErr result (λ failure. OpeningFails (P.state «package») (P.state failure.package) failure.error) }
         ensures counts { IfErr result (λ failure. KeepsFaults (P.state «package») (P.state failure.package) failure.error) }
-        ensures sound { (P.state «package»).told ≡ true → OpensSoundly (P.state «package»).parts → IfErr result (λ failure. SoundFails (P.state «package») (P.state failure.package) failure.error) }
+        ensures sound { (P.state «package»).is_told ≡ true → OpensSoundly (P.state «package»).parts → IfErr result (λ failure. SoundFails (P.state «package») (P.state failure.package) failure.error) }
     {
         let mut package = package;
         match open(alloc, &mut package) {
@@ -68,7 +68,7 @@ impl<P: Package> Xlsx<P> {
         ensures keeps { SameParts (P.state self.old.package) (P.state self.new.package) }
         ensures rest { (self.new.metadata ≡ self.old.metadata) × (self.new.paths ≡ self.old.paths) × (self.new.is_1904 ≡ self.old.is_1904) }
         ensures faults { OnOk result ((P.state self.new.package).faults ≡ (P.state self.old.package).faults) }
-        ensures cells { (P.state self.old.package).told ≡ true → IfOk result (λ cells. HasCells name.now (placed self.old.metadata.sheets.items self.old.paths.items) (P.state self.old.package).parts (cells_of cells.items)) }
+        ensures cells { (P.state self.old.package).is_told ≡ true → IfOk result (λ cells. HasCells name.now (placed self.old.metadata.sheets.items self.old.paths.items) (P.state self.old.package).parts (cells_of cells.items)) }
         ensures err { IfErr result (SheetFails name.now (placed self.old.metadata.sheets.items self.old.paths.items) (P.state self.old.package) (P.state self.new.package)) }
         ensures counts { IfErr result (KeepsFaults (P.state self.old.package) (P.state self.new.package)) }
     {

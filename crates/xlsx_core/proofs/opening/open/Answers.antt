@@ -21,14 +21,14 @@ returns-clause-opens g c = λ told.
     IfOk-weaker c.open_workbook.result (λ o. WorkbookOpens mid.parts c.as_str-2.result.now (opening_of o.metadata o.paths.items o.is_1904)) (λ o. OpensAs old.parts (opening_of o.metadata o.paths.items o.is_1904))
     (λ o opens. opens_as old mid path (opening_of o.metadata o.paths.items o.is_1904) same (c.in_ok-path.ensures.path told)
     (subst (λ (path : List ℕ). WorkbookOpens mid.parts path (opening_of o.metadata o.paths.items o.is_1904)) c.as_str-2.ensures.value opens))
-    (c.open_workbook.ensures.opened (same.told ∙ told))
+    (c.open_workbook.ensures.opened (same.is_told ∙ told))
 
 pub returns-clause-built : goal.returns-clause-built
 returns-clause-built g c = λ told.
     let old = g.P.Package.state c.args.package.now in
     let mid = g.P.Package.state c.read_path.new.package in
     let path = string_bytes c.in_ok-path.path in
-    let absent : LacksUnbuilt path mid.parts = subst (λ (path : List ℕ). LacksUnbuilt path mid.parts) c.as_str.ensures.value (c.in_ok-refuse_unbuilt.ensures.absent (c.read_path.ensures.keeps.told ∙ told)) in
+    let absent : LacksUnbuilt path mid.parts = subst (λ (path : List ℕ). LacksUnbuilt path mid.parts) c.as_str.ensures.value (c.in_ok-refuse_unbuilt.ensures.absent (c.read_path.ensures.keeps.is_told ∙ told)) in
     let built : IsBuilt old.parts = is_built old mid path c.read_path.ensures.keeps (c.in_ok-path.ensures.path told) absent in
     on_ok c.open_workbook.result built
 

@@ -21,7 +21,7 @@ returns-in_err-contents-clause-err g c =
     let path = c.args.path.now in
     let related = kept c.in_ok-relationships.relationships in
     let e = c.in_err-contents.field-0.0 in
-    let has : old.told ≡ true → HasRelationships old.parts path related = λ told.
+    let has : old.is_told ≡ true → HasRelationships old.parts path related = λ told.
     subst (λ (part : List ℕ). IsSomeAnd (closed_section_of (codes "Relationships") part old.parts) (λ inside. (id : List ℕ) → related_in inside id ≡ Ok (related id))) (c.as_str.ensures.value ∙ c.in_ok-part.ensures) (c.in_ok-relationships.ensures.related told)
     in
     let fails : OptionalPartFails (codes "workbook") (workbook_part path) (AreContentsRefused (folder_of path) related) mid new e =
@@ -42,7 +42,7 @@ returns-in-Some-clause-opened g c = λ told.
     subst (λ (part : List ℕ). IsSomeAnd (closed_section_of (codes "Relationships") part old.parts) (λ inside. (id : List ℕ) → related_in inside id ≡ Ok (related id))) (c.as_str.ensures.value ∙ c.in_ok-part.ensures) (c.in_ok-relationships.ensures.related told)
     in
     let contents : IsSomeAnd (closed_section_of (codes "workbook") c.as_str-2.result.now mid.parts) (λ inside. IsContents c.folder_of.result.now related inside found) =
-    rw c.in-Some.is at (c.in_ok-contents.ensures.contents (c.read_relationships.ensures.keeps.told ∙ told))
+    rw c.in-Some.is at (c.in_ok-contents.ensures.contents (c.read_relationships.ensures.keeps.is_told ∙ told))
     in
     let contents_here : IsSomeAnd (closed_section_of (codes "workbook") (workbook_part path) old.parts) (λ inside. IsContents (folder_of path) related inside found) =
     subst (λ (parts : List Part). IsSomeAnd (closed_section_of (codes "workbook") (workbook_part path) parts) (λ inside. IsContents (folder_of path) related inside found)) c.read_relationships.ensures.keeps.parts
@@ -61,7 +61,7 @@ returns-clause-opened g c = λ told.
     let has : HasRelationships old.parts path related =
     subst (λ (part : List ℕ). IsSomeAnd (closed_section_of (codes "Relationships") part old.parts) (λ inside. (id : List ℕ) → related_in inside id ≡ Ok (related id))) (c.as_str.ensures.value ∙ c.in_ok-part.ensures) (c.in_ok-relationships.ensures.related told)
     in
-    let absent : part_of mid.parts c.as_str-2.result.now ≡ None = rw c.in-None.is at (c.in_ok-contents.ensures.contents (c.read_relationships.ensures.keeps.told ∙ told)) in
+    let absent : part_of mid.parts c.as_str-2.result.now ≡ None = rw c.in-None.is at (c.in_ok-contents.ensures.contents (c.read_relationships.ensures.keeps.is_told ∙ told)) in
     let absent_here : part_of old.parts (workbook_part path) ≡ None =
     ap (λ (parts : List Part). part_of parts (workbook_part path)) (sym c.read_relationships.ensures.keeps.parts) ∙ ap (λ (part : List ℕ). part_of mid.parts part) (sym (c.as_str-2.ensures.value ∙ c.in_ok-part-2.ensures)) ∙ absent
     in

@@ -17,7 +17,7 @@ returns-clause-cells g c = λ told.
     let found : events_named name sheets old.parts ≡ Some mid.rest = some_there c.in_ok-open_sheet.field-0 (events_named name sheets old.parts) mid.rest c.if-not-branch.false (c.in_ok-open_sheet.ensures.opens told) in
     IfOk-weaker c.take_cells.result (λ cells. cells_from beginning mid.rest ≡ Some (cells_of cells.items)) (λ cells. HasCells name sheets old.parts (cells_of cells.items))
     (λ cells reads. has_cells name sheets old.parts mid.rest (cells_of cells.items) found reads)
-    (c.take_cells.ensures.cells (c.open_sheet.ensures.keeps.told ∙ told))
+    (c.take_cells.ensures.cells (c.open_sheet.ensures.keeps.is_told ∙ told))
 
 pub returns-clause-err : goal.returns-clause-err
 returns-clause-err g c =

@@ -15,7 +15,7 @@ invariant-starts g l =
     record {
       hold : KeepsHold l.fn.reader l.reader;
       reads : ReadsOn l.base old now;
-      path : old.source.told ≡ true → or_earlier (option_map string_bytes l.path) (path_in (content (inside l.base now) (ahead now))) ≡ path_in (content 0 (ahead old));
+      path : old.source.is_told ≡ true → or_earlier (option_map string_bytes l.path) (path_in (content (inside l.base now) (ahead now))) ≡ path_in (content 0 (ahead old));
     }
 
 abbrev pub decreases-starts : goal.decreases-starts

@@ -16,7 +16,7 @@ invariant-starts g l =
     record {
       hold : KeepsHold l.fn.reader l.reader;
       reads : ReadsOn l.base old now;
-      related : old.source.told ≡ true → (id : List ℕ) → or_earlier (kept l.map id) (related_in (content (inside l.base now) (ahead now)) id) ≡ related_in (content 0 (ahead old)) id;
+      related : old.source.is_told ≡ true → (id : List ℕ) → or_earlier (kept l.map id) (related_in (content (inside l.base now) (ahead now)) id) ≡ related_in (content 0 (ahead old)) id;
     }
 
 abbrev pub decreases-starts : goal.decreases-starts

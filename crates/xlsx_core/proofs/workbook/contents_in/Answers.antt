@@ -73,6 +73,6 @@ events-preserved-in-Continue-branch-4 g c =
       hold = search rules;
       reads = behind_element step.reads starts.deep starts.lies c.read_name.ensures.goes c.in_ok-read_name.ensures.on c.in_ok-read_name.ensures.depth c.in_ok-read_name.ensures.skips;
       keeps = λ told.
-          let still = step.reads.goes.parts.told ∙ told in
+          let still = step.reads.goes.parts.is_told ∙ told in
           keeps_name c.take_event.new.found step starts told (c.events.invariant.keeps told) c.in_ok-take_event.ensures.ok c.in_ok-take_event.ensures.names c.in_ok-name.ensures.ok (c.in_ok-read_name.ensures.takes still) (c.in_ok-read_name.ensures.names still) c.in_ok-read_name.ensures.depth (c.in_ok-read_name.ensures.skips still);
     }

@@ -15,7 +15,7 @@ invariant-events g l =
     record {
       hold : KeepsHold l.fn.reader l.reader;
       reads : ReadsOn l.base old now;
-      keeps : old.source.told ≡ true → KeepsContents l.places.folder.now (kept l.places.relationships.now) (content 0 (ahead old)) l.found (content (inside l.base now) (ahead now));
+      keeps : old.source.is_told ≡ true → KeepsContents l.places.folder.now (kept l.places.relationships.now) (content 0 (ahead old)) l.found (content (inside l.base now) (ahead now));
     }
 
 abbrev pub decreases-events : goal.decreases-events

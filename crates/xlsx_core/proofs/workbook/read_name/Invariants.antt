@@ -24,9 +24,9 @@ invariant-events g l =
       own : l.name ≡ l.fn.name;
       wanted : l.wanted ≡ is_some l.name;
       names : names_of l.found ≡ names_of l.fn.found;
-      carries : old.source.told ≡ true → (others : List Event) → Carries l.places.folder.now (kept l.places.relationships.now) l.fn.found (all ++ others) l.found (left ++ others);
-      text : old.source.told ≡ true → l.wanted ≡ true → JoinsText all (string_bytes l.text) left;
-      behind : old.source.told ≡ true → behind (inside l.depth now) (ahead now) ≡ behind 0 (ahead old);
+      carries : old.source.is_told ≡ true → (others : List Event) → Carries l.places.folder.now (kept l.places.relationships.now) l.fn.found (all ++ others) l.found (left ++ others);
+      text : old.source.is_told ≡ true → l.wanted ≡ true → JoinsText all (string_bytes l.text) left;
+      behind : old.source.is_told ≡ true → behind (inside l.depth now) (ahead now) ≡ behind 0 (ahead old);
     }
 
 abbrev pub decreases-events : goal.decreases-events
