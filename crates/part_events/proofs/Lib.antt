@@ -2,6 +2,7 @@ pub mod LookingBack
 pub mod Matches
 pub mod Names
 pub mod Nested
+pub mod Onward
 pub mod Opened
 pub mod Outermost
 pub mod Parts

@@ -32,19 +32,19 @@ next_element wanted base tag old new takes steps current was is =
     ap (λ (m : ℕ). let own : Element = record { tag = tag; inside = content 0 (ahead new); behind = length (content m (ahead new)) } in own) (sym deep)
     in
     let within = content-content 0 (suc n) (ahead new) (omega arith) in
-    let behind_it = goes_on_behind wanted 0 n (suc n) (ahead new) (omega arith) in
+    let behind_it = goes_on_behind 0 n (suc n) (ahead new) (omega arith) in
     record {
       is_wanted = is;
       elements = rw (taken, out)
           (ap (λ (b : Bool). if b then element_of tag all ∷ outermost_from wanted 1 all else outermost_from wanted 0 all) is
           ∙ ap (λ (inner : List Event). let here : Element = record { tag = tag; inside = inner; behind = length all } in here ∷ outermost_from wanted 1 all) within
-          ∙ ap (λ (others : List Element). first ∷ others) behind_it.elements
+          ∙ ap (λ (others : List Element). first ∷ others) (behind_it.elements wanted)
           ∙ ap (λ (own : Element). own ∷ outermost_from wanted 0 (content n (behind 0 (ahead new)))) here);
       unclosed = rw (taken, out)
           (ap (λ (b : Bool). if b then (if is_closed 0 all then unclosed_from wanted 1 all else Some (element_of tag all)) else unclosed_from wanted 0 all) is
           ∙ ap (λ (inner : List Event). if is_closed 0 all then unclosed_from wanted 1 all else Some (record { tag = tag; inside = inner; behind = length all })) within
           ∙ ap (λ (b : Bool). if b then unclosed_from wanted 1 all else Some first) (is_closed-content 0 (suc n) (ahead new) (omega arith))
-          ∙ ap (λ (others : Option Element). if is_closed 0 (ahead new) then others else Some first) behind_it.unclosed
+          ∙ ap (λ (others : Option Element). if is_closed 0 (ahead new) then others else Some first) (behind_it.unclosed wanted)
           ∙ ap (λ (own : Element). if is_closed 0 (ahead new) then unclosed_from wanted 0 (content n (behind 0 (ahead new))) else Some own) here);
       closed = rw (taken, out) behind_it.closed;
       behind = rw (taken, out) behind_it.left;

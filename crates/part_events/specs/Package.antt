@@ -1,5 +1,6 @@
 -- A package of parts, as its reader sees it.
-use Rattle.std.specs.Prelude.{◌≡◌, ℕ, ◌+◌, ◌-◌, ◌≤◌, ◌^◌, min, List, [], ◌∷◌, map, Bool, true, false, ◌==◌, if◌then◌else◌, Option, Some, None}
+use Rattle.std.specs.Prelude.{◌≡◌, ℕ, ◌+◌, ◌-◌, ◌≤◌, ◌^◌, min, List, [], ◌∷◌, length, map, Bool, true, false, ◌==◌, if◌then◌else◌, Option, Some, None, Result, MatchResult}
+use Rattle.std.specs.Option.{option_map_or}
 use Rattle.std.specs.Char.{to_ascii_lowercase}
 use Rattle.std.specs.Str.{bytes_eq}
 use Rattle.part_events.specs.Event.{Event}
@@ -93,3 +94,23 @@ pub record AdvanceCounts (more : Bool) (old new : PackageState) : Type 0 where
   pub left : old.left ≡ (if more then new.left + 1 else new.left)
   pub taken : new.taken ≡ (if more then min (old.taken + 1) (2 ^ 64 - 1) else old.taken)
   pub faults : new.faults ≡ old.faults
+
+-- how many events the first part of a name has
+abbrev pub events_in : List Part → List ℕ → ℕ
+events_in parts name = option_map_or length (part_of parts name) 0
+
+-- a call on a package that isn't refused, in which at most `most` events are taken
+pub record UsesPackage (most : ℕ) (old new : PackageState) : Type 0 where
+  pub parts : SameParts old new
+  pub faults : new.faults ≡ old.faults
+  pub taken : old.is_told ≡ true → new.taken ≤ old.taken + most
+
+-- a refused call on a package: `fault` alone may come with a higher count of faults
+pub record LeavesPackage {E : Type 0} (most : ℕ) (fault : E) (old new : PackageState) (error : E) : Type 0 where
+  pub parts : SameParts old new
+  pub faults : KeepsFaults fault old new error
+  pub taken : old.is_told ≡ true → new.taken ≤ old.taken + most
+
+-- what each call on a package keeps, by its answer
+abbrev pub Uses : {A E : Type 0} → ℕ → E → Result A E → PackageState → PackageState → Type 0
+Uses most fault result old new = MatchResult result (λ _. UsesPackage most old new) (LeavesPackage most fault old new)
