@@ -1,5 +1,5 @@
 -- Contents and elements: how those of a section and of an element in it go together.
-use Rattle.std.proofs.Common.{◌≡◌, ℕ, zero, suc, ◌+◌, ◌<◌, List, [], ◌∷◌, ◌++◌, Bool, false, refl, ap, arith}
+use Rattle.std.proofs.Common.{◌≡◌, ℕ, zero, suc, ◌+◌, ◌<◌, List, [], ◌∷◌, ◌++◌, length, Bool, true, false, refl, ap, arith}
 use Rattle.part_events.specs.Event.{Tag, Event, start, end, leaf}
 use Rattle.part_events.specs.Section.{content, is_closed, behind, starts_by, outermost_from, unclosed_from}
 
@@ -29,6 +29,10 @@ pub record GoesOnBehind (inner outer within : ℕ) (events : List Event) : Type 
   pub open_too : is_closed inner events ≡ false → is_closed within events ≡ false
   pub closed : is_closed within events ≡ is_closed outer (behind inner events)
   pub left : behind within events ≡ behind outer (behind inner events)
+  pub size :
+    is_closed inner events ≡ true →
+    length (content within events)
+    ≡ length (content inner events) + suc (length (content outer (behind inner events)))
   pub starts :
     (wanted : Tag → Bool) → starts_by wanted others ≡ starts_by wanted (content outer (behind inner events))
   pub elements :
@@ -47,6 +51,7 @@ goes_on_behind inner outer within [] is = record {
   open_too = λ _. refl;
   closed = refl;
   left = refl;
+  size = λ is_closed. absurd cc;
   starts = λ _. refl;
   elements = λ _. refl;
   unclosed = λ _. refl;
@@ -59,6 +64,7 @@ goes_on_behind inner outer within (start tag ∷ events) is =
       open_too = rest.open_too;
       closed = rest.closed;
       left = rest.left;
+      size = λ is_closed. omega (arith, rest.size is_closed);
       starts = rest.starts;
       elements = rest.elements;
       unclosed = rest.unclosed;
@@ -73,6 +79,7 @@ goes_on_behind zero outer (suc within) (end name ∷ events) is =
       open_too = λ is_open. absurd cc;
       closed = ap (λ (n : ℕ). is_closed n events) same;
       left = ap (λ (n : ℕ). behind n events) same;
+      size = λ _. rw same (omega arith);
       starts = λ wanted. ap (λ (n : ℕ). starts_by wanted (content n events)) same;
       elements = λ wanted. ap (λ (n : ℕ). outermost_from wanted 0 (content n events)) same;
       unclosed = λ wanted. ap (λ (n : ℕ). unclosed_from wanted 0 (content n events)) same;
@@ -85,6 +92,7 @@ goes_on_behind (suc inner) outer (suc within) (end name ∷ events) is =
       open_too = rest.open_too;
       closed = rest.closed;
       left = rest.left;
+      size = λ is_closed. omega (arith, rest.size is_closed);
       starts = rest.starts;
       elements = rest.elements;
       unclosed = rest.unclosed;
@@ -97,6 +105,7 @@ goes_on_behind inner outer within (leaf kind ∷ events) is =
       open_too = rest.open_too;
       closed = rest.closed;
       left = rest.left;
+      size = λ is_closed. omega (arith, rest.size is_closed);
       starts = rest.starts;
       elements = rest.elements;
       unclosed = rest.unclosed;

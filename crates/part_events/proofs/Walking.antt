@@ -4,7 +4,7 @@ use Rattle.std.specs.Prelude.{if◌then◌else◌}
 use Rattle.part_events.specs.Event.{Tag, Event, start, end, leaf}
 use Rattle.part_events.specs.Reading.{Reading, TakesEvent, StepsAhead, names_behind, IsEnclosed, ahead}
 use Rattle.part_events.specs.Section.{Element, element_of, content, is_closed, behind, outermost_from, unclosed_from}
-use Rattle.part_events.specs.Walk.{inside, element_at, SameAhead, IsNextElement}
+use Rattle.part_events.specs.Walk.{inside, element_at, section_end, SameAhead, IsNextElement}
 use Rattle.part_events.proofs.Sections.{content-content, is_closed-content, goes_on_behind}
 
 -- how many elements are open before and behind an event
@@ -19,8 +19,8 @@ goes_inside (end name) base [] after names enclosed was is = absurd (omega arith
 goes_inside (end name) base (first ∷ before) after names enclosed was is = let same = ap length names in omega arith
 goes_inside (leaf kind) base before after names enclosed was is = rw names refl
 
-pub next_element : (wanted : Tag → Bool) (base : ℕ) (tag : Tag) (old new : Reading) → TakesEvent old new → StepsAhead true old new → start tag ≡ new.source.current → base ≤ length old.names → wanted tag ≡ true → IsNextElement wanted base tag old new
-next_element wanted base tag old new takes steps current was is =
+pub next_element : (wanted : Tag → Bool) (base : ℕ) (tag : Tag) (old new : Reading) → TakesEvent old new → StepsAhead true old new → start tag ≡ new.source.current → base ≤ length old.names → section_end base old ≡ section_end base new → wanted tag ≡ true → IsNextElement wanted base tag old new
+next_element wanted base tag old new takes steps current was ends is =
     let taken : ahead old ≡ start tag ∷ ahead new = steps.0 ∙ ap (λ (event : Event). event ∷ ahead new) (sym current) in
     let names : new.names ≡ tag.name ∷ old.names = takes.names ∙ ap (λ (event : Event). names_behind event old.names) (sym current) in
     let out : inside base new - 1 ≡ inside base old = rw names (omega arith) in
@@ -48,6 +48,7 @@ next_element wanted base tag old new takes steps current was is =
           ∙ ap (λ (own : Element). if is_closed 0 (ahead new) then unclosed_from wanted 0 (content n (behind 0 (ahead new))) else Some own) here);
       closed = rw (taken, out) behind_it.closed;
       behind = rw (taken, out) behind_it.left;
+      ends = ends;
     }
 
 pub element_later : (wanted : Tag → Bool) (base : ℕ) (tag : Tag) (old mid new : Reading) → SameAhead wanted base old mid → IsNextElement wanted base tag mid new → IsNextElement wanted base tag old new
@@ -57,4 +58,5 @@ element_later wanted base tag old mid new same next = record {
   unclosed = same.unclosed ∙ next.unclosed;
   closed = same.closed ∙ next.closed;
   behind = same.behind ∙ next.behind;
+  ends = same.ends ∙ next.ends;
 }

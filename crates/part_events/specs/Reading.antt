@@ -1,10 +1,10 @@
 -- A reader of a part: what it is to its caller, and what its calls do.
-use Rattle.std.specs.Prelude.{◌≡◌, ⊤, ℕ, ◌+◌, ◌-◌, ◌<◌, ◌≤◌, ◌^◌, min, List, [], ◌∷◌, ◌++◌, length, reverse, slice_get, Bool, true, false, Result, MatchResult}
+use Rattle.std.specs.Prelude.{◌≡◌, ⊤, ℕ, suc, ◌+◌, ◌-◌, ◌<◌, ◌≤◌, ◌^◌, min, List, [], ◌∷◌, ◌++◌, length, reverse, slice_get, Bool, true, false, Result, MatchResult}
 use Rattle.std.specs.declared.alloc.Global.{Global}
 use Rattle.part_events.specs.Event.{Event, start, end, leaf, is_start}
 use Rattle.part_events.specs.Nesting.{starts_in, ends_in, depth, open_name, IsWhole, whole_rest, whole}
 use Rattle.part_events.specs.Package.{PackageState, HasCause, KeepsFaults, SameParts}
-use Rattle.part_events.specs.Section.{is_closed, behind}
+use Rattle.part_events.specs.Section.{content, is_closed, behind}
 use Rattle.part_events.specs.declared.cursor.Cursor.{Cursor}
 use Rattle.part_events.specs.declared.fault.StreamError.{StreamError}
 use Rattle.part_events.specs.declared.fault.StreamError.TheVariants.{Io, Xml, OutOfMemory}
@@ -189,6 +189,7 @@ pub record EndsOpen (events : List Event) (at : ℕ) : Type 0 where
 -- what is taken of an element is the rest of it, up to its match
 pub record Skips (old new : Reading) : Type 0 where
   pub closed : is_closed 0 (ahead old) ≡ true
+  pub size : new.at ≡ old.at + suc (length (content 0 (ahead old)))
   pub ahead : ahead new ≡ behind 0 (ahead old)
 
 -- when an element can't be skipped

@@ -1,5 +1,5 @@
 -- How a walk over a section goes: from its start, whose element is number `base` of the open ones, to its end.
-use Rattle.std.specs.Prelude.{◌≡◌, ⊤, ℕ, suc, ◌-◌, ◌<◌, ◌≤◌, List, [], ◌∷◌, length, map, Bool, true, false, if◌then◌else◌, Some, None, slice_get}
+use Rattle.std.specs.Prelude.{◌≡◌, ⊤, ℕ, suc, ◌+◌, ◌-◌, ◌<◌, ◌≤◌, List, [], ◌∷◌, length, map, Bool, true, false, if◌then◌else◌, Some, None, slice_get}
 use Rattle.part_events.specs.Event.{Tag, Event, start, IsStartAnd}
 use Rattle.part_events.specs.Package.{HasCause}
 use Rattle.part_events.specs.Reading.{Reading, IsAtElement, TakesEvent, StaysAtEnd, StepsAhead, IsAtEnd, BreaksAt, BreaksNext, ahead, events_of}
@@ -32,6 +32,10 @@ is_closed_ahead base r = is_closed (inside base r) (ahead r)
 abbrev pub behind_section : ℕ → Reading → List Event
 behind_section base r = behind (inside base r) (ahead r)
 
+-- the number that the section's end has in its part, where it is closed before the nesting breaks
+abbrev pub section_end : ℕ → Reading → ℕ
+section_end base r = r.at + length (section_ahead base r)
+
 -- where the reader stands after each step over the events of a section
 abbrev pub StandsInside : ℕ → Step → Reading → Reading → Type 0
 StandsInside base Found old new = TakesEvent old new × (base ≤ length new.names)
@@ -43,6 +47,7 @@ pub record TakesInside (base : ℕ) (old new : Reading) : Type 0 where
   pub events : section_ahead base old ≡ new.source.current ∷ section_ahead base new
   pub closed : is_closed_ahead base old ≡ is_closed_ahead base new
   pub behind : behind_section base old ≡ behind_section base new
+  pub ends : section_end base old ≡ section_end base new
   pub steps : StepsAhead true old new
 
 -- the end of the section was taken
@@ -50,6 +55,7 @@ pub record TakesLastEnd (base : ℕ) (old new : Reading) : Type 0 where
   pub events : section_ahead base old ≡ []
   pub closed : is_closed_ahead base old ≡ true
   pub behind : behind_section base old ≡ ahead new
+  pub ends : new.at ≡ suc (section_end base old)
   pub steps : StepsAhead true old new
 
 -- no event is left of the section, nor of the part
@@ -90,6 +96,7 @@ pub record SameAhead (wanted : Tag → Bool) (base : ℕ) (old new : Reading) : 
   pub unclosed : unclosed wanted (section_ahead base old) ≡ unclosed wanted (section_ahead base new)
   pub closed : is_closed_ahead base old ≡ is_closed_ahead base new
   pub behind : behind_section base old ≡ behind_section base new
+  pub ends : section_end base old ≡ section_end base new
   pub first : behind_start wanted (ahead old) ≡ behind_start wanted (ahead new)
 
 -- the next wanted start of the section
@@ -101,6 +108,7 @@ pub record IsNextStart (wanted : Tag → Bool) (base : ℕ) (tag : Tag) (old new
       ∷ starts_by wanted (section_ahead base new)
   pub closed : is_closed_ahead base old ≡ is_closed_ahead base new
   pub behind : behind_section base old ≡ behind_section base new
+  pub ends : section_end base old ≡ section_end base new
   pub first : behind_start wanted (ahead old) ≡ Some (ahead new)
   pub last : slice_get new.source.past 0 ≡ Some (start tag)
 
@@ -128,6 +136,7 @@ pub record IsNextElement (wanted : Tag → Bool) (base : ℕ) (tag : Tag) (old n
       else Some (element_at base tag new))
   pub closed : is_closed_ahead base old ≡ is_closed (inside base new - 1) (behind 0 (ahead new))
   pub behind : behind_section base old ≡ behind (inside base new - 1) (behind 0 (ahead new))
+  pub ends : section_end base old ≡ section_end base new
 
 -- the section is closed, and nothing was passed that is wanted
 pub record ClosesSection (wanted : Tag → Bool) (base : ℕ) (old new : Reading) : Type 0 where
@@ -135,6 +144,7 @@ pub record ClosesSection (wanted : Tag → Bool) (base : ℕ) (old new : Reading
   pub elements : outermost wanted (section_ahead base old) ≡ []
   pub closed : is_closed_ahead base old ≡ true
   pub behind : behind_section base old ≡ ahead new
+  pub ends : new.at ≡ suc (section_end base old)
 
 -- the part ended in the section, and nothing was passed that is wanted
 pub record EndsInSection (wanted : Tag → Bool) (base : ℕ) (old new : Reading) : Type 0 where

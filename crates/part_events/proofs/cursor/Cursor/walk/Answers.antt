@@ -17,4 +17,4 @@ returns-then-accepts-clause-elements g c = λ told.
     let steps : StepsInside c.args.base Found mid new = rw c.in-Found.is at (c.in_ok-next_inside.ensures.inside told_there) in
     rw (← c.in-Start.ensures)
     (element_later (wants c.args.wanted) c.args.base tag old mid new (c.events.invariant.ahead told)
-    (next_element (wants c.args.wanted) c.args.base tag mid new stands.0 steps.steps c.in-Start.ensures c.events.invariant.within (sym c.accepts.ensures ∙ c.if-accepts.true)))
+    (next_element (wants c.args.wanted) c.args.base tag mid new stands.0 steps.steps c.in-Start.ensures c.events.invariant.within steps.ends (sym c.accepts.ensures ∙ c.if-accepts.true)))

@@ -1,0 +1,201 @@
+-- When a section of a part can't be taken.
+use Rattle.std.specs.Prelude.{◌≡◌, ◌×◌, ⊤, ℕ, suc, ◌+◌, ◌-◌, ◌<◌, ◌≤◌, List, [], ◌∷◌, length, Bool, true, false, if◌then◌else◌, Option, Some, None, option_map, option_and_then, MatchOption, string_bytes}
+use Rattle.part_events.specs.Event.{Tag, Event, IsStartAnd}
+use Rattle.part_events.specs.Nesting.{whole}
+use Rattle.part_events.specs.Package.{Part, PackageState, HasCause, SameParts, part_of, events_in}
+use Rattle.part_events.specs.Reading.{Reading, IsReading, TakesEvent, IsAtElement, BreaksAt, ahead, events_of}
+use Rattle.part_events.specs.Section.{content, is_closed, behind_start, is_named}
+use Rattle.part_events.specs.Walk.{TakesInside, TakesLastEnd, IsNextStart, ClosesSection, inside}
+use Rattle.part_events.specs.declared.fault.XmlFault.TheVariants.{EndMismatch, Unclosed}
+use Rattle.cell_data.specs.declared.error.XlsxError.{XlsxError}
+use Rattle.cell_data.specs.declared.error.XlsxError.TheVariants.{OutOfMemory, Io, Xml, XmlEof, FileNotFound}
+use Rattle.xlsx_sections.specs.Refusal.{Refusal, RefusedAs}
+
+-- What is left of a section: all events of its part, the number of the first event that is left, how many elements are open
+-- in the section, and what is ahead, up to the first end that breaks the nesting.
+pub record PartSection : Type 0 where
+  pub events : List Event
+  pub first : ℕ
+  pub within : ℕ
+  pub ahead : List Event
+
+-- what stands in it, whether an end closes it, and the number of that end
+abbrev pub inside_of : PartSection → List Event
+inside_of s = content s.within s.ahead
+
+abbrev pub has_end : PartSection → Bool
+has_end s = is_closed s.within s.ahead
+
+abbrev pub last_of : PartSection → ℕ
+last_of s = s.first + length (inside_of s)
+
+-- what is left to a reader of the section whose element is number `base` of the open ones
+abbrev pub section_left : ℕ → Reading → PartSection
+section_left base r = record {
+  events = events_of r;
+  first = r.at;
+  within = inside base r;
+  ahead = ahead r;
+}
+
+-- the first section of this name, from behind its start
+abbrev pub section_behind : List Event → List Event → PartSection
+section_behind events ahead = record {
+  events = events;
+  first = length (whole events) - length ahead;
+  within = 0;
+  ahead = ahead;
+}
+
+abbrev pub section_in : List ℕ → List Event → Option PartSection
+section_in name events =
+    option_map (section_behind events) (behind_start (is_named (name ∷ [])) (whole events))
+
+-- the part ends in the section, whose nesting isn't broken
+abbrev pub EndsOpenIn : PartSection → Type 0
+EndsOpenIn s = (whole s.events ≡ s.events) × (has_end s ≡ false)
+
+-- Why a section can't be taken: the nesting breaks or the part ends before its end, or one of its elements is refused.
+-- `ending` is the text by which the end of the part is told, by what stands in the section; None where an element is skipped.
+abbrev pub SectionCause :
+    (List Event → Option (List ℕ)) → (PartSection → Refusal → Type 0) → PartSection → XlsxError → Type 0
+SectionCause ending refused s (Xml (EndMismatch at)) = BreaksAt s.events at × (has_end s ≡ false)
+SectionCause ending refused s (Xml (Unclosed at)) =
+    EndsOpenIn s × (ending (inside_of s) ≡ None) × (at ≡ length s.events)
+SectionCause ending refused s (XmlEof element) =
+    EndsOpenIn s × (ending (inside_of s) ≡ Some element.now)
+SectionCause ending refused s error = RefusedAs (last_of s) (refused s) error
+
+-- when a call that reads a section on is refused; want of memory may come at any time
+abbrev pub SectionFails :
+    (List Event → Option (List ℕ)) → (PartSection → Refusal → Type 0) → ℕ →
+    Reading → Reading → XlsxError → Type 0
+SectionFails ending refused base old new Io = HasCause old.source new.source
+SectionFails ending refused base old new OutOfMemory = ⊤
+SectionFails ending refused base old new error =
+    old.source.is_told ≡ true → SectionCause ending refused (section_left base old) error
+
+-- the part ends by the end of this element, whatever stands before
+abbrev pub always : List ℕ → List Event → Option (List ℕ)
+always name events = Some name
+
+-- no element is refused
+abbrev pub Never : PartSection → Refusal → Type 0
+Never s refusal = ⊥
+
+-- why the start of a section isn't found
+abbrev pub StartCause : List ℕ → List Event → XlsxError → Type 0
+StartCause name events (Xml (EndMismatch at)) = BreaksAt events at
+StartCause name events (XmlEof element) = (element.now ≡ name) × (whole events ≡ events)
+StartCause name events _ = ⊥
+
+-- when it isn't found in what is ahead of a reader
+abbrev pub StartFails : List ℕ → Reading → Reading → XlsxError → Type 0
+StartFails name old new Io = HasCause old.source new.source
+StartFails name old new OutOfMemory = ⊤
+StartFails name old new error =
+    old.source.is_told ≡ true →
+    (behind_start (is_named (name ∷ [])) (ahead old) ≡ None) × StartCause name (events_of old) error
+
+-- the part at this path was opened, and is read on behind the start of its first section of this name
+pub record EntersSection (name path : List ℕ) (old : PackageState) (new : Reading) : Type 0 where
+  pub reading : IsReading new
+  pub element : 0 < length new.names
+  pub parts : SameParts old new.source
+  pub faults : new.source.faults ≡ old.faults
+  pub taken :
+    old.is_told ≡ true →
+    new.source.taken + length new.source.rest ≤ old.taken + events_in old.parts path
+  pub part : old.is_told ≡ true → part_of old.parts path ≡ Some (events_of new)
+  pub section :
+    old.is_told ≡ true →
+    section_in name (events_of new) ≡ Some (section_left (length new.names) new)
+
+-- the part has no such section
+abbrev pub LacksSection : List ℕ → Option (List Event) → XlsxError → Type 0
+LacksSection name None error = ⊥
+LacksSection name (Some events) error =
+    (section_in name events ≡ None) × StartCause name events error
+
+-- when a section can't be entered, in a part that may be absent
+abbrev pub EnterFails : List ℕ → List ℕ → PackageState → PackageState → XlsxError → Type 0
+EnterFails name path old new Io = HasCause old new
+EnterFails name path old new OutOfMemory = ⊤
+EnterFails name path old new error =
+    old.is_told ≡ true → LacksSection name (part_of old.parts path) error
+
+-- why the first section of this name can't be taken: its start isn't there, or it is refused
+abbrev pub FirstSectionCause :
+    List ℕ → (List Event → Option (List ℕ)) → (PartSection → Refusal → Type 0) →
+    List Event → XlsxError → Type 0
+FirstSectionCause name ending refused events error =
+    MatchOption (section_in name events) (StartCause name events error)
+    (λ s. SectionCause ending refused s error)
+
+-- why that section of a part can't be taken, where the part may be absent
+abbrev pub OptionalPartCause :
+    List ℕ → (List Event → Option (List ℕ)) → (PartSection → Refusal → Type 0) →
+    Option (List Event) → XlsxError → Type 0
+OptionalPartCause name ending refused None error = ⊥
+OptionalPartCause name ending refused (Some events) error =
+    FirstSectionCause name ending refused events error
+
+-- and where the part, which is looked for by this path, has to be there
+abbrev pub PartCause :
+    List ℕ → (List Event → Option (List ℕ)) → (PartSection → Refusal → Type 0) →
+    List Part → List ℕ → XlsxError → Type 0
+PartCause name ending refused parts path (FileNotFound wanted) =
+    (string_bytes wanted ≡ path) × (part_of parts path ≡ None)
+PartCause name ending refused parts path error =
+    OptionalPartCause name ending refused (part_of parts path) error
+
+-- when the reading of a section is refused, in a part that may be absent
+abbrev pub OptionalPartFails :
+    List ℕ → (List Event → Option (List ℕ)) → (PartSection → Refusal → Type 0) → List ℕ →
+    PackageState → PackageState → XlsxError → Type 0
+OptionalPartFails name ending refused path old new Io = HasCause old new
+OptionalPartFails name ending refused path old new OutOfMemory = ⊤
+OptionalPartFails name ending refused path old new error =
+    old.is_told ≡ true → OptionalPartCause name ending refused (part_of old.parts path) error
+
+-- and in a part that has to be there
+abbrev pub PartFails :
+    List ℕ → (List Event → Option (List ℕ)) → (PartSection → Refusal → Type 0) → List ℕ →
+    PackageState → PackageState → XlsxError → Type 0
+PartFails name ending refused path old new Io = HasCause old new
+PartFails name ending refused path old new OutOfMemory = ⊤
+PartFails name ending refused path old new error =
+    old.is_told ≡ true → PartCause name ending refused old.parts path error
+
+-- what stands in the first section of this name, where its end is there before the nesting breaks
+abbrev pub if_closed : List Event → Option (List Event)
+if_closed events = if is_closed 0 events then Some (content 0 events) else None
+
+abbrev pub closed_section : List ℕ → List Event → Option (List Event)
+closed_section name events =
+    option_and_then if_closed (behind_start (is_named (name ∷ [])) (whole events))
+
+abbrev pub closed_section_of : List ℕ → List ℕ → List Part → Option (List Event)
+closed_section_of name part parts = option_and_then (closed_section name) (part_of parts part)
+
+-- Where a step in a section comes to: the next event is taken, and its number given, or the section's end.
+abbrev pub StandsAtEvent : ℕ → Option ℕ → Reading → Reading → Type 0
+StandsAtEvent base None old new = TakesEvent old new × (suc (length new.names) ≡ base)
+StandsAtEvent base (Some at) old new =
+    TakesEvent old new × (base ≤ length new.names) × (at ≡ old.at)
+
+abbrev pub FindsEvent : ℕ → Option ℕ → Reading → Reading → Type 0
+FindsEvent base None old new = TakesLastEnd base old new
+FindsEvent base (Some at) old new = TakesInside base old new
+
+-- the next wanted start is found, and its number given, or the section's end
+abbrev pub StandsAtStart : (Tag → Bool) → ℕ → Option ℕ → Reading → Reading → Type 0
+StandsAtStart wanted base None old new = suc (length new.names) ≡ base
+StandsAtStart wanted base (Some at) old new =
+    IsAtElement new × (base < length new.names)
+    × IsStartAnd new.source.current (λ tag. wanted tag ≡ true) × (suc at ≡ new.at) × (old.at ≤ at)
+
+abbrev pub FindsStartIn : (Tag → Bool) → ℕ → Option ℕ → Reading → Reading → Type 0
+FindsStartIn wanted base None old new = ClosesSection wanted base old new
+FindsStartIn wanted base (Some at) old new =
+    IsStartAnd new.source.current (λ tag. IsNextStart wanted base tag old new)

@@ -1,0 +1,131 @@
+ghost use Rattle.std.specs.Prelude.{◌≡◌, ◌≤◌, [], ◌∷◌, length, true, Some, IfOk, OnOk, IfErr};
+ghost use Rattle.part_events.specs.Event.{tag_of, start, is_start};
+ghost use Rattle.part_events.specs.Reading.{reading, open_elements, IsReading, IsAtElement, Reads, ahead};
+ghost use Rattle.part_events.specs.Section.{is_named, behind_start};
+ghost use Rattle.cell_data.specs.declared.error.XlsxError.TheVariants.{Io};
+ghost use Rattle.xlsx_sections.specs.PartSection.{always, Never, SectionFails, StartFails, StandsAtEvent, FindsEvent, StandsAtStart, FindsStartIn};
+
+use cell_data::XlsxError;
+use part_events::{Cursor, Package, PartEvent, StartTag, Step};
+
+/// The start at which the package stands.
+pub fn start_tag<P: Package>(package: &P) -> StartTag<'_>
+    requires event { (P.state «package».now).has_current ≡ true }
+    requires starts { is_start (P.state «package».now).current ≡ true }
+    ensures { start (tag_of result) ≡ (P.state «package».now).current }
+{
+    match package.event() {
+        PartEvent::Start(tag) => tag,
+        _ => unreachable!(),
+    }
+}
+
+/// Reads on behind the first start of this local name in a part.
+pub fn enter<P: Package>(
+    package: &mut P,
+    cursor: &mut Cursor,
+    name: &'static str,
+) -> Result<(), XlsxError>
+    requires reading { IsReading (reading (P.state «package».old) cursor.old) }
+    ensures reads {
+        let old = reading (P.state «package».old) cursor.old in
+        let new = reading (P.state «package».new) cursor.new in
+        Reads Io result old new
+    }
+    ensures element { OnOk result (IsAtElement (reading (P.state «package».new) cursor.new)) }
+    ensures found {
+        let old = reading (P.state «package».old) cursor.old in
+        let new = reading (P.state «package».new) cursor.new in
+        old.source.is_told ≡ true →
+        OnOk result (behind_start (is_named (name.now ∷ [])) (ahead old) ≡ Some (ahead new))
+    }
+    ensures err {
+        let old = reading (P.state «package».old) cursor.old in
+        let new = reading (P.state «package».new) cursor.new in
+        IfErr result (StartFails name.now old new)
+    }
+{
+    match cursor.next_start(package, 0, &[name])? {
+        Step::Found => Ok(()),
+        Step::Ended => Err(XlsxError::XmlEof(name)),
+        Step::Closed => unreachable!(),
+    }
+}
+
+/// Reads on to the next start of this local name in a section, whose element is number `base` of the open ones, counted
+/// from 1. Answers the number of the start in its part, counted from 0, and None at the section's end.
+pub fn next_start_in<P: Package>(
+    package: &mut P,
+    cursor: &mut Cursor,
+    base: usize,
+    name: &str,
+    section: &'static str,
+) -> Result<Option<u64>, XlsxError>
+    requires reading { IsReading (reading (P.state «package».old) cursor.old) }
+    requires within { base ≤ length (open_elements cursor.old) }
+    ensures reads {
+        let old = reading (P.state «package».old) cursor.old in
+        let new = reading (P.state «package».new) cursor.new in
+        Reads Io result old new
+    }
+    ensures stands {
+        let old = reading (P.state «package».old) cursor.old in
+        let new = reading (P.state «package».new) cursor.new in
+        IfOk result (λ found. StandsAtStart (is_named (name.now ∷ [])) base found old new)
+    }
+    ensures found {
+        let old = reading (P.state «package».old) cursor.old in
+        let new = reading (P.state «package».new) cursor.new in
+        old.source.is_told ≡ true →
+        IfOk result (λ found. FindsStartIn (is_named (name.now ∷ [])) base found old new)
+    }
+    ensures err {
+        let old = reading (P.state «package».old) cursor.old in
+        let new = reading (P.state «package».new) cursor.new in
+        IfErr result (SectionFails (always section.now) Never base old new)
+    }
+{
+    match cursor.next_start(package, base, &[name])? {
+        Step::Found => Ok(Some(cursor.at() - 1)),
+        Step::Closed => Ok(None),
+        Step::Ended => Err(XlsxError::XmlEof(section)),
+    }
+}
+
+/// Takes the next event of a section, whose element is number `base` of the open ones, counted from 1. Answers the number
+/// of the event in its part, counted from 0, and None where that was the section's end.
+pub fn next_event_in<P: Package>(
+    package: &mut P,
+    cursor: &mut Cursor,
+    base: usize,
+    section: &'static str,
+) -> Result<Option<u64>, XlsxError>
+    requires reading { IsReading (reading (P.state «package».old) cursor.old) }
+    requires within { base ≤ length (open_elements cursor.old) }
+    ensures reads {
+        let old = reading (P.state «package».old) cursor.old in
+        let new = reading (P.state «package».new) cursor.new in
+        Reads Io result old new
+    }
+    ensures stands {
+        let old = reading (P.state «package».old) cursor.old in
+        let new = reading (P.state «package».new) cursor.new in
+        IfOk result (λ found. StandsAtEvent base found old new)
+    }
+    ensures found {
+        let old = reading (P.state «package».old) cursor.old in
+        let new = reading (P.state «package».new) cursor.new in
+        old.source.is_told ≡ true → IfOk result (λ found. FindsEvent base found old new)
+    }
+    ensures err {
+        let old = reading (P.state «package».old) cursor.old in
+        let new = reading (P.state «package».new) cursor.new in
+        IfErr result (SectionFails (always section.now) Never base old new)
+    }
+{
+    match cursor.next_inside(package, base)? {
+        Step::Found => Ok(Some(cursor.at() - 1)),
+        Step::Closed => Ok(None),
+        Step::Ended => Err(XlsxError::XmlEof(section)),
+    }
+}
