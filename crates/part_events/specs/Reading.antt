@@ -117,6 +117,15 @@ pub record StopsReading {E : Type 0} (fault : E) (old new : Reading) (error : E)
   pub faults : KeepsFaults fault old.source new.source error
   pub failed : new.is_failed ≡ true
 
+-- a refused call that doesn't say whether the part can be read on
+pub record LeavesPart {E : Type 0} (fault : E) (old new : Reading) (error : E) : Type 0 where
+  pub moves : MovesForward old new
+  pub faults : KeepsFaults fault old.source new.source error
+
+-- what a call keeps that reads a part on, by its answer
+abbrev pub ReadsPart : {A E : Type 0} → E → Result A E → Reading → Reading → Type 0
+ReadsPart fault result old new = MatchResult result (λ _. ReadsOn old new) (LeavesPart fault old new)
+
 -- what each call of a reader keeps, by its answer
 abbrev pub Reads : {A E : Type 0} → E → Result A E → Reading → Reading → Type 0
 Reads fault result old new = MatchResult result (λ _. ReadsOn old new) (StopsReading fault old new)

@@ -1,16 +1,18 @@
 -- How a section is read on.
-use Rattle.std.proofs.Common.{◌≡◌, ◌×◌, ℕ, suc, ◌+◌, ◌-◌, ◌≤◌, List, [], ◌∷◌, length, true, Some, None, refl, sym, ◌∙◌, ap, subst, arith}
+use Rattle.std.proofs.Common.{◌≡◌, ℕ, suc, ◌+◌, ◌-◌, ◌≤◌, List, [], ◌∷◌, length, Bool, true, Some, None, Option, refl, sym, ◌∙◌, ap, subst, arith}
+use Rattle.std.specs.Option.{option_map_or}
 use Rattle.std.proofs.lemmas.List.{length-append, length-reverse}
 use Rattle.std.specs.Prelude.{option_map, reverse, ◌++◌}
 use Rattle.part_events.specs.Event.{Tag, Event, start, IsStartAnd}
 use Rattle.part_events.specs.Nesting.{whole, whole_rest}
-use Rattle.part_events.specs.Reading.{Reading, ReadsOn, Skips, TakesEvent, StepsAhead, ahead, events_of}
+use Rattle.part_events.specs.Package.{PackageState, SameParts, OpenCounts, Opens, part_of, events_in}
+use Rattle.part_events.specs.Reading.{Reading, ReadsOn, IsTracked, IsAtElement, Skips, TakesEvent, StepsAhead, ahead, events_of}
 use Rattle.part_events.specs.Section.{PlacedTag, content, is_closed, behind, starts_by, behind_start, is_named}
 use Rattle.part_events.specs.Walk.{inside, section_ahead, is_closed_ahead, behind_section, TakesInside, IsNextStart}
 use Rattle.part_events.proofs.Nested.{whole_split}
 use Rattle.part_events.proofs.Onward.{reads_further}
 use Rattle.part_events.proofs.Sections.{GoesOnBehind}
-use Rattle.xlsx_sections.specs.PartSection.{PartSection, section_left, section_behind, last_of, StandsAtEvent, FindsEvent, StandsAtStart, FindsStartIn}
+use Rattle.xlsx_sections.specs.PartSection.{PartSection, EntersSection, section_left, section_behind, section_in, last_of, StandsAtEvent, FindsEvent, StandsAtStart, FindsStartIn}
 
 -- a section was read on
 pub record ReadsSection (base : ℕ) (first now : Reading) : Type 0 where
@@ -73,3 +75,76 @@ pub record IsStartFound (wanted : Tag → Bool) (base : ℕ) (tag : Tag) (place 
   pub there :
     first.source.is_told ≡ true →
     place + suc (length (section_ahead base new)) ≡ last_of (section_left base first)
+
+pub start_found : {base place : ℕ} {tag : Tag} {first old new : Reading} (wanted : Tag → Bool) → start tag ≡ new.source.current → ReadsSection base first old → ReadsOn old new → StandsAtStart wanted base (Some place) old new → (old.source.is_told ≡ true → FindsStartIn wanted base (Some place) old new) → IsStartFound wanted base tag place first old new
+start_found {base = base} {place = place} {tag = tag} {first = first} {old = old} {new = new} wanted current before reads stands finds =
+    let next : old.source.is_told ≡ true → IsNextStart wanted base tag old new = λ told.
+    subst (λ (event : Event). IsStartAnd event (λ own. IsNextStart wanted base own old new)) (sym current) (finds told)
+    in
+    let still : first.source.is_told ≡ true → old.source.is_told ≡ true = λ told. before.reads.moves.parts.is_told ∙ told in
+    let here : ReadsSection base first new = section_further before reads (omega (arith, stands.1))
+    (λ told. (sym (next told).closed, sym (next told).ends))
+    in
+    record {
+      read = here;
+      starts = λ told. (next (still told)).starts;
+      there = λ told. omega (arith, stands.3, here.last told);
+    }
+
+-- a section is read on behind an element that lies in it, at whose start `new` stands
+pub behind_element : {base outer : ℕ} {first new later : Reading} → ReadsSection base first new → inside base new ≡ suc outer → GoesOnBehind 0 outer (inside base new) (ahead new) → ReadsOn new later → length new.names ≡ suc (length later.names) → (new.source.is_told ≡ true → Skips new later) → ReadsSection base first later
+behind_element {base = base} {outer = outer} {new = new} {later = later} before deep lies reads depth skips =
+    let out : inside base later ≡ outer = omega (arith, depth, deep) in
+    section_further before reads (omega (arith, depth, deep))
+    (λ told.
+    let skipped = skips told in
+    let left : section_ahead base later ≡ content outer (behind 0 (ahead new)) = rw (out, skipped.ahead) refl in (
+      rw (out, skipped.ahead) (sym lies.closed),
+      omega (arith, ap length left, skipped.size, lies.size skipped.closed),
+    ))
+
+-- what is left behind the start of the first section of a name is that section
+pub first_section_left : (name : List ℕ) (opened entered : Reading) → opened.source.past ≡ [] → IsTracked entered → events_of entered ≡ events_of opened → behind_start (is_named (name ∷ [])) (ahead opened) ≡ Some (ahead entered) → section_in name (events_of entered) ≡ Some (section_left (length entered.names) entered)
+first_section_left name opened entered fresh tracked same found =
+    let past = entered.source.past in
+    let longest : whole (events_of entered) ≡ reverse past ++ ahead entered = whole_split past entered.source.rest tracked.whole in
+    let at_first : whole (events_of entered) ≡ ahead opened =
+    ap whole same ∙ ap (λ (before : List Event). whole (reverse before ++ opened.source.rest)) fresh
+    ∙ ap (λ (before : List Event). whole_rest before opened.source.rest) (sym fresh)
+    in
+    let place : length (whole (events_of entered)) - length (ahead entered) ≡ entered.at =
+    omega (arith, ap length longest, length-append (reverse past) (ahead entered), length-reverse past, tracked.at)
+    in
+    let none : inside (length entered.names) entered ≡ 0 = omega arith in
+    let there : section_behind (events_of entered) (ahead entered) ≡ section_left (length entered.names) entered =
+    rw none (ap (λ (n : ℕ). let s : PartSection = record { events = events_of entered; first = n; within = 0; ahead = ahead entered } in s) place)
+    in
+    ap (λ (all : List Event). option_map (section_behind (events_of entered)) (behind_start (is_named (name ∷ [])) all)) at_first
+    ∙ ap (option_map (section_behind (events_of entered))) found
+    ∙ ap (λ (s : PartSection). Some s) there
+
+-- the part was opened, and read on behind the start of its first section of this name
+pub section_entered : {name path : List ℕ} {found : Bool} {old : PackageState} {opened entered : Reading} → found ≡ true → SameParts old opened.source → OpenCounts found old opened.source → (old.is_told ≡ true → Opens path found old opened.source) → ReadsOn opened entered → IsAtElement entered → (opened.source.is_told ≡ true → behind_start (is_named (name ∷ [])) (ahead opened) ≡ Some (ahead entered)) → EntersSection name path old entered
+section_entered {name = name} {path = path} {old = old} {opened = opened} {entered = entered} is same counted opens reads element behind =
+    let counts : OpenCounts true old opened.source = rw is at counted in
+    let opening : old.is_told ≡ true → Opens path true old opened.source = λ told. rw is at (opens told) in
+    let there : old.is_told ≡ true → part_of old.parts path ≡ Some (events_of opened) = λ told.
+    (opening told).part ∙ ap (λ (past : List Event). Some (reverse past ++ opened.source.rest)) (sym (opening told).past)
+    in
+    record {
+      reading = reads.stays.reading;
+      element = reads.stays.reading.element element;
+      parts = record {
+        is_told = reads.moves.parts.is_told ∙ same.is_told;
+        parts = reads.moves.parts.parts ∙ same.parts;
+        faults = omega (arith, reads.moves.parts.faults, same.faults);
+      };
+      faults = reads.stays.faults ∙ counts.faults;
+      taken = λ told.
+          let size : events_in old.parts path ≡ length opened.source.rest = ap (λ (part : Option (List Event)). option_map_or length part 0) (opening told).part in
+          omega (arith, reads.moves.within (same.is_told ∙ told), counts.taken, size);
+      part = λ told. there told ∙ ap (λ (events : List Event). Some events) (sym (reads.stays.part (same.is_told ∙ told)));
+      section = λ told.
+          let told_there = same.is_told ∙ told in
+          first_section_left name opened entered (opening told).past (reads.stays.reading.tracked (reads.moves.parts.is_told ∙ told_there)) (reads.stays.part told_there) (behind told_there);
+    }

@@ -1,5 +1,5 @@
 -- Why an element of a section can't be taken, and which error tells of it. A new section adds its refusals to both.
-use Rattle.std.specs.Prelude.{◌≡◌, ◌×◌, ◌⊎◌, ⊤, ℕ, suc, ◌+◌, List, codes, string_bytes, Result, Ok, Err}
+use Rattle.std.specs.Prelude.{◌≡◌, ◌⊎◌, ⊤, ℕ, suc, ◌+◌, List, codes, string_bytes, Result, Ok, Err}
 use Rattle.attr_text.specs.Text.{decoded}
 use Rattle.attr_text.specs.declared.fault.AttrFault.{AttrFault}
 use Rattle.part_events.specs.declared.fault.XmlFault.TheVariants.{Entity}

@@ -5,4 +5,4 @@ mod decode;
 mod section;
 
 pub use decode::decode_at;
-pub use section::{enter, next_event_in, next_start_in, start_tag};
+pub use section::{enter, enter_part, next_event_in, next_start_in, start_tag};

@@ -1,12 +1,14 @@
-ghost use Rattle.std.specs.Prelude.{◌≡◌, ◌≤◌, [], ◌∷◌, length, true, Some, IfOk, OnOk, IfErr};
+ghost use Rattle.std.specs.Prelude.{◌≡◌, ◌≤◌, [], ◌∷◌, length, true, Some, None, IfOk, OnOk, IfErr, IfSome, IfNone};
 ghost use Rattle.part_events.specs.Event.{tag_of, start, is_start};
-ghost use Rattle.part_events.specs.Reading.{reading, open_elements, IsReading, IsAtElement, Reads, ahead};
+ghost use Rattle.part_events.specs.Package.{UsesPackage, LeavesPackage, part_of, events_in};
+ghost use Rattle.part_events.specs.Reading.{reading, open_elements, IsReading, IsAtElement, ReadsPart, ahead};
 ghost use Rattle.part_events.specs.Section.{is_named, behind_start};
 ghost use Rattle.cell_data.specs.declared.error.XlsxError.TheVariants.{Io};
-ghost use Rattle.xlsx_sections.specs.PartSection.{always, Never, SectionFails, StartFails, StandsAtEvent, FindsEvent, StandsAtStart, FindsStartIn};
+ghost use Rattle.xlsx_sections.specs.PartSection.{always, Never, EntersSection, EnterFails, SectionFails, StartFails, StandsAtEvent, FindsEvent, StandsAtStart, FindsStartIn};
 
 use cell_data::XlsxError;
 use part_events::{Cursor, Package, PartEvent, StartTag, Step};
+use std::alloc::Global;
 
 /// The start at which the package stands.
 pub fn start_tag<P: Package>(package: &P) -> StartTag<'_>
@@ -30,7 +32,7 @@ pub fn enter<P: Package>(
     ensures reads {
         let old = reading (P.state «package».old) cursor.old in
         let new = reading (P.state «package».new) cursor.new in
-        Reads Io result old new
+        ReadsPart Io result old new
     }
     ensures element { OnOk result (IsAtElement (reading (P.state «package».new) cursor.new)) }
     ensures found {
@@ -66,7 +68,7 @@ pub fn next_start_in<P: Package>(
     ensures reads {
         let old = reading (P.state «package».old) cursor.old in
         let new = reading (P.state «package».new) cursor.new in
-        Reads Io result old new
+        ReadsPart Io result old new
     }
     ensures stands {
         let old = reading (P.state «package».old) cursor.old in
@@ -105,7 +107,7 @@ pub fn next_event_in<P: Package>(
     ensures reads {
         let old = reading (P.state «package».old) cursor.old in
         let new = reading (P.state «package».new) cursor.new in
-        Reads Io result old new
+        ReadsPart Io result old new
     }
     ensures stands {
         let old = reading (P.state «package».old) cursor.old in
@@ -128,4 +130,40 @@ pub fn next_event_in<P: Package>(
         Step::Closed => Ok(None),
         Step::Ended => Err(XlsxError::XmlEof(section)),
     }
+}
+
+/// Opens the part at this path, and reads on behind the start of its first section of this local name. Answers where reading
+/// stands then, and None where there is no such part.
+pub fn enter_part<P: Package>(
+    alloc: Global,
+    package: &mut P,
+    path: &str,
+    name: &'static str,
+) -> Result<Option<Cursor>, XlsxError>
+    ensures absent {
+        let old = P.state «package».old in
+        let new = P.state «package».new in
+        IfOk result (λ found. IfNone found (
+            UsesPackage 0 old new × (old.is_told ≡ true → part_of old.parts path.now ≡ None)))
+    }
+    ensures enters {
+        let old = P.state «package».old in
+        IfOk result (λ found. IfSome found (λ cursor.
+            EntersSection name.now path.now old (reading (P.state «package».new) cursor)))
+    }
+    ensures leaves {
+        let old = P.state «package».old in
+        let new = P.state «package».new in
+        IfErr result (LeavesPackage (events_in old.parts path.now) Io old new)
+    }
+    ensures err {
+        IfErr result (EnterFails name.now path.now (P.state «package».old) (P.state «package».new))
+    }
+{
+    if !package.open(path)? {
+        return Ok(None);
+    }
+    let mut cursor = Cursor::new(alloc, package);
+    enter(package, &mut cursor, name)?;
+    Ok(Some(cursor))
 }

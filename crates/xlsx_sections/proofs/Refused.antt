@@ -1,0 +1,102 @@
+-- How a refusal passes from a call to the section and the part that it reads.
+use Rattle.std.proofs.Common.{◌≡◌, ℕ, suc, ◌+◌, List, true, false, Option, Some, None, ◌∙◌, sym, subst, inl, inr, arith, codes, length, Result, Err, String, Global, string_bytes}
+use Rattle.std.specs.Prelude.{MatchOption}
+use Rattle.part_events.specs.Event.{Event}
+use Rattle.part_events.specs.Nesting.{whole}
+use Rattle.part_events.specs.Package.{PackageState, SameParts, part_of}
+use Rattle.part_events.specs.Reading.{Reading, BreaksAt}
+use Rattle.part_events.specs.declared.fault.XmlFault.TheVariants.{EndMismatch, Unclosed, Entity}
+use Rattle.cell_data.specs.declared.error.XlsxError.{XlsxError}
+use Rattle.cell_data.specs.declared.error.XlsxError.TheVariants.{OutOfMemory, Io, Xml, XmlAttr, XmlEof, FileNotFound, RelationshipNotFound, Unrecognized}
+use Rattle.xlsx_sections.specs.PartSection.{PartSection, inside_of, has_end, last_of, section_left, section_in, EndsOpenIn, SectionCause, SectionFails, StartCause, EntersSection, OptionalPartCause, OptionalPartFails, PartFails, EnterFails, LacksSection, always, Never}
+use Rattle.xlsx_sections.specs.Refusal.{Refusal, RefusedAs, ElementFails}
+use Rattle.xlsx_sections.proofs.SectionsRead.{ReadsSection}
+
+-- what is refused in one section is refused in another, whose end has the number `last`
+pub refused_weaker : {inner last : ℕ} (before after : Refusal → Type 0) (error : XlsxError) → ((refusal : Refusal) → after refusal → before refusal) → inner ≡ last → RefusedAs inner after error → RefusedAs last before error
+refused_weaker before after (Xml (Entity at)) weaker same (behind, place, refuses) = (behind, place ∙ same, weaker _ refuses)
+refused_weaker before after (XmlAttr fault) weaker same refuses = weaker _ refuses
+refused_weaker before after RelationshipNotFound weaker same refuses = weaker _ refuses
+refused_weaker before after (Unrecognized typ val) weaker same (inl found) = inl (found.0, weaker _ found.1)
+refused_weaker before after (Unrecognized typ val) weaker same (inr found) = inr (found.0, weaker _ found.1)
+refused_weaker before after _ weaker same refuses = absurd refuses
+
+-- a section is refused behind what was read of it
+pub refused_later : (base : ℕ) (first mid : Reading) (ending : List Event → Option (List ℕ)) (after before : PartSection → Refusal → Type 0) (new : Reading) (error : XlsxError) → ReadsSection base first mid → (first.source.is_told ≡ true → ending (inside_of (section_left base mid)) ≡ ending (inside_of (section_left base first))) → (first.source.is_told ≡ true → (refusal : Refusal) → after (section_left base mid) refusal → before (section_left base first) refusal) → SectionFails ending after base mid new error → SectionFails ending before base first new error
+refused_later base first mid ending after before new Io read ends weaker fails = omega (arith, read.reads.stays.faults, fails)
+refused_later base first mid ending after before new OutOfMemory read ends weaker fails = tt
+refused_later base first mid ending after before new (Xml (EndMismatch at)) read ends weaker fails = λ told.
+    let cause = fails (read.reads.moves.parts.is_told ∙ told) in
+    (subst (λ (events : List Event). BreaksAt events at) (read.reads.stays.part told) cause.0, sym (read.closed told) ∙ cause.1)
+refused_later base first mid ending after before new (Xml (Unclosed at)) read ends weaker fails = λ told.
+    let cause = fails (read.reads.moves.parts.is_told ∙ told) in
+    let same = read.reads.stays.part told in (
+      (subst (λ (events : List Event). whole events ≡ events) same cause.0.0, sym (read.closed told) ∙ cause.0.1),
+      sym (ends told) ∙ cause.1,
+      subst (λ (events : List Event). at ≡ length events) same cause.2,
+    )
+refused_later base first mid ending after before new (XmlEof element) read ends weaker fails = λ told.
+    let cause = fails (read.reads.moves.parts.is_told ∙ told) in
+    let same = read.reads.stays.part told in (
+      (subst (λ (events : List Event). whole events ≡ events) same cause.0.0, sym (read.closed told) ∙ cause.0.1),
+      sym (ends told) ∙ cause.1,
+    )
+refused_later base first mid ending after before new error read ends weaker fails = λ told.
+    refused_weaker (before (section_left base first)) (after (section_left base mid)) error (weaker told) (read.last told) (fails (read.reads.moves.parts.is_told ∙ told))
+
+-- a step in an element that lies in a section is refused, and so is the section
+pub refused_outside : (inner base : ℕ) (mid : Reading) (name : List ℕ) (refused : PartSection → Refusal → Type 0) (new : Reading) (error : XlsxError) → (mid.source.is_told ≡ true → has_end (section_left inner mid) ≡ false → has_end (section_left base mid) ≡ false) → SectionFails (always name) Never inner mid new error → SectionFails (always name) refused base mid new error
+refused_outside inner base mid name refused new Io open_too fails = fails
+refused_outside inner base mid name refused new OutOfMemory open_too fails = tt
+refused_outside inner base mid name refused new (Xml (EndMismatch at)) open_too fails = λ told. ((fails told).0, open_too told (fails told).1)
+refused_outside inner base mid name refused new (Xml (Unclosed at)) open_too fails = λ told. (((fails told).0.0, open_too told (fails told).0.1), (fails told).1, (fails told).2)
+refused_outside inner base mid name refused new (XmlEof element) open_too fails = λ told. (((fails told).0.0, open_too told (fails told).0.1), (fails told).1)
+refused_outside inner base mid name refused new (Xml (Entity at)) open_too fails = λ told. absurd ((fails told).2)
+refused_outside inner base mid name refused new (XmlAttr fault) open_too fails = λ told. absurd (fails told)
+refused_outside inner base mid name refused new RelationshipNotFound open_too fails = λ told. absurd (fails told)
+refused_outside inner base mid name refused new (Unrecognized typ val) open_too fails = λ told. elim (fails told) [ inl found ↦ absurd found.1 | inr found ↦ absurd found.1 ]
+refused_outside inner base mid name refused new _ open_too fails = λ told. absurd (fails told)
+
+-- an element of a section is refused
+pub element_refused : {A : Type 0} (base at behind : ℕ) (first : Reading) (ending : List Event → Option (List ℕ)) (answer : Result A Refusal) (refused : PartSection → Refusal → Type 0) (new : Reading) (error : XlsxError) → (first.source.is_told ≡ true → at + suc behind ≡ last_of (section_left base first)) → (first.source.is_told ≡ true → (refusal : Refusal) → answer ≡ Err refusal → refused (section_left base first) refusal) → ElementFails answer at behind error → SectionFails ending refused base first new error
+element_refused base at behind first ending answer refused new Io there weaker fails = absurd fails
+element_refused base at behind first ending answer refused new OutOfMemory there weaker fails = tt
+element_refused base at behind first ending answer refused new (Xml (EndMismatch place)) there weaker fails = absurd fails
+element_refused base at behind first ending answer refused new (Xml (Unclosed place)) there weaker fails = absurd fails
+element_refused base at behind first ending answer refused new (XmlEof element) there weaker fails = absurd fails
+element_refused base at behind first ending answer refused new error there weaker fails = λ told.
+    refused_weaker (refused (section_left base first)) (λ (refusal : Refusal). answer ≡ Err refusal) error (weaker told) (there told) fails
+
+-- the first section of a part is refused behind its start
+pub part_refused : {name path : List ℕ} {old : PackageState} {mid : Reading} (ending : List Event → Option (List ℕ)) (refused : PartSection → Refusal → Type 0) (new : Reading) (error : XlsxError) → EntersSection name path old mid → SectionFails ending refused (length mid.names) mid new error → OptionalPartFails name ending refused path old new.source error
+part_refused ending refused new Io enters fails = omega (arith, enters.faults, fails)
+part_refused ending refused new OutOfMemory enters fails = tt
+part_refused ending refused new error enters fails = λ told.
+    rw (enters.part told, enters.section told) (fails (enters.parts.is_told ∙ told))
+
+lacks_section : (name : List ℕ) (ending : List Event → Option (List ℕ)) (refused : PartSection → Refusal → Type 0) (part : Option (List Event)) (error : XlsxError) → LacksSection name part error → OptionalPartCause name ending refused part error
+lacks_section name ending refused None error lacks = lacks
+lacks_section name ending refused (Some events) error (absent, cause) = rw absent cause
+
+-- the section isn't there
+pub enter_refused : (name path : List ℕ) (old new : PackageState) (ending : List Event → Option (List ℕ)) (refused : PartSection → Refusal → Type 0) (error : XlsxError) → EnterFails name path old new error → OptionalPartFails name ending refused path old new error
+enter_refused name path old new ending refused Io fails = fails
+enter_refused name path old new ending refused OutOfMemory fails = tt
+enter_refused name path old new ending refused error fails = λ told.
+    lacks_section name ending refused (part_of old.parts path) error (fails told)
+
+no_file : (name : List ℕ) (ending : List Event → Option (List ℕ)) (refused : PartSection → Refusal → Type 0) (events : List Event) (found : Option PartSection) (wanted : String Global) → MatchOption found (StartCause name events (FileNotFound wanted)) (λ s. SectionCause ending refused s (FileNotFound wanted)) → ⊥
+no_file name ending refused events None wanted cause = cause
+no_file name ending refused events (Some s) wanted cause = cause
+
+no_file_there : (name : List ℕ) (ending : List Event → Option (List ℕ)) (refused : PartSection → Refusal → Type 0) (part : Option (List Event)) (wanted : String Global) → OptionalPartCause name ending refused part (FileNotFound wanted) → ⊥
+no_file_there name ending refused None wanted cause = cause
+no_file_there name ending refused (Some events) wanted cause = no_file name ending refused events (section_in name events) wanted cause
+
+-- so is a part that has to be there
+pub required_part_refused : (name path : List ℕ) (old new : PackageState) (ending : List Event → Option (List ℕ)) (refused : PartSection → Refusal → Type 0) (error : XlsxError) → OptionalPartFails name ending refused path old new error → PartFails name ending refused path old new error
+required_part_refused name path old new ending refused Io fails = fails
+required_part_refused name path old new ending refused OutOfMemory fails = tt
+required_part_refused name path old new ending refused (FileNotFound wanted) fails = λ told.
+    absurd (no_file_there name ending refused (part_of old.parts path) wanted (fails told))
+required_part_refused name path old new ending refused error fails = fails
