@@ -1,12 +1,12 @@
 -- A text decoded run by run.
-use Rattle.std.proofs.Common.{◌≡◌, ℕ, zero, suc, ◌+◌, ◌-◌, ◌<◌, ◌≤◌, Bool, false, List, [], ◌∷◌, ◌++◌, length, drop, get_or, Ok, Err, Some, None, Result, refl, sym, ap, ◌∙◌, arith, append_assoc, append-nil, length-drop}
-use Rattle.std.specs.Prelude.{◌==◌, encode_utf8}
+use Rattle.std.proofs.Common.{◌≡◌, ℕ, zero, suc, ◌+◌, ◌-◌, ◌<◌, ◌≤◌, Bool, true, false, List, [], ◌∷◌, ◌++◌, length, drop, get_or, Ok, Err, Some, None, Option, Result, refl, sym, ap, ap₂, ◌∙◌, inl, inr, arith, append_assoc, append-nil, length-drop}
+use Rattle.std.specs.Prelude.{◌==◌, ◌≢◌, if◌then◌else◌, nat_lt, encode_utf8}
 use Rattle.std.specs.List.{position_or_len, before_first, after_first}
-use Rattle.std.proofs.lemmas.Bool.{lt-ltb, le-ltb}
+use Rattle.std.proofs.lemmas.Bool.{lt-ltb, le-ltb, ltb-true, ne_eqb, cases_Bool}
 use Rattle.std.proofs.lemmas.List.Sums.{fails_before_first}
 use Rattle.std.proofs.lemmas.List.{length-take}
 use Rattle.attr_text.proofs.CutsLemmas.{fails_in_before_first, split_at_mark}
-use Rattle.attr_text.specs.Text.{entity_character, onto_text, onto_character, character_behind, is_semicolon, decoded_within}
+use Rattle.attr_text.specs.Text.{entity_character, onto_text, onto_character, character_behind, is_semicolon, decoded_within, onto_decoded, decoded}
 
 -- `&`
 abbrev is_ampersand : ℕ → Bool
@@ -96,3 +96,112 @@ character_behind-name behind name some name_is =
 pub after-le : (text behind after : List ℕ) → behind ≡ after_first is_ampersand text → after ≡ after_first is_semicolon behind → length after ≤ length text
 after-le text behind after behind_is after_is =
     omega (arith, ap length behind_is, ap length after_is, length-drop (position_or_len is_ampersand text + 1) text, length-drop (position_or_len is_semicolon behind + 1) behind)
+
+onto_text-decoded : (front written : List ℕ) (taken : ℕ) (r : Result (List ℕ) ℕ) →
+    onto_text front (onto_decoded written taken r) ≡ onto_decoded (front ++ written) taken r
+onto_text-decoded front written taken (Ok text) = ap Ok (sym (append_assoc front written text))
+onto_text-decoded front written taken (Err at) = refl
+
+onto_character-decoded : (taken place : ℕ) (c : Option ℕ) (r : Result (List ℕ) ℕ) →
+    onto_character (taken + place) c (onto_decoded [] taken r)
+    ≡ onto_decoded [] taken (onto_character place c r)
+onto_character-decoded taken place None r = refl
+onto_character-decoded taken place (Some c) (Ok text) = refl
+onto_character-decoded taken place (Some c) (Err at) = refl
+
+onto_text-decoded_text : (front : List ℕ) (taken : ℕ) (r : Result (List ℕ) ℕ) →
+    onto_text front (onto_decoded [] taken r) ≡ onto_decoded [] taken (onto_text front r)
+onto_text-decoded_text front taken (Ok text) = refl
+onto_text-decoded_text front taken (Err at) = refl
+
+-- more bytes in front move the place of a refusal
+decoded_within-later : (taken size : ℕ) (text : List ℕ) (skipped : ℕ) → length text ≤ size →
+    decoded_within (taken + size) text skipped ≡ onto_decoded [] taken (decoded_within size text skipped)
+unfolding decoded_within
+decoded_within-later taken size [] skipped within = refl
+decoded_within-later taken size (b ∷ bs) (suc skipped) within =
+    decoded_within-later taken size bs skipped (omega arith)
+decoded_within-later taken size (b ∷ bs) zero within =
+    let behind = position_or_len is_semicolon bs + 1 in
+    let place : taken + size - length (b ∷ bs) ≡ taken + (size - length (b ∷ bs)) = omega arith in
+    elim (b == 38) as (λ q.
+        (if q then onto_character (taken + size - length (b ∷ bs)) (character_behind bs)
+            (decoded_within (taken + size) bs behind)
+        else onto_text (b ∷ []) (decoded_within (taken + size) bs 0))
+        ≡ onto_decoded [] taken (if q then onto_character (size - length (b ∷ bs))
+            (character_behind bs) (decoded_within size bs behind)
+        else onto_text (b ∷ []) (decoded_within size bs 0))) [
+      | true ↦ ap₂ (λ n r. onto_character n (character_behind bs) r) place
+          (decoded_within-later taken size bs behind (omega arith))
+          ∙ onto_character-decoded taken (size - length (b ∷ bs)) (character_behind bs)
+              (decoded_within size bs behind)
+      | false ↦ ap (onto_text (b ∷ [])) (decoded_within-later taken size bs 0 (omega arith))
+          ∙ onto_text-decoded_text (b ∷ []) taken (decoded_within size bs 0)
+    ]
+
+-- the end of a text, decoded by itself
+decoded_within-end : (taken size : ℕ) (text : List ℕ) → size ≡ taken + length text →
+    decoded_within size text 0 ≡ onto_decoded [] taken (decoded text)
+unfolding decoded
+decoded_within-end taken size text is =
+    ap (λ n. decoded_within n text 0) is ∙ decoded_within-later taken (length text) text 0 (omega arith)
+
+pub decoded-nil : decoded [] ≡ Ok []
+unfolding decoded decoded_within
+decoded-nil = refl
+
+first_of_one : (b k : ℕ) → k < 1 → get_or (b ∷ []) k 0 ≡ b
+first_of_one b zero l = refl
+first_of_one b (suc k) l = absurd (omega arith)
+
+-- a byte other than `&` in front
+pub decoded-other : (b : ℕ) (rest : List ℕ) → b ≢ 38 →
+    decoded (b ∷ rest) ≡ onto_decoded (b ∷ []) 1 (decoded rest)
+unfolding decoded
+decoded-other b rest other =
+    let size = length (b ∷ rest) in
+    decoded_within-run size (b ∷ []) rest (λ k l. rw (first_of_one b k l) (ne_eqb b 38 other))
+    ∙ ap (onto_text (b ∷ [])) (decoded_within-end 1 size rest (omega arith))
+    ∙ onto_text-decoded (b ∷ []) [] 1 (decoded rest)
+
+decoded-ampersand : (rest : List ℕ) → decoded (38 ∷ rest)
+    ≡ onto_character 0 (character_behind rest)
+    (decoded_within (length (38 ∷ rest)) (after_first is_semicolon rest) 0)
+unfolding decoded
+decoded-ampersand rest =
+    let size = length (38 ∷ rest) in
+    let first : size - size ≡ 0 = omega arith in
+    decoded_within-ampersand size rest
+    ∙ ap (λ n. onto_character n (character_behind rest)
+        (decoded_within size (after_first is_semicolon rest) 0)) first
+
+-- a reference without a character in front
+pub decoded-refused : (rest : List ℕ) → character_behind rest ≡ None → decoded (38 ∷ rest) ≡ Err 0
+decoded-refused rest none = decoded-ampersand rest ∙ rw none refl
+
+semicolon_stands : (rest : List ℕ) (c : ℕ) → character_behind rest ≡ Some c →
+    position_or_len is_semicolon rest < length rest
+semicolon_stands rest c some =
+    let at = position_or_len is_semicolon rest in
+    elim (cases_Bool (nat_lt at (length rest))) [
+      | inl stands ↦ ltb-true at (length rest) stands
+      | inr absent ↦
+        let none : character_behind rest ≡ None = rw absent refl in
+        absurd cc
+    ]
+
+-- a reference with a character in front
+pub decoded-character : (rest : List ℕ) (c : ℕ) → character_behind rest ≡ Some c →
+    decoded (38 ∷ rest) ≡ onto_decoded (encode_utf8 c) (length (before_first is_semicolon rest) + 2)
+    (decoded (after_first is_semicolon rest))
+decoded-character rest c some =
+    let size = length (38 ∷ rest) in
+    let at = position_or_len is_semicolon rest in
+    let after = after_first is_semicolon rest in
+    let taken = length (before_first is_semicolon rest) + 2 in
+    let whole : size ≡ taken + length after =
+        omega (arith, semicolon_stands rest c some, length-take at rest, length-drop (at + 1) rest) in
+    decoded-ampersand rest
+    ∙ rw some (ap (onto_text (encode_utf8 c)) (decoded_within-end taken size after whole))
+    ∙ onto_text-decoded (encode_utf8 c) [] taken (decoded after)
+    ∙ rw append-nil refl

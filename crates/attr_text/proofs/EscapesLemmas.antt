@@ -17,7 +17,7 @@ unescaped_within-skip (b ∷ bs) zero = refl
 unescaped_within-skip (b ∷ bs) (suc n) = unescaped_within-skip bs n
 
 -- no escape begins the text
-unescaped-byte : (b : ℕ) (bs : List ℕ) → escaped_character (b ∷ bs) ≡ None → unescaped (b ∷ bs) ≡ b ∷ unescaped bs
+pub unescaped-byte : (b : ℕ) (bs : List ℕ) → escaped_character (b ∷ bs) ≡ None → unescaped (b ∷ bs) ≡ b ∷ unescaped bs
 unfolding unescaped_within unescaped
 unescaped-byte b bs none = ap (λ (o : Option ℕ). onto_unescaped o b (unescaped_within bs 0) (unescaped_within bs 6)) none
 
@@ -44,7 +44,7 @@ unescaped-more text i within so_far none =
 pub unescaped-start : (text : List ℕ) → unescaped text ≡ take 0 text ++ unescaped (drop 0 text)
 unescaped-start text = refl
 
-unescaped-nil : unescaped [] ≡ []
+pub unescaped-nil : unescaped [] ≡ []
 unfolding unescaped_within unescaped
 unescaped-nil = refl
 
@@ -87,3 +87,9 @@ HasEscapeAt-found text i c within so_far some =
           ∙ ap (λ (t : List ℕ). take i text ++ t) (unescaped-escape b c rest (ap escaped_character (sym here) ∙ some))
           ∙ ap (λ (t : List ℕ). take i text ++ (encode_utf8 c ++ unescaped t)) behind;
     }
+
+-- an escape begins the text, and the rest stands behind its seven bytes
+pub unescaped-seven : (text : List ℕ) (c : ℕ) → escaped_character text ≡ Some c →
+    unescaped text ≡ encode_utf8 c ++ unescaped (drop 7 text)
+unescaped-seven [] c some = absurd cc
+unescaped-seven (b ∷ bs) c some = unescaped-escape b c bs some

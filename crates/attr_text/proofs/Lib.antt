@@ -6,6 +6,7 @@ pub mod DigitsLemmas
 pub mod EntityLemmas
 pub mod DecodedLemmas
 pub mod LinesLemmas
+pub mod LookupsByKey
 pub mod EscapesLemmas
 pub mod CutsLemmas
 pub mod SlowLemmas

@@ -1,6 +1,6 @@
 -- Line ends, run by run.
 use Rattle.std.proofs.Common.{◌≡◌, ℕ, suc, ◌+◌, ◌<◌, ◌≤◌, Bool, true, false, List, [], ◌∷◌, ◌++◌, length, get_or, refl, sym, ap, ◌∙◌, arith, append-nil, append_assoc, length-drop, inl, inr}
-use Rattle.std.specs.Prelude.{◌==◌, if◌then◌else◌}
+use Rattle.std.specs.Prelude.{◌==◌, ◌≢◌, if◌then◌else◌}
 use Rattle.std.specs.List.{position_or_len, before_first, after_first}
 use Rattle.std.proofs.lemmas.Bool.{eq-eqb, ne_eqb, cases_eq}
 use Rattle.std.proofs.lemmas.List.Sums.{fails_before_first}
@@ -83,3 +83,27 @@ line_written out run rest whole text so_far first =
 -- a run and its CR
 pub length-mark : (text run : List ℕ) → position_or_len is_return text < length text → run ≡ before_first is_return text → length run + 1 ≤ length text
 length-mark text run some run_is = omega (arith, ap length run_is, length-take (position_or_len is_return text) text)
+
+pub line_ends-nil : line_ends [] ≡ []
+unfolding line_ends line_ends_behind
+line_ends-nil = refl
+
+-- a CR in front, and an LF behind it or none
+line_ends-return : (rest : List ℕ) → line_ends (13 ∷ rest) ≡ 10 ∷ line_ends (without_line_feed rest)
+unfolding line_ends
+line_ends-return rest = line_ends_behind-at_return rest
+
+pub line_ends-return_and_feed : (rest : List ℕ) → line_ends (13 ∷ 10 ∷ rest) ≡ 10 ∷ line_ends rest
+line_ends-return_and_feed rest = line_ends-return (10 ∷ rest)
+
+pub line_ends-lone_return : (b : ℕ) (rest : List ℕ) → b ≢ 10 →
+    line_ends (13 ∷ b ∷ rest) ≡ 10 ∷ line_ends (b ∷ rest)
+line_ends-lone_return b rest lone = line_ends-return (b ∷ rest) ∙ rw (ne_eqb b 10 lone) refl
+
+pub line_ends-last_return : line_ends (13 ∷ []) ≡ 10 ∷ []
+line_ends-last_return = line_ends-return [] ∙ ap (λ (t : List ℕ). 10 ∷ t) line_ends-nil
+
+-- another byte in front
+pub line_ends-other : (b : ℕ) (rest : List ℕ) → b ≢ 13 → line_ends (b ∷ rest) ≡ b ∷ line_ends rest
+unfolding line_ends line_ends_behind
+line_ends-other b rest other = rw (ne_eqb b 13 other) refl

@@ -112,6 +112,18 @@ lookup keys text =
     let values = first_values keys (items text) in
     answer values (list_all is_some values) (ending_fault (items text))
 
+-- the first of several answers, and the others: each value, or the first refusal
+abbrev pub with_values : {A : Type 0} → Result A AttrFault → Result (List A) AttrFault →
+    Result (List A) AttrFault
+with_values (Ok first) (Ok others) = Ok (first ∷ others)
+with_values (Ok first) (Err fault) = Err fault
+with_values (Err fault) others = Err fault
+
+-- the value of each answer, or the first refusal
+abbrev pub all_values : {A : Type 0} → List (Result A AttrFault) → Result (List A) AttrFault
+all_values [] = Ok []
+all_values (first ∷ others) = with_values first (all_values others)
+
 -- the key is the local name, or ends in `:` and the local name
 abbrev pub has_local_name : List ℕ → List ℕ → Bool
 has_local_name local key = bytes_eq key local || ends_with nat_eq key (58 ∷ local)

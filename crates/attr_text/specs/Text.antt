@@ -77,6 +77,12 @@ decoded_within size (b ∷ bs) zero =
 unfoldable pub decoded : List ℕ → Result (List ℕ) ℕ
 decoded text = decoded_within (length text) text 0
 
+-- the decoded text behind a front that takes this many bytes and says this; a refusal's place counts
+-- from where the front begins
+abbrev pub onto_decoded : List ℕ → ℕ → Result (List ℕ) ℕ → Result (List ℕ) ℕ
+onto_decoded front taken (Ok text) = Ok (front ++ text)
+onto_decoded front taken (Err at) = Err (taken + at)
+
 -- the text with CR LF and each lone CR as LF, where it follows a CR or not
 unfoldable pub line_ends_behind : Bool → List ℕ → List ℕ
 line_ends_behind after_return [] = []

@@ -1,6 +1,8 @@
-ghost use Rattle.std.specs.Prelude.{◌≡◌, ◌≤◌, ◌++◌, min, true, false, MatchOption, MatchResult, IfOk, IfErr, IsSomeAnd, OnOk, OnErr, Ok, Err, Some, None, encode_utf8, string_bytes};
+ghost use Rattle.std.specs.Prelude.{◌≡◌, ◌≢◌, ◌<◌, ◌≤◌, ◌+◌, ◌++◌, ℕ, List, [], ◌∷◌, length, min, true, false, MatchOption, IfOk, IfErr, IfSome, IsSomeAnd, OnOk, OnErr, Ok, Err, Some, None, encode_utf8, string_bytes};
+ghost use Rattle.std.specs.String.{string_len, string_capacity};
+ghost use Rattle.std.specs.List.{before_first, after_first};
 ghost use Rattle.std.specs.Str.Parse.{digits_value};
-ghost use Rattle.attr_text.specs.Text.{all_digits, character_of_digits, unnamed_character, entity_character, decoded};
+ghost use Rattle.attr_text.specs.Text.{all_digits, character_of_digits, unnamed_character, entity_character, is_semicolon, character_behind, onto_decoded, decoded};
 ghost use Rattle.attr_text.specs.Fault.{DecodeFails, EntityFails};
 
 use crate::cuts::split_first;
@@ -90,12 +92,16 @@ pub fn decode_attr(alloc: Global, text: &str) -> Result<String, TextFault>
     Ok(out)
 }
 
-/// Appends the character of an entity's name. After a refusal `out` is as it was.
+/// Appends the character of an entity's name. Where the name has one, it is refused only where the
+/// capacity has no room for it. After a refusal `out` is as it was.
 pub fn push_entity(out: &mut String, name: &str) -> Result<(), TextFault>
     ensures ok { OnOk result (IsSomeAnd (entity_character name.now)
         (λ c. string_bytes out.new ≡ string_bytes out.old ++ encode_utf8 c)) }
     ensures err { IfErr result (EntityFails name.now) }
     ensures unchanged { OnErr result (string_bytes out.new ≡ string_bytes out.old) }
+    ensures capacity { string_capacity out.old ≤ string_capacity out.new }
+    ensures full { OnErr result (IfSome (entity_character name.now)
+        (λ c. string_capacity out.old < string_len out.old + length (encode_utf8 c))) }
 {
     match entity_char(name) {
         Some(c) => {
@@ -105,3 +111,17 @@ pub fn push_entity(out: &mut String, name: &str) -> Result<(), TextFault>
         None => Err(TextFault::Entity { at: 0 }),
     }
 }
+
+/// A text decoded by what stands first in it: the `&` of a reference, or another byte. The place of
+/// a refusal counts from the first byte. It computes nothing: its contract is what a proof cites.
+pub fn decoded_in_order()
+    ensures none { decoded [] ≡ Ok [] }
+    ensures character { (rest : List ℕ) (c : ℕ) → character_behind rest ≡ Some c →
+        decoded (38 ∷ rest) ≡ onto_decoded (encode_utf8 c)
+            (length (before_first is_semicolon rest) + 2)
+            (decoded (after_first is_semicolon rest)) }
+    ensures refused { (rest : List ℕ) → character_behind rest ≡ None →
+        decoded (38 ∷ rest) ≡ Err 0 }
+    ensures other { (b : ℕ) (rest : List ℕ) → b ≢ 38 →
+        decoded (b ∷ rest) ≡ onto_decoded (b ∷ []) 1 (decoded rest) }
+{}

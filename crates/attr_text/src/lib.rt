@@ -10,11 +10,11 @@ mod lookup;
 mod text;
 mod values;
 
-pub use entity::{decode_attr, entity_char, push_entity};
+pub use entity::{decode_attr, decoded_in_order, entity_char, push_entity};
 pub use fault::{AttrFault, TextFault};
 pub use items::{RawAttrIter, items_in_order};
-pub use lookup::{RawAttributes, local_name, local_name_matches};
-pub use text::{push_line_ends, unescape_hex};
+pub use lookup::{RawAttributes, local_name, local_name_matches, lookups_go_by_key};
+pub use text::{line_ends_in_order, push_line_ends, unescape_hex, unescaped_in_order};
 pub use values::{AttrValue, five_values, four_values, six_values, three_values, two_values};
 
 #[cfg(test)]

@@ -1,6 +1,6 @@
-ghost use Rattle.std.specs.Prelude.{◌≡◌, ◌≤◌, ℕ, List, length, MatchResult, Ok, Err};
+ghost use Rattle.std.specs.Prelude.{◌≡◌, ◌≤◌, ℕ, List, length, map, Any, Option, ◌↔◌, MatchResult, Ok, Err};
 ghost use Rattle.std.specs.Option.{option_copied};
-ghost use Rattle.attr_text.specs.Attributes.{items, value_of, value_of_local, has_local_name, local_name_of};
+ghost use Rattle.attr_text.specs.Attributes.{items, lookup, all_values, value_of, value_of_local, has_local_name, local_name_of};
 ghost use Rattle.attr_text.specs.AttrIter.{attrs_left};
 ghost use Rattle.attr_text.specs.Wanted.{accepts, answer_of};
 
@@ -98,3 +98,14 @@ pub trait RawAttributes {
         find_value(self.attributes_raw(), Wanted::LocalName(local_name))
     }
 }
+
+/// The lookup of several keys is that of each by itself: it gives the value of each, or the fault
+/// in which one of them is refused.
+pub fn lookups_go_by_key()
+    ensures each { (keys : List (List ℕ)) (text : List ℕ) →
+        lookup keys text ≡ all_values (map (λ key. value_of key text) keys) }
+    ensures found { (keys : List (List ℕ)) (values : List (Option (List ℕ))) (text : List ℕ) →
+        lookup keys text ≡ Ok values ↔ map (λ key. value_of key text) keys ≡ map Ok values }
+    ensures refused { (keys : List (List ℕ)) (fault : AttrFault) (text : List ℕ) →
+        lookup keys text ≡ Err fault ↔ Any (λ key. value_of key text ≡ Err fault) keys }
+{}

@@ -1,4 +1,4 @@
-ghost use Rattle.std.specs.Prelude.{◌≡◌, ◌≤◌, ◌+◌, ◌++◌, [], ◌∷◌, length, MatchOption, IfOk, OnOk, OnErr, string_bytes};
+ghost use Rattle.std.specs.Prelude.{◌≡◌, ◌≢◌, ◌<◌, ◌≤◌, ◌+◌, ◌++◌, ℕ, List, [], ◌∷◌, length, drop, MatchOption, IfOk, OnOk, OnErr, Some, None, string_bytes, encode_utf8};
 ghost use Rattle.std.specs.String.{string_len, string_capacity};
 ghost use Rattle.attr_text.specs.Text.{line_ends, unescaped, escaped_character};
 ghost use Rattle.attr_text.specs.Lines.{without_line_feed};
@@ -29,10 +29,13 @@ fn push_line(out: &mut String, run: &str)
     out.push('\n').unwrap();
 }
 
-/// Appends the text, with CR LF and each lone CR as LF. After a refusal `out` is as it was.
+/// Appends the text, with CR LF and each lone CR as LF. It is refused only where the
+/// capacity has no room for the text as it is written, and `out` is then as it was.
 pub fn push_line_ends(out: &mut String, text: &str) -> Result<(), AllocError>
     ensures ok { OnOk result (string_bytes out.new ≡ string_bytes out.old ++ line_ends text.now) }
     ensures unchanged { OnErr result (string_bytes out.new ≡ string_bytes out.old) }
+    ensures capacity { string_capacity out.old ≤ string_capacity out.new }
+    ensures full { OnErr result (string_capacity out.old < string_len out.old + length text.now) }
 {
     out.reserve(text.len())?;
     let mut rest = text;
@@ -81,3 +84,25 @@ pub fn unescape_hex(alloc: Global, text: &str) -> Result<String, AllocError>
     out.push_str(rest)?;
     Ok(out)
 }
+
+/// The line ends of a text by what stands first in it: CR LF, a lone CR, or another byte. It
+/// computes nothing: its contract is what a proof cites.
+pub fn line_ends_in_order()
+    ensures none { line_ends [] ≡ [] }
+    ensures return_and_feed { (rest : List ℕ) →
+        line_ends (13 ∷ 10 ∷ rest) ≡ 10 ∷ line_ends rest }
+    ensures lone_return { (b : ℕ) (rest : List ℕ) → b ≢ 10 →
+        line_ends (13 ∷ b ∷ rest) ≡ 10 ∷ line_ends (b ∷ rest) }
+    ensures last_return { line_ends (13 ∷ []) ≡ 10 ∷ [] }
+    ensures other { (b : ℕ) (rest : List ℕ) → b ≢ 13 → line_ends (b ∷ rest) ≡ b ∷ line_ends rest }
+{}
+
+/// A text without its escapes by what stands first in it: an escape, which has seven bytes, or a
+/// byte. It computes nothing: its contract is what a proof cites.
+pub fn unescaped_in_order()
+    ensures none { unescaped [] ≡ [] }
+    ensures escape { (text : List ℕ) (c : ℕ) → escaped_character text ≡ Some c →
+        unescaped text ≡ encode_utf8 c ++ unescaped (drop 7 text) }
+    ensures byte { (b : ℕ) (rest : List ℕ) → escaped_character (b ∷ rest) ≡ None →
+        unescaped (b ∷ rest) ≡ b ∷ unescaped rest }
+{}

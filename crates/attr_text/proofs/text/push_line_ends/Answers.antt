@@ -20,6 +20,7 @@ loop-run-preserved c =
     record {
       written = rw c.push_line.ensures.bytes (line_written (string_bytes c.loop-run.out) run rest _ text c.loop-run.invariant.written (line_ends-first text run behind rest found.0 found.1 found.2 after));
       room = omega (arith, c.loop-run.invariant.room, c.push_line.ensures.len, c.push_line.ensures.capacity, length-line text run behind rest found.0 found.1 found.2 after);
+      capacity = omega (arith, c.loop-run.invariant.capacity, c.push_line.ensures.capacity);
       utf8 = c.skip_line_feed-rest.utf8;
     }
 

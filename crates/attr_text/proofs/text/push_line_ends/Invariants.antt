@@ -8,6 +8,7 @@ abbrev pub invariant-loop-run : goal.invariant-loop-run
 invariant-loop-run l = record {
   written : string_bytes l.out ++ line_ends l.rest ≡ string_bytes l.fn.out ++ line_ends l.text;
   room : string_len l.out + length l.rest ≤ string_capacity l.out;
+  capacity : string_capacity l.fn.out ≤ string_capacity l.out;
   utf8 : IsUtf8 l.rest;
 }
 
