@@ -125,16 +125,16 @@ decoded_within-later taken size (b ∷ bs) zero within =
     let behind = position_or_len is_semicolon bs + 1 in
     let place : taken + size - length (b ∷ bs) ≡ taken + (size - length (b ∷ bs)) = omega arith in
     elim (b == 38) as (λ q.
-        (if q then onto_character (taken + size - length (b ∷ bs)) (character_behind bs)
-            (decoded_within (taken + size) bs behind)
-        else onto_text (b ∷ []) (decoded_within (taken + size) bs 0))
-        ≡ onto_decoded [] taken (if q then onto_character (size - length (b ∷ bs))
-            (character_behind bs) (decoded_within size bs behind)
-        else onto_text (b ∷ []) (decoded_within size bs 0))) [
+    (if q then onto_character (taken + size - length (b ∷ bs)) (character_behind bs)
+    (decoded_within (taken + size) bs behind)
+    else onto_text (b ∷ []) (decoded_within (taken + size) bs 0))
+    ≡ onto_decoded [] taken (if q then onto_character (size - length (b ∷ bs))
+    (character_behind bs) (decoded_within size bs behind)
+    else onto_text (b ∷ []) (decoded_within size bs 0))) [
       | true ↦ ap₂ (λ n r. onto_character n (character_behind bs) r) place
           (decoded_within-later taken size bs behind (omega arith))
           ∙ onto_character-decoded taken (size - length (b ∷ bs)) (character_behind bs)
-              (decoded_within size bs behind)
+          (decoded_within size bs behind)
       | false ↦ ap (onto_text (b ∷ [])) (decoded_within-later taken size bs 0 (omega arith))
           ∙ onto_text-decoded_text (b ∷ []) taken (decoded_within size bs 0)
     ]
@@ -173,7 +173,7 @@ decoded-ampersand rest =
     let first : size - size ≡ 0 = omega arith in
     decoded_within-ampersand size rest
     ∙ ap (λ n. onto_character n (character_behind rest)
-        (decoded_within size (after_first is_semicolon rest) 0)) first
+    (decoded_within size (after_first is_semicolon rest) 0)) first
 
 -- a reference without a character in front
 pub decoded-refused : (rest : List ℕ) → character_behind rest ≡ None → decoded (38 ∷ rest) ≡ Err 0
@@ -186,8 +186,8 @@ semicolon_stands rest c some =
     elim (cases_Bool (nat_lt at (length rest))) [
       | inl stands ↦ ltb-true at (length rest) stands
       | inr absent ↦
-        let none : character_behind rest ≡ None = rw absent refl in
-        absurd cc
+          let none : character_behind rest ≡ None = rw absent refl in
+          absurd cc
     ]
 
 -- a reference with a character in front
@@ -200,7 +200,7 @@ decoded-character rest c some =
     let after = after_first is_semicolon rest in
     let taken = length (before_first is_semicolon rest) + 2 in
     let whole : size ≡ taken + length after =
-        omega (arith, semicolon_stands rest c some, length-take at rest, length-drop (at + 1) rest) in
+    omega (arith, semicolon_stands rest c some, length-take at rest, length-drop (at + 1) rest) in
     decoded-ampersand rest
     ∙ rw some (ap (onto_text (encode_utf8 c)) (decoded_within-end taken size after whole))
     ∙ onto_text-decoded (encode_utf8 c) [] taken (decoded after)

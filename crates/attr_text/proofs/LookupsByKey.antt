@@ -71,10 +71,11 @@ all_values-given (a ∷ answers) values is =
 -- the lookup of several keys gives these values exactly where that of each gives its one
 pub lookup-ok : (keys : List (List ℕ)) (values : List (Option (List ℕ))) (text : List ℕ) →
     lookup keys text ≡ Ok values ↔ map (λ key. value_of key text) keys ≡ map Ok values
-lookup-ok keys values text =
-    (λ is. all_values-given (map (λ key. value_of key text) keys) values
-        (sym (lookup-by_key keys text) ∙ is),
-    λ each. lookup-by_key keys text ∙ ap all_values each ∙ all_values-ok values)
+lookup-ok keys values text = (
+  λ is. all_values-given (map (λ key. value_of key text) keys) values
+      (sym (lookup-by_key keys text) ∙ is),
+  λ each. lookup-by_key keys text ∙ ap all_values each ∙ all_values-ok values,
+)
 
 answer-refused : {A : Type 0} (value : A) (has_all : Bool) (ends : Option AttrFault)
     (fault : AttrFault) → answer value has_all ends ≡ Err fault →
@@ -99,8 +100,8 @@ first_missing all (key ∷ keys) is =
     elim (and_cases (is_some (found all key)) (list_all is_some (first_values keys all)) is) [
       | inl missing ↦ (0, key, omega arith, refl, missing)
       | inr others ↦
-        let later = first_missing all keys others in
-        (suc later.0, later.1, omega (arith, later.2), later.3, later.4)
+          let later = first_missing all keys others in
+          (suc later.0, later.1, omega (arith, later.2), later.3, later.4)
     ]
 
 some_missing : (all : List Item) (keys : List (List ℕ)) (k : ℕ) (key : List ℕ) →
@@ -117,15 +118,20 @@ pub lookup-err : (keys : List (List ℕ)) (fault : AttrFault) (text : List ℕ) 
 unfolding lookup value_of
 lookup-err keys fault text =
     let all = items text in
-    let values = first_values keys all in
-    (λ is.
-        let refused = answer-refused values (list_all is_some values) (ending_fault all) fault is in
-        let missing = first_missing all keys refused.0 in
-        let here = found all missing.1 in
-        (missing.0, missing.1, missing.2, missing.3,
-        answer-err here (is_some here) (ending_fault all) fault missing.4 refused.1),
-    λ one.
-        let here = found all one.1 in
-        let refused = answer-refused here (is_some here) (ending_fault all) fault one.4 in
-        answer-err values (list_all is_some values) (ending_fault all) fault
-            (some_missing all keys one.0 one.1 one.2 one.3 refused.0) refused.1)
+    let values = first_values keys all in (
+      λ is.
+          let refused = answer-refused values (list_all is_some values) (ending_fault all) fault is in
+          let missing = first_missing all keys refused.0 in
+          let here = found all missing.1 in (
+            missing.0,
+            missing.1,
+            missing.2,
+            missing.3,
+            answer-err here (is_some here) (ending_fault all) fault missing.4 refused.1,
+          ),
+      λ one.
+          let here = found all one.1 in
+          let refused = answer-refused here (is_some here) (ending_fault all) fault one.4 in
+          answer-err values (list_all is_some values) (ending_fault all) fault
+          (some_missing all keys one.0 one.1 one.2 one.3 refused.0) refused.1,
+    )

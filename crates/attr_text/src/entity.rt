@@ -118,8 +118,8 @@ pub fn decoded_in_order()
     ensures none { decoded [] ≡ Ok [] }
     ensures character { (rest : List ℕ) (c : ℕ) → character_behind rest ≡ Some c →
         decoded (38 ∷ rest) ≡ onto_decoded (encode_utf8 c)
-            (length (before_first is_semicolon rest) + 2)
-            (decoded (after_first is_semicolon rest)) }
+        (length (before_first is_semicolon rest) + 2)
+        (decoded (after_first is_semicolon rest)) }
     ensures refused { (rest : List ℕ) → character_behind rest ≡ None →
         decoded (38 ∷ rest) ≡ Err 0 }
     ensures other { (b : ℕ) (rest : List ℕ) → b ≢ 38 →

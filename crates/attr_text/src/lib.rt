@@ -3,11 +3,13 @@
 #![tactic(auto)]
 
 mod cuts;
+mod equality;
 mod entity;
 mod fault;
 mod items;
 mod lookup;
 mod text;
+mod uses;
 mod values;
 
 pub use entity::{decode_attr, decoded_in_order, entity_char, push_entity};

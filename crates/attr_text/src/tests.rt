@@ -1,39 +1,14 @@
 mod slow;
 
-ghost use Rattle.std.specs.Prelude.{◌≡◌, [], ◌∷◌, MatchResult, Ok, Err, codes};
-ghost use Rattle.std.specs.Option.{option_copied};
-ghost use Rattle.attr_text.specs.Attributes.{lookup};
-
+use crate::uses::{Tag, five_keys, four_keys, six_keys, three_keys, two_keys};
 use crate::{
-    AttrFault, AttrValue, RawAttrIter, RawAttributes, TextFault, decode_attr, entity_char,
-    get_attrs, local_name, local_name_matches, push_entity, push_line_ends, unescape_hex,
+    AttrFault, RawAttrIter, RawAttributes, TextFault, decode_attr, entity_char, get_attrs,
+    local_name, local_name_matches, push_entity, push_line_ends, unescape_hex,
 };
 use slow::slow_items;
 use std::alloc::{AllocError, Global};
 use std::process::Abort;
 use std::test::Fail;
-
-#[derive(Clone, Copy)]
-struct Tag<'a> {
-    text: &'a str,
-}
-
-impl RawAttributes for Tag<'_> {
-    ghost attributes = { λ tag. tag.text.now };
-
-    fn attributes_raw(&self) -> &str {
-        self.text
-    }
-}
-
-// A use of the macro is the lookup of its keys.
-fn two_keys<'a>(tag: &'a Tag<'a>) -> Result<(AttrValue<'a>, AttrValue<'a>), AttrFault>
-    ensures { MatchResult result
-        (λ p. lookup (codes "r" ∷ codes "si" ∷ []) tag.now.text.now ≡ Ok (option_copied p.0 ∷ option_copied p.1 ∷ []))
-        (λ fault. lookup (codes "r" ∷ codes "si" ∷ []) tag.now.text.now ≡ Err fault) }
-{
-    get_attrs!(tag, "r" => r, "si" => si)
-}
 
 // The items of a text, each in brackets.
 fn shown(alloc: Global, text: &str) -> Result<String, AllocError> {
@@ -144,7 +119,9 @@ fn several_keys_are_looked_up_at_once(rt: HostRuntime) {
     let tag = Tag {
         text: "r='A1' s=\"2\"",
     };
-    assert_eq!(rt; two_keys(&tag), Ok((Some("A1"), None)));
+    assert_eq!(rt; two_keys(&tag), Ok((Some("A1"), Some("2"))));
+    assert_eq!(rt; three_keys(&tag), Ok((Some("A1"), Some("2"), None)));
+    assert!(rt; four_keys(&tag).is_ok() && five_keys(&tag).is_ok() && six_keys(&tag).is_ok());
 }
 
 #[test]
