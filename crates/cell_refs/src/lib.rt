@@ -6,6 +6,7 @@
 mod column;
 mod corner;
 mod dimensions;
+mod equality;
 mod error;
 mod reference;
 

@@ -2,6 +2,7 @@
 #![tactic(auto)]
 
 mod corner;
+mod equality;
 mod expand;
 mod laws;
 mod piece;
