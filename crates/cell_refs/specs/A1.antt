@@ -5,10 +5,16 @@ use Rattle.std.specs.Char.{is_ascii_alphabetic, is_ascii_digit, to_ascii_upperca
 use Rattle.std.specs.Int.Digits.{number_from_digits}
 use Rattle.std.specs.List.{prefix_len, slice_split}
 use Rattle.std.specs.Str.Parse.{digits_value}
-use Rattle.cell_refs.specs.declared.TheConstants.{MAX_ROWS, MAX_COLUMNS}
 use Rattle.cell_refs.specs.declared.dimensions.Dimensions.{Dimensions}
 use Rattle.cell_refs.specs.declared.error.RefError.{RefError}
 use Rattle.cell_refs.specs.declared.error.RefError.TheVariants.{Alphanumeric, RangeWithoutRowComponent, RangeWithoutColumnComponent, ColumnNumberOverflow, RowNumberOverflow, DimensionCount}
+
+-- the number of rows of a worksheet, and of its columns
+abbrev pub row_limit : ℕ
+row_limit = 1048576
+
+abbrev pub column_limit : ℕ
+column_limit = 16384
 
 -- b is a capital letter
 abbrev pub IsCapital : ℕ → Type 0
@@ -58,8 +64,8 @@ corner_from letters behind =
     unless_stray (stray_byte behind)
     (if digits_value 10 behind == 0 then Err RangeWithoutRowComponent
     else (if length letters == 0 then Err RangeWithoutColumnComponent
-    else (if nat_lt MAX_COLUMNS (letters_value letters) then Err ColumnNumberOverflow
-    else (if nat_lt MAX_ROWS (digits_value 10 behind) then Err RowNumberOverflow
+    else (if nat_lt column_limit (letters_value letters) then Err ColumnNumberOverflow
+    else (if nat_lt row_limit (digits_value 10 behind) then Err RowNumberOverflow
     else Ok (digits_value 10 behind - 1, letters_value letters - 1)))))
 
 -- the position that a text names, or its first refusal
@@ -71,7 +77,7 @@ abbrev pub row_from : List ℕ → Result ℕ RefError
 row_from behind =
     unless_stray (stray_byte behind)
     (if digits_value 10 behind == 0 then Err RangeWithoutRowComponent
-    else (if nat_lt MAX_ROWS (digits_value 10 behind) then Err RowNumberOverflow
+    else (if nat_lt row_limit (digits_value 10 behind) then Err RowNumberOverflow
     else Ok (digits_value 10 behind - 1)))
 
 -- the row that a text names, whatever its column, or its first refusal

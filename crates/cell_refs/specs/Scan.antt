@@ -3,13 +3,12 @@ use Rattle.std.specs.Prelude.{ℕ, ◌+◌, min, List}
 use Rattle.std.specs.Char.{is_ascii_alphabetic}
 use Rattle.std.specs.List.{prefix_len}
 use Rattle.std.specs.Str.Parse.{digits_value}
-use Rattle.cell_refs.specs.declared.TheConstants.{MAX_ROWS, MAX_COLUMNS}
 use Rattle.cell_refs.specs.declared.corner.Scan.{Scan}
-use Rattle.cell_refs.specs.A1.{letters_value, letters_of, behind_letters}
+use Rattle.cell_refs.specs.A1.{row_limit, column_limit, letters_value, letters_of, behind_letters}
 
 abbrev pub scan_of : List ℕ → Scan
 scan_of text = record {
-  column = min (letters_value (letters_of text)) (MAX_COLUMNS + 1);
+  column = min (letters_value (letters_of text)) (column_limit + 1);
   letters = prefix_len is_ascii_alphabetic text;
-  row = min (digits_value 10 (behind_letters text)) (MAX_ROWS + 1);
+  row = min (digits_value 10 (behind_letters text)) (row_limit + 1);
 }

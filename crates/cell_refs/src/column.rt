@@ -1,5 +1,5 @@
 ghost use Rattle.std.specs.Prelude.{◌≡◌, ℕ, ◌+◌, ◌<◌, ◌≤◌, List, length, take, ◌++◌, codes, All, if◌then◌else◌, nat_lt};
-ghost use Rattle.cell_refs.specs.A1.{column_name, corner, IsCapital};
+ghost use Rattle.cell_refs.specs.A1.{column_limit, column_name, corner, IsCapital};
 
 use crate::{MAX_COLUMNS, RefError};
 use std::marker::Model;
@@ -35,7 +35,7 @@ impl ColumnName {
 ///
 /// Fails with `ColumnNumberOverflow` past the last column of a worksheet.
 pub fn column_number_to_name(num: u32) -> Result<ColumnName, RefError>
-    ensures { result ≡ (if nat_lt num MAX_COLUMNS then Ok (column_name num)
+    ensures { result ≡ (if nat_lt num column_limit then Ok (column_name num)
         else Err RefError.ColumnNumberOverflow) }
 {
     if num >= MAX_COLUMNS {
@@ -54,7 +54,7 @@ fn capital(place: u32) -> u8
 
 #[tactic(auto, using(crate::proofs::Names::name_steps))]
 fn name_of(num: u32) -> ColumnName
-    requires { num < MAX_COLUMNS }
+    requires { num < column_limit }
     ensures { result ≡ column_name num }
 {
     let last = capital(num % 26);
@@ -82,6 +82,6 @@ fn name_of(num: u32) -> ColumnName
 /// A column's name with `1` behind it is the text of the column's first cell.
 #[tactic(auto, using(crate::proofs::ReadBack::corner_of_name))]
 pub fn column_names_read_back()
-    ensures { (column : ℕ) → column < MAX_COLUMNS
+    ensures { (column : ℕ) → column < column_limit
         → corner (column_name column ++ codes "1") ≡ Ok (0, column) }
 {}

@@ -2,7 +2,7 @@ ghost use Rattle.std.specs.Prelude.{◌≡◌, ℕ, ◌+◌, ◌-◌, ◌<◌, �
 ghost use Rattle.std.specs.Char.{is_ascii_alphabetic};
 ghost use Rattle.std.specs.List.{prefix_len};
 ghost use Rattle.std.specs.Str.Parse.{digits_value};
-ghost use Rattle.cell_refs.specs.A1.{letter_value, letters_value, letters_of, behind_letters, stray_byte, unless_stray, corner, row_of};
+ghost use Rattle.cell_refs.specs.A1.{row_limit, column_limit, letter_value, letters_value, letters_of, behind_letters, stray_byte, unless_stray, corner, row_of};
 ghost use Rattle.cell_refs.specs.Scan.{scan_of};
 
 use crate::{MAX_COLUMNS, MAX_ROWS, RefError};
@@ -79,7 +79,7 @@ fn scan_text(range: &str) -> Result<Scan, RefError>
 #[tactic(auto, unfolding(crate::specs::A1::corner), using(crate::proofs::Scans::whole_scan))]
 pub fn get_row_column(range: &str) -> Result<(u32, u32), RefError>
     ensures value { result ≡ corner range.now }
-    ensures inside { IfOk result (λ position. (position.0 < MAX_ROWS) × (position.1 < MAX_COLUMNS)) }
+    ensures inside { IfOk result (λ position. (position.0 < row_limit) × (position.1 < column_limit)) }
 {
     let Scan {
         column,
@@ -105,7 +105,7 @@ pub fn get_row_column(range: &str) -> Result<(u32, u32), RefError>
 #[tactic(auto, unfolding(crate::specs::A1::row_of), using(crate::proofs::Scans::whole_scan))]
 pub fn get_row(range: &str) -> Result<u32, RefError>
     ensures value { result ≡ row_of range.now }
-    ensures inside { IfOk result (λ row. row < MAX_ROWS) }
+    ensures inside { IfOk result (λ row. row < row_limit) }
 {
     let row = scan_text(range)?.row;
     if row == 0 {

@@ -8,13 +8,16 @@ mod corner;
 mod dimensions;
 mod equality;
 mod error;
-mod reference;
+mod reference_text;
 
 pub use column::{ColumnName, column_names_read_back, column_number_to_name};
 pub use corner::{get_row, get_row_column};
 pub use dimensions::{Dimensions, get_dimension};
 pub use error::RefError;
-pub use reference::{references_lie_inside, references_read_back};
+pub use reference_text::{
+    push_column_name, push_reference, push_row_reference, references_lie_inside,
+    references_read_back,
+};
 
 /// The number of rows of a worksheet.
 pub const MAX_ROWS: u32 = 1_048_576;

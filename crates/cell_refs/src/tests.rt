@@ -107,3 +107,16 @@ fn refusals_have_texts(rt: HostRuntime) -> Result<(), Fail> {
     }
     Ok(())
 }
+
+#[test]
+fn references_are_appended(rt: HostRuntime) -> Result<(), Fail> {
+    let mut out = String::new(rt.alloc());
+    push_reference(&mut out, 0, 0)?;
+    push_reference(&mut out, 34, 27)?;
+    push_reference(&mut out, 1_048_575, 16_383)?;
+    push_row_reference(&mut out, 0)?;
+    push_row_reference(&mut out, 1_048_575)?;
+    push_column_name(&mut out, 16_383)?;
+    assert_eq!(rt; out.as_str(), "A1AB35XFD104857611048576XFD");
+    Ok(())
+}

@@ -4,8 +4,7 @@ use Rattle.std.specs.Prelude.{ℕ, zero, suc, ◌+◌, ◌<◌, ◌==◌, nat_lt
 use Rattle.std.specs.Char.{is_ascii_digit}
 use Rattle.std.specs.List.{list_all}
 use Rattle.std.specs.Str.Parse.{digits_value}
-use Rattle.cell_refs.specs.A1.{letters_value, letters_of, behind_letters, column_name}
-use Rattle.cell_refs.specs.declared.TheConstants.{MAX_ROWS, MAX_COLUMNS}
+use Rattle.cell_refs.specs.A1.{row_limit, column_limit, letters_value, letters_of, behind_letters, column_name}
 use Rattle.formula_shift.specs.declared.corner.Corner.{Corner}
 use Rattle.formula_shift.specs.declared.corner.Corner.TheVariants.{Cell, Row, Column}
 use Rattle.formula_shift.specs.declared.reference.Reference.{Reference}
@@ -17,11 +16,11 @@ place_of limit (suc n) = if nat_lt n limit then Some n else None
 
 -- the column that letters name, and the row that digits name, if any
 abbrev pub column_of : List ℕ → Option ℕ
-column_of letters = place_of MAX_COLUMNS (letters_value letters)
+column_of letters = place_of column_limit (letters_value letters)
 
 abbrev pub row_of : List ℕ → Option ℕ
 row_of digits =
-    if list_all is_ascii_digit digits then place_of MAX_ROWS (digits_value 10 digits) else None
+    if list_all is_ascii_digit digits then place_of row_limit (digits_value 10 digits) else None
 
 -- whether a text begins with a $, and what follows it
 abbrev pub has_dollar : List ℕ → Bool
@@ -87,9 +86,9 @@ word_reference word = reference_by (position (λ b. b == 58) word) word
 
 -- the corner lies in a worksheet
 abbrev pub IsCornerInside : Corner → Type 0
-IsCornerInside (Cell row col absolute_row absolute_col) = (row < MAX_ROWS) × (col < MAX_COLUMNS)
-IsCornerInside (Row row absolute) = row < MAX_ROWS
-IsCornerInside (Column col absolute) = col < MAX_COLUMNS
+IsCornerInside (Cell row col absolute_row absolute_col) = (row < row_limit) × (col < column_limit)
+IsCornerInside (Row row absolute) = row < row_limit
+IsCornerInside (Column col absolute) = col < column_limit
 
 -- both corners lie in a worksheet
 abbrev pub IsInside : Reference → Type 0
@@ -109,12 +108,12 @@ displaced_place limit offset false place = place_within limit (pos place +ℤ of
 abbrev pub displaced_corner : ℤ × ℤ → Corner → Option Corner
 displaced_corner offset (Cell row col absolute_row absolute_col) =
     cell_of absolute_row absolute_col
-    (displaced_place MAX_ROWS offset.0 absolute_row row)
-    (displaced_place MAX_COLUMNS offset.1 absolute_col col)
+    (displaced_place row_limit offset.0 absolute_row row)
+    (displaced_place column_limit offset.1 absolute_col col)
 displaced_corner offset (Row row absolute) =
-    option_map (λ moved. Row moved absolute) (displaced_place MAX_ROWS offset.0 absolute row)
+    option_map (λ moved. Row moved absolute) (displaced_place row_limit offset.0 absolute row)
 displaced_corner offset (Column col absolute) =
-    option_map (λ moved. Column moved absolute) (displaced_place MAX_COLUMNS offset.1 absolute col)
+    option_map (λ moved. Column moved absolute) (displaced_place column_limit offset.1 absolute col)
 
 abbrev pub both_corners : Option Corner → Option Corner → Option Reference
 both_corners (Some first) (Some second) = Some (record { first = first; second = Some second })

@@ -1,8 +1,8 @@
 ghost use Rattle.std.specs.Prelude.{◌≡◌, ◌+◌, ◌<◌, ◌≤◌, ◌++◌, length, decimal, OnOk, OnErr, string_bytes, string_len, string_capacity};
-ghost use Rattle.cell_refs.specs.A1.{column_name};
+ghost use Rattle.cell_refs.specs.A1.{row_limit, column_limit, column_name};
 ghost use Rattle.formula_shift.specs.References.{dollar};
 
-use cell_refs::{MAX_COLUMNS, MAX_ROWS, column_number_to_name};
+use cell_refs::column_number_to_name;
 use std::alloc::AllocError;
 
 // The canonical spelling of parts of references. A call fails only where the buffer has no room for
@@ -37,7 +37,7 @@ fn push_dollar(out: &mut String, absolute: bool) -> Result<(), AllocError>
 
 // Appends a row's number, with a `$` before it where it is absolute.
 pub(crate) fn push_row(out: &mut String, row: u32, absolute: bool) -> Result<(), AllocError>
-    requires { row < MAX_ROWS }
+    requires { row < row_limit }
     ensures ok { OnOk result
         (string_bytes out.new ≡ string_bytes out.old ++ (dollar absolute ++ decimal (row + 1))) }
     ensures len { OnOk result
@@ -53,7 +53,7 @@ pub(crate) fn push_row(out: &mut String, row: u32, absolute: bool) -> Result<(),
 
 // Appends a column's name, with a `$` before it where it is absolute.
 pub(crate) fn push_column(out: &mut String, col: u32, absolute: bool) -> Result<(), AllocError>
-    requires { col < MAX_COLUMNS }
+    requires { col < column_limit }
     ensures ok { OnOk result
         (string_bytes out.new ≡ string_bytes out.old ++ (dollar absolute ++ column_name col)) }
     ensures len { OnOk result
@@ -70,7 +70,7 @@ pub(crate) fn push_column(out: &mut String, col: u32, absolute: bool) -> Result<
 // How many bytes `push_row` appends.
 #[tactic(auto, using(crate::proofs::Numbers::lengths))]
 pub(crate) fn row_len(row: u32, absolute: bool) -> usize
-    requires { row < MAX_ROWS }
+    requires { row < row_limit }
     ensures value { result ≡ length (dollar absolute ++ decimal (row + 1)) }
     ensures short { result ≤ 11 }
 {
@@ -80,7 +80,7 @@ pub(crate) fn row_len(row: u32, absolute: bool) -> usize
 // How many bytes `push_column` appends.
 #[tactic(auto, using(crate::proofs::Numbers::lengths))]
 pub(crate) fn column_len(col: u32, absolute: bool) -> usize
-    requires { col < MAX_COLUMNS }
+    requires { col < column_limit }
     ensures value { result ≡ length (dollar absolute ++ column_name col) }
     ensures short { result ≤ 4 }
 {
@@ -102,7 +102,7 @@ fn number_len(mut number: u32) -> usize
 
 #[tactic(auto, using(crate::proofs::Numbers::lengths))]
 fn name_len(col: u32) -> usize
-    requires { col < MAX_COLUMNS }
+    requires { col < column_limit }
     ensures value { result ≡ length (column_name col) }
     ensures short { result ≤ 3 }
 {

@@ -7,7 +7,6 @@ mod laws;
 mod opening;
 mod paths;
 mod plain;
-mod reference;
 mod relationship_parts;
 mod relationships;
 mod scan;
@@ -23,7 +22,6 @@ mod workbook;
 mod xlsx;
 
 pub use laws::{plain_sheets_are_read, readable_sheets_are_not_refused, sheets_are_read_alike};
-pub use reference::{push_reference, push_row_reference};
 pub use sheet::{Metadata, Sheet, SheetType, SheetVisible};
 pub use thin::{ThinAnswer, ThinCell, read_thin};
 pub use xlsx::{OpenFailure, Xlsx};

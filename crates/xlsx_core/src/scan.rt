@@ -6,10 +6,9 @@ ghost use Rattle.xlsx_core.specs.ThinCell.{StepFails};
 ghost use Rattle.xlsx_core.specs.ThinCell.{cell_of, place_of};
 
 use crate::between::between;
-use crate::reference::{push_reference, push_row_reference};
 use crate::thin::ThinCell;
 use cell_data::XlsxError;
-use cell_refs::{get_row, get_row_column};
+use cell_refs::{get_row, get_row_column, push_reference, push_row_reference};
 use part_events::PartEvent;
 use std::alloc::{AllocError, Global};
 use std::marker::Model;

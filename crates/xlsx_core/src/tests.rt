@@ -287,15 +287,3 @@ fn the_package_is_handed_back(rt: HostRuntime) -> Result<(), Fail> {
     assert_eq!(rt; package.faults(), 1);
     Ok(())
 }
-
-#[test]
-fn references_are_appended(rt: HostRuntime) -> Result<(), Fail> {
-    let mut out = String::new(rt.alloc());
-    push_reference(&mut out, 0, 0)?;
-    push_reference(&mut out, 34, 27)?;
-    push_reference(&mut out, 1_048_575, 16_383)?;
-    push_row_reference(&mut out, 0)?;
-    push_row_reference(&mut out, 1_048_575)?;
-    assert_eq!(rt; out.as_str(), "A1AB35XFD104857611048576");
-    Ok(())
-}

@@ -3,8 +3,9 @@ ghost use Rattle.std.specs.List.{prefix_len, AllByRecursion};
 ghost use Rattle.xlsx_core.specs.ThinCell.{cell_of, cells_of};
 ghost use Rattle.xlsx_tool.specs.Listing.{escaped_byte, escaped, field, line, line_of, listing, is_unescaped, IsInside, StartsEscaped};
 
+use cell_refs::push_reference;
 use std::alloc::{AllocError, Global};
-use xlsx_core::{ThinCell, push_reference};
+use xlsx_core::ThinCell;
 
 /// How many bytes at the front are written as they are.
 fn unescaped_len(bytes: &[u8]) -> usize
