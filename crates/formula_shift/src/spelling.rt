@@ -2,26 +2,11 @@ ghost use Rattle.std.specs.Prelude.{◌≡◌, ◌+◌, ◌<◌, ◌≤◌, ◌+
 ghost use Rattle.cell_refs.specs.A1.{row_limit, column_limit, column_name};
 ghost use Rattle.formula_shift.specs.References.{dollar};
 
-use cell_refs::column_number_to_name;
+use cell_refs::{push_column_name, push_row_reference};
 use std::alloc::AllocError;
 
 // The canonical spelling of parts of references. A call fails only where the buffer has no room for
 // what it appends, and then leaves it open how much of that was appended.
-
-// Appends a number in decimal digits.
-#[tactic(auto, using(crate::proofs::Numbers::decimals))]
-fn push_number(out: &mut String, number: u32) -> Result<(), AllocError>
-    ensures ok { OnOk result (string_bytes out.new ≡ string_bytes out.old ++ decimal number) }
-    ensures len { OnOk result (string_len out.new ≡ string_len out.old + length (decimal number)) }
-    ensures capacity { string_capacity out.old ≤ string_capacity out.new }
-    ensures full { OnErr result (string_capacity out.old < string_len out.old + length (decimal number)) }
-{
-    if number >= 10 {
-        push_number(out, number / 10)?;
-    }
-    out.push(char::from(b'0' + (number % 10) as u8))?;
-    Ok(())
-}
 
 fn push_dollar(out: &mut String, absolute: bool) -> Result<(), AllocError>
     ensures ok { OnOk result (string_bytes out.new ≡ string_bytes out.old ++ dollar absolute) }
@@ -47,7 +32,7 @@ pub(crate) fn push_row(out: &mut String, row: u32, absolute: bool) -> Result<(),
         (string_capacity out.old < string_len out.old + length (dollar absolute ++ decimal (row + 1))) }
 {
     push_dollar(out, absolute)?;
-    push_number(out, row + 1)?;
+    push_row_reference(out, row)?;
     Ok(())
 }
 
@@ -63,7 +48,7 @@ pub(crate) fn push_column(out: &mut String, col: u32, absolute: bool) -> Result<
         (string_capacity out.old < string_len out.old + length (dollar absolute ++ column_name col)) }
 {
     push_dollar(out, absolute)?;
-    out.push_str(column_number_to_name(col).unwrap().as_str())?;
+    push_column_name(out, col)?;
     Ok(())
 }
 
