@@ -10,7 +10,6 @@ use Rattle.part_events.specs.Reading.{Reading, IsTracked, ahead, events_of}
 use Rattle.part_events.specs.Section.{content, is_closed, behind}
 use Rattle.part_events.specs.Walk.{inside, TakesInside}
 use Rattle.part_events.proofs.Nested.{reverse_on}
-use Rattle.part_events.proofs.Walking.{GoesInside}
 
 -- What is kept while the text is read: a front of the content was passed, and its text was put.
 pub record HasRead (data_too : Bool) (base : ℕ) (old now : Reading) (texts : List ℕ × List ℕ) : Type 0 where
@@ -39,11 +38,6 @@ pub unknown_entity-behind : (front events : List Event) → unknown_entity front
 unknown_entity-behind [] events none = refl
 unknown_entity-behind (first ∷ front) events none =
     let both = known_first first front none in rw both.0 (unknown_entity-behind front events both.1)
-
-pub content_at : (event : Event) (before after : ℕ) (events : List Event) → GoesInside event before after → (content before (event ∷ events) ≡ event ∷ content after events) × (is_closed before (event ∷ events) ≡ is_closed after events) × (behind before (event ∷ events) ≡ behind after events)
-content_at (start tag) before after events goes = rw goes (refl, refl, refl)
-content_at (end name) before after events goes = rw goes (refl, refl, refl)
-content_at (leaf kind) before after events goes = rw goes (refl, refl, refl)
 
 -- an event of the content was taken, and its text put
 pub has_read_more : (data_too : Bool) (base : ℕ) (old mid new : Reading) (first before after : List ℕ) → HasRead data_too base old mid (first, before) → TakesInside base mid new → new.at ≡ mid.at + 1 → after ≡ before ++ event_text data_too new.source.current → is_unknown new.source.current ≡ false → HasRead data_too base old new (first, after)

@@ -1,10 +1,10 @@
 -- A walk's way over the events of a section.
-use Rattle.std.proofs.Common.{◌≡◌, ℕ, suc, ◌-◌, ◌≤◌, List, [], ◌∷◌, length, Bool, true, Option, Some, refl, sym, ◌∙◌, ap, arith}
+use Rattle.std.proofs.Common.{◌≡◌, ℕ, suc, ◌-◌, ◌<◌, ◌≤◌, List, [], ◌∷◌, length, Bool, true, false, Option, Some, refl, sym, ◌∙◌, ap, arith}
 use Rattle.std.specs.Prelude.{if◌then◌else◌}
-use Rattle.part_events.specs.Event.{Tag, Event, start, end, leaf}
+use Rattle.part_events.specs.Event.{Tag, Event, start, end, leaf, is_start}
 use Rattle.part_events.specs.Reading.{Reading, TakesEvent, StepsAhead, names_behind, IsEnclosed, ahead}
 use Rattle.part_events.specs.Section.{Element, element_of, content, is_closed, behind, outermost_from, unclosed_from}
-use Rattle.part_events.specs.Walk.{inside, element_at, section_end, SameAhead, IsNextElement}
+use Rattle.part_events.specs.Walk.{inside, element_at, section_ahead, section_end, TakesInside, SameAhead, IsNextElement}
 use Rattle.part_events.proofs.Sections.{content-content, is_closed-content, goes_on_behind}
 
 -- how many elements are open before and behind an event
@@ -18,6 +18,32 @@ goes_inside (start tag) base before after names enclosed was is = rw names (omeg
 goes_inside (end name) base [] after names enclosed was is = absurd (omega arith)
 goes_inside (end name) base (first ∷ before) after names enclosed was is = let same = ap length names in omega arith
 goes_inside (leaf kind) base before after names enclosed was is = rw names refl
+
+pub content_at : (event : Event) (before after : ℕ) (events : List Event) → GoesInside event before after → (content before (event ∷ events) ≡ event ∷ content after events) × (is_closed before (event ∷ events) ≡ is_closed after events) × (behind before (event ∷ events) ≡ behind after events)
+content_at (start tag) before after events goes = rw goes (refl, refl, refl)
+content_at (end name) before after events goes = rw goes (refl, refl, refl)
+content_at (leaf kind) before after events goes = rw goes (refl, refl, refl)
+
+-- an event of a section was taken
+pub takes_inside : (base : ℕ) (old new : Reading) → TakesEvent old new → StepsAhead true old new → base ≤ length old.names → base ≤ length new.names → TakesInside base old new
+takes_inside base old new takes steps was is =
+    let n = inside base old in
+    let goes = goes_inside new.source.current base old.names new.names takes.names takes.enclosed was is in
+    let here = content_at new.source.current n (inside base new) (ahead new) goes in
+    let events : section_ahead base old ≡ new.source.current ∷ section_ahead base new = ap (content n) steps.0 ∙ here.0 in
+    record {
+      events = events;
+      closed = ap (is_closed n) steps.0 ∙ here.1;
+      behind = ap (behind n) steps.0 ∙ here.2;
+      ends = omega (arith, takes.at, ap length events);
+      steps = steps;
+    }
+
+-- an event behind which fewer elements are open is no start
+pub no_start : (event : Event) (before after : List (List ℕ)) → after ≡ names_behind event before → length after < length before → is_start event ≡ false
+no_start (start tag) before after names fewer = absurd (omega (arith, ap length names))
+no_start (end name) before after names fewer = refl
+no_start (leaf kind) before after names fewer = refl
 
 pub next_element : (wanted : Tag → Bool) (base : ℕ) (tag : Tag) (old new : Reading) → TakesEvent old new → StepsAhead true old new → start tag ≡ new.source.current → base ≤ length old.names → section_end base old ≡ section_end base new → wanted tag ≡ true → IsNextElement wanted base tag old new
 next_element wanted base tag old new takes steps current was ends is =

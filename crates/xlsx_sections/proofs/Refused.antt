@@ -1,28 +1,32 @@
 -- How a refusal passes from a call to the section and the part that it reads.
-use Rattle.std.proofs.Common.{◌≡◌, ℕ, suc, ◌+◌, List, true, false, Option, Some, None, ◌∙◌, sym, subst, inl, inr, arith, codes, length, Result, Err, String, Global, string_bytes}
+use Rattle.std.proofs.Common.{◌≡◌, ℕ, suc, ◌+◌, ◌≤◌, List, true, false, Option, Some, None, refl, ◌∙◌, sym, subst, inl, inr, arith, codes, length, Result, Err, String, Global, string_bytes}
 use Rattle.std.specs.Prelude.{MatchOption}
 use Rattle.part_events.specs.Event.{Event}
 use Rattle.part_events.specs.Nesting.{whole}
 use Rattle.part_events.specs.Package.{PackageState, SameParts, part_of}
-use Rattle.part_events.specs.Reading.{Reading, BreaksAt}
+use Rattle.part_events.specs.Reading.{Reading, IsReading, BreaksAt}
 use Rattle.part_events.specs.declared.fault.XmlFault.TheVariants.{EndMismatch, Unclosed, Entity}
+use Rattle.part_events.proofs.Onward.{reads_nothing}
 use Rattle.cell_data.specs.declared.error.XlsxError.{XlsxError}
 use Rattle.cell_data.specs.declared.error.XlsxError.TheVariants.{OutOfMemory, Io, Xml, XmlAttr, XmlEof, FileNotFound, RelationshipNotFound, Unrecognized}
-use Rattle.xlsx_sections.specs.PartSection.{PartSection, inside_of, has_end, last_of, section_left, section_in, EndsOpenIn, SectionCause, SectionFails, StartCause, EntersSection, OptionalPartCause, OptionalPartFails, PartFails, EnterFails, LacksSection, always, Never}
-use Rattle.xlsx_sections.specs.Refusal.{Refusal, RefusedAs, ElementFails}
-use Rattle.xlsx_sections.proofs.SectionsRead.{ReadsSection}
+use Rattle.xlsx_sections.specs.PartSection.{PartSection, KeepsSection, inside_of, has_end, last_of, section_left, section_in, EndsOpenIn, SectionCause, SectionFails, StartCause, EntersSection, OptionalPartCause, OptionalPartFails, PartFails, EnterFails, LacksSection, always, Never}
+use Rattle.xlsx_sections.specs.Refusal.{Refusal, RefusedAs, RefusedAt}
 
 -- what is refused in one section is refused in another, whose end has the number `last`
-pub refused_weaker : {inner last : ℕ} (before after : Refusal → Type 0) (error : XlsxError) → ((refusal : Refusal) → after refusal → before refusal) → inner ≡ last → RefusedAs inner after error → RefusedAs last before error
-refused_weaker before after (Xml (Entity at)) weaker same (behind, place, refuses) = (behind, place ∙ same, weaker _ refuses)
-refused_weaker before after (XmlAttr fault) weaker same refuses = weaker _ refuses
-refused_weaker before after RelationshipNotFound weaker same refuses = weaker _ refuses
-refused_weaker before after (Unrecognized typ val) weaker same (inl found) = inl (found.0, weaker _ found.1)
-refused_weaker before after (Unrecognized typ val) weaker same (inr found) = inr (found.0, weaker _ found.1)
-refused_weaker before after _ weaker same refuses = absurd refuses
+pub refused_weaker : (inner last : ℕ) (before after : Refusal → Type 0) (error : XlsxError) → ((refusal : Refusal) → after refusal → before refusal) → inner ≡ last → RefusedAs inner after error → RefusedAs last before error
+refused_weaker inner last before after (Xml (Entity at)) weaker same (behind, place, refuses) = (behind, place ∙ same, weaker _ refuses)
+refused_weaker inner last before after (XmlAttr fault) weaker same refuses = weaker _ refuses
+refused_weaker inner last before after RelationshipNotFound weaker same refuses = weaker _ refuses
+refused_weaker inner last before after (Unrecognized typ val) weaker same (inl found) = inl (found.0, weaker _ found.1)
+refused_weaker inner last before after (Unrecognized typ val) weaker same (inr found) = inr (found.0, weaker _ found.1)
+refused_weaker inner last before after _ weaker same refuses = absurd refuses
+
+pub refused_at_weaker : (at behind : ℕ) (before after : Refusal → Type 0) (error : XlsxError) → ((refusal : Refusal) → after refusal → before refusal) → RefusedAt after at behind error → RefusedAt before at behind error
+refused_at_weaker at behind before after OutOfMemory weaker refuses = tt
+refused_at_weaker at behind before after error weaker refuses = refused_weaker (at + suc behind) (at + suc behind) before after error weaker refl refuses
 
 -- a section is refused behind what was read of it
-pub refused_later : (base : ℕ) (first mid : Reading) (ending : List Event → Option (List ℕ)) (after before : PartSection → Refusal → Type 0) (new : Reading) (error : XlsxError) → ReadsSection base first mid → (first.source.is_told ≡ true → ending (inside_of (section_left base mid)) ≡ ending (inside_of (section_left base first))) → (first.source.is_told ≡ true → (refusal : Refusal) → after (section_left base mid) refusal → before (section_left base first) refusal) → SectionFails ending after base mid new error → SectionFails ending before base first new error
+pub refused_later : (base : ℕ) (first mid : Reading) (ending : List Event → Option (List ℕ)) (after before : PartSection → Refusal → Type 0) (new : Reading) (error : XlsxError) → KeepsSection base first mid → (first.source.is_told ≡ true → ending (inside_of (section_left base mid)) ≡ ending (inside_of (section_left base first))) → (first.source.is_told ≡ true → (refusal : Refusal) → after (section_left base mid) refusal → before (section_left base first) refusal) → SectionFails ending after base mid new error → SectionFails ending before base first new error
 refused_later base first mid ending after before new Io read ends weaker fails = omega (arith, read.reads.stays.faults, fails)
 refused_later base first mid ending after before new OutOfMemory read ends weaker fails = tt
 refused_later base first mid ending after before new (Xml (EndMismatch at)) read ends weaker fails = λ told.
@@ -42,7 +46,12 @@ refused_later base first mid ending after before new (XmlEof element) read ends 
       sym (ends told) ∙ cause.1,
     )
 refused_later base first mid ending after before new error read ends weaker fails = λ told.
-    refused_weaker (before (section_left base first)) (after (section_left base mid)) error (weaker told) (read.last told) (fails (read.reads.moves.parts.is_told ∙ told))
+    refused_weaker (last_of (section_left base mid)) (last_of (section_left base first)) (before (section_left base first)) (after (section_left base mid)) error (weaker told) (read.last told) (fails (read.reads.moves.parts.is_told ∙ told))
+
+pub refused_as : (base : ℕ) (old : Reading) (ending : List Event → Option (List ℕ)) (after before : PartSection → Refusal → Type 0) (new : Reading) (error : XlsxError) → IsReading old → base ≤ length old.names → ((refusal : Refusal) → after (section_left base old) refusal → before (section_left base old) refusal) → SectionFails ending after base old new error → SectionFails ending before base old new error
+refused_as base old ending after before new error is within weaker fails =
+    let here : KeepsSection base old old = record { reads = reads_nothing old is; within = within; closed = λ _. refl; last = λ _. refl } in
+    refused_later base old old ending after before new error here (λ _. refl) (λ _. weaker) fails
 
 -- a step in an element that lies in a section is refused, and so is the section
 pub refused_outside : (inner base : ℕ) (mid : Reading) (name : List ℕ) (refused : PartSection → Refusal → Type 0) (new : Reading) (error : XlsxError) → (mid.source.is_told ≡ true → has_end (section_left inner mid) ≡ false → has_end (section_left base mid) ≡ false) → SectionFails (always name) Never inner mid new error → SectionFails (always name) refused base mid new error
@@ -57,15 +66,15 @@ refused_outside inner base mid name refused new RelationshipNotFound open_too fa
 refused_outside inner base mid name refused new (Unrecognized typ val) open_too fails = λ told. elim (fails told) [ inl found ↦ absurd found.1 | inr found ↦ absurd found.1 ]
 refused_outside inner base mid name refused new _ open_too fails = λ told. absurd (fails told)
 
--- an element of a section is refused
-pub element_refused : {A : Type 0} (base at behind : ℕ) (first : Reading) (ending : List Event → Option (List ℕ)) (answer : Result A Refusal) (refused : PartSection → Refusal → Type 0) (new : Reading) (error : XlsxError) → (first.source.is_told ≡ true → at + suc behind ≡ last_of (section_left base first)) → (first.source.is_told ≡ true → (refusal : Refusal) → answer ≡ Err refusal → refused (section_left base first) refusal) → ElementFails answer at behind error → SectionFails ending refused base first new error
-element_refused base at behind first ending answer refused new Io there weaker fails = absurd fails
-element_refused base at behind first ending answer refused new OutOfMemory there weaker fails = tt
-element_refused base at behind first ending answer refused new (Xml (EndMismatch place)) there weaker fails = absurd fails
-element_refused base at behind first ending answer refused new (Xml (Unclosed place)) there weaker fails = absurd fails
-element_refused base at behind first ending answer refused new (XmlEof element) there weaker fails = absurd fails
-element_refused base at behind first ending answer refused new error there weaker fails = λ told.
-    refused_weaker (refused (section_left base first)) (λ (refusal : Refusal). answer ≡ Err refusal) error (weaker told) (there told) fails
+-- an event of a section is refused
+pub event_refused : (base at behind : ℕ) (first : Reading) (ending : List Event → Option (List ℕ)) (own : Refusal → Type 0) (refused : PartSection → Refusal → Type 0) (new : Reading) (error : XlsxError) → (first.source.is_told ≡ true → at + suc behind ≡ last_of (section_left base first)) → (first.source.is_told ≡ true → (refusal : Refusal) → own refusal → refused (section_left base first) refusal) → RefusedAt own at behind error → SectionFails ending refused base first new error
+event_refused base at behind first ending own refused new Io there weaker fails = absurd fails
+event_refused base at behind first ending own refused new OutOfMemory there weaker fails = tt
+event_refused base at behind first ending own refused new (Xml (EndMismatch place)) there weaker fails = absurd fails
+event_refused base at behind first ending own refused new (Xml (Unclosed place)) there weaker fails = absurd fails
+event_refused base at behind first ending own refused new (XmlEof element) there weaker fails = absurd fails
+event_refused base at behind first ending own refused new error there weaker fails = λ told.
+    refused_weaker (at + suc behind) (last_of (section_left base first)) (refused (section_left base first)) own error (weaker told) (there told) fails
 
 -- the first section of a part is refused behind its start
 pub part_refused : {name path : List ℕ} {old : PackageState} {mid : Reading} (ending : List Event → Option (List ℕ)) (refused : PartSection → Refusal → Type 0) (new : Reading) (error : XlsxError) → EntersSection name path old mid → SectionFails ending refused (length mid.names) mid new error → OptionalPartFails name ending refused path old new.source error

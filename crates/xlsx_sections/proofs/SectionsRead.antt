@@ -2,28 +2,19 @@
 use Rattle.std.proofs.Common.{◌≡◌, ℕ, suc, ◌+◌, ◌-◌, ◌≤◌, List, [], ◌∷◌, length, Bool, true, Some, None, Option, refl, sym, ◌∙◌, ap, subst, arith}
 use Rattle.std.specs.Option.{option_map_or}
 use Rattle.std.proofs.lemmas.List.{length-append, length-reverse}
-use Rattle.std.specs.Prelude.{option_map, reverse, ◌++◌}
+use Rattle.std.specs.Prelude.{option_map, option_and_then, reverse, ◌++◌}
 use Rattle.part_events.specs.Event.{Tag, Event, start, IsStartAnd}
 use Rattle.part_events.specs.Nesting.{whole, whole_rest}
 use Rattle.part_events.specs.Package.{PackageState, SameParts, OpenCounts, Opens, part_of, events_in}
 use Rattle.part_events.specs.Reading.{Reading, ReadsOn, IsTracked, IsAtElement, Skips, TakesEvent, StepsAhead, ahead, events_of}
 use Rattle.part_events.specs.Section.{PlacedTag, content, is_closed, behind, starts_by, behind_start, is_named}
-use Rattle.part_events.specs.Walk.{inside, section_ahead, is_closed_ahead, behind_section, TakesInside, IsNextStart}
+use Rattle.part_events.specs.Walk.{inside, section_ahead, is_closed_ahead, behind_section, section_end, TakesInside, IsNextStart}
 use Rattle.part_events.proofs.Nested.{whole_split}
 use Rattle.part_events.proofs.Onward.{reads_further}
-use Rattle.part_events.proofs.Sections.{GoesOnBehind}
-use Rattle.xlsx_sections.specs.PartSection.{PartSection, EntersSection, section_left, section_behind, section_in, last_of, StandsAtEvent, FindsEvent, StandsAtStart, FindsStartIn}
+use Rattle.part_events.proofs.Walking.{takes_inside}
+use Rattle.xlsx_sections.specs.PartSection.{PartSection, KeepsSection, EntersSection, section_left, section_behind, section_in, last_of, has_end, inside_of, if_closed, closed_section, closed_section_of, StandsAtEvent, FindsEvent, StandsAtStart, FindsStartIn}
 
--- a section was read on
-pub record ReadsSection (base : ℕ) (first now : Reading) : Type 0 where
-  pub reads : ReadsOn first now
-  pub within : base ≤ length now.names
-  pub closed : first.source.is_told ≡ true → is_closed_ahead base now ≡ is_closed_ahead base first
-  pub last :
-    first.source.is_told ≡ true →
-    last_of (section_left base now) ≡ last_of (section_left base first)
-
-pub section_further : {base : ℕ} {first old new : Reading} → ReadsSection base first old → ReadsOn old new → base ≤ length new.names → (old.source.is_told ≡ true → (is_closed_ahead base new ≡ is_closed_ahead base old) × (last_of (section_left base new) ≡ last_of (section_left base old))) → ReadsSection base first new
+pub section_further : {base : ℕ} {first old new : Reading} → KeepsSection base first old → ReadsOn old new → base ≤ length new.names → (old.source.is_told ≡ true → (is_closed_ahead base new ≡ is_closed_ahead base old) × (last_of (section_left base new) ≡ last_of (section_left base old))) → KeepsSection base first new
 section_further before reads within same = record {
   reads = reads_further before.reads reads;
   within = within;
@@ -31,26 +22,36 @@ section_further before reads within same = record {
   last = λ told. (same (before.reads.moves.parts.is_told ∙ told)).1 ∙ before.last told;
 }
 
+pub keeps_further : {base : ℕ} {first mid last : Reading} → KeepsSection base first mid → KeepsSection base mid last → KeepsSection base first last
+keeps_further before after = section_further before after.reads after.within (λ told. (after.closed told, after.last told))
+
+-- so it was behind an event that lies in it
+pub section_taken : {base : ℕ} {first old new : Reading} → KeepsSection base first old → ReadsOn old new → TakesEvent old new → base ≤ length new.names → (old.source.is_told ≡ true → StepsAhead true old new) → KeepsSection base first new
+section_taken {base = base} {old = old} {new = new} before reads takes is steps =
+    section_further before reads is
+    (λ told. let taken = takes_inside base old new takes (steps told) before.within is in (sym taken.closed, sym taken.ends))
+
 -- an event of a section was taken, which is number `place` of its part
 pub record IsEventInside (base : ℕ) (event : Event) (place : ℕ) (first old new : Reading) : Type 0 where
-  pub read : ReadsSection base first new
+  pub read : KeepsSection base first new
   pub current : event ≡ new.source.current
   pub was : base ≤ length old.names
   pub takes : TakesEvent old new
   pub steps : first.source.is_told ≡ true → StepsAhead true old new
   pub left : first.source.is_told ≡ true → section_ahead base old ≡ event ∷ section_ahead base new
   pub behind : first.source.is_told ≡ true → behind_section base old ≡ behind_section base new
+  pub ends : first.source.is_told ≡ true → section_end base old ≡ section_end base new
   pub there :
     first.source.is_told ≡ true →
     place + suc (length (section_ahead base new)) ≡ last_of (section_left base first)
 
-pub event_inside : {base place : ℕ} {event : Event} {first old new : Reading} → event ≡ new.source.current → ReadsSection base first old → ReadsOn old new → StandsAtEvent base (Some place) old new → (old.source.is_told ≡ true → FindsEvent base (Some place) old new) → IsEventInside base event place first old new
+pub event_inside : {base place : ℕ} {event : Event} {first old new : Reading} → event ≡ new.source.current → KeepsSection base first old → ReadsOn old new → StandsAtEvent base (Some place) old new → (old.source.is_told ≡ true → FindsEvent base (Some place) old new) → IsEventInside base event place first old new
 event_inside {base = base} {place = place} {event = event} {first = first} {old = old} {new = new} current before reads stands finds =
     let still : first.source.is_told ≡ true → old.source.is_told ≡ true = λ told. before.reads.moves.parts.is_told ∙ told in
     let events : first.source.is_told ≡ true → section_ahead base old ≡ event ∷ section_ahead base new = λ told.
     (finds (still told)).events ∙ ap (λ (next : Event). next ∷ section_ahead base new) (sym current)
     in
-    let here : ReadsSection base first new = section_further before reads stands.1
+    let here : KeepsSection base first new = section_further before reads stands.1
     (λ told. let taken : TakesInside base old new = finds told in (sym taken.closed, omega (arith, ap length taken.events, stands.0.at)))
     in
     record {
@@ -61,12 +62,13 @@ event_inside {base = base} {place = place} {event = event} {first = first} {old 
       steps = λ told. (finds (still told)).steps;
       left = events;
       behind = λ told. (finds (still told)).behind;
+      ends = λ told. (finds (still told)).ends;
       there = λ told. omega (arith, ap length (events told), stands.2, before.last told);
     }
 
 -- a wanted start of a section was found, which is event number `place` of its part
 pub record IsStartFound (wanted : Tag → Bool) (base : ℕ) (tag : Tag) (place : ℕ) (first old new : Reading) : Type 0 where
-  pub read : ReadsSection base first new
+  pub read : KeepsSection base first new
   pub starts :
     first.source.is_told ≡ true →
     starts_by wanted (section_ahead base old)
@@ -76,13 +78,13 @@ pub record IsStartFound (wanted : Tag → Bool) (base : ℕ) (tag : Tag) (place 
     first.source.is_told ≡ true →
     place + suc (length (section_ahead base new)) ≡ last_of (section_left base first)
 
-pub start_found : {base place : ℕ} {tag : Tag} {first old new : Reading} (wanted : Tag → Bool) → start tag ≡ new.source.current → ReadsSection base first old → ReadsOn old new → StandsAtStart wanted base (Some place) old new → (old.source.is_told ≡ true → FindsStartIn wanted base (Some place) old new) → IsStartFound wanted base tag place first old new
+pub start_found : {base place : ℕ} {tag : Tag} {first old new : Reading} (wanted : Tag → Bool) → start tag ≡ new.source.current → KeepsSection base first old → ReadsOn old new → StandsAtStart wanted base (Some place) old new → (old.source.is_told ≡ true → FindsStartIn wanted base (Some place) old new) → IsStartFound wanted base tag place first old new
 start_found {base = base} {place = place} {tag = tag} {first = first} {old = old} {new = new} wanted current before reads stands finds =
     let next : old.source.is_told ≡ true → IsNextStart wanted base tag old new = λ told.
     subst (λ (event : Event). IsStartAnd event (λ own. IsNextStart wanted base own old new)) (sym current) (finds told)
     in
     let still : first.source.is_told ≡ true → old.source.is_told ≡ true = λ told. before.reads.moves.parts.is_told ∙ told in
-    let here : ReadsSection base first new = section_further before reads (omega (arith, stands.1))
+    let here : KeepsSection base first new = section_further before reads (omega (arith, stands.1))
     (λ told. (sym (next told).closed, sym (next told).ends))
     in
     record {
@@ -90,18 +92,6 @@ start_found {base = base} {place = place} {tag = tag} {first = first} {old = old
       starts = λ told. (next (still told)).starts;
       there = λ told. omega (arith, stands.3, here.last told);
     }
-
--- a section is read on behind an element that lies in it, at whose start `new` stands
-pub behind_element : {base outer : ℕ} {first new later : Reading} → ReadsSection base first new → inside base new ≡ suc outer → GoesOnBehind 0 outer (inside base new) (ahead new) → ReadsOn new later → length new.names ≡ suc (length later.names) → (new.source.is_told ≡ true → Skips new later) → ReadsSection base first later
-behind_element {base = base} {outer = outer} {new = new} {later = later} before deep lies reads depth skips =
-    let out : inside base later ≡ outer = omega (arith, depth, deep) in
-    section_further before reads (omega (arith, depth, deep))
-    (λ told.
-    let skipped = skips told in
-    let left : section_ahead base later ≡ content outer (behind 0 (ahead new)) = rw (out, skipped.ahead) refl in (
-      rw (out, skipped.ahead) (sym lies.closed),
-      omega (arith, ap length left, skipped.size, lies.size skipped.closed),
-    ))
 
 -- what is left behind the start of the first section of a name is that section
 pub first_section_left : (name : List ℕ) (opened entered : Reading) → opened.source.past ≡ [] → IsTracked entered → events_of entered ≡ events_of opened → behind_start (is_named (name ∷ [])) (ahead opened) ≡ Some (ahead entered) → section_in name (events_of entered) ≡ Some (section_left (length entered.names) entered)
@@ -148,3 +138,16 @@ section_entered {name = name} {path = path} {old = old} {opened = opened} {enter
           let told_there = same.is_told ∙ told in
           first_section_left name opened entered (opening told).past (reads.stays.reading.tracked (reads.moves.parts.is_told ∙ told_there)) (reads.stays.part told_there) (behind told_there);
     }
+
+closed_in : (name : List ℕ) (events : List Event) (found : Option (List Event)) (s : PartSection) → option_map (section_behind events) found ≡ Some s → has_end s ≡ true → option_and_then if_closed found ≡ Some (inside_of s)
+closed_in name events None s is closed = absurd (cc)
+closed_in name events (Some ahead) s is closed =
+    let same : section_behind events ahead ≡ s = cc in
+    let here : is_closed 0 ahead ≡ true = ap has_end same ∙ closed in
+    rw here (ap (λ (own : PartSection). Some (inside_of own)) same)
+
+-- what stands in a section that was entered, and that is closed
+pub closed_entered : {name path : List ℕ} {old : PackageState} {mid : Reading} → EntersSection name path old mid → old.is_told ≡ true → is_closed_ahead (length mid.names) mid ≡ true → closed_section_of name path old.parts ≡ Some (section_ahead (length mid.names) mid)
+closed_entered {name = name} {mid = mid} enters told closed =
+    ap (option_and_then (closed_section name)) (enters.part told)
+    ∙ closed_in name (events_of mid) (behind_start (is_named (name ∷ [])) (whole (events_of mid))) (section_left (length mid.names) mid) (enters.section told) closed

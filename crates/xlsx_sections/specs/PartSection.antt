@@ -3,9 +3,9 @@ use Rattle.std.specs.Prelude.{◌≡◌, ⊤, ℕ, suc, ◌+◌, ◌-◌, ◌<�
 use Rattle.part_events.specs.Event.{Tag, Event, IsStartAnd}
 use Rattle.part_events.specs.Nesting.{whole}
 use Rattle.part_events.specs.Package.{Part, PackageState, HasCause, SameParts, part_of, events_in}
-use Rattle.part_events.specs.Reading.{Reading, IsReading, TakesEvent, IsAtElement, BreaksAt, ahead, events_of}
+use Rattle.part_events.specs.Reading.{Reading, ReadsOn, IsReading, TakesEvent, IsAtElement, BreaksAt, ahead, events_of}
 use Rattle.part_events.specs.Section.{content, is_closed, behind_start, is_named}
-use Rattle.part_events.specs.Walk.{TakesInside, TakesLastEnd, IsNextStart, ClosesSection, inside}
+use Rattle.part_events.specs.Walk.{is_closed_ahead, TakesInside, TakesLastEnd, IsNextStart, ClosesSection, inside}
 use Rattle.part_events.specs.declared.fault.XmlFault.TheVariants.{EndMismatch, Unclosed}
 use Rattle.cell_data.specs.declared.error.XlsxError.{XlsxError}
 use Rattle.cell_data.specs.declared.error.XlsxError.TheVariants.{OutOfMemory, Io, Xml, XmlEof, FileNotFound}
@@ -50,6 +50,15 @@ section_behind events ahead = record {
 abbrev pub section_in : List ℕ → List Event → Option PartSection
 section_in name events =
     option_map (section_behind events) (behind_start (is_named (name ∷ [])) (whole events))
+
+-- the section whose element is number `base` of the open ones was read on
+pub record KeepsSection (base : ℕ) (first now : Reading) : Type 0 where
+  pub reads : ReadsOn first now
+  pub within : base ≤ length now.names
+  pub closed : first.source.is_told ≡ true → is_closed_ahead base now ≡ is_closed_ahead base first
+  pub last :
+    first.source.is_told ≡ true →
+    last_of (section_left base now) ≡ last_of (section_left base first)
 
 -- the part ends in the section, whose nesting isn't broken
 abbrev pub EndsOpenIn : PartSection → Type 0
@@ -199,3 +208,11 @@ abbrev pub FindsStartIn : (Tag → Bool) → ℕ → Option ℕ → Reading → 
 FindsStartIn wanted base None old new = ClosesSection wanted base old new
 FindsStartIn wanted base (Some at) old new =
     IsStartAnd new.source.current (λ tag. IsNextStart wanted base tag old new)
+
+-- the refusals that a step in a section of this name can have, whatever the package tells
+abbrev pub IsStepError : List ℕ → XlsxError → Type 0
+IsStepError name Io = ⊤
+IsStepError name OutOfMemory = ⊤
+IsStepError name (Xml (EndMismatch at)) = ⊤
+IsStepError name (XmlEof element) = element.now ≡ name
+IsStepError name _ = ⊥

@@ -2,6 +2,8 @@
 use Rattle.std.specs.Prelude.{◌≡◌, ◌⊎◌, ⊤, ℕ, suc, ◌+◌, List, codes, string_bytes, Result, Ok, Err}
 use Rattle.attr_text.specs.Text.{decoded}
 use Rattle.attr_text.specs.declared.fault.AttrFault.{AttrFault}
+use Rattle.part_events.specs.Event.{Tag}
+use Rattle.part_events.specs.Section.{PlacedTag}
 use Rattle.part_events.specs.declared.fault.XmlFault.TheVariants.{Entity}
 use Rattle.cell_data.specs.declared.error.XlsxError.{XlsxError}
 use Rattle.cell_data.specs.declared.error.XlsxError.TheVariants.{OutOfMemory, Xml, XmlAttr, RelationshipNotFound, Unrecognized}
@@ -29,12 +31,18 @@ RefusedAs last refused (Unrecognized typ val) =
     ⊎ ((typ.now ≡ codes "sheet:type") × refused (unknown_type (string_bytes val)))
 RefusedAs last refused _ = ⊥
 
--- The event number `at` of its part, behind which `behind` events of the section stand, has no answer but this refusal.
--- Want of memory may come at any event.
+-- An error tells of a refusal at event number `at` of its part, behind which `behind` events of the section stand. Want of
+-- memory may come at any event.
+abbrev pub RefusedAt : (Refusal → Type 0) → ℕ → ℕ → XlsxError → Type 0
+RefusedAt refused at behind OutOfMemory = ⊤
+RefusedAt refused at behind error = RefusedAs (at + suc behind) refused error
+
+-- that event has no answer but a refusal
 abbrev pub ElementFails : {A : Type 0} → Result A Refusal → ℕ → ℕ → XlsxError → Type 0
-ElementFails answer at behind OutOfMemory = ⊤
-ElementFails answer at behind error =
-    RefusedAs (at + suc behind) (λ refusal. answer ≡ Err refusal) error
+ElementFails answer at behind error = RefusedAt (λ refusal. answer ≡ Err refusal) at behind error
+
+abbrev pub placed_at : Tag → ℕ → PlacedTag
+placed_at tag behind = record { tag = tag; behind = behind }
 
 -- a text of a start behind which so many events of the section stand, decoded
 abbrev pub decoded_or : ℕ → Result (List ℕ) ℕ → Result (List ℕ) Refusal
@@ -43,3 +51,9 @@ decoded_or behind (Err at) = Err (no_character behind)
 
 abbrev pub decoded_at : ℕ → List ℕ → Result (List ℕ) Refusal
 decoded_at behind text = decoded_or behind (decoded text)
+
+-- the refusals that decoding a text can have
+abbrev pub IsDecodeError : XlsxError → Type 0
+IsDecodeError OutOfMemory = ⊤
+IsDecodeError (Xml (Entity at)) = ⊤
+IsDecodeError _ = ⊥

@@ -1,5 +1,5 @@
 ghost use Rattle.std.specs.Prelude.{◌≡◌, ℕ, Ok, string_bytes, IfOk, IfErr};
-ghost use Rattle.xlsx_sections.specs.Refusal.{ElementFails, decoded_at};
+ghost use Rattle.xlsx_sections.specs.Refusal.{ElementFails, IsDecodeError, decoded_at};
 
 use attr_text::{TextFault, decode_attr};
 use cell_data::XlsxError;
@@ -15,6 +15,7 @@ pub fn decode_at(alloc: Global, text: &str, at: u64) -> Result<String, XlsxError
         IfErr result (λ error. (behind : ℕ) →
             ElementFails (decoded_at behind text.now) at behind error)
     }
+    ensures kind { IfErr result IsDecodeError }
 {
     match decode_attr(alloc, text) {
         Ok(out) => Ok(out),

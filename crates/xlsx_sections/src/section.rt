@@ -4,7 +4,7 @@ ghost use Rattle.part_events.specs.Package.{UsesPackage, LeavesPackage, part_of,
 ghost use Rattle.part_events.specs.Reading.{reading, open_elements, IsReading, IsAtElement, ReadsPart, ahead};
 ghost use Rattle.part_events.specs.Section.{is_named, behind_start};
 ghost use Rattle.cell_data.specs.declared.error.XlsxError.TheVariants.{Io};
-ghost use Rattle.xlsx_sections.specs.PartSection.{always, Never, EntersSection, EnterFails, SectionFails, StartFails, StandsAtEvent, FindsEvent, StandsAtStart, FindsStartIn};
+ghost use Rattle.xlsx_sections.specs.PartSection.{always, Never, IsStepError, EntersSection, EnterFails, SectionFails, StartFails, StandsAtEvent, FindsEvent, StandsAtStart, FindsStartIn};
 
 use cell_data::XlsxError;
 use part_events::{Cursor, Package, PartEvent, StartTag, Step};
@@ -46,6 +46,7 @@ pub fn enter<P: Package>(
         let new = reading (P.state «package».new) cursor.new in
         IfErr result (StartFails name.now old new)
     }
+    ensures kind { IfErr result (IsStepError name.now) }
 {
     match cursor.next_start(package, 0, &[name])? {
         Step::Found => Ok(()),
@@ -86,6 +87,7 @@ pub fn next_start_in<P: Package>(
         let new = reading (P.state «package».new) cursor.new in
         IfErr result (SectionFails (always section.now) Never base old new)
     }
+    ensures kind { IfErr result (IsStepError section.now) }
 {
     match cursor.next_start(package, base, &[name])? {
         Step::Found => Ok(Some(cursor.at() - 1)),
@@ -124,6 +126,7 @@ pub fn next_event_in<P: Package>(
         let new = reading (P.state «package».new) cursor.new in
         IfErr result (SectionFails (always section.now) Never base old new)
     }
+    ensures kind { IfErr result (IsStepError section.now) }
 {
     match cursor.next_inside(package, base)? {
         Step::Found => Ok(Some(cursor.at() - 1)),
@@ -159,6 +162,7 @@ pub fn enter_part<P: Package>(
     ensures err {
         IfErr result (EnterFails name.now path.now (P.state «package».old) (P.state «package».new))
     }
+    ensures kind { IfErr result (IsStepError name.now) }
 {
     if !package.open(path)? {
         return Ok(None);

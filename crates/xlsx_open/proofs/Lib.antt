@@ -1,0 +1,4 @@
+pub mod Contents
+pub mod OpeningErrors
+pub mod Openings
+pub mod Pieces

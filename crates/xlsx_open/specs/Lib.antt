@@ -1,0 +1,7 @@
+pub mod DefinedNames
+pub mod Kept
+pub mod Opening
+pub mod Paths
+pub mod Relationships
+pub mod Sheets
+pub mod Workbook

@@ -1,0 +1,228 @@
+-- What opening a workbook finds in the parts of a package, and why it is refused.
+use Rattle.std.specs.Prelude.{◌≡◌, ◌⊎◌, ⊤, ℕ, ◌+◌, ◌≤◌, List, [], Bool, true, false, codes, Option, Some, None, map, unwrap_or, Result, Ok, Err, IsSome, IsSomeAnd, MatchOption, MatchResult, string_bytes, String}
+use Rattle.std.specs.declared.alloc.Global.{Global}
+use Rattle.part_events.specs.Event.{Event}
+use Rattle.part_events.specs.Package.{Part, PackageState, HasCause, KeepsFaults, SameParts, part_of, events_in}
+use Rattle.part_events.specs.declared.fault.XmlFault.TheVariants.{EndMismatch, Unclosed, Entity}
+use Rattle.cell_data.specs.declared.error.XlsxError.{XlsxError}
+use Rattle.cell_data.specs.declared.error.XlsxError.TheVariants.{OutOfMemory, Io, NotBuilt, Xml, XmlAttr, XmlEof, FileNotFound, RelationshipNotFound, Unrecognized}
+use Rattle.xlsx_sections.specs.PartSection.{always, closed_section_of, PartCause, OptionalPartCause}
+use Rattle.xlsx_sections.specs.Refusal.{Refusal}
+use Rattle.xlsx_open.specs.DefinedNames.{names_in}
+use Rattle.xlsx_open.specs.Kept.{pair_of}
+use Rattle.xlsx_open.specs.Paths.{folder_of, workbook_part, relationships_part, strings_part, styles_part}
+use Rattle.xlsx_open.specs.Relationships.{Related, path_in, related_in, IsPathRefused, AreRelationshipsRefused}
+use Rattle.xlsx_open.specs.Sheets.{PlacedSheet, sheets_in, epoch_in}
+use Rattle.xlsx_open.specs.Workbook.{AreContentsRefused}
+use Rattle.xlsx_open.specs.declared.sheet.Sheet.{Sheet}
+use Rattle.xlsx_open.specs.declared.sheet.Metadata.{Metadata}
+use Rattle.xlsx_open.specs.declared.sheet.SheetType.{SheetType}
+use Rattle.xlsx_open.specs.declared.sheet.SheetVisible.{SheetVisible}
+
+-- what a workbook opens as: its sheets with the paths of their parts, its defined names with their texts, and whether
+-- its dates count from 1904
+pub record Opening : Type 0 where
+  pub sheets : List PlacedSheet
+  pub names : List (List ℕ × List ℕ)
+  pub is_1904 : Bool
+
+-- a sheet as it is listed, without the path of its part
+pub record ListedSheet : Type 0 where
+  pub name : List ℕ
+  pub typ : SheetType
+  pub visible : SheetVisible
+
+abbrev pub without_path : PlacedSheet → ListedSheet
+without_path sheet = record { name = sheet.name; typ = sheet.typ; visible = sheet.visible }
+
+abbrev pub listed_sheet : Sheet → ListedSheet
+listed_sheet sheet = record {
+  name = string_bytes sheet.name;
+  typ = sheet.typ;
+  visible = sheet.visible;
+}
+
+-- these lists and the first year are those of an opening
+pub record HoldsOpening
+    (metadata : Metadata) (part_paths : List (String Global)) (is_1904 : Bool) (opening : Opening) : Type 0 where
+  pub sheets : map listed_sheet metadata.sheets.items ≡ map without_path opening.sheets
+  pub paths : map string_bytes part_paths ≡ map (λ (sheet : PlacedSheet). sheet.path) opening.sheets
+  pub names : map pair_of metadata.names.items ≡ opening.names
+  pub epoch : is_1904 ≡ opening.is_1904
+
+-- the package's relationships lead to the workbook at this path
+abbrev pub HasPath : List Part → List ℕ → Type 0
+HasPath parts path =
+    IsSomeAnd (closed_section_of (codes "Relationships") (codes "_rels/.rels") parts)
+    (λ inside. path_in inside ≡ Ok (Some path))
+
+-- the workbook's relationships, each by its Id
+abbrev pub HasRelationships : List Part → List ℕ → (List ℕ → Option Related) → Type 0
+HasRelationships parts path related =
+    IsSomeAnd (closed_section_of (codes "Relationships") (relationships_part path) parts)
+    (λ inside. (id : List ℕ) → related_in inside id ≡ Ok (related id))
+
+abbrev pub epoch_or_1900 : Result (Option Bool) Refusal → Result Bool Refusal
+epoch_or_1900 (Ok epoch) = Ok (unwrap_or epoch false)
+epoch_or_1900 (Err refusal) = Err refusal
+
+-- what the workbook's section says
+pub record IsOpening
+    (folder : List ℕ) (related : List ℕ → Option Related) (inside : List Event) (opening : Opening) : Type 0 where
+  pub sheets : sheets_in folder related inside ≡ Ok opening.sheets
+  pub names : names_in inside ≡ Ok opening.names
+  pub epoch : epoch_or_1900 (epoch_in inside) ≡ Ok opening.is_1904
+
+-- a workbook without its own part has no sheets and no names, and counts its dates from 1900
+pub record HasNothing (opening : Opening) : Type 0 where
+  pub sheets : opening.sheets ≡ []
+  pub names : opening.names ≡ []
+  pub epoch : opening.is_1904 ≡ false
+
+-- what the workbook's own part says
+abbrev pub HasWorkbook :
+    List Part → List ℕ → (List ℕ → Option Related) → Opening → Type 0
+HasWorkbook parts path related opening =
+    MatchOption (part_of parts (workbook_part path)) (HasNothing opening)
+    (λ _. IsSomeAnd (closed_section_of (codes "workbook") (workbook_part path) parts)
+    (λ inside. IsOpening (folder_of path) related inside opening))
+
+-- the parts of a package open as this workbook
+pub record OpensAs (parts : List Part) (opening : Opening) : Type 0 where
+  pub path : List ℕ
+  pub related : List ℕ → Option Related
+  pub found : HasPath parts path
+  pub relationships : HasRelationships parts path related
+  pub workbook : HasWorkbook parts path related opening
+
+abbrev pub OpensSoundly : List Part → Type 0
+OpensSoundly parts = (opening : Opening) × OpensAs parts opening
+
+-- why the relationships of a part can't be read
+abbrev pub RootCause : List Part → XlsxError → Type 0
+RootCause parts error =
+    PartCause (codes "Relationships") (always (codes "Relationships")) IsPathRefused parts
+    (codes "_rels/.rels") error
+
+abbrev pub RelationshipsCause : List Part → List ℕ → XlsxError → Type 0
+RelationshipsCause parts path error =
+    PartCause (codes "Relationships") (always (codes "Relationships")) AreRelationshipsRefused parts
+    (relationships_part path) error
+
+-- why the workbook's own part can't be read
+abbrev pub ContentsCause : List Part → List ℕ → (List ℕ → Option Related) → XlsxError → Type 0
+ContentsCause parts path related error =
+    OptionalPartCause (codes "workbook") (always (codes "workbook"))
+    (AreContentsRefused (folder_of path) related) (part_of parts (workbook_part path)) error
+
+-- why a workbook can't be opened: by the package's relationships, by the workbook's, or by its own part
+abbrev pub WorkbookCause : List Part → List ℕ → XlsxError → Type 0
+WorkbookCause parts path error =
+    RelationshipsCause parts path error
+    ⊎ ((related : List ℕ → Option Related)
+      × HasRelationships parts path related × ContentsCause parts path related error)
+
+abbrev pub OpeningCause : List Part → XlsxError → Type 0
+OpeningCause parts error =
+    RootCause parts error
+    ⊎ ((path : List ℕ) × HasPath parts path × WorkbookCause parts path error)
+
+-- the workbook has shared strings or styles, which aren't read yet
+abbrev pub IsNotBuilt : List Part → Type 0
+IsNotBuilt parts =
+    (path : List ℕ) × HasPath parts path
+    × (IsSome (part_of parts (strings_part path)) ⊎ IsSome (part_of parts (styles_part path)))
+
+-- the parts beside the workbook at this path that aren't read yet are absent
+pub record LacksUnbuilt (path : List ℕ) (parts : List Part) : Type 0 where
+  pub no_strings : part_of parts (strings_part path) ≡ None
+  pub no_styles : part_of parts (styles_part path) ≡ None
+
+-- the workbook has no shared strings and no styles
+pub record IsBuilt (parts : List Part) : Type 0 where
+  pub path : List ℕ
+  pub found : HasPath parts path
+  pub lacks : LacksUnbuilt path parts
+
+-- the refusals that opening can have, whatever the package tells
+abbrev pub IsOpeningError : XlsxError → Type 0
+IsOpeningError OutOfMemory = ⊤
+IsOpeningError Io = ⊤
+IsOpeningError NotBuilt = ⊤
+IsOpeningError (Xml (EndMismatch at)) = ⊤
+IsOpeningError (Xml (Entity at)) = ⊤
+IsOpeningError (XmlAttr fault) = ⊤
+IsOpeningError (XmlEof element) =
+    (element.now ≡ codes "Relationships") ⊎ (element.now ≡ codes "workbook")
+IsOpeningError (FileNotFound path) = ⊤
+IsOpeningError RelationshipNotFound = ⊤
+IsOpeningError (Unrecognized typ val) =
+    (typ.now ≡ codes "sheet:state") ⊎ (typ.now ≡ codes "sheet:type")
+IsOpeningError _ = ⊥
+
+-- when opening is refused
+abbrev pub OpeningFails : PackageState → PackageState → XlsxError → Type 0
+OpeningFails old new Io = HasCause old new
+OpeningFails old new OutOfMemory = ⊤
+OpeningFails old new NotBuilt = old.is_told ≡ true → IsNotBuilt old.parts
+OpeningFails old new error = old.is_told ≡ true → OpeningCause old.parts error
+
+-- when a package that opens soundly is refused
+abbrev pub SoundFails : PackageState → PackageState → XlsxError → Type 0
+SoundFails old new Io = HasCause old new
+SoundFails old new OutOfMemory = ⊤
+SoundFails old new NotBuilt = IsNotBuilt old.parts
+SoundFails old new _ = ⊥
+
+-- how many events the parts have that lead to a workbook at this path, and its own
+abbrev pub workbook_events : List Part → List ℕ → ℕ
+workbook_events parts path =
+    events_in parts (relationships_part path) + events_in parts (workbook_part path)
+
+-- How many events an opening may take: those of the package's relationships, and where these lead to a workbook, those of
+-- its relationships and its own part.
+abbrev pub TakesOpening : List Part → ℕ → ℕ → Type 0
+TakesOpening parts before after =
+    (after ≤ before + events_in parts (codes "_rels/.rels"))
+    ⊎ ((path : List ℕ) × HasPath parts path
+      × (after ≤ before + (events_in parts (codes "_rels/.rels") + workbook_events parts path)))
+
+-- what opening keeps of its package that isn't refused, and what it keeps that is
+pub record OpensFrom (old new : PackageState) : Type 0 where
+  pub parts : SameParts old new
+  pub faults : new.faults ≡ old.faults
+  pub taken : old.is_told ≡ true → TakesOpening old.parts old.taken new.taken
+
+pub record FailsToOpen {E : Type 0} (fault : E) (old new : PackageState) (error : E) : Type 0 where
+  pub parts : SameParts old new
+  pub faults : KeepsFaults fault old new error
+  pub taken : old.is_told ≡ true → TakesOpening old.parts old.taken new.taken
+
+abbrev pub OpensPackage : {A E : Type 0} → E → Result A E → PackageState → PackageState → Type 0
+OpensPackage fault result old new =
+    MatchResult result (λ _. OpensFrom old new) (FailsToOpen fault old new)
+
+-- when the look for a part that isn't read yet is refused
+abbrev pub PresenceFails : List ℕ → PackageState → PackageState → XlsxError → Type 0
+PresenceFails part old new Io = HasCause old new
+PresenceFails part old new NotBuilt = old.is_told ≡ true → IsSome (part_of old.parts part)
+PresenceFails part old new _ = ⊥
+
+abbrev pub UnbuiltFails : List ℕ → PackageState → PackageState → XlsxError → Type 0
+UnbuiltFails path old new Io = HasCause old new
+UnbuiltFails path old new OutOfMemory = ⊤
+UnbuiltFails path old new NotBuilt =
+    old.is_told ≡ true →
+    IsSome (part_of old.parts (strings_part path)) ⊎ IsSome (part_of old.parts (styles_part path))
+UnbuiltFails path old new _ = ⊥
+
+-- the workbook at this path opens
+abbrev pub WorkbookOpens : List Part → List ℕ → Opening → Type 0
+WorkbookOpens parts path opening =
+    (related : List ℕ → Option Related)
+    × HasRelationships parts path related × HasWorkbook parts path related opening
+
+abbrev pub WorkbookFails : List ℕ → PackageState → PackageState → XlsxError → Type 0
+WorkbookFails path old new Io = HasCause old new
+WorkbookFails path old new OutOfMemory = ⊤
+WorkbookFails path old new error = old.is_told ≡ true → WorkbookCause old.parts path error

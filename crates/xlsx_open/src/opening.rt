@@ -1,0 +1,204 @@
+ghost use Rattle.std.specs.Prelude.{◌≡◌, [], map, true, false, None, unwrap_or, string_bytes, IfOk, OnOk, IfErr};
+ghost use Rattle.part_events.specs.Package.{Uses, part_of};
+ghost use Rattle.cell_data.specs.declared.error.XlsxError.TheVariants.{Io};
+ghost use Rattle.xlsx_open.specs.Kept.{pair_of, sheet_of_entry};
+ghost use Rattle.xlsx_open.specs.Opening.{Opening, HoldsOpening, OpensAs, IsBuilt, IsOpeningError, LacksUnbuilt, OpensPackage, UnbuiltFails, PresenceFails, WorkbookOpens, WorkbookFails, OpeningFails, workbook_events};
+ghost use Rattle.xlsx_open.specs.Paths.{workbook_part, relationships_part};
+
+use crate::paths::{file_of, folder_of, joined};
+use crate::relationship_parts::{read_path, read_relationships};
+use crate::sheet::Metadata;
+use crate::workbook::{SheetPlaces, WorkbookContents, read_contents};
+use cell_data::XlsxError;
+use part_events::Package;
+use std::alloc::{AllocError, Global};
+
+fn workbook_part(alloc: Global, path: &str) -> Result<String, AllocError>
+    ensures { IfOk result (λ part. string_bytes part ≡ workbook_part path.now) }
+{
+    joined(alloc, folder_of(path), file_of(path))
+}
+
+fn relationships_part(alloc: Global, path: &str) -> Result<String, AllocError>
+    ensures { IfOk result (λ part. string_bytes part ≡ relationships_part path.now) }
+{
+    let mut part = joined(alloc, folder_of(path), "_rels/")?;
+    part.push_str(file_of(path))?;
+    part.push_str(".rels")?;
+    Ok(part)
+}
+
+/// Refuses a package that has this part.
+fn refuse_part<P: Package>(package: &mut P, part: &str) -> Result<(), XlsxError>
+    ensures uses {
+        let old = P.state «package».old in
+        let new = P.state «package».new in
+        Uses 0 Io result old new
+    }
+    ensures absent {
+        let old = P.state «package».old in
+        let new = P.state «package».new in
+        old.is_told ≡ true → OnOk result (part_of old.parts part.now ≡ None)
+    }
+    ensures err {
+        let old = P.state «package».old in
+        let new = P.state «package».new in
+        IfErr result (PresenceFails part.now old new)
+    }
+{
+    if package.open(part)? {
+        Err(XlsxError::NotBuilt)
+    } else {
+        Ok(())
+    }
+}
+
+/// Refuses a package in which the workbook at this path has shared strings or styles.
+fn refuse_unbuilt<P: Package>(alloc: Global, package: &mut P, path: &str) -> Result<(), XlsxError>
+    ensures uses {
+        let old = P.state «package».old in
+        let new = P.state «package».new in
+        Uses 0 Io result old new
+    }
+    ensures absent {
+        let old = P.state «package».old in
+        let new = P.state «package».new in
+        old.is_told ≡ true → OnOk result (LacksUnbuilt path.now old.parts)
+    }
+    ensures err {
+        let old = P.state «package».old in
+        let new = P.state «package».new in
+        IfErr result (UnbuiltFails path.now old new)
+    }
+{
+    let strings = joined(alloc, folder_of(path), "sharedStrings.xml")?;
+    refuse_part(package, strings.as_str())?;
+    let styles = joined(alloc, folder_of(path), "styles.xml")?;
+    refuse_part(package, styles.as_str())
+}
+
+/// A workbook that was opened.
+#[derive(Debug, Drop)]
+pub struct Opened {
+    pub metadata: Metadata,
+    /// The path of the part of each sheet, in the order of the sheets.
+    pub paths: Vec<String>,
+    pub is_1904: bool,
+}
+
+fn from_contents(alloc: Global, contents: WorkbookContents) -> Result<Opened, AllocError>
+    ensures {
+        let sheets = map sheet_of_entry contents.entries.items in
+        IfOk result (λ o. HoldsOpening o.metadata o.paths.items o.is_1904 (record {
+            sheets = sheets;
+            names = map pair_of contents.names.items;
+            is_1904 = unwrap_or contents.epoch false;
+        }))
+    }
+{
+    let mut sheets = Vec::new(alloc);
+    let mut paths = Vec::new(alloc);
+    for entry in contents.entries {
+        sheets.push(entry.sheet)?;
+        paths.push(entry.path)?;
+    }
+    Ok(Opened {
+        metadata: Metadata {
+            sheets,
+            names: contents.names,
+        },
+        paths,
+        is_1904: contents.epoch.unwrap_or(false),
+    })
+}
+
+/// What a workbook without a part of its own opens as.
+fn nothing_opened(alloc: Global) -> Opened
+    ensures {
+        HoldsOpening result.metadata result.paths.items result.is_1904
+            (record { sheets = []; names = []; is_1904 = false })
+    }
+{
+    Opened {
+        metadata: Metadata {
+            sheets: Vec::new(alloc),
+            names: Vec::new(alloc),
+        },
+        paths: Vec::new(alloc),
+        is_1904: false,
+    }
+}
+
+/// The workbook at this path.
+fn open_workbook<P: Package>(
+    alloc: Global,
+    package: &mut P,
+    path: &str,
+) -> Result<Opened, XlsxError>
+    ensures uses {
+        let old = P.state «package».old in
+        let new = P.state «package».new in
+        Uses (workbook_events old.parts path.now) Io result old new
+    }
+    ensures opened {
+        let old = P.state «package».old in
+        let new = P.state «package».new in
+        old.is_told ≡ true → IfOk result (λ o. (opening : Opening)
+            × HoldsOpening o.metadata o.paths.items o.is_1904 opening
+            × WorkbookOpens old.parts path.now opening)
+    }
+    ensures err {
+        let old = P.state «package».old in
+        let new = P.state «package».new in
+        IfErr result (WorkbookFails path.now old new)
+    }
+    ensures kind { IfErr result IsOpeningError }
+{
+    let part = relationships_part(alloc, path)?;
+    let relationships = read_relationships(alloc, package, part.as_str())?;
+    let part = workbook_part(alloc, path)?;
+    let places = SheetPlaces {
+        folder: folder_of(path),
+        relationships: &relationships,
+    };
+    match read_contents(alloc, package, part.as_str(), places)? {
+        Some(contents) => Ok(from_contents(alloc, contents)?),
+        None => Ok(nothing_opened(alloc)),
+    }
+}
+
+/// The workbook of a package.
+///
+/// The package's relationships lead to it, the last one to an office document with a target being taken. Relationships of
+/// the workbook are by Id, of which the last stands. Each section is read to its end and no further. (ECMA-376 part 2,
+/// section 9.3, and part 1, section 18.2.)
+///
+/// A package with shared strings or styles is refused as `NotBuilt`.
+pub fn open<P: Package>(alloc: Global, package: &mut P) -> Result<Opened, XlsxError>
+    ensures uses {
+        let old = P.state «package».old in
+        let new = P.state «package».new in
+        OpensPackage Io result old new
+    }
+    ensures opens {
+        let old = P.state «package».old in
+        let new = P.state «package».new in
+        old.is_told ≡ true → IfOk result (λ o. (opening : Opening)
+            × HoldsOpening o.metadata o.paths.items o.is_1904 opening × OpensAs old.parts opening)
+    }
+    ensures built {
+        let old = P.state «package».old in
+        let new = P.state «package».new in
+        old.is_told ≡ true → OnOk result (IsBuilt old.parts)
+    }
+    ensures err {
+        let old = P.state «package».old in
+        let new = P.state «package».new in
+        IfErr result (OpeningFails old new)
+    }
+    ensures kind { IfErr result IsOpeningError }
+{
+    let path = read_path(alloc, package, "_rels/.rels")?;
+    refuse_unbuilt(alloc, package, path.as_str())?;
+    open_workbook(alloc, package, path.as_str())
+}
