@@ -1,14 +1,7 @@
-pub mod Events
 pub mod Fronts
-pub mod Kept
-pub mod OpeningLemmas
-pub mod Pieces
 pub mod PlainFails
 pub mod PlainRead
 pub mod PlainWritten
 pub mod Readings
-pub mod Refused
-pub mod Sections
-pub mod Sound
 pub mod Spelled
 pub mod Taking

@@ -9,7 +9,7 @@ use Rattle.cell_refs.specs.A1.{corner, row_of}
 use Rattle.cell_refs.specs.Reference.{reference, row_reference}
 use Rattle.cell_refs.proofs.Inside.{corner_inside, row_inside}
 use Rattle.xlsx_core.proofs.Spelled.{spelled_between_some, spelled_between_reads}
-use Rattle.part_events.specs.Event.{Event, Tag, start, end, text, char_data, entity_ref, other}
+use Rattle.part_events.specs.Event.{Event, Tag, start, end, leaf, text, char_data, entity_ref, other}
 use Rattle.xlsx_core.specs.PlainSheet.{PlainCell, PlainRow, opening, row_attributes, cell_attributes, child_events, cell_events, row_events, closing_events, all_cells, is_plain_text, IsPlainText, comes_after, is_rising, IsPlainCell, IsPlainRow, IsPlainSheet}
 use Rattle.xlsx_core.specs.PlainScan as scan
 use Rattle.xlsx_core.specs.PlainScan.{Place, Scan, Step, row_in, position_in, with_cell, cells_from, beginning, begins_cell, on, goes_to, ends_cell, is_opening, is_end, attributes_of, plain_text_of, step_at, is_done, with_formula, with_text}
@@ -30,18 +30,12 @@ opening_is name attributes (start tag) is =
     let texts = (bytes_eq-Decides tag.attributes attributes).0 parts.1 in
     ap (λ (n : List ℕ). start (record { name = n; attributes = tag.attributes })) names ∙ ap (λ (a : List ℕ). start (record { name = name; attributes = a })) texts
 opening_is name attributes (end n) is = absurd cc
-opening_is name attributes (text content) is = absurd cc
-opening_is name attributes (char_data content) is = absurd cc
-opening_is name attributes (entity_ref n) is = absurd cc
-opening_is name attributes other is = absurd cc
+opening_is name attributes (leaf kind) is = absurd cc
 
 end_is : (name : List ℕ) (event : Event) → is_end name event ≡ true → event ≡ end name
 end_is name (start tag) is = absurd cc
 end_is name (end n) is = ap end ((bytes_eq-Decides n name).0 is)
-end_is name (text content) is = absurd cc
-end_is name (char_data content) is = absurd cc
-end_is name (entity_ref n) is = absurd cc
-end_is name other is = absurd cc
+end_is name (leaf kind) is = absurd cc
 
 chosen_name : (tag : Tag) (name attributes : List ℕ) (test : Bool) → bytes_eq tag.name name ≡ test → cond test (Some tag.attributes) None ≡ Some attributes → start tag ≡ opening name attributes
 chosen_name tag name attributes true same is =
@@ -52,22 +46,19 @@ chosen_name tag name attributes false same is = absurd cc
 attributes_are : (name : List ℕ) (event : Event) (attributes : List ℕ) → attributes_of name event ≡ Some attributes → event ≡ opening name attributes
 attributes_are name (start tag) attributes is = chosen_name tag name attributes (bytes_eq tag.name name) refl is
 attributes_are name (end n) attributes is = absurd cc
-attributes_are name (text content) attributes is = absurd cc
-attributes_are name (char_data content) attributes is = absurd cc
-attributes_are name (entity_ref n) attributes is = absurd cc
-attributes_are name other attributes is = absurd cc
+attributes_are name (leaf kind) attributes is = absurd cc
 
-chosen_text : (content found : List ℕ) (test : Bool) → is_plain_text content ≡ test → cond test (Some content) None ≡ Some found → (text content ≡ text found) × IsPlainText found
-chosen_text content found true plain is = let same : content ≡ found = cc in (ap text same, ap is_plain_text (sym same) ∙ plain)
+chosen_text : (content found : List ℕ) (test : Bool) → is_plain_text content ≡ test → cond test (Some content) None ≡ Some found → (leaf (text content) ≡ leaf (text found)) × IsPlainText found
+chosen_text content found true plain is = let same : content ≡ found = cc in (ap (λ (written : List ℕ). leaf (text written)) same, ap is_plain_text (sym same) ∙ plain)
 chosen_text content found false plain is = absurd cc
 
-text_is : (event : Event) (found : List ℕ) → plain_text_of event ≡ Some found → (event ≡ text found) × IsPlainText found
+text_is : (event : Event) (found : List ℕ) → plain_text_of event ≡ Some found → (event ≡ leaf (text found)) × IsPlainText found
 text_is (start tag) found is = absurd cc
 text_is (end n) found is = absurd cc
-text_is (text content) found is = chosen_text content found (is_plain_text content) refl is
-text_is (char_data content) found is = absurd cc
-text_is (entity_ref n) found is = absurd cc
-text_is other found is = absurd cc
+text_is (leaf (text content)) found is = chosen_text content found (is_plain_text content) refl is
+text_is (leaf (char_data content)) found is = absurd cc
+text_is (leaf (entity_ref n)) found is = absurd cc
+text_is (leaf other) found is = absurd cc
 
 -- ---- what a step that is there says
 
@@ -154,7 +145,7 @@ pub record ValueEnds (cell : PlainCell) (last : Option (ℕ × ℕ)) (events : L
 pub record ValueText (cell : PlainCell) (last : Option (ℕ × ℕ)) (events : List Event) (cells : List PlainCell) : Type 0 where
   pub content : List ℕ
   pub behind : List Event
-  pub spelled : events ≡ text content ∷ behind
+  pub spelled : events ≡ leaf (text content) ∷ behind
   pub plain_text : IsPlainText content
   pub left : ValueEnds (with_text cell content) last behind cells
 
@@ -174,7 +165,7 @@ pub record FormulaEnds (cell : PlainCell) (last : Option (ℕ × ℕ)) (events :
 pub record FormulaText (cell : PlainCell) (last : Option (ℕ × ℕ)) (events : List Event) (cells : List PlainCell) : Type 0 where
   pub content : List ℕ
   pub behind : List Event
-  pub spelled : events ≡ text content ∷ behind
+  pub spelled : events ≡ leaf (text content) ∷ behind
   pub plain_text : IsPlainText content
   pub left : FormulaEnds (with_formula cell content) last behind cells
 

@@ -5,20 +5,20 @@ use Rattle.part_events.specs.Event.{Event}
 use Rattle.part_events.specs.Package.{Part, part_of}
 use Rattle.cell_data.specs.declared.error.XlsxError.{XlsxError}
 use Rattle.cell_data.specs.declared.error.XlsxError.TheVariants.{NotBuilt, WorksheetNotFound}
-use Rattle.xlsx_core.specs.Opening.{Opening, HasRelationships, HasWorkbook, IsOpening, OpensAs, IsBuilt, IsNotBuilt, empty_opening}
-use Rattle.xlsx_core.specs.Paths.{folder_of, workbook_part, strings_part, styles_part}
+use Rattle.xlsx_open.specs.Opening.{Opening, HasRelationships, HasWorkbook, IsOpening, OpensAs, HasNothing, IsBuilt, IsNotBuilt}
+use Rattle.xlsx_open.specs.Paths.{folder_of, workbook_part, strings_part, styles_part}
 use Rattle.xlsx_core.specs.PlainScan.{cells_from, beginning}
 use Rattle.xlsx_core.specs.PlainSheet.{PlainCell, IsPlainSheet}
-use Rattle.xlsx_core.specs.Relationships.{Related}
-use Rattle.xlsx_core.specs.Section.{closed_section_of}
-use Rattle.xlsx_core.specs.Sheets.{PlacedSheet}
+use Rattle.xlsx_open.specs.Relationships.{Related}
+use Rattle.xlsx_sections.specs.PartSection.{closed_section_of}
+use Rattle.xlsx_open.specs.Sheets.{PlacedSheet}
 use Rattle.xlsx_core.specs.ThinReading.{events_named, ReadsAs, LacksSheet, HasOtherForm, ThinCause}
 use Rattle.xlsx_core.proofs.PlainWritten.{written_sheet}
-use Rattle.xlsx_core.proofs.Sound.{both_at, same_path, same_related, no_cause}
+use Rattle.xlsx_open.proofs.Sound.{both_at, same_path, same_related, no_cause}
 
 -- the sheets of two openings of one section, or of no part
-same_of : {A B : Type 0} (part : Option A) (section : Option B) (good : Opening → B → Type 0) (one two : Opening) → ((x : B) → good one x → good two x → one.sheets ≡ two.sheets) → MatchOption part (one ≡ empty_opening) (λ _. IsSomeAnd section (good one)) → MatchOption part (two ≡ empty_opening) (λ _. IsSomeAnd section (good two)) → one.sheets ≡ two.sheets
-same_of None section good one two same first second = ap (λ (o : Opening). o.sheets) (first ∙ sym second)
+same_of : {A B : Type 0} (part : Option A) (section : Option B) (good : Opening → B → Type 0) (one two : Opening) → ((x : B) → good one x → good two x → one.sheets ≡ two.sheets) → MatchOption part (HasNothing one) (λ _. IsSomeAnd section (good one)) → MatchOption part (HasNothing two) (λ _. IsSomeAnd section (good two)) → one.sheets ≡ two.sheets
+same_of None section good one two same first second = first.sheets ∙ sym second.sheets
 same_of (Some x) section good one two same first second =
     let both = both_at section (good one) (good two) first second in
     same both.0 both.1 both.2
@@ -55,9 +55,9 @@ never_absent o none some = let there = rw none at some in absurd cc
 
 built_or_not : (parts : List Part) → IsBuilt parts → IsNotBuilt parts → ⊥
 built_or_not parts built (path, found, inl strings) =
-    never_absent (part_of parts (strings_part path)) (ap (λ (p : List ℕ). part_of parts (strings_part p)) (same_path parts path built.path found built.found) ∙ built.no_strings) strings
+    never_absent (part_of parts (strings_part path)) (ap (λ (p : List ℕ). part_of parts (strings_part p)) (same_path parts path built.path found built.found) ∙ built.lacks.no_strings) strings
 built_or_not parts built (path, found, inr styles) =
-    never_absent (part_of parts (styles_part path)) (ap (λ (p : List ℕ). part_of parts (styles_part p)) (same_path parts path built.path found built.found) ∙ built.no_styles) styles
+    never_absent (part_of parts (styles_part path)) (ap (λ (p : List ℕ). part_of parts (styles_part p)) (same_path parts path built.path found built.found) ∙ built.lacks.no_styles) styles
 
 other_form_never : (parts : List Part) (name : List ℕ) (cells : List PlainCell) → ReadsAs parts name cells → HasOtherForm parts name → ⊥
 other_form_never parts name cells reads has =

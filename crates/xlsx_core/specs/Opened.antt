@@ -1,17 +1,13 @@
--- What an open workbook holds, apart from where its texts lie in memory.
-use Rattle.std.specs.Prelude.{List, [], ◌∷◌, Bool, map, string_bytes, String}
+-- The sheets of an open workbook and the paths of their parts, apart from where their texts lie in memory.
+use Rattle.std.specs.Prelude.{ℕ, List, [], ◌∷◌, Option, Some, None, if◌then◌else◌, string_bytes, String}
+use Rattle.std.specs.Str.{bytes_eq}
 use Rattle.std.specs.declared.alloc.Global.{Global}
-use Rattle.xlsx_core.specs.Opening.{Opening}
-use Rattle.xlsx_core.specs.Sheets.{PlacedSheet}
-use Rattle.xlsx_core.specs.Workbook.{pair_of}
-use Rattle.xlsx_core.specs.declared.sheet.Sheet.{Sheet}
-use Rattle.xlsx_core.specs.declared.sheet.Metadata.{Metadata}
+use Rattle.xlsx_open.specs.declared.sheet.Sheet.{Sheet}
 
--- the sheets, each with the path of its part
-abbrev pub placed : List Sheet → List (String Global) → List PlacedSheet
-placed [] paths = []
-placed (sheet ∷ sheets) [] = []
-placed (sheet ∷ sheets) (path ∷ paths) = record { name = string_bytes sheet.name; typ = sheet.typ; visible = sheet.visible; path = string_bytes path } ∷ placed sheets paths
-
-abbrev pub opening_of : Metadata → List (String Global) → Bool → Opening
-opening_of metadata paths is_1904 = record { sheets = placed metadata.sheets.items paths; names = map pair_of metadata.names.items; is_1904 = is_1904 }
+-- the path of the part of the first sheet of this name, where the paths stand in the order of the sheets
+abbrev pub path_listed : List ℕ → List Sheet → List (String Global) → Option (List ℕ)
+path_listed name [] paths = None
+path_listed name (sheet ∷ sheets) [] = None
+path_listed name (sheet ∷ sheets) (path ∷ paths) =
+    if bytes_eq (string_bytes sheet.name) name then Some (string_bytes path)
+    else path_listed name sheets paths

@@ -1,13 +1,11 @@
 -- The cells of a sheet's part in plain form, and why they aren't read.
-use Rattle.std.specs.Prelude.{◌≡◌, ⊤, ℕ, List, true, None, string_bytes, IsSomeAnd}
+use Rattle.std.specs.Prelude.{◌≡◌, ⊤, ℕ, List, true, Option, None, option_and_then, string_bytes, IsSomeAnd}
 use Rattle.part_events.specs.Event.{Event}
-use Rattle.part_events.specs.Package.{Part, PackageState, HasCause}
+use Rattle.part_events.specs.Package.{Part, PackageState, HasCause, part_of}
 use Rattle.cell_data.specs.declared.error.XlsxError.{XlsxError}
 use Rattle.cell_data.specs.declared.error.XlsxError.TheVariants.{OutOfMemory, Io, NotBuilt, WorksheetNotFound}
 use Rattle.xlsx_core.specs.PlainSheet.{PlainCell, IsPlainSheet}
 use Rattle.xlsx_core.specs.PlainScan.{cells_from, beginning}
-use Rattle.xlsx_core.specs.Sheets.{PlacedSheet}
-use Rattle.xlsx_core.specs.ThinReading.{events_named}
 
 -- why the cells of the open part aren't read
 abbrev pub CellsFail : PackageState → PackageState → XlsxError → Type 0
@@ -16,18 +14,25 @@ CellsFail old new Io = HasCause old new
 CellsFail old new NotBuilt = old.is_told ≡ true → cells_from beginning old.rest ≡ None
 CellsFail old new _ = ⊥
 
--- what is said of the part of the first sheet of this name, which is there
-abbrev pub OfSheet : List ℕ → List PlacedSheet → List Part → (List Event → Type 0) → Type 0
-OfSheet name sheets parts fact = IsSomeAnd (events_named name sheets parts) fact
+-- what stands in the part at a path, where there is one
+abbrev pub events_at : Option (List ℕ) → List Part → Option (List Event)
+events_at path parts = option_and_then (part_of parts) path
+
+-- what is said of the part at a path, which is there
+abbrev pub OfSheet : Option (List ℕ) → List Part → (List Event → Type 0) → Type 0
+OfSheet path parts fact = IsSomeAnd (events_at path parts) fact
 
 -- that part has these cells
-abbrev pub HasCells : List ℕ → List PlacedSheet → List Part → List PlainCell → Type 0
-HasCells name sheets parts cells = OfSheet name sheets parts (λ events. IsPlainSheet events cells)
+abbrev pub HasCells : Option (List ℕ) → List Part → List PlainCell → Type 0
+HasCells path parts cells = OfSheet path parts (λ events. IsPlainSheet events cells)
 
--- why the cells of the sheet of this name aren't read
-abbrev pub SheetFails : List ℕ → List PlacedSheet → PackageState → PackageState → XlsxError → Type 0
-SheetFails name sheets old new OutOfMemory = ⊤
-SheetFails name sheets old new Io = HasCause old new
-SheetFails name sheets old new NotBuilt = old.is_told ≡ true → OfSheet name sheets old.parts (λ events. (cells : List PlainCell) → IsPlainSheet events cells → ⊥)
-SheetFails name sheets old new (WorksheetNotFound asked) = (string_bytes asked ≡ name) × (old.is_told ≡ true → events_named name sheets old.parts ≡ None)
-SheetFails name sheets old new _ = ⊥
+-- why the cells of the sheet of this name, whose part is at this path, aren't read
+abbrev pub SheetFails : List ℕ → Option (List ℕ) → PackageState → PackageState → XlsxError → Type 0
+SheetFails name path old new OutOfMemory = ⊤
+SheetFails name path old new Io = HasCause old new
+SheetFails name path old new NotBuilt =
+    old.is_told ≡ true →
+    OfSheet path old.parts (λ events. (cells : List PlainCell) → IsPlainSheet events cells → ⊥)
+SheetFails name path old new (WorksheetNotFound asked) =
+    (string_bytes asked ≡ name) × (old.is_told ≡ true → events_at path old.parts ≡ None)
+SheetFails name path old new _ = ⊥

@@ -3,7 +3,7 @@ use Rattle.std.specs.Prelude.{ℕ, List, [], ◌∷◌, Bool, true, false, ◌&&
 use Rattle.std.specs.Str.{bytes_eq}
 use Rattle.cell_refs.specs.A1.{corner, row_of}
 use Rattle.cell_refs.specs.Reference.{reference, row_reference}
-use Rattle.part_events.specs.Event.{Event, start, end, text, char_data, entity_ref, other}
+use Rattle.part_events.specs.Event.{Event, start, end, leaf, text, char_data, entity_ref, other}
 use Rattle.xlsx_core.specs.PlainSheet.{PlainCell, is_plain_text, comes_after}
 use Rattle.xlsx_core.specs.Texts.{spelled_between}
 
@@ -37,35 +37,26 @@ position_in attributes = spelled_between (codes " r=\"") (codes "\" t=\"str\"") 
 abbrev pub is_opening : List ℕ → List ℕ → Event → Bool
 is_opening name attributes (start tag) = bytes_eq tag.name name && bytes_eq tag.attributes attributes
 is_opening name attributes (end n) = false
-is_opening name attributes (text content) = false
-is_opening name attributes (char_data content) = false
-is_opening name attributes (entity_ref n) = false
-is_opening name attributes other = false
+is_opening name attributes (leaf kind) = false
 
 abbrev pub is_end : List ℕ → Event → Bool
 is_end name (start tag) = false
 is_end name (end n) = bytes_eq n name
-is_end name (text content) = false
-is_end name (char_data content) = false
-is_end name (entity_ref n) = false
-is_end name other = false
+is_end name (leaf kind) = false
 
 -- the attributes of a start of this name
 abbrev pub attributes_of : List ℕ → Event → Option (List ℕ)
 attributes_of name (start tag) = if bytes_eq tag.name name then Some tag.attributes else None
 attributes_of name (end n) = None
-attributes_of name (text content) = None
-attributes_of name (char_data content) = None
-attributes_of name (entity_ref n) = None
-attributes_of name other = None
+attributes_of name (leaf kind) = None
 
 abbrev pub plain_text_of : Event → Option (List ℕ)
 plain_text_of (start tag) = None
 plain_text_of (end n) = None
-plain_text_of (text content) = if is_plain_text content then Some content else None
-plain_text_of (char_data content) = None
-plain_text_of (entity_ref n) = None
-plain_text_of other = None
+plain_text_of (leaf (text content)) = if is_plain_text content then Some content else None
+plain_text_of (leaf (char_data content)) = None
+plain_text_of (leaf (entity_ref n)) = None
+plain_text_of (leaf other) = None
 
 -- what an event leads to, and the cell that it ends
 pub record Step : Type 0 where

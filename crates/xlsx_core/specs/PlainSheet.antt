@@ -4,7 +4,7 @@ use Rattle.std.specs.Prelude.{◌≡◌, ℕ, ◌<◌, List, [], ◌∷◌, ◌+
 use Rattle.std.specs.List.{flat_map, AllByRecursion, list_any}
 use Rattle.cell_refs.specs.declared.TheConstants.{MAX_ROWS, MAX_COLUMNS}
 use Rattle.cell_refs.specs.Reference.{reference, row_reference}
-use Rattle.part_events.specs.Event.{Event, start, end, text}
+use Rattle.part_events.specs.Event.{Event, start, end, leaf, text}
 
 -- a cell's position, its row and column counted from 0, and the texts of its `v` and its `f`
 pub record PlainCell : Type 0 where
@@ -30,7 +30,7 @@ cell_attributes position = codes " r=\"" ++ (reference position ++ codes "\" t=\
 -- an element with one text, where it is there
 abbrev pub child_events : List ℕ → Option (List ℕ) → List Event
 child_events name None = []
-child_events name (Some content) = opening name [] ∷ text content ∷ end name ∷ []
+child_events name (Some content) = opening name [] ∷ leaf (text content) ∷ end name ∷ []
 
 abbrev pub cell_events : PlainCell → List Event
 cell_events cell =

@@ -1,13 +1,14 @@
 -- The reading of one worksheet in plain form, of a workbook that opens.
-use Rattle.std.specs.Prelude.{◌≡◌, ◌⊎◌, ℕ, List, [], ◌∷◌, true, if◌then◌else◌, Option, Some, None, option_and_then, string_bytes}
+use Rattle.std.specs.Prelude.{◌≡◌, ◌⊎◌, ℕ, List, [], ◌∷◌, true, if◌then◌else◌, Option, Some, None, string_bytes}
 use Rattle.std.specs.Str.{bytes_eq}
 use Rattle.part_events.specs.Event.{Event}
-use Rattle.part_events.specs.Package.{Part, PackageState, part_of}
+use Rattle.part_events.specs.Package.{Part, PackageState}
 use Rattle.cell_data.specs.declared.error.XlsxError.{XlsxError}
 use Rattle.cell_data.specs.declared.error.XlsxError.TheVariants.{NotBuilt, WorksheetNotFound}
-use Rattle.xlsx_core.specs.Opening.{Opening, OpensAs, IsBuilt, IsNotBuilt, OpeningCause, OpeningFails}
+use Rattle.xlsx_core.specs.PlainPart.{events_at}
+use Rattle.xlsx_open.specs.Opening.{Opening, OpensAs, IsBuilt, IsNotBuilt, IsOpeningError, OpeningCause, OpeningFails}
 use Rattle.xlsx_core.specs.PlainSheet.{PlainCell, IsPlainSheet}
-use Rattle.xlsx_core.specs.Sheets.{PlacedSheet}
+use Rattle.xlsx_open.specs.Sheets.{PlacedSheet}
 
 -- where the part of the first sheet of this name is
 abbrev pub path_named : List ℕ → List PlacedSheet → Option (List ℕ)
@@ -16,7 +17,7 @@ path_named name (sheet ∷ sheets) = if bytes_eq sheet.name name then Some sheet
 
 -- what stands in that part
 abbrev pub events_named : List ℕ → List PlacedSheet → List Part → Option (List Event)
-events_named name sheets parts = option_and_then (part_of parts) (path_named name sheets)
+events_named name sheets parts = events_at (path_named name sheets) parts
 
 -- the workbook opens, and its sheet of this name has these cells
 pub record ReadsAs (parts : List Part) (name : List ℕ) (cells : List PlainCell) : Type 0 where
@@ -56,3 +57,8 @@ abbrev pub ThinFails : List ℕ → PackageState → PackageState → XlsxError 
 ThinFails name old new NotBuilt = old.is_told ≡ true → ThinCause old.parts name NotBuilt
 ThinFails name old new (WorksheetNotFound asked) = old.is_told ≡ true → ThinCause old.parts name (WorksheetNotFound asked)
 ThinFails name old new error = OpeningFails old new error
+
+-- the refusals that the reading of a sheet can have, whatever the package tells
+abbrev pub IsThinError : List ℕ → XlsxError → Type 0
+IsThinError name (WorksheetNotFound asked) = string_bytes asked ≡ name
+IsThinError name error = IsOpeningError error

@@ -1,18 +1,17 @@
 ghost use Rattle.std.specs.Prelude.{◌≡◌, ◌++◌, option_map, option_to_list, true, if◌then◌else◌, Some, None, IfOk, OnOk, IfErr, OnErr};
-ghost use Rattle.part_events.specs.Package.{SameParts, HasCause};
-ghost use Rattle.xlsx_core.specs.Section.{KeepsFaults};
-ghost use Rattle.xlsx_core.specs.Opened.{placed};
-ghost use Rattle.xlsx_core.specs.PlainPart.{CellsFail, HasCells, SheetFails};
+ghost use Rattle.part_events.specs.Package.{SameParts, KeepsFaults, HasCause};
+ghost use Rattle.xlsx_core.specs.Opened.{path_listed};
+ghost use Rattle.xlsx_core.specs.PlainPart.{CellsFail, HasCells, SheetFails, events_at};
 ghost use Rattle.xlsx_core.specs.PlainScan.{cells_from, beginning};
+ghost use Rattle.cell_data.specs.declared.error.XlsxError.TheVariants.{Io};
 ghost use Rattle.xlsx_core.specs.ThinCell.{cell_of, cells_of};
-ghost use Rattle.xlsx_core.specs.ThinReading.{path_named, events_named};
 
 use crate::scan::SheetScan;
-use crate::sheet::Sheet;
 use crate::thin::ThinCell;
 use cell_data::XlsxError;
 use part_events::{Package, PackageFailed};
 use std::alloc::{AllocError, Global};
+use xlsx_open::Sheet;
 
 fn keep(cells: &mut Vec<ThinCell>, cell: Option<ThinCell>) -> Result<(), AllocError>
     ensures { OnOk result (cells_of cells.new.items ≡ cells_of cells.old.items ++ option_to_list (option_map (λ kept. cell_of kept) cell)) }
@@ -29,7 +28,7 @@ fn take_cells<P: Package>(alloc: Global, package: &mut P) -> Result<Vec<ThinCell
     ensures faults { OnOk result ((P.state «package».new).faults ≡ (P.state «package».old).faults) }
     ensures cells { (P.state «package».old).is_told ≡ true → IfOk result (λ cells. cells_from beginning (P.state «package».old).rest ≡ Some (cells_of cells.items)) }
     ensures err { IfErr result (CellsFail (P.state «package».old) (P.state «package».new)) }
-    ensures counts { IfErr result (KeepsFaults (P.state «package».old) (P.state «package».new)) }
+    ensures counts { IfErr result (KeepsFaults Io (P.state «package».old) (P.state «package».new)) }
 {
     let mut cells = Vec::new(alloc);
     let mut scan = SheetScan::new(alloc);
@@ -46,7 +45,7 @@ fn take_cells<P: Package>(alloc: Global, package: &mut P) -> Result<Vec<ThinCell
 
 /// The path of the first sheet of this name.
 fn path_named<'a>(sheets: &[Sheet], paths: &'a [String], name: &str) -> Option<&'a str>
-    ensures { option_map (λ path. path.now) result ≡ path_named name.now (placed sheets.now paths.now) }
+    ensures { option_map (λ path. path.now) result ≡ path_listed name.now sheets.now paths.now }
 {
     let mut rest = paths;
     for sheet in sheets {
@@ -68,7 +67,7 @@ fn open_sheet<P: Package>(
 ) -> Result<bool, PackageFailed>
     ensures keeps { SameParts (P.state «package».old) (P.state «package».new) }
     ensures faults { OnOk result ((P.state «package».new).faults ≡ (P.state «package».old).faults) }
-    ensures opens { (P.state «package».old).is_told ≡ true → IfOk result (λ found. events_named name.now (placed sheets.now paths.now) (P.state «package».old).parts ≡ (if found then Some (P.state «package».new).rest else None)) }
+    ensures opens { (P.state «package».old).is_told ≡ true → IfOk result (λ found. events_at (path_listed name.now sheets.now paths.now) (P.state «package».old).parts ≡ (if found then Some (P.state «package».new).rest else None)) }
     ensures err { OnErr result (HasCause (P.state «package».old) (P.state «package».new)) }
 {
     match path_named(sheets, paths, name) {
@@ -87,9 +86,9 @@ pub fn sheet_cells<P: Package>(
 ) -> Result<Vec<ThinCell>, XlsxError>
     ensures keeps { SameParts (P.state «package».old) (P.state «package».new) }
     ensures faults { OnOk result ((P.state «package».new).faults ≡ (P.state «package».old).faults) }
-    ensures cells { (P.state «package».old).is_told ≡ true → IfOk result (λ cells. HasCells name.now (placed sheets.now paths.now) (P.state «package».old).parts (cells_of cells.items)) }
-    ensures err { IfErr result (SheetFails name.now (placed sheets.now paths.now) (P.state «package».old) (P.state «package».new)) }
-    ensures counts { IfErr result (KeepsFaults (P.state «package».old) (P.state «package».new)) }
+    ensures cells { (P.state «package».old).is_told ≡ true → IfOk result (λ cells. HasCells (path_listed name.now sheets.now paths.now) (P.state «package».old).parts (cells_of cells.items)) }
+    ensures err { IfErr result (SheetFails name.now (path_listed name.now sheets.now paths.now) (P.state «package».old) (P.state «package».new)) }
+    ensures counts { IfErr result (KeepsFaults Io (P.state «package».old) (P.state «package».new)) }
 {
     if !open_sheet(package, sheets, paths, name)? {
         return Err(XlsxError::WorksheetNotFound(String::from_str(alloc, name)?));

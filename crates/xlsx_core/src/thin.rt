@@ -1,8 +1,8 @@
 ghost use Rattle.std.specs.Prelude.{◌≡◌, true, IfOk, OnOk, IfErr};
-ghost use Rattle.part_events.specs.Package.{SameParts};
-ghost use Rattle.xlsx_core.specs.Section.{KeepsFaults};
+ghost use Rattle.part_events.specs.Package.{SameParts, KeepsFaults};
+ghost use Rattle.cell_data.specs.declared.error.XlsxError.TheVariants.{Io};
 ghost use Rattle.xlsx_core.specs.ThinCell.{cells_of};
-ghost use Rattle.xlsx_core.specs.ThinReading.{ReadsAs, ThinFails};
+ghost use Rattle.xlsx_core.specs.ThinReading.{ReadsAs, IsThinError, ThinFails};
 
 use crate::xlsx::{OpenFailure, Xlsx};
 use cell_data::XlsxError;
@@ -37,7 +37,10 @@ pub fn read_thin<P: Package>(alloc: Global, package: P, name: &str) -> ThinAnswe
     ensures faults { OnOk result.result ((P.state result.package).faults ≡ (P.state «package»).faults) }
     ensures cells { (P.state «package»).is_told ≡ true → IfOk result.result (λ cells. ReadsAs (P.state «package»).parts name.now (cells_of cells.items)) }
     ensures err { IfErr result.result (ThinFails name.now (P.state «package») (P.state result.package)) }
-    ensures counts { IfErr result.result (KeepsFaults (P.state «package») (P.state result.package)) }
+    ensures counts {
+        IfErr result.result (KeepsFaults Io (P.state «package») (P.state result.package))
+    }
+    ensures kind { IfErr result.result (IsThinError name.now) }
 {
     match Xlsx::new(alloc, package) {
         Ok(xlsx) => {

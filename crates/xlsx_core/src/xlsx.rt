@@ -1,18 +1,17 @@
 ghost use Rattle.std.specs.Prelude.{◌≡◌, true, MatchResult, IfOk, OnOk, IfErr};
-ghost use Rattle.part_events.specs.Package.{SameParts};
-ghost use Rattle.xlsx_core.specs.Section.{KeepsFaults};
-ghost use Rattle.xlsx_core.specs.Opened.{placed, opening_of};
-ghost use Rattle.xlsx_core.specs.Opening.{OpensAs, OpensSoundly, IsBuilt, OpeningFails, SoundFails};
+ghost use Rattle.part_events.specs.Package.{SameParts, KeepsFaults};
+ghost use Rattle.cell_data.specs.declared.error.XlsxError.TheVariants.{Io};
+ghost use Rattle.xlsx_open.specs.Opening.{Opening, HoldsOpening, OpensAs, OpensSoundly, IsBuilt, IsOpeningError, OpensFrom, FailsToOpen, OpeningFails, SoundFails};
+ghost use Rattle.xlsx_core.specs.Opened.{path_listed};
 ghost use Rattle.xlsx_core.specs.PlainPart.{HasCells, SheetFails};
 ghost use Rattle.xlsx_core.specs.ThinCell.{cells_of};
 
-use crate::opening::open;
 use crate::plain::sheet_cells;
-use crate::sheet::Metadata;
 use crate::thin::ThinCell;
 use cell_data::XlsxError;
 use part_events::Package;
 use std::alloc::Global;
+use xlsx_open::{Metadata, open};
 
 /// An open workbook, and the package that it is read from.
 #[derive(Drop)]
@@ -40,15 +39,31 @@ impl<P: Package> Xlsx<P> {
     ///
     /// A package with shared strings or styles is refused as not built yet.
     pub fn new(alloc: Global, package: P) -> Result<Xlsx<P>, OpenFailure<P>>
-        ensures keeps { MatchResult result
-            (λ xlsx. SameParts (P.state «package») (P.state xlsx.package))
-            (λ failure. SameParts (P.state «package») (P.state failure.package)) }
-        ensures faults { IfOk result (λ xlsx. (P.state xlsx.package).faults ≡ (P.state «package»).faults) }
-        ensures opens { (P.state «package»).is_told ≡ true → IfOk result (λ xlsx. OpensAs (P.state «package»).parts (opening_of xlsx.metadata xlsx.paths.items xlsx.is_1904)) }
-        ensures built { (P.state «package»).is_told ≡ true → OnOk result (IsBuilt (P.state «package»).parts) }
-        ensures err { IfErr result (λ failure. OpeningFails (P.state «package») (P.state failure.package) failure.error) }
-        ensures counts { IfErr result (λ failure. KeepsFaults (P.state «package») (P.state failure.package) failure.error) }
-        ensures sound { (P.state «package»).is_told ≡ true → OpensSoundly (P.state «package»).parts → IfErr result (λ failure. SoundFails (P.state «package») (P.state failure.package) failure.error) }
+        ensures uses {
+            MatchResult result
+                (λ xlsx. OpensFrom (P.state «package») (P.state xlsx.package))
+                (λ failure.
+                    FailsToOpen Io (P.state «package») (P.state failure.package) failure.error)
+        }
+        ensures opens {
+            let old = P.state «package» in
+            old.is_told ≡ true → IfOk result (λ xlsx. (opening : Opening)
+                × HoldsOpening xlsx.metadata xlsx.paths.items xlsx.is_1904 opening
+                × OpensAs old.parts opening)
+        }
+        ensures built {
+            (P.state «package»).is_told ≡ true → OnOk result (IsBuilt (P.state «package»).parts)
+        }
+        ensures err {
+            IfErr result (λ failure.
+                OpeningFails (P.state «package») (P.state failure.package) failure.error)
+        }
+        ensures kind { IfErr result (λ failure. IsOpeningError failure.error) }
+        ensures sound {
+            let old = P.state «package» in
+            old.is_told ≡ true → OpensSoundly old.parts → IfErr result (λ failure.
+                SoundFails old (P.state failure.package) failure.error)
+        }
     {
         let mut package = package;
         match open(alloc, &mut package) {
@@ -66,11 +81,23 @@ impl<P: Package> Xlsx<P> {
     /// The cells, in order, of the first sheet of this name, where its part is in plain form.
     pub(crate) fn thin_cells(&mut self, name: &str) -> Result<Vec<ThinCell>, XlsxError>
         ensures keeps { SameParts (P.state self.old.package) (P.state self.new.package) }
-        ensures rest { (self.new.metadata ≡ self.old.metadata) × (self.new.paths ≡ self.old.paths) × (self.new.is_1904 ≡ self.old.is_1904) }
+        ensures rest {
+            (self.new.metadata ≡ self.old.metadata) × (self.new.paths ≡ self.old.paths)
+            × (self.new.is_1904 ≡ self.old.is_1904)
+        }
         ensures faults { OnOk result ((P.state self.new.package).faults ≡ (P.state self.old.package).faults) }
-        ensures cells { (P.state self.old.package).is_told ≡ true → IfOk result (λ cells. HasCells name.now (placed self.old.metadata.sheets.items self.old.paths.items) (P.state self.old.package).parts (cells_of cells.items)) }
-        ensures err { IfErr result (SheetFails name.now (placed self.old.metadata.sheets.items self.old.paths.items) (P.state self.old.package) (P.state self.new.package)) }
-        ensures counts { IfErr result (KeepsFaults (P.state self.old.package) (P.state self.new.package)) }
+        ensures cells {
+            let old = P.state self.old.package in
+            let path = path_listed name.now self.old.metadata.sheets.items self.old.paths.items in
+            old.is_told ≡ true → IfOk result (λ cells.
+                HasCells path old.parts (cells_of cells.items))
+        }
+        ensures err {
+            let path = path_listed name.now self.old.metadata.sheets.items self.old.paths.items in
+            IfErr result
+                (SheetFails name.now path (P.state self.old.package) (P.state self.new.package))
+        }
+        ensures counts { IfErr result (KeepsFaults Io (P.state self.old.package) (P.state self.new.package)) }
     {
         sheet_cells(
             self.alloc,

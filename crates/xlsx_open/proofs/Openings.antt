@@ -1,10 +1,21 @@
 -- How the readings of a package's parts make an opening.
-use Rattle.std.proofs.Common.{◌≡◌, ◌+◌, ◌≤◌, ℕ, List, [], ◌∷◌, map, refl, ◌∙◌, ap, arith, string_bytes}
-use Rattle.part_events.specs.Package.{PackageState, SameParts, UsesPackage, LeavesPackage}
-use Rattle.xlsx_open.specs.Kept.{sheet_of_entry}
-use Rattle.xlsx_open.specs.Opening.{ListedSheet, listed_sheet, without_path}
+use Rattle.std.proofs.Common.{◌≡◌, ◌+◌, ◌≤◌, ℕ, List, [], ◌∷◌, Bool, true, false, Option, Some, None, Result, Ok, Err, map, refl, ◌∙◌, ap, subst, inl, inr, arith, codes, string_bytes, String, Global}
+use Rattle.std.specs.Prelude.{option_and_then, unwrap_or, IsSomeAnd, MatchOption, OnOk}
+use Rattle.part_events.specs.Event.{Event}
+use Rattle.part_events.specs.Package.{Part, PackageState, SameParts, UsesPackage, LeavesPackage, Uses, part_of, events_in}
+use Rattle.cell_data.specs.declared.error.XlsxError.{XlsxError}
+use Rattle.cell_data.specs.declared.error.XlsxError.TheVariants.{OutOfMemory, Io, NotBuilt}
+use Rattle.xlsx_sections.specs.PartSection.{PartSection, always, section_in, StartCause, SectionCause, OptionalPartCause, PartFails, closed_section, closed_section_of}
+use Rattle.xlsx_sections.specs.Refusal.{Refusal}
+use Rattle.xlsx_open.specs.Kept.{pair_of, sheet_of_entry}
+use Rattle.xlsx_open.specs.Opening.{Opening, HoldsOpening, ListedSheet, listed_sheet, without_path, HasPath, HasRelationships, HasWorkbook, HasNothing, IsOpening, OpensAs, OpeningFails, WorkbookCause, WorkbookOpens, WorkbookFails, OpensPackage, FailsToOpen, epoch_or_1900, workbook_events}
+use Rattle.xlsx_open.specs.Paths.{folder_of, workbook_part, relationships_part}
+use Rattle.xlsx_open.specs.Relationships.{Related, IsPathRefused, AreRelationshipsRefused}
 use Rattle.xlsx_open.specs.Sheets.{PlacedSheet}
+use Rattle.xlsx_open.specs.Workbook.{IsContents, AreContentsRefused}
+use Rattle.xlsx_open.specs.declared.sheet.Metadata.{Metadata}
 use Rattle.xlsx_open.specs.declared.sheet.SheetEntry.{SheetEntry}
+use Rattle.xlsx_open.specs.declared.workbook.WorkbookContents.{WorkbookContents}
 
 -- a call that takes no more than another may take
 pub uses_more : {few most : ℕ} {old new : PackageState} → few ≤ most → UsesPackage few old new → UsesPackage most old new
@@ -53,3 +64,101 @@ sheets_listed (entry ∷ entries) = ap (λ (others : List ListedSheet). listed_s
 pub paths_listed : (entries : List SheetEntry) → map string_bytes (map (λ (entry : SheetEntry). entry.path) entries) ≡ map (λ (sheet : PlacedSheet). sheet.path) (map sheet_of_entry entries)
 paths_listed [] = refl
 paths_listed (entry ∷ entries) = ap (λ (others : List (List ℕ)). string_bytes entry.path ∷ others) (paths_listed entries)
+
+some_weaker : {A : Type 0} (o : Option A) (P Q : A → Type 0) → ((x : A) → P x → Q x) → IsSomeAnd o P → IsSomeAnd o Q
+some_weaker None P Q weaker is = is
+some_weaker (Some x) P Q weaker is = weaker x is
+
+matched : {A B : Type 0} (o : Option A) (f : A → Option B) (Q : Type 0) (P : B → Type 0) → IsSomeAnd (option_and_then f o) P → MatchOption o Q (λ _. IsSomeAnd (option_and_then f o) P)
+matched None f Q P is = absurd is
+matched (Some x) f Q P is = is
+
+-- what the contents of a workbook's section open as
+abbrev pub opening_of : WorkbookContents → Opening
+opening_of found = record {
+  sheets = map sheet_of_entry found.entries.items;
+  names = map pair_of found.names.items;
+  is_1904 = unwrap_or found.epoch false;
+}
+
+pub holds_contents : (found : WorkbookContents) (metadata : Metadata) (paths : List (String Global)) (is_1904 : Bool) → metadata.sheets.items ≡ map (λ (entry : SheetEntry). entry.sheet) found.entries.items → paths ≡ map (λ (entry : SheetEntry). entry.path) found.entries.items → metadata.names.items ≡ found.names.items → is_1904 ≡ unwrap_or found.epoch false → HoldsOpening metadata paths is_1904 (opening_of found)
+holds_contents found metadata paths is_1904 sheets places names epoch = record {
+  sheets = ap (map listed_sheet) sheets ∙ sheets_listed found.entries.items;
+  paths = ap (map string_bytes) places ∙ paths_listed found.entries.items;
+  names = ap (map pair_of) names;
+  epoch = epoch;
+}
+
+pub has_contents : (parts : List Part) (path : List ℕ) (related : List ℕ → Option Related) (found : WorkbookContents) → IsSomeAnd (closed_section_of (codes "workbook") (workbook_part path) parts) (λ inside. IsContents (folder_of path) related inside found) → HasWorkbook parts path related (opening_of found)
+has_contents parts path related found is =
+    matched (part_of parts (workbook_part path)) (closed_section (codes "workbook")) (HasNothing (opening_of found)) (λ inside. IsOpening (folder_of path) related inside (opening_of found))
+    (some_weaker (closed_section_of (codes "workbook") (workbook_part path) parts) (λ inside. IsContents (folder_of path) related inside found) (λ inside. IsOpening (folder_of path) related inside (opening_of found))
+    (λ inside holds. record { sheets = holds.sheets; names = holds.names; epoch = ap epoch_or_1900 holds.epoch }) is)
+
+pub has_nothing : (parts : List Part) (path : List ℕ) (related : List ℕ → Option Related) → part_of parts (workbook_part path) ≡ None → HasWorkbook parts path related (record { sheets = []; names = []; is_1904 = false })
+has_nothing parts path related absent = rw absent (record { sheets = refl; names = refl; epoch = refl })
+
+start_not_built : (name : List ℕ) (ending : List Event → Option (List ℕ)) (refused : PartSection → Refusal → Type 0) (events : List Event) (found : Option PartSection) → MatchOption found (StartCause name events NotBuilt) (λ s. SectionCause ending refused s NotBuilt) → ⊥
+start_not_built name ending refused events None cause = cause
+start_not_built name ending refused events (Some s) cause = cause
+
+part_not_built : (name : List ℕ) (ending : List Event → Option (List ℕ)) (refused : PartSection → Refusal → Type 0) (part : Option (List Event)) → OptionalPartCause name ending refused part NotBuilt → ⊥
+part_not_built name ending refused None cause = cause
+part_not_built name ending refused (Some events) cause = start_not_built name ending refused events (section_in name events) cause
+
+-- the package's relationships are refused
+pub root_fails : (old new : PackageState) (error : XlsxError) → PartFails (codes "Relationships") (always (codes "Relationships")) IsPathRefused (codes "_rels/.rels") old new error → OpeningFails old new error
+root_fails old new Io fails = fails
+root_fails old new OutOfMemory fails = tt
+root_fails old new NotBuilt fails = λ told. absurd (part_not_built (codes "Relationships") (always (codes "Relationships")) IsPathRefused (part_of old.parts (codes "_rels/.rels")) (fails told))
+root_fails old new error fails = λ told. inl (fails told)
+
+workbook_not_built : (parts : List Part) (path : List ℕ) → WorkbookCause parts path NotBuilt → ⊥
+workbook_not_built parts path (inl cause) = part_not_built (codes "Relationships") (always (codes "Relationships")) AreRelationshipsRefused (part_of parts (relationships_part path)) cause
+workbook_not_built parts path (inr (related, has, cause)) = part_not_built (codes "workbook") (always (codes "workbook")) (AreContentsRefused (folder_of path) related) (part_of parts (workbook_part path)) cause
+
+-- the workbook is refused
+pub workbook_fails : (old mid new : PackageState) (path : List ℕ) (error : XlsxError) → SameParts old mid → mid.faults ≡ old.faults → (old.is_told ≡ true → HasPath old.parts path) → WorkbookFails path mid new error → OpeningFails old new error
+workbook_fails old mid new path Io same faults found fails = omega (arith, faults, fails)
+workbook_fails old mid new path OutOfMemory same faults found fails = tt
+workbook_fails old mid new path NotBuilt same faults found fails = λ told. absurd (workbook_not_built mid.parts path (fails (same.is_told ∙ told)))
+workbook_fails old mid new path error same faults found fails = λ told.
+    inr (path, found told, subst (λ (parts : List Part). WorkbookCause parts path error) same.parts (fails (same.is_told ∙ told)))
+
+-- the workbook was opened
+pub opens_as : (old mid : PackageState) (path : List ℕ) (opening : Opening) → SameParts old mid → HasPath old.parts path → WorkbookOpens mid.parts path opening → OpensAs old.parts opening
+opens_as old mid path opening same found opens = record {
+  path = path;
+  related = opens.0;
+  found = found;
+  relationships = subst (λ (parts : List Part). HasRelationships parts path opens.0) same.parts opens.1;
+  workbook = subst (λ (parts : List Part). HasWorkbook parts path opens.0 opening) same.parts opens.2;
+}
+
+-- what is known anyway is known of an answer
+pub on_ok : {A E Fact : Type 0} (answer : Result A E) → Fact → OnOk answer Fact
+on_ok (Ok value) fact = fact
+on_ok (Err error) fact = tt
+
+-- what opening takes, where its first call was refused, and where it went on
+pub root_left : {error : XlsxError} {old new : PackageState} → LeavesPackage (events_in old.parts (codes "_rels/.rels")) Io old new error → FailsToOpen Io old new error
+root_left leaves = record { parts = leaves.parts; faults = leaves.faults; taken = λ told. inl (leaves.taken told) }
+
+pub root_then_left : {error : XlsxError} {more : ℕ} {old mid new : PackageState} → UsesPackage (events_in old.parts (codes "_rels/.rels")) old mid → more ≡ 0 → LeavesPackage more Io mid new error → FailsToOpen Io old new error
+root_then_left first none second = root_left (leaves_then (omega (arith, none)) first second)
+
+pub opens_package : {A : Type 0} (result : Result A XlsxError) (old mid new : PackageState) (path : List ℕ) → UsesPackage (events_in old.parts (codes "_rels/.rels")) old mid → (old.is_told ≡ true → HasPath old.parts path) → Uses (workbook_events mid.parts path) Io result mid new → OpensPackage Io result old new
+opens_package (Ok value) old mid new path first found second =
+    let both : UsesPackage (events_in old.parts (codes "_rels/.rels") + workbook_events mid.parts path) old new = uses_then (omega arith) first second in
+    record {
+      parts = both.parts;
+      faults = both.faults;
+      taken = λ told. inr (path, found told, subst (λ (parts : List Part). new.taken ≤ old.taken + (events_in old.parts (codes "_rels/.rels") + workbook_events parts path)) first.parts.parts (both.taken told));
+    }
+opens_package (Err error) old mid new path first found second =
+    let both : LeavesPackage (events_in old.parts (codes "_rels/.rels") + workbook_events mid.parts path) Io old new error = leaves_then (omega arith) first second in
+    record {
+      parts = both.parts;
+      faults = both.faults;
+      taken = λ told. inr (path, found told, subst (λ (parts : List Part). new.taken ≤ old.taken + (events_in old.parts (codes "_rels/.rels") + workbook_events parts path)) first.parts.parts (both.taken told));
+    }

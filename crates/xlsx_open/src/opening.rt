@@ -1,7 +1,6 @@
 ghost use Rattle.std.specs.Prelude.{◌≡◌, [], map, true, false, None, unwrap_or, string_bytes, IfOk, OnOk, IfErr};
 ghost use Rattle.part_events.specs.Package.{Uses, part_of};
 ghost use Rattle.cell_data.specs.declared.error.XlsxError.TheVariants.{Io};
-ghost use Rattle.xlsx_open.specs.Kept.{pair_of, sheet_of_entry};
 ghost use Rattle.xlsx_open.specs.Opening.{Opening, HoldsOpening, OpensAs, IsBuilt, IsOpeningError, LacksUnbuilt, OpensPackage, UnbuiltFails, PresenceFails, WorkbookOpens, WorkbookFails, OpeningFails, workbook_events};
 ghost use Rattle.xlsx_open.specs.Paths.{workbook_part, relationships_part};
 
@@ -87,14 +86,15 @@ pub struct Opened {
 }
 
 fn from_contents(alloc: Global, contents: WorkbookContents) -> Result<Opened, AllocError>
-    ensures {
-        let sheets = map sheet_of_entry contents.entries.items in
-        IfOk result (λ o. HoldsOpening o.metadata o.paths.items o.is_1904 (record {
-            sheets = sheets;
-            names = map pair_of contents.names.items;
-            is_1904 = unwrap_or contents.epoch false;
-        }))
+    ensures sheets {
+        IfOk result (λ o.
+            o.metadata.sheets.items ≡ map (λ entry. entry.sheet) contents.entries.items)
     }
+    ensures paths {
+        IfOk result (λ o. o.paths.items ≡ map (λ entry. entry.path) contents.entries.items)
+    }
+    ensures names { IfOk result (λ o. o.metadata.names.items ≡ contents.names.items) }
+    ensures epoch { IfOk result (λ o. o.is_1904 ≡ unwrap_or contents.epoch false) }
 {
     let mut sheets = Vec::new(alloc);
     let mut paths = Vec::new(alloc);

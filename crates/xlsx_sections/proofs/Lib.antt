@@ -1,3 +1,4 @@
 pub mod Kept
 pub mod Refused
 pub mod SectionsRead
+pub mod Sound

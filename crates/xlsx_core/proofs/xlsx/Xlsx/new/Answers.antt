@@ -1,4 +1,4 @@
-use Rattle.xlsx_core.proofs.Sound.{sound_fails}
+use Rattle.xlsx_open.proofs.Sound.{sound_fails}
 use Rattle.xlsx_core.proofs.xlsx.Xlsx.new.Goals as goal
 
 pub returns-in-Err-clause-sound : goal.returns-in-Err-clause-sound

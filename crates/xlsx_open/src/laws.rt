@@ -1,0 +1,14 @@
+//! Laws of opening.
+
+ghost use Rattle.std.specs.Prelude.{List};
+ghost use Rattle.part_events.specs.Package.{Part};
+ghost use Rattle.cell_data.specs.declared.error.XlsxError.{XlsxError};
+ghost use Rattle.xlsx_open.specs.Opening.{Opening, OpensAs, OpeningCause};
+
+/// A package that opens has no cause of a refusal.
+pub fn openings_have_no_cause_of_a_refusal()
+    ensures {
+        (parts : List Part) (opening : Opening) (error : XlsxError) →
+        OpensAs parts opening → OpeningCause parts error → ⊥
+    }
+{}
