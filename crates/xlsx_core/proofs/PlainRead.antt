@@ -347,7 +347,7 @@ module _ (last : Option (ℕ × ℕ)) (event : Event) (events : List Event) (cel
   value_begins cell is left = record {
     content = Some left.content;
     behind = left.left.behind;
-    spelled = ap (λ (e : Event). e ∷ events) is ∙ ap (λ (es : List Event). opening (codes "v") [] ∷ es) (left.spelled ∙ ap (λ (es : List Event). text left.content ∷ es) left.left.spelled);
+    spelled = ap (λ (e : Event). e ∷ events) is ∙ ap (λ (es : List Event). opening (codes "v") [] ∷ es) (left.spelled ∙ ap (λ (es : List Event). leaf (text left.content) ∷ es) left.left.spelled);
     plain_text = left.plain_text;
     left = left.left.left;
   }
@@ -362,7 +362,7 @@ module _ (last : Option (ℕ × ℕ)) (event : Event) (events : List Event) (cel
   formula_begins cell is left = record {
     content = Some left.content;
     behind = left.left.behind;
-    spelled = ap (λ (e : Event). e ∷ events) is ∙ ap (λ (es : List Event). opening (codes "f") [] ∷ es) (left.spelled ∙ ap (λ (es : List Event). text left.content ∷ es) left.left.spelled);
+    spelled = ap (λ (e : Event). e ∷ events) is ∙ ap (λ (es : List Event). opening (codes "f") [] ∷ es) (left.spelled ∙ ap (λ (es : List Event). leaf (text left.content) ∷ es) left.left.spelled);
     plain_text = left.plain_text;
     left = left.left.left;
   }
