@@ -3,8 +3,8 @@
 #![tactic(auto)]
 
 mod cuts;
-mod equality;
 mod entity;
+mod equality;
 mod fault;
 mod items;
 mod lookup;

@@ -35,12 +35,12 @@ place_twice limit d e false p q is =
     ap (place_within limit) way
 
 -- what a cell's two parts are
-cell_parts : (absolute_row absolute_col : Bool) (row col : Option ℕ) (corner : Corner) → cell_of absolute_row absolute_col row col ≡ Some corner → (r : ℕ) × (c : ℕ) × (row ≡ Some r) × (col ≡ Some c) × (corner ≡ Cell r c absolute_row absolute_col)
+pub cell_parts : (absolute_row absolute_col : Bool) (row col : Option ℕ) (corner : Corner) → cell_of absolute_row absolute_col row col ≡ Some corner → (r : ℕ) × (c : ℕ) × (row ≡ Some r) × (col ≡ Some c) × (corner ≡ Cell r c absolute_row absolute_col)
 cell_parts absolute_row absolute_col (Some r) (Some c) corner is = (r, c, refl, refl, cc)
 cell_parts absolute_row absolute_col (Some r) None corner is = cc
 cell_parts absolute_row absolute_col None col corner is = cc
 
-mapped_part : (f : ℕ → Corner) (o : Option ℕ) (corner : Corner) → option_map f o ≡ Some corner → (n : ℕ) × (o ≡ Some n) × (f n ≡ corner)
+pub mapped_part : (f : ℕ → Corner) (o : Option ℕ) (corner : Corner) → option_map f o ≡ Some corner → (n : ℕ) × (o ≡ Some n) × (f n ≡ corner)
 mapped_part f (Some n) corner is = (n, refl, cc)
 mapped_part f None corner is = cc
 

@@ -4,5 +4,6 @@ pub mod Recutting
 pub mod Spellings
 pub mod Moving
 pub mod Numbers
+pub mod Positions
 pub mod ReadBack
 pub mod Composing

@@ -21,7 +21,7 @@ use Rattle.formula_shift.proofs.Moving.{run_is}
 
 -- ---- numbers and names
 
-place_of_next : (limit n : ℕ) → n < limit → place_of limit (n + 1) ≡ Some n
+pub place_of_next : (limit n : ℕ) → n < limit → place_of limit (n + 1) ≡ Some n
 place_of_next limit n below = ap (place_of limit) (add-one n) ∙ by_test where
   by_test : place_of limit (suc n) ≡ Some n
   by_test = grind (arith, nat_tests)

@@ -1,7 +1,11 @@
-ghost use Rattle.std.specs.Prelude.{◌≡◌, ℕ, Some, IfSome, pos, suc, ◌+◌, [], ◌∷◌, ◌++◌, List, ℤ, length, drop, encode_utf8};
+ghost use Rattle.std.specs.Prelude.{◌≡◌, ◌↔◌, ℕ, false, Some, Ok, IfSome, pos, suc, ◌+◌, [], ◌∷◌, ◌++◌, List, ℤ, length, drop, encode_utf8};
 ghost use Rattle.formula_shift.specs.Pieces.{kind_of, group_length, length_behind, first_piece, pieces, joined};
-ghost use Rattle.formula_shift.specs.References.{word_reference, spelling};
+ghost use Rattle.cell_refs.specs.A1.{column_name, corner};
+ghost use Rattle.cell_refs.specs.Reference.{reference, row_reference};
+ghost use Rattle.formula_shift.specs.References.{corner_of, corner_spelling, word_reference, spelling};
 ghost use Rattle.formula_shift.specs.Relocation.{NoneLeaves, offset_between, moved_pieces, references, moved};
+
+use crate::Corner;
 
 /// A text is cut into its first piece and the pieces of what follows it.
 pub fn pieces_by_the_first()
@@ -52,4 +56,16 @@ pub fn expansions_compose()
 pub fn expansion_and_back_is_the_canonical_spelling()
     ensures { (text : List ℕ) (a b : ℕ × ℕ) → NoneLeaves (offset_between a b) text →
         moved (moved text (offset_between a b)) (offset_between b a) ≡ moved text (pos 0, pos 0) }
+{}
+
+/// A text is a cell without `$` exactly where it is read as that position, and corners without `$`
+/// are spelled as positions, rows and columns are.
+pub fn corners_are_positions()
+    ensures read { (text : List ℕ) (row column : ℕ) →
+        corner text ≡ Ok (row, column) ↔ corner_of text ≡ Some (Corner.Cell row column false false) }
+    ensures cell { (row column : ℕ) →
+        corner_spelling (Corner.Cell row column false false) ≡ reference (row, column) }
+    ensures row { (row : ℕ) → corner_spelling (Corner.Row row false) ≡ row_reference row }
+    ensures column { (column : ℕ) →
+        corner_spelling (Corner.Column column false) ≡ column_name column }
 {}

@@ -12,7 +12,8 @@ mod spelling;
 pub use corner::Corner;
 pub use expand::{expand_shared_formula, expand_shared_formula_into, expanded_len};
 pub use laws::{
-    apostrophe_takes_a_character, expansion_and_back_is_the_canonical_spelling, expansions_compose,
+    apostrophe_takes_a_character, corners_are_positions,
+    expansion_and_back_is_the_canonical_spelling, expansions_compose,
     moved_text_is_cut_into_the_moved_pieces, pieces_by_the_first, pieces_joined_are_the_text,
     spelling_reads_back, text_without_reference_stays,
 };

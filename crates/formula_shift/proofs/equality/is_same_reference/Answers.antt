@@ -25,9 +25,9 @@ same_reference : (a b : Reference) →
     a ≡ b
 same_reference a b is =
     let parts = both (corner.eq-value.it a.first b.first)
-        (option_eq corner.eq-value.it a.second b.second) is in
+    (option_eq corner.eq-value.it a.second b.second) is in
     ap₂ (λ (f : Corner) (s : Option Corner). let r : Reference = record { first = f; second = s } in r)
-        (same_corner a.first b.first parts.0) (same_option a.second b.second parts.1)
+    (same_corner a.first b.first parts.0) (same_option a.second b.second parts.1)
 
 equal_option : (a : Option Corner) → option_eq corner.eq-value.it a a ≡ true
 equal_option None = refl
@@ -38,6 +38,7 @@ equal_reference : (a b : Reference) → a ≡ b →
 equal_reference a b is = rw (← is, laws.laws-law.refl a.first, equal_option a.second) refl
 
 pub returns : goal.returns
-returns c =
-    (λ equal. same_reference c.args.a c.args.b (sym c.eq.ensures ∙ equal),
-    λ same. c.eq.ensures ∙ equal_reference c.args.a c.args.b same)
+returns c = (
+  λ equal. same_reference c.args.a c.args.b (sym c.eq.ensures ∙ equal),
+  λ same. c.eq.ensures ∙ equal_reference c.args.a c.args.b same,
+)
