@@ -5,18 +5,20 @@
 mod cuts;
 mod entity;
 mod equality;
+mod escapes;
 mod fault;
 mod items;
+mod line_ends;
 mod lookup;
-mod text;
 mod uses;
 mod values;
 
 pub use entity::{decode_attr, decoded_in_order, entity_char, push_entity};
+pub use escapes::{unescape_hex, unescaped_in_order};
 pub use fault::{AttrFault, TextFault};
 pub use items::{RawAttrIter, items_in_order};
+pub use line_ends::{line_ends_in_order, push_line_ends};
 pub use lookup::{RawAttributes, local_name, local_name_matches, lookups_go_by_key};
-pub use text::{line_ends_in_order, push_line_ends, unescape_hex, unescaped_in_order};
 pub use values::{AttrValue, five_values, four_values, six_values, three_values, two_values};
 
 #[cfg(test)]

@@ -89,15 +89,15 @@ abbrev pub parts : List ℕ → List (List ℕ)
 parts text = slice_split (λ b. b == 58) text
 
 -- one corner more, before others
-abbrev pub joined : Result (ℕ × ℕ) RefError → Result (List (ℕ × ℕ)) RefError → Result (List (ℕ × ℕ)) RefError
-joined (Err e) others = Err e
-joined (Ok first) (Err e) = Err e
-joined (Ok first) (Ok others) = Ok (first ∷ others)
+abbrev pub with_corner : Result (ℕ × ℕ) RefError → Result (List (ℕ × ℕ)) RefError → Result (List (ℕ × ℕ)) RefError
+with_corner (Err e) others = Err e
+with_corner (Ok first) (Err e) = Err e
+with_corner (Ok first) (Ok others) = Ok (first ∷ others)
 
 -- the corners that the parts name, or the first refusal among them
 abbrev pub corners : List (List ℕ) → Result (List (ℕ × ℕ)) RefError
 corners [] = Ok []
-corners (part ∷ others) = joined (corner part) (corners others)
+corners (part ∷ others) = with_corner (corner part) (corners others)
 
 -- one corner is both ends of an area, two are its ends as they are written, and more are none
 abbrev pub area_of : Result (List (ℕ × ℕ)) RefError → Result Dimensions RefError

@@ -3,7 +3,7 @@ use Rattle.std.specs.Prelude.{ℕ, ◌+◌, min, List}
 use Rattle.std.specs.Char.{is_ascii_alphabetic}
 use Rattle.std.specs.List.{prefix_len}
 use Rattle.std.specs.Str.Parse.{digits_value}
-use Rattle.cell_refs.specs.declared.corner.Scan.{Scan}
+use Rattle.cell_refs.specs.declared.position.Scan.{Scan}
 use Rattle.cell_refs.specs.A1.{row_limit, column_limit, letters_value, letters_of, behind_letters}
 
 abbrev pub scan_of : List ℕ → Scan

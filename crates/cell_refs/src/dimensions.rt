@@ -27,11 +27,11 @@ impl Default for Dimensions {
 
 #[allow(clippy::len_without_is_empty)]
 impl Dimensions {
-    ghost use Rattle.cell_refs.specs.Dimensions.{IsInside, cell_count};
+    ghost use Rattle.cell_refs.specs.Dimensions.{IsInArea, cell_count};
 
     /// Whether the cell lies in the area, ends included.
     pub fn contains(&self, row: u32, column: u32) -> bool
-        ensures { IsTrue result ↔ IsInside self.now row column }
+        ensures { IsTrue result ↔ IsInArea self.now row column }
     {
         row >= self.start.0 && row <= self.end.0 && column >= self.start.1 && column <= self.end.1
     }

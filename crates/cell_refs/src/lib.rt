@@ -4,16 +4,16 @@
 #![tactic(auto)]
 
 mod column;
-mod corner;
 mod dimensions;
 mod equality;
 mod error;
+mod position;
 mod reference_text;
 
 pub use column::{ColumnName, column_names_read_back, column_number_to_name};
-pub use corner::{get_row, get_row_column};
 pub use dimensions::{Dimensions, get_dimension};
 pub use error::RefError;
+pub use position::{get_row, get_row_column};
 pub use reference_text::{
     push_column_name, push_reference, push_row_reference, references_lie_inside,
     references_read_back,

@@ -9,12 +9,12 @@ use Rattle.cell_refs.specs.declared.TheConstants.{MAX_ROWS, MAX_COLUMNS}
 use Rattle.formula_shift.specs.declared.corner.Corner.{Corner}
 use Rattle.formula_shift.specs.declared.corner.Corner.TheVariants.{Cell, Row, Column}
 use Rattle.formula_shift.specs.declared.reference.Reference.{Reference}
-use Rattle.formula_shift.specs.Pieces.{word_kind, PieceText, is_word_byte, pieces, joined}
-use Rattle.formula_shift.specs.References.{cell_of, IsCornerInside, IsInside, place_within, displaced_place, displaced_corner, both_corners, displaced_by, displaced, same_kind, word_reference, spelling}
-use Rattle.formula_shift.specs.Relocation.{offset_between, is_word, is_name_before, first_byte, reference_of, references, NoneLeaves, word_of, moved_piece, moved_pieces, moved}
+use Rattle.formula_shift.specs.Pieces.{word_kind, PieceText, is_word_byte, pieces, joined_pieces}
+use Rattle.formula_shift.specs.References.{cell_corner, IsCornerInside, IsInWorksheet, place_within, displaced_place, displaced_corner, both_corners, displaced_by, displaced, same_kind, word_reference, spelling}
+use Rattle.formula_shift.specs.Relocation.{offset_between, is_word, is_name_before, first_byte, piece_reference, references, NoneLeaves, word_of, moved_piece, moved_pieces, moved}
 use Rattle.formula_shift.proofs.Recutting.{word_is, StandsBefore, AreCut, are_cut-pieces}
 use Rattle.formula_shift.proofs.Spellings.{IsWordText, displaced_inside, word_reference_inside}
-use Rattle.formula_shift.proofs.Moving.{first_in_word, is_moved, reference_of_word, pieces-moved}
+use Rattle.formula_shift.proofs.Moving.{first_in_word, is_moved, piece_reference_word, pieces-moved}
 use Rattle.formula_shift.proofs.ReadBack.{AreFormed, IsFormed, formed_pair, pair_formed, word_reference_formed, reference_reads_back}
 
 -- two offsets, one after the other
@@ -35,7 +35,7 @@ place_twice limit d e false p q is =
     ap (place_within limit) way
 
 -- what a cell's two parts are
-pub cell_parts : (absolute_row absolute_col : Bool) (row col : Option ℕ) (corner : Corner) → cell_of absolute_row absolute_col row col ≡ Some corner → (r : ℕ) × (c : ℕ) × (row ≡ Some r) × (col ≡ Some c) × (corner ≡ Cell r c absolute_row absolute_col)
+pub cell_parts : (absolute_row absolute_col : Bool) (row col : Option ℕ) (corner : Corner) → cell_corner absolute_row absolute_col row col ≡ Some corner → (r : ℕ) × (c : ℕ) × (row ≡ Some r) × (col ≡ Some c) × (corner ≡ Cell r c absolute_row absolute_col)
 cell_parts absolute_row absolute_col (Some r) (Some c) corner is = (r, c, refl, refl, cc)
 cell_parts absolute_row absolute_col (Some r) None corner is = cc
 cell_parts absolute_row absolute_col None col corner is = cc
@@ -48,7 +48,7 @@ mapped_part f None corner is = cc
 corner_twice : (d e : ℤ × ℤ) (corner moved : Corner) → displaced_corner d corner ≡ Some moved → (displaced_corner e moved ≡ displaced_corner (offsets d e) corner)
 corner_twice d e (Cell row col absolute_row absolute_col) moved is =
     let parts = cell_parts absolute_row absolute_col (displaced_place MAX_ROWS d.0 absolute_row row) (displaced_place MAX_COLUMNS d.1 absolute_col col) moved is in
-    ap (displaced_corner e) parts.4 ∙ (λ i. cell_of absolute_row absolute_col (place_twice MAX_ROWS d.0 e.0 absolute_row row parts.0 parts.2 i) (place_twice MAX_COLUMNS d.1 e.1 absolute_col col parts.1 parts.3 i))
+    ap (displaced_corner e) parts.4 ∙ (λ i. cell_corner absolute_row absolute_col (place_twice MAX_ROWS d.0 e.0 absolute_row row parts.0 parts.2 i) (place_twice MAX_COLUMNS d.1 e.1 absolute_col col parts.1 parts.3 i))
 corner_twice d e (Row row absolute) moved is =
     let part = mapped_part (λ n. Row n absolute) (displaced_place MAX_ROWS d.0 absolute row) moved is in
     ap (displaced_corner e) (sym part.2) ∙ ap (option_map (λ n. Row n absolute)) (place_twice MAX_ROWS d.0 e.0 absolute row part.0 part.1)
@@ -122,14 +122,14 @@ displaced_twice d e reference there is formed = reference_twice d e reference.fi
 -- ---- pieces
 
 -- the reference that a piece is depends on what is behind it only by whether a name ends there
-reference_of_alike : (p : PieceText) (behind behind' : Option ℕ) → is_name_before behind ≡ is_name_before behind' → reference_of p behind ≡ reference_of p behind'
-unfolding reference_of
-reference_of_alike p behind behind' alike = ap (λ b. cond (is_word p.kind && not b) (word_reference p.bytes) None) alike
+piece_reference_alike : (p : PieceText) (behind behind' : Option ℕ) → is_name_before behind ≡ is_name_before behind' → piece_reference p behind ≡ piece_reference p behind'
+unfolding piece_reference
+piece_reference_alike p behind behind' alike = ap (λ b. cond (is_word p.kind && not b) (word_reference p.bytes) None) alike
 
 -- a piece that is a reference: it is formed, and nothing that makes it a name is behind it
-reference_of_formed : (p : PieceText) (behind : Option ℕ) → IfSome (reference_of p behind) (λ r. IsFormed r × (is_name_before behind ≡ false))
-unfolding reference_of
-reference_of_formed p behind = by_tests (is_word p.kind) (is_name_before behind) (word_reference p.bytes) (word_reference_formed p.bytes) where
+piece_reference_formed : (p : PieceText) (behind : Option ℕ) → IfSome (piece_reference p behind) (λ r. IsFormed r × (is_name_before behind ≡ false))
+unfolding piece_reference
+piece_reference_formed p behind = by_tests (is_word p.kind) (is_name_before behind) (word_reference p.bytes) (word_reference_formed p.bytes) where
   by_tests : (a b : Bool) (o : Option Reference) → IfSome o IsFormed → IfSome (cond (a && not b) o None) (λ r. IsFormed r × (b ≡ false))
   by_tests true false None formed = tt
   by_tests true false (Some r) formed = (formed, refl)
@@ -137,9 +137,9 @@ reference_of_formed p behind = by_tests (is_word p.kind) (is_name_before behind)
   by_tests false b o formed = tt
 
 -- the Word that spells a reference is that reference
-reference_of_spelled : (r : Reference) (behind : Option ℕ) → IsInside r → IsFormed r → is_name_before behind ≡ false → reference_of (word_of r) behind ≡ Some r
-unfolding reference_of
-reference_of_spelled r behind inside formed none = ap (λ b. cond (not b) (word_reference (spelling r)) None) none ∙ reference_reads_back r inside formed
+piece_reference_spelled : (r : Reference) (behind : Option ℕ) → IsInWorksheet r → IsFormed r → is_name_before behind ≡ false → piece_reference (word_of r) behind ≡ Some r
+unfolding piece_reference
+piece_reference_spelled r behind inside formed none = ap (λ b. cond (not b) (word_reference (spelling r)) None) none ∙ reference_reads_back r inside formed
 
 -- whether a name ends before the pieces stays when they are moved
 word_is_no_name : (b : ℕ) → is_word_byte b ≡ true → is_name_before (Some b) ≡ false
@@ -148,58 +148,58 @@ word_is_no_name b word = grind (arith, nat_tests)
 first_of : (bytes rest : List ℕ) (b : ℕ) (bs : List ℕ) → bytes ≡ b ∷ bs → first_byte (bytes ++ rest) ≡ Some b
 first_of bytes rest b bs are = ap (λ t. first_byte (t ++ rest)) are
 
-name_kept : (d : ℤ × ℤ) (ps : List PieceText) → AreCut ps → is_name_before (first_byte (joined ps)) ≡ is_name_before (first_byte (joined (moved_pieces d ps)))
+name_kept : (d : ℤ × ℤ) (ps : List PieceText) → AreCut ps → is_name_before (first_byte (joined_pieces ps)) ≡ is_name_before (first_byte (joined_pieces (moved_pieces d ps)))
 name_kept d [] cut = refl
-name_kept d (p ∷ ps) cut = by_piece (moved_piece d p (first_byte (joined ps))) (is_moved d p (first_byte (joined ps))) where
-  stands : StandsBefore p (joined ps)
+name_kept d (p ∷ ps) cut = by_piece (moved_piece d p (first_byte (joined_pieces ps))) (is_moved d p (first_byte (joined_pieces ps))) where
+  stands : StandsBefore p (joined_pieces ps)
   stands = cut.0
 
   rest' : List ℕ
-  rest' = joined (moved_pieces d ps)
+  rest' = joined_pieces (moved_pieces d ps)
 
-  by_bytes : (q : PieceText) (bs : List ℕ) → q.bytes ≡ bs → 0 < length bs → list_all is_word_byte bs ≡ true → is_name_before (first_byte (q.bytes ++ joined (moved_pieces d ps))) ≡ false
+  by_bytes : (q : PieceText) (bs : List ℕ) → q.bytes ≡ bs → 0 < length bs → list_all is_word_byte bs ≡ true → is_name_before (first_byte (q.bytes ++ joined_pieces (moved_pieces d ps))) ≡ false
   by_bytes q [] are nonempty all = absurd (omega arith)
-  by_bytes q (w ∷ ws) are nonempty all = ap is_name_before (first_of q.bytes (joined (moved_pieces d ps)) w ws are) ∙ word_is_no_name w (first_in_word w ws all)
+  by_bytes q (w ∷ ws) are nonempty all = ap is_name_before (first_of q.bytes (joined_pieces (moved_pieces d ps)) w ws are) ∙ word_is_no_name w (first_in_word w ws all)
 
-  by_piece : (q : PieceText) → (q ≡ p) ⊎ ((p.kind ≡ word_kind) × (q.kind ≡ word_kind) × IsWordText 25 q.bytes) → is_name_before (first_byte (p.bytes ++ joined ps)) ≡ is_name_before (first_byte (q.bytes ++ joined (moved_pieces d ps)))
+  by_piece : (q : PieceText) → (q ≡ p) ⊎ ((p.kind ≡ word_kind) × (q.kind ≡ word_kind) × IsWordText 25 q.bytes) → is_name_before (first_byte (p.bytes ++ joined_pieces ps)) ≡ is_name_before (first_byte (q.bytes ++ joined_pieces (moved_pieces d ps)))
   by_piece q (inl same) =
-      ap is_name_before (first_of p.bytes (joined ps) cut.0.first cut.0.behind cut.0.bytes_are)
-      ∙ sym (ap is_name_before (first_of q.bytes (joined (moved_pieces d ps)) cut.0.first cut.0.behind (ap (λ q. q.bytes) same ∙ cut.0.bytes_are)))
+      ap is_name_before (first_of p.bytes (joined_pieces ps) cut.0.first cut.0.behind cut.0.bytes_are)
+      ∙ sym (ap is_name_before (first_of q.bytes (joined_pieces (moved_pieces d ps)) cut.0.first cut.0.behind (ap (λ q. q.bytes) same ∙ cut.0.bytes_are)))
   by_piece q (inr words) =
       let word : is_word_byte cut.0.first ≡ true = sym (word_is cut.0.first) ∙ ap is_word (sym cut.0.kind_is ∙ words.0) in
-      ap is_name_before (first_of p.bytes (joined ps) cut.0.first cut.0.behind cut.0.bytes_are)
+      ap is_name_before (first_of p.bytes (joined_pieces ps) cut.0.first cut.0.behind cut.0.bytes_are)
       ∙ word_is_no_name cut.0.first word
       ∙ sym (by_bytes q q.bytes refl words.2.nonempty words.2.in_word)
 
 -- a piece moved twice
 module _ (d e : ℤ × ℤ) (p : PieceText) (behind behind' : Option ℕ) (alike : is_name_before behind ≡ is_name_before behind') where
-  stays_plain : (f : ℤ × ℤ) (after : Option ℕ) → reference_of p after ≡ None → moved_piece f p after ≡ p
+  stays_plain : (f : ℤ × ℤ) (after : Option ℕ) → piece_reference p after ≡ None → moved_piece f p after ≡ p
   stays_plain f after none = ap (λ o. unwrap_or (option_map word_of (option_and_then (displaced f) o)) p) none
 
-  becomes : (f : ℤ × ℤ) (q : PieceText) (after : Option ℕ) (r s : Reference) → reference_of q after ≡ Some r → displaced f r ≡ Some s → moved_piece f q after ≡ word_of s
+  becomes : (f : ℤ × ℤ) (q : PieceText) (after : Option ℕ) (r s : Reference) → piece_reference q after ≡ Some r → displaced f r ≡ Some s → moved_piece f q after ≡ word_of s
   becomes f q after r s is there = ap (λ o. unwrap_or (option_map word_of (option_and_then (displaced f) o)) q) is ∙ ap (λ o. unwrap_or (option_map word_of o) q) there
 
-  plain_twice : reference_of p behind ≡ None → moved_piece e (moved_piece d p behind) behind' ≡ moved_piece (offsets d e) p behind
+  plain_twice : piece_reference p behind ≡ None → moved_piece e (moved_piece d p behind) behind' ≡ moved_piece (offsets d e) p behind
   plain_twice none =
       ap (λ q. moved_piece e q behind') (stays_plain d behind none)
-      ∙ stays_plain e behind' (sym (reference_of_alike p behind behind' alike) ∙ none)
+      ∙ stays_plain e behind' (sym (piece_reference_alike p behind behind' alike) ∙ none)
       ∙ sym (stays_plain (offsets d e) behind none)
 
-  reference_moved_twice : (r s t : Reference) → reference_of p behind ≡ Some r → IsInside r → IsFormed r → is_name_before behind ≡ false → displaced d r ≡ Some s → displaced (offsets d e) r ≡ Some t → moved_piece e (moved_piece d p behind) behind' ≡ moved_piece (offsets d e) p behind
+  reference_moved_twice : (r s t : Reference) → piece_reference p behind ≡ Some r → IsInWorksheet r → IsFormed r → is_name_before behind ≡ false → displaced d r ≡ Some s → displaced (offsets d e) r ≡ Some t → moved_piece e (moved_piece d p behind) behind' ≡ moved_piece (offsets d e) p behind
   reference_moved_twice r s t is inside formed none there further =
       let on = displaced_twice d e r s there formed in
-      let inside' : IsInside s = subst (λ o. IfSome o IsInside) there (displaced_inside d r inside) in
+      let inside' : IsInWorksheet s = subst (λ o. IfSome o IsInWorksheet) there (displaced_inside d r inside) in
       ap (λ q. moved_piece e q behind') (becomes d p behind r s is there)
-      ∙ becomes e (word_of s) behind' s t (reference_of_spelled s behind' inside' on.0 (sym alike ∙ none)) (on.1 ∙ further)
+      ∙ becomes e (word_of s) behind' s t (piece_reference_spelled s behind' inside' on.0 (sym alike ∙ none)) (on.1 ∙ further)
       ∙ sym (becomes (offsets d e) p behind r t is further)
 
-  pub piece_twice : (o : Option Reference) → reference_of p behind ≡ o → IfSome o (λ r. IsSome (displaced d r)) → IfSome o (λ r. IsSome (displaced (offsets d e) r)) → moved_piece e (moved_piece d p behind) behind' ≡ moved_piece (offsets d e) p behind
+  pub piece_twice : (o : Option Reference) → piece_reference p behind ≡ o → IfSome o (λ r. IsSome (displaced d r)) → IfSome o (λ r. IsSome (displaced (offsets d e) r)) → moved_piece e (moved_piece d p behind) behind' ≡ moved_piece (offsets d e) p behind
   piece_twice None is stays stays' = plain_twice is
   piece_twice (Some r) is stays stays' =
-      let known = subst (λ o. IfSome o (λ r. IsInside r × (p.kind ≡ word_kind))) is (reference_of_word p behind) in
-      let formed = subst (λ o. IfSome o (λ r. IsFormed r × (is_name_before behind ≡ false))) is (reference_of_formed p behind) in
+      let known = subst (λ o. IfSome o (λ r. IsInWorksheet r × (p.kind ≡ word_kind))) is (piece_reference_word p behind) in
+      let formed = subst (λ o. IfSome o (λ r. IsFormed r × (is_name_before behind ≡ false))) is (piece_reference_formed p behind) in
       by_answers (displaced d r) (displaced (offsets d e) r) refl refl stays stays' known.0 formed.0 formed.1 where
-        by_answers : (a b : Option Reference) → displaced d r ≡ a → displaced (offsets d e) r ≡ b → IsSome a → IsSome b → IsInside r → IsFormed r → is_name_before behind ≡ false → moved_piece e (moved_piece d p behind) behind' ≡ moved_piece (offsets d e) p behind
+        by_answers : (a b : Option Reference) → displaced d r ≡ a → displaced (offsets d e) r ≡ b → IsSome a → IsSome b → IsInWorksheet r → IsFormed r → is_name_before behind ≡ false → moved_piece e (moved_piece d p behind) behind' ≡ moved_piece (offsets d e) p behind
         by_answers (Some s) (Some t) there further stays stays' inside formed none = reference_moved_twice r s t is inside formed none there further
         by_answers (Some s) None there further stays stays' inside formed none = cc
         by_answers None b there further stays stays' inside formed none = cc
@@ -217,17 +217,17 @@ front_stays d (Some r) rs stay = (All-head (λ r. IsSome (displaced d r)) r rs s
 pieces_twice : (d e : ℤ × ℤ) (ps : List PieceText) → AreCut ps → AllStay d (references ps) → AllStay (offsets d e) (references ps) → moved_pieces e (moved_pieces d ps) ≡ moved_pieces (offsets d e) ps
 pieces_twice d e [] cut stay stay' = refl
 pieces_twice d e (p ∷ ps) cut stay stay' =
-    let o = reference_of p (first_byte (joined ps)) in
+    let o = piece_reference p (first_byte (joined_pieces ps)) in
     let here = front_stays d o (references ps) stay in
     let here' = front_stays (offsets d e) o (references ps) stay' in
-    let one = piece_twice d e p (first_byte (joined ps)) (first_byte (joined (moved_pieces d ps))) (name_kept d ps cut.1) o refl here.0 here'.0 in
+    let one = piece_twice d e p (first_byte (joined_pieces ps)) (first_byte (joined_pieces (moved_pieces d ps))) (name_kept d ps cut.1) o refl here.0 here'.0 in
     let others = pieces_twice d e ps cut.1 here.1 here'.1 in
     (λ i. one i ∷ others i)
 
 pub moved-moved : (text : List ℕ) (d e : ℤ × ℤ) → All (λ r. IsSome (displaced d r)) (references (pieces text)) → All (λ r. IsSome (displaced (offsets d e) r)) (references (pieces text)) → moved (moved text d) e ≡ moved text (offsets d e)
 unfolding moved
 moved-moved text d e stay stay' =
-    ap (λ ps. joined (moved_pieces e ps)) (pieces-moved text d) ∙ ap joined (pieces_twice d e (pieces text) (are_cut-pieces text) stay stay')
+    ap (λ ps. joined_pieces (moved_pieces e ps)) (pieces-moved text d) ∙ ap joined_pieces (pieces_twice d e (pieces text) (are_cut-pieces text) stay stay')
 
 -- ---- between positions
 
@@ -239,7 +239,7 @@ place_stays limit false p below = ap (λ n. place_within limit (pos n)) (add-zer
   by_test = grind (arith, nat_tests)
 
 corner_stays : (corner : Corner) → IsCornerInside corner → displaced_corner (pos 0, pos 0) corner ≡ Some corner
-corner_stays (Cell row col absolute_row absolute_col) inside = λ i. cell_of absolute_row absolute_col (place_stays MAX_ROWS absolute_row row inside.0 i) (place_stays MAX_COLUMNS absolute_col col inside.1 i)
+corner_stays (Cell row col absolute_row absolute_col) inside = λ i. cell_corner absolute_row absolute_col (place_stays MAX_ROWS absolute_row row inside.0 i) (place_stays MAX_COLUMNS absolute_col col inside.1 i)
 corner_stays (Row row absolute) inside = ap (option_map (λ n. Row n absolute)) (place_stays MAX_ROWS absolute row inside)
 corner_stays (Column col absolute) inside = ap (option_map (λ n. Column n absolute)) (place_stays MAX_COLUMNS absolute col inside)
 
@@ -247,14 +247,14 @@ by_parts_stays : (first : Corner) (second : Option Corner) → IsCornerInside fi
 by_parts_stays first None inside inside' = ap (option_map (λ moved. record { first = moved; second = None })) (corner_stays first inside)
 by_parts_stays first (Some second) inside inside' = λ i. both_corners (corner_stays first inside i) (corner_stays second inside' i)
 
-reference_stays : (r : Reference) → IsInside r → IsSome (displaced (pos 0, pos 0) r)
+reference_stays : (r : Reference) → IsInWorksheet r → IsSome (displaced (pos 0, pos 0) r)
 unfolding displaced
 reference_stays r inside = subst IsSome (sym (by_parts_stays r.first r.second inside.0 inside.1)) refl
 
 pieces_stay : (ps : List PieceText) → AllStay (pos 0, pos 0) (references ps)
 pieces_stay [] = All-nil (λ r. IsSome (displaced (pos 0, pos 0) r))
-pieces_stay (p ∷ ps) = one (reference_of p (first_byte (joined ps))) (reference_of_word p (first_byte (joined ps))) (pieces_stay ps) where
-  one : (o : Option Reference) → IfSome o (λ r. IsInside r × (p.kind ≡ word_kind)) → AllStay (pos 0, pos 0) (references ps) → AllStay (pos 0, pos 0) (option_to_list o ++ references ps)
+pieces_stay (p ∷ ps) = one (piece_reference p (first_byte (joined_pieces ps))) (piece_reference_word p (first_byte (joined_pieces ps))) (pieces_stay ps) where
+  one : (o : Option Reference) → IfSome o (λ r. IsInWorksheet r × (p.kind ≡ word_kind)) → AllStay (pos 0, pos 0) (references ps) → AllStay (pos 0, pos 0) (option_to_list o ++ references ps)
   one None inside stay = stay
   one (Some r) inside stay = All-cons (λ r. IsSome (displaced (pos 0, pos 0) r)) r (references ps) (reference_stays r inside.0) stay
 
@@ -281,6 +281,6 @@ there_and_back text a b stay =
 -- what a Word names is spelled so that it reads back
 pub word_reads_back : (word : List ℕ) → IfSome (word_reference word) (λ r. word_reference (spelling r) ≡ Some r)
 word_reads_back word = by_answer (word_reference word) (word_reference_inside word) (word_reference_formed word) where
-  by_answer : (o : Option Reference) → IfSome o IsInside → IfSome o IsFormed → IfSome o (λ r. word_reference (spelling r) ≡ Some r)
+  by_answer : (o : Option Reference) → IfSome o IsInWorksheet → IfSome o IsFormed → IfSome o (λ r. word_reference (spelling r) ≡ Some r)
   by_answer None inside formed = tt
   by_answer (Some r) inside formed = reference_reads_back r inside formed

@@ -6,7 +6,7 @@ use Rattle.std.specs.Str.{IsCharBoundary}
 use Rattle.std.proofs.lemmas.List.Sums.{prefix_len-le-length}
 use Rattle.std.proofs.lemmas.List.{take-append-drop}
 use Rattle.std.proofs.lemmas.Str.{IsCharBoundary-after_ascii}
-use Rattle.formula_shift.specs.Pieces.{PieceKind, string_kind, quoted_kind, group_kind, word_kind, other_kind, kind_of, string_length, quoted_length, group_length, is_word_byte, is_other_byte, length_behind, first_piece, pieces_behind, pieces, joined}
+use Rattle.formula_shift.specs.Pieces.{PieceKind, string_kind, quoted_kind, group_kind, word_kind, other_kind, kind_of, string_length, quoted_length, group_length, is_word_byte, is_other_byte, length_behind, first_piece, pieces_behind, pieces, joined_pieces}
 
 -- no piece is longer than the text
 string_length-le : (bs : List ℕ) → string_length bs ≤ length bs
@@ -110,18 +110,18 @@ unfolding pieces pieces_behind
 pieces-cons b bs = ap (λ ps. first_piece b bs ∷ ps) (pieces_behind-drop (length_behind (kind_of b) bs) bs)
 
 -- the pieces joined are the text
-pub joined-pieces_behind : (n : ℕ) (bs : List ℕ) → joined (pieces_behind n bs) ≡ drop n bs
+pub joined_pieces-pieces_behind : (n : ℕ) (bs : List ℕ) → joined_pieces (pieces_behind n bs) ≡ drop n bs
 unfolding pieces_behind
-joined-pieces_behind zero [] = refl
-joined-pieces_behind (suc n) [] = refl
-joined-pieces_behind zero (b ∷ bs) =
+joined_pieces-pieces_behind zero [] = refl
+joined_pieces-pieces_behind (suc n) [] = refl
+joined_pieces-pieces_behind zero (b ∷ bs) =
     let n = length_behind (kind_of b) bs in
-    ap (λ rest. b ∷ (take n bs ++ rest)) (joined-pieces_behind n bs) ∙ ap (λ rest. b ∷ rest) (take-append-drop n bs)
-joined-pieces_behind (suc n) (b ∷ bs) = joined-pieces_behind n bs
+    ap (λ rest. b ∷ (take n bs ++ rest)) (joined_pieces-pieces_behind n bs) ∙ ap (λ rest. b ∷ rest) (take-append-drop n bs)
+joined_pieces-pieces_behind (suc n) (b ∷ bs) = joined_pieces-pieces_behind n bs
 
-pub joined-pieces : (text : List ℕ) → joined (pieces text) ≡ text
+pub joined_pieces-pieces : (text : List ℕ) → joined_pieces (pieces text) ≡ text
 unfolding pieces
-joined-pieces text = joined-pieces_behind 0 text
+joined_pieces-pieces text = joined_pieces-pieces_behind 0 text
 
 -- there are at most as many pieces as bytes
 length-pieces_behind : (n : ℕ) (bs : List ℕ) → length (pieces_behind n bs) ≤ length bs

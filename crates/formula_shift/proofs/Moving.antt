@@ -3,11 +3,11 @@ use Rattle.std.proofs.Common.{◌≡◌, ℕ, ◌+◌, ◌*◌, ◌<◌, ◌≤�
 use Rattle.std.specs.Prelude.{IfSome, ℤ, unwrap_or, option_map, option_and_then, option_to_list}
 use Rattle.std.specs.List.{prefix_len, list_all}
 use Rattle.formula_shift.specs.declared.reference.Reference.{Reference}
-use Rattle.formula_shift.specs.Pieces.{PieceKind, string_kind, quoted_kind, group_kind, word_kind, other_kind, PieceText, kind_of, is_word_byte, length_behind, pieces, joined}
-use Rattle.formula_shift.specs.References.{IsInside, word_reference, displaced}
-use Rattle.formula_shift.specs.Relocation.{is_word, is_name_before, first_byte, reference_of, word_of, moved_piece, moved_pieces, references, moved}
-use Rattle.formula_shift.proofs.Cutting.{joined-pieces}
-use Rattle.formula_shift.proofs.Recutting.{first_kind, begins, begins_alike, word_is, length_behind_keeps, StandsBefore, AreCut, are_cut-pieces, pieces-joined}
+use Rattle.formula_shift.specs.Pieces.{PieceKind, string_kind, quoted_kind, group_kind, word_kind, other_kind, PieceText, kind_of, is_word_byte, length_behind, pieces, joined_pieces}
+use Rattle.formula_shift.specs.References.{IsInWorksheet, word_reference, displaced}
+use Rattle.formula_shift.specs.Relocation.{is_word, is_name_before, first_byte, piece_reference, word_of, moved_piece, moved_pieces, references, moved}
+use Rattle.formula_shift.proofs.Cutting.{joined_pieces-pieces}
+use Rattle.formula_shift.proofs.Recutting.{first_kind, begins, begins_alike, word_is, length_behind_keeps, StandsBefore, AreCut, are_cut-pieces, pieces-joined_pieces}
 use Rattle.formula_shift.proofs.Spellings.{IsWordText, word_reference_inside, displaced_inside, spelling_is_word}
 
 word_kind_is : (kind : PieceKind) → is_word kind ≡ true → kind ≡ word_kind
@@ -18,10 +18,10 @@ word_kind_is word_kind e = refl
 word_kind_is other_kind e = cc
 
 -- a piece that is a reference is a Word, and names what is inside
-pub reference_of_word : (piece : PieceText) (behind : Option ℕ) → IfSome (reference_of piece behind) (λ r. IsInside r × (piece.kind ≡ word_kind))
-unfolding reference_of
-reference_of_word piece behind = by_tests (is_word piece.kind) (not (is_name_before behind)) (word_reference piece.bytes) (word_reference_inside piece.bytes) (word_kind_is piece.kind) where
-  by_tests : {K : Type 0} (a b : Bool) (o : Option Reference) → IfSome o IsInside → (a ≡ true → K) → IfSome (cond (a && b) o None) (λ r. IsInside r × K)
+pub piece_reference_word : (piece : PieceText) (behind : Option ℕ) → IfSome (piece_reference piece behind) (λ r. IsInWorksheet r × (piece.kind ≡ word_kind))
+unfolding piece_reference
+piece_reference_word piece behind = by_tests (is_word piece.kind) (not (is_name_before behind)) (word_reference piece.bytes) (word_reference_inside piece.bytes) (word_kind_is piece.kind) where
+  by_tests : {K : Type 0} (a b : Bool) (o : Option Reference) → IfSome o IsInWorksheet → (a ≡ true → K) → IfSome (cond (a && b) o None) (λ r. IsInWorksheet r × K)
   by_tests true true None inside word = tt
   by_tests true true (Some r) inside word = (inside, word refl)
   by_tests true false o inside word = tt
@@ -31,15 +31,15 @@ reference_of_word piece behind = by_tests (is_word piece.kind) (not (is_name_bef
 abbrev IsMovedFrom : PieceText → PieceText → Type 0
 IsMovedFrom p q = (q ≡ p) ⊎ ((p.kind ≡ word_kind) × (q.kind ≡ word_kind) × IsWordText 25 q.bytes)
 
-moved_by_reference : (offset : ℤ × ℤ) (p : PieceText) (o : Option Reference) → IfSome o (λ r. IsInside r × (p.kind ≡ word_kind)) → IsMovedFrom p (unwrap_or (option_map word_of (option_and_then (displaced offset) o)) p)
+moved_by_reference : (offset : ℤ × ℤ) (p : PieceText) (o : Option Reference) → IfSome o (λ r. IsInWorksheet r × (p.kind ≡ word_kind)) → IsMovedFrom p (unwrap_or (option_map word_of (option_and_then (displaced offset) o)) p)
 moved_by_reference offset p None inside = inl refl
 moved_by_reference offset p (Some r) inside = by_displaced (displaced offset r) (displaced_inside offset r inside.0) where
-  by_displaced : (o : Option Reference) → IfSome o IsInside → IsMovedFrom p (unwrap_or (option_map word_of o) p)
+  by_displaced : (o : Option Reference) → IfSome o IsInWorksheet → IsMovedFrom p (unwrap_or (option_map word_of o) p)
   by_displaced None there = inl refl
   by_displaced (Some s) there = inr (inside.1, refl, spelling_is_word s there)
 
 pub is_moved : (offset : ℤ × ℤ) (p : PieceText) (behind : Option ℕ) → IsMovedFrom p (moved_piece offset p behind)
-is_moved offset p behind = moved_by_reference offset p (reference_of p behind) (reference_of_word p behind)
+is_moved offset p behind = moved_by_reference offset p (piece_reference p behind) (piece_reference_word p behind)
 
 -- a run of a Word's bytes ends where the next byte is none of a Word's
 pub run_is : (p : ℕ → Bool) (ws rest : List ℕ) → list_all p ws ≡ true → begins p rest ≡ false → prefix_len p (ws ++ rest) ≡ length ws
@@ -108,53 +108,53 @@ module _ (p q : PieceText) (rest rest' : List ℕ) (is_from : IsMovedFrom p q) (
         by_bytes [] nonempty all = absurd (omega arith)
         by_bytes (w ∷ ws) nonempty all = ap Some (word_kind_of w (first_in_word w ws all))
 
-are_cut-moved : (offset : ℤ × ℤ) (ps : List PieceText) → AreCut ps → AreCut (moved_pieces offset ps) × (first_kind (joined ps) ≡ first_kind (joined (moved_pieces offset ps)))
+are_cut-moved : (offset : ℤ × ℤ) (ps : List PieceText) → AreCut ps → AreCut (moved_pieces offset ps) × (first_kind (joined_pieces ps) ≡ first_kind (joined_pieces (moved_pieces offset ps)))
 are_cut-moved offset [] cut = (tt, refl)
 are_cut-moved offset (p ∷ ps) cut =
-    let behind = first_byte (joined ps) in
+    let behind = first_byte (joined_pieces ps) in
     let later = are_cut-moved offset ps cut.1 in
-    let rest' = joined (moved_pieces offset ps) in (
-      (stands_moved p (moved_piece offset p behind) (joined ps) rest' (is_moved offset p behind) cut.0 later.1, later.0),
-      kind_moved p (moved_piece offset p behind) (joined ps) rest' (is_moved offset p behind) cut.0,
+    let rest' = joined_pieces (moved_pieces offset ps) in (
+      (stands_moved p (moved_piece offset p behind) (joined_pieces ps) rest' (is_moved offset p behind) cut.0 later.1, later.0),
+      kind_moved p (moved_piece offset p behind) (joined_pieces ps) rest' (is_moved offset p behind) cut.0,
     )
 
 -- cutting the moved text gives the moved pieces
 pub pieces-moved : (text : List ℕ) (offset : ℤ × ℤ) → pieces (moved text offset) ≡ moved_pieces offset (pieces text)
 unfolding moved
-pieces-moved text offset = pieces-joined (moved_pieces offset (pieces text)) (are_cut-moved offset (pieces text) (are_cut-pieces text)).0
+pieces-moved text offset = pieces-joined_pieces (moved_pieces offset (pieces text)) (are_cut-moved offset (pieces text) (are_cut-pieces text)).0
 
 -- ---- a scan over the pieces
 
 pub moved-nil : (text : List ℕ) (offset : ℤ × ℤ) → pieces text ≡ [] → moved text offset ≡ []
 unfolding moved
-moved-nil text offset none = ap (λ ps. joined (moved_pieces offset ps)) none
+moved-nil text offset none = ap (λ ps. joined_pieces (moved_pieces offset ps)) none
 
 -- the piece p stands in front of rest, which the code has as `seen`
 pub moved-next : (text rest seen : List ℕ) (offset : ℤ × ℤ) (p : PieceText) → pieces text ≡ p ∷ pieces rest → seen ≡ rest → moved text offset ≡ (moved_piece offset p (first_byte seen)).bytes ++ moved rest offset
 unfolding moved
 moved-next text rest seen offset p next same =
-    ap (λ ps. joined (moved_pieces offset ps)) next ∙ ap (λ t. (moved_piece offset p (first_byte t)).bytes ++ joined (moved_pieces offset (pieces rest))) (joined-pieces rest ∙ sym same)
+    ap (λ ps. joined_pieces (moved_pieces offset ps)) next ∙ ap (λ t. (moved_piece offset p (first_byte t)).bytes ++ joined_pieces (moved_pieces offset (pieces rest))) (joined_pieces-pieces rest ∙ sym same)
 
 pub length-moved-next : (text rest seen : List ℕ) (offset : ℤ × ℤ) (p : PieceText) → pieces text ≡ p ∷ pieces rest → seen ≡ rest → length (moved text offset) ≡ length (moved_piece offset p (first_byte seen)).bytes + length (moved rest offset)
 length-moved-next text rest seen offset p next same =
     ap length (moved-next text rest seen offset p next same) ∙ length-append (moved_piece offset p (first_byte seen)).bytes (moved rest offset)
 
 -- a moved text is at most 25 times as long
-moved_short : (offset : ℤ × ℤ) (ps : List PieceText) → AreCut ps → length (joined (moved_pieces offset ps)) ≤ 25 * length (joined ps)
+moved_short : (offset : ℤ × ℤ) (ps : List PieceText) → AreCut ps → length (joined_pieces (moved_pieces offset ps)) ≤ 25 * length (joined_pieces ps)
 moved_short offset [] cut = omega arith
 moved_short offset (p ∷ ps) cut =
-    let q = moved_piece offset p (first_byte (joined ps)) in
+    let q = moved_piece offset p (first_byte (joined_pieces ps)) in
     let nonempty : 0 < length p.bytes = omega (arith, ap length cut.0.bytes_are) in
     let one : length q.bytes ≤ 25 * length p.bytes =
-    elim (is_moved offset p (first_byte (joined ps))) [
+    elim (is_moved offset p (first_byte (joined_pieces ps))) [
       | inl same ↦ omega (arith, ap (λ q. length q.bytes) same)
       | inr words ↦ omega (arith, words.2.short)
     ] in
-    omega (arith, length-append q.bytes (joined (moved_pieces offset ps)), length-append p.bytes (joined ps), moved_short offset ps cut.1, one)
+    omega (arith, length-append q.bytes (joined_pieces (moved_pieces offset ps)), length-append p.bytes (joined_pieces ps), moved_short offset ps cut.1, one)
 
 pub length-moved-le : (text : List ℕ) (offset : ℤ × ℤ) → length (moved text offset) ≤ 25 * length text
 unfolding moved
-length-moved-le text offset = subst (λ t. length (joined (moved_pieces offset (pieces text))) ≤ 25 * length t) (joined-pieces text) (moved_short offset (pieces text) (are_cut-pieces text))
+length-moved-le text offset = subst (λ t. length (joined_pieces (moved_pieces offset (pieces text))) ≤ 25 * length t) (joined_pieces-pieces text) (moved_short offset (pieces text) (are_cut-pieces text))
 
 -- ---- a text without a reference
 
@@ -165,9 +165,9 @@ none_first (Some x) xs none = cc
 pub no_reference_stays : (offset : ℤ × ℤ) (ps : List PieceText) → references ps ≡ [] → moved_pieces offset ps ≡ ps
 no_reference_stays offset [] none = refl
 no_reference_stays offset (p ∷ ps) none =
-    let here = none_first (reference_of p (first_byte (joined ps))) (references ps) none in
+    let here = none_first (piece_reference p (first_byte (joined_pieces ps))) (references ps) none in
     (λ i. unwrap_or (option_map word_of (option_and_then (displaced offset) (here.0 i))) p ∷ no_reference_stays offset ps here.1 i)
 
 pub moved-without_reference : (text : List ℕ) (offset : ℤ × ℤ) → references (pieces text) ≡ [] → moved text offset ≡ text
 unfolding moved
-moved-without_reference text offset none = ap joined (no_reference_stays offset (pieces text) none) ∙ joined-pieces text
+moved-without_reference text offset none = ap joined_pieces (no_reference_stays offset (pieces text) none) ∙ joined_pieces-pieces text

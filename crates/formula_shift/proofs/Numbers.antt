@@ -15,17 +15,17 @@ use Rattle.std.proofs.lemmas.List.Sums.{prefix_len_passes}
 use Rattle.cell_refs.specs.A1.{letter_value, letters_value, column_name}
 use Rattle.cell_refs.specs.declared.TheConstants.{MAX_ROWS, MAX_COLUMNS}
 use Rattle.cell_refs.proofs.Names.{letters_value_push, column_name_one, column_name_more}
-use Rattle.formula_shift.specs.References.{place_of, column_of, row_of}
+use Rattle.formula_shift.specs.References.{place_numbered, column_named, row_named}
 
-place_of_past : (limit number : ℕ) → limit < number → place_of limit number ≡ None
-place_of_past limit zero past = absurd (omega arith)
-place_of_past limit (suc n) past = grind (arith, nat_tests)
+place_numbered_past : (limit number : ℕ) → limit < number → place_numbered limit number ≡ None
+place_numbered_past limit zero past = absurd (omega arith)
+place_numbered_past limit (suc n) past = grind (arith, nat_tests)
 
-pub place_of_checked : (limit number : ℕ) (o : Option ℕ) → number ≤ limit → SomeIff o (1 ≤ number) (number - 1) → o ≡ place_of limit number
-place_of_checked limit zero None within is = refl
-place_of_checked limit zero (Some n) within is = absurd (omega (arith, is.0))
-place_of_checked limit (suc n) None within is = absurd (is (omega arith))
-place_of_checked limit (suc n) (Some m) within is = grind (arith, nat_tests, is.1)
+pub place_numbered_checked : (limit number : ℕ) (o : Option ℕ) → number ≤ limit → SomeIff o (1 ≤ number) (number - 1) → o ≡ place_numbered limit number
+place_numbered_checked limit zero None within is = refl
+place_numbered_checked limit zero (Some n) within is = absurd (omega (arith, is.0))
+place_numbered_checked limit (suc n) None within is = absurd (is (omega arith))
+place_numbered_checked limit (suc n) (Some m) within is = grind (arith, nat_tests, is.1)
 
 -- what a number's digits write is at least what the first of them do
 more_digits : (base : ℕ) (xs ys : List ℕ) → 0 < base → number_from_digits base xs ≤ number_from_digits base (xs ++ ys)
@@ -39,8 +39,8 @@ letters_front letters i =
     let split : map letter_value (take i letters) ++ map letter_value (drop i letters) ≡ map letter_value letters = sym (map-append letter_value (take i letters) (drop i letters)) ∙ ap (map letter_value) (take-append-drop i letters) in
     subst (λ ds. letters_value (take i letters) ≤ number_from_digits 26 ds) split (more_digits 26 (map letter_value (take i letters)) (map letter_value (drop i letters)) (omega arith))
 
-pub column_of_past : (letters : List ℕ) (i : ℕ) → MAX_COLUMNS < letters_value (take i letters) → column_of letters ≡ None
-column_of_past letters i past = place_of_past MAX_COLUMNS (letters_value letters) (omega (arith, letters_front letters i))
+pub column_named_past : (letters : List ℕ) (i : ℕ) → MAX_COLUMNS < letters_value (take i letters) → column_named letters ≡ None
+column_named_past letters i past = place_numbered_past MAX_COLUMNS (letters_value letters) (omega (arith, letters_front letters i))
 
 digits_front : (digits : List ℕ) (i : ℕ) → digits_value 10 (take i digits) ≤ digits_value 10 digits
 digits_front digits i =
@@ -48,14 +48,14 @@ digits_front digits i =
     let front : number_from_digits 10 (map digit_value (take i digits)) ≤ number_from_digits 10 (map digit_value digits) = subst (λ ds. number_from_digits 10 (map digit_value (take i digits)) ≤ number_from_digits 10 ds) split (more_digits 10 (map digit_value (take i digits)) (map digit_value (drop i digits)) (omega arith)) in
     omega (arith, digits_value_is 10 (take i digits), digits_value_is 10 digits, front)
 
-pub row_of_past : (digits : List ℕ) (i : ℕ) → MAX_ROWS < digits_value 10 (take i digits) → row_of digits ≡ None
-row_of_past digits i past = by_test (list_all is_ascii_digit digits) (place_of MAX_ROWS (digits_value 10 digits)) (place_of_past MAX_ROWS (digits_value 10 digits) (omega (arith, digits_front digits i))) where
+pub row_named_past : (digits : List ℕ) (i : ℕ) → MAX_ROWS < digits_value 10 (take i digits) → row_named digits ≡ None
+row_named_past digits i past = by_test (list_all is_ascii_digit digits) (place_numbered MAX_ROWS (digits_value 10 digits)) (place_numbered_past MAX_ROWS (digits_value 10 digits) (omega (arith, digits_front digits i))) where
   by_test : (b : Bool) (o : Option ℕ) → o ≡ None → cond b o None ≡ None
   by_test true o e = e
   by_test false o e = refl
 
-pub row_of_other : (digits : List ℕ) (i : ℕ) → i < length digits → is_ascii_digit (get_or digits i 0) ≡ false → row_of digits ≡ None
-row_of_other digits i lt other = rw (list_all_at is_ascii_digit digits i 0 lt other) refl
+pub row_named_other : (digits : List ℕ) (i : ℕ) → i < length digits → is_ascii_digit (get_or digits i 0) ≡ false → row_named digits ≡ None
+row_named_other digits i lt other = rw (list_all_at is_ascii_digit digits i 0 lt other) refl
 
 -- the bytes that a text begins with as long as they pass all pass
 pub all_letters : (text : List ℕ) → AllPass is_ascii_alphabetic (take (prefix_len is_ascii_alphabetic text) text)

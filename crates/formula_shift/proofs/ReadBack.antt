@@ -15,15 +15,15 @@ use Rattle.cell_refs.proofs.Names.{letters_value-column_name, All-capital-column
 use Rattle.formula_shift.specs.declared.corner.Corner.{Corner}
 use Rattle.formula_shift.specs.declared.corner.Corner.TheVariants.{Cell, Row, Column}
 use Rattle.formula_shift.specs.declared.reference.Reference.{Reference}
-use Rattle.formula_shift.specs.References.{place_of, column_of, row_of, has_dollar, behind_dollar, cell_of, corner_by, corner_of, alone, same_kind, range_of, reference_by, word_reference, IsCornerInside, IsInside, dollar, corner_spelling, second_spelling, spelling}
+use Rattle.formula_shift.specs.References.{place_numbered, column_named, row_named, has_dollar, behind_dollar, cell_corner, corner_by, corner_of, alone, same_kind, range_of, reference_by, word_reference, IsCornerInside, IsInWorksheet, dollar, corner_spelling, second_spelling, spelling}
 use Rattle.formula_shift.proofs.Recutting.{begins}
 use Rattle.formula_shift.proofs.Moving.{run_is}
 
 -- ---- numbers and names
 
-pub place_of_next : (limit n : ℕ) → n < limit → place_of limit (n + 1) ≡ Some n
-place_of_next limit n below = ap (place_of limit) (add-one n) ∙ by_test where
-  by_test : place_of limit (suc n) ≡ Some n
+pub place_numbered_next : (limit n : ℕ) → n < limit → place_numbered limit (n + 1) ≡ Some n
+place_numbered_next limit n below = ap (place_numbered limit) (add-one n) ∙ by_test where
+  by_test : place_numbered limit (suc n) ≡ Some n
   by_test = grind (arith, nat_tests)
 
 all_digits : (n : ℕ) → n < 2 ^ 64 → list_all is_ascii_digit (decimal n) ≡ true
@@ -34,14 +34,14 @@ all_digits = decimal_by_steps (λ n ds. list_all is_ascii_digit ds ≡ true) (λ
   one_digit : (d : ℕ) → d < 10 → list_all is_ascii_digit ((48 + d) ∷ []) ≡ true
   one_digit d small = λ i. is_digit d small i && true
 
-row_read : (row : ℕ) → row < MAX_ROWS → row_of (decimal (row + 1)) ≡ Some row
+row_read : (row : ℕ) → row < MAX_ROWS → row_named (decimal (row + 1)) ≡ Some row
 row_read row below =
     let digits = all_digits (row + 1) (omega arith) in
     let value : digits_value 10 (decimal (row + 1)) ≡ row + 1 = (decimal_is_IsNumeral (row + 1) (omega arith)).1 in
-    (λ i. cond (digits i) (place_of MAX_ROWS (value i)) None) ∙ place_of_next MAX_ROWS row below
+    (λ i. cond (digits i) (place_numbered MAX_ROWS (value i)) None) ∙ place_numbered_next MAX_ROWS row below
 
-column_read : (col : ℕ) → col < MAX_COLUMNS → column_of (column_name col) ≡ Some col
-column_read col below = ap (place_of MAX_COLUMNS) (letters_value-column_name col) ∙ place_of_next MAX_COLUMNS col below
+column_read : (col : ℕ) → col < MAX_COLUMNS → column_named (column_name col) ≡ Some col
+column_read col below = ap (place_numbered MAX_COLUMNS) (letters_value-column_name col) ∙ place_numbered_next MAX_COLUMNS col below
 
 -- ---- where the parts of a spelling end
 
@@ -89,7 +89,7 @@ dollar_begins true bs none = refl
 dollar_begins false bs none = none
 
 -- the three forms of a corner
-row_form : (absolute : Bool) (digits : List ℕ) (row : ℕ) → list_all is_ascii_digit digits ≡ true → row_of digits ≡ Some row → corner_of (dollar absolute ++ digits) ≡ Some (Row row absolute)
+row_form : (absolute : Bool) (digits : List ℕ) (row : ℕ) → list_all is_ascii_digit digits ≡ true → row_named digits ≡ Some row → corner_of (dollar absolute ++ digits) ≡ Some (Row row absolute)
 unfolding corner_of
 row_form absolute digits row all is =
     let begin = begins_digit digits all in
@@ -99,7 +99,7 @@ row_form absolute digits row all is =
     ∙ (λ i. corner_by absolute (split.0 i) (split.1 i))
     ∙ ap (option_map (λ row. Row row absolute)) is
 
-column_form : (absolute : Bool) (letters : List ℕ) (col : ℕ) → 0 < length letters → All IsCapital letters → column_of letters ≡ Some col → corner_of (dollar absolute ++ letters) ≡ Some (Column col absolute)
+column_form : (absolute : Bool) (letters : List ℕ) (col : ℕ) → 0 < length letters → All IsCapital letters → column_named letters ≡ Some col → corner_of (dollar absolute ++ letters) ≡ Some (Column col absolute)
 unfolding corner_of
 column_form absolute letters col some capitals is =
     let read = dollar_read absolute letters (begins_capital letters some capitals) in
@@ -109,11 +109,11 @@ column_form absolute letters col some capitals is =
     ∙ (λ i. corner_by absolute (letters_of (sym whole i)) (behind_letters (sym whole i)))
     ∙ (λ i. corner_by absolute (split.0 i) (split.1 i))
     ∙ by_letters letters some is where
-      by_letters : (letters : List ℕ) → 0 < length letters → column_of letters ≡ Some col → corner_by absolute letters [] ≡ Some (Column col absolute)
+      by_letters : (letters : List ℕ) → 0 < length letters → column_named letters ≡ Some col → corner_by absolute letters [] ≡ Some (Column col absolute)
       by_letters [] some is = absurd (omega arith)
       by_letters (c ∷ cs) some is = ap (option_map (λ col. Column col absolute)) is
 
-cell_form : (absolute_row absolute_col : Bool) (letters digits : List ℕ) (row col : ℕ) → 0 < length letters → All IsCapital letters → 0 < length digits → list_all is_ascii_digit digits ≡ true → row_of digits ≡ Some row → column_of letters ≡ Some col → corner_of ((dollar absolute_col ++ letters) ++ (dollar absolute_row ++ digits)) ≡ Some (Cell row col absolute_row absolute_col)
+cell_form : (absolute_row absolute_col : Bool) (letters digits : List ℕ) (row col : ℕ) → 0 < length letters → All IsCapital letters → 0 < length digits → list_all is_ascii_digit digits ≡ true → row_named digits ≡ Some row → column_named letters ≡ Some col → corner_of ((dollar absolute_col ++ letters) ++ (dollar absolute_row ++ digits)) ≡ Some (Cell row col absolute_row absolute_col)
 unfolding corner_of
 cell_form absolute_row absolute_col letters digits row col some capitals some' all row_is col_is =
     let behind = dollar absolute_row ++ digits in
@@ -126,8 +126,8 @@ cell_form absolute_row absolute_col letters digits row col some capitals some' a
     ∙ (λ i. corner_by (read.0 i) (letters_of (read.1 i)) (behind_letters (read.1 i)))
     ∙ (λ i. corner_by absolute_col (split.0 i) (split.1 i))
     ∙ by_parts letters behind some (longer absolute_row digits some')
-    ∙ (λ i. cell_of (read'.0 i) absolute_col (row_of (read'.1 i)) (column_of letters))
-    ∙ (λ i. cell_of absolute_row absolute_col (row_is i) (col_is i)) where
+    ∙ (λ i. cell_corner (read'.0 i) absolute_col (row_named (read'.1 i)) (column_named letters))
+    ∙ (λ i. cell_corner absolute_row absolute_col (row_is i) (col_is i)) where
       no_dollar : (letters behind : List ℕ) → 0 < length letters → has_dollar letters ≡ false → has_dollar (letters ++ behind) ≡ false
       no_dollar [] behind some none = absurd (omega arith)
       no_dollar (c ∷ cs) behind some none = none
@@ -136,7 +136,7 @@ cell_form absolute_row absolute_col letters digits row col some capitals some' a
       longer true bs some = omega arith
       longer false bs some = some
 
-      by_parts : (letters behind : List ℕ) → 0 < length letters → 0 < length behind → corner_by absolute_col letters behind ≡ cell_of (has_dollar behind) absolute_col (row_of (behind_dollar behind)) (column_of letters)
+      by_parts : (letters behind : List ℕ) → 0 < length letters → 0 < length behind → corner_by absolute_col letters behind ≡ cell_corner (has_dollar behind) absolute_col (row_named (behind_dollar behind)) (column_named letters)
       by_parts [] behind some more = absurd (omega arith)
       by_parts (c ∷ cs) [] some more = absurd (omega arith)
       by_parts (c ∷ cs) (b ∷ bs) some more = refl
@@ -266,6 +266,6 @@ reads_back_by first (Some second) inside inside' formed =
     ∙ ap (λ b. cond b (Some (record { first = first; second = Some second })) None) (formed_pair first second formed)
 
 -- the canonical spelling of a reference reads back as that reference
-pub reference_reads_back : (reference : Reference) → IsInside reference → IsFormed reference → word_reference (spelling reference) ≡ Some reference
+pub reference_reads_back : (reference : Reference) → IsInWorksheet reference → IsFormed reference → word_reference (spelling reference) ≡ Some reference
 unfolding word_reference spelling
 reference_reads_back reference inside formed = reads_back_by reference.first reference.second inside.0 inside.1 formed

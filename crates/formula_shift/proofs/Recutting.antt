@@ -4,9 +4,9 @@ use Rattle.std.proofs.lemmas.Bool.{cases_eq}
 use Rattle.std.proofs.lemmas.Bool.Decides.{nat_tests}
 use Rattle.std.proofs.lemmas.List.{take-append-drop, length-take-le, take_at, drop_at}
 use Rattle.std.specs.List.{prefix_len}
-use Rattle.formula_shift.specs.Pieces.{PieceKind, string_kind, quoted_kind, group_kind, word_kind, other_kind, PieceText, kind_of, string_length, quoted_length, group_length, is_word_byte, is_other_byte, length_behind, pieces_behind, pieces, joined}
+use Rattle.formula_shift.specs.Pieces.{PieceKind, string_kind, quoted_kind, group_kind, word_kind, other_kind, PieceText, kind_of, string_length, quoted_length, group_length, is_word_byte, is_other_byte, length_behind, pieces_behind, pieces, joined_pieces}
 use Rattle.formula_shift.specs.Relocation.{is_word}
-use Rattle.formula_shift.proofs.Cutting.{length_behind-le, joined-pieces_behind, pieces-nil, pieces-cons}
+use Rattle.formula_shift.proofs.Cutting.{length_behind-le, joined_pieces-pieces_behind, pieces-nil, pieces-cons}
 
 abbrev is_quoted : PieceKind → Bool
 is_quoted quoted_kind = true
@@ -143,7 +143,7 @@ pub record StandsBefore (p : PieceText) (rest : List ℕ) : Type 0 where
 -- each piece stands before those behind it
 abbrev pub AreCut : List PieceText → Type 0
 AreCut [] = Unit {0}
-AreCut (p ∷ ps) = StandsBefore p (joined ps) × AreCut ps
+AreCut (p ∷ ps) = StandsBefore p (joined_pieces ps) × AreCut ps
 
 are_cut_behind : (n : ℕ) (bs : List ℕ) → AreCut (pieces_behind n bs)
 unfolding pieces_behind
@@ -156,7 +156,7 @@ are_cut_behind zero (b ∷ bs) =
         behind = take m bs;
         bytes_are = refl;
         kind_is = refl;
-        ends = ap (λ rest. length_behind (kind_of b) (take m bs ++ rest)) (joined-pieces_behind m bs) ∙ ap (length_behind (kind_of b)) (take-append-drop m bs) ∙ sym (length-take-le m bs (length_behind-le (kind_of b) bs));
+        ends = ap (λ rest. length_behind (kind_of b) (take m bs ++ rest)) (joined_pieces-pieces_behind m bs) ∙ ap (length_behind (kind_of b)) (take-append-drop m bs) ∙ sym (length-take-le m bs (length_behind-le (kind_of b) bs));
       },
       are_cut_behind m bs,
     )
@@ -178,6 +178,6 @@ first_of_joined p rest stands =
     let whole : record { kind = kind_of b; bytes = b ∷ bs } ≡ p = λ i. record { kind = sym stands.kind_is i; bytes = sym stands.bytes_are i } in
     ap (λ t. pieces (t ++ rest)) stands.bytes_are ∙ cut ∙ (λ i. record { kind = kind_of b; bytes = b ∷ front i } ∷ pieces (after i)) ∙ ap (λ q. q ∷ pieces rest) whole
 
-pub pieces-joined : (ps : List PieceText) → AreCut ps → pieces (joined ps) ≡ ps
-pieces-joined [] cut = pieces-nil
-pieces-joined (p ∷ ps) cut = first_of_joined p (joined ps) cut.0 ∙ ap (λ qs. p ∷ qs) (pieces-joined ps cut.1)
+pub pieces-joined_pieces : (ps : List PieceText) → AreCut ps → pieces (joined_pieces ps) ≡ ps
+pieces-joined_pieces [] cut = pieces-nil
+pieces-joined_pieces (p ∷ ps) cut = first_of_joined p (joined_pieces ps) cut.0 ∙ ap (λ qs. p ∷ qs) (pieces-joined_pieces ps cut.1)

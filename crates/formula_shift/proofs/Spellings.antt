@@ -17,12 +17,12 @@ use Rattle.formula_shift.specs.declared.corner.Corner.TheVariants.{Cell, Row, Co
 use Rattle.formula_shift.specs.declared.reference.Reference.{Reference}
 use Rattle.formula_shift.specs.Pieces.{is_word_byte}
 use Rattle.formula_shift.proofs.Numbers.{length-column_name_one, length-column_name_two, length-column_name_three}
-use Rattle.formula_shift.specs.References.{place_of, column_of, row_of, has_dollar, behind_dollar, cell_of, corner_by, corner_of, alone, same_kind, range_of, reference_by, word_reference, IsCornerInside, IsInside, place_within, displaced_place, displaced_corner, both_corners, displaced_by, displaced, dollar, corner_spelling, second_spelling, spelling}
+use Rattle.formula_shift.specs.References.{place_numbered, column_named, row_named, has_dollar, behind_dollar, cell_corner, corner_by, corner_of, alone, same_kind, range_of, reference_by, word_reference, IsCornerInside, IsInWorksheet, place_within, displaced_place, displaced_corner, both_corners, displaced_by, displaced, dollar, corner_spelling, second_spelling, spelling}
 
 -- places are below their limit
-place_of_below : (limit number : ℕ) → IfSome (place_of limit number) (λ n. n < limit)
-place_of_below limit zero = tt
-place_of_below limit (suc n) = grind (arith, nat_tests)
+place_numbered_below : (limit number : ℕ) → IfSome (place_numbered limit number) (λ n. n < limit)
+place_numbered_below limit zero = tt
+place_numbered_below limit (suc n) = grind (arith, nat_tests)
 
 place_within_below : (limit : ℕ) (z : ℤ) → IfSome (place_within limit z) (λ n. n < limit)
 place_within_below limit (pos n) = grind (arith, nat_tests)
@@ -32,14 +32,14 @@ displaced_place_below : (limit : ℕ) (offset : ℤ) (absolute : Bool) (place : 
 displaced_place_below limit offset true place below = below
 displaced_place_below limit offset false place below = place_within_below limit _
 
-row_of_below : (digits : List ℕ) → IfSome (row_of digits) (λ n. n < MAX_ROWS)
-row_of_below digits = by_test (list_all is_ascii_digit digits) (place_of MAX_ROWS (digits_value 10 digits)) (place_of_below MAX_ROWS (digits_value 10 digits)) where
+row_named_below : (digits : List ℕ) → IfSome (row_named digits) (λ n. n < MAX_ROWS)
+row_named_below digits = by_test (list_all is_ascii_digit digits) (place_numbered MAX_ROWS (digits_value 10 digits)) (place_numbered_below MAX_ROWS (digits_value 10 digits)) where
   by_test : (b : Bool) (o : Option ℕ) → IfSome o (λ n. n < MAX_ROWS) → IfSome (cond b o None) (λ n. n < MAX_ROWS)
   by_test true o h = h
   by_test false o h = tt
 
 -- what such places make is inside
-cell_inside : (absolute_row absolute_col : Bool) (row col : Option ℕ) → IfSome row (λ n. n < MAX_ROWS) → IfSome col (λ n. n < MAX_COLUMNS) → IfSome (cell_of absolute_row absolute_col row col) IsCornerInside
+cell_inside : (absolute_row absolute_col : Bool) (row col : Option ℕ) → IfSome row (λ n. n < MAX_ROWS) → IfSome col (λ n. n < MAX_COLUMNS) → IfSome (cell_corner absolute_row absolute_col row col) IsCornerInside
 cell_inside absolute_row absolute_col (Some row) (Some col) below below' = (below, below')
 cell_inside absolute_row absolute_col (Some row) None below below' = tt
 cell_inside absolute_row absolute_col None col below below' = tt
@@ -49,34 +49,34 @@ mapped_inside f limit inside None below = tt
 mapped_inside f limit inside (Some n) below = inside n below
 
 corner_by_inside : (absolute : Bool) (letters behind : List ℕ) → IfSome (corner_by absolute letters behind) IsCornerInside
-corner_by_inside absolute [] behind = mapped_inside (λ row. Row row absolute) MAX_ROWS (λ n h. h) (row_of behind) (row_of_below behind)
-corner_by_inside absolute (c ∷ cs) [] = mapped_inside (λ col. Column col absolute) MAX_COLUMNS (λ n h. h) (column_of (c ∷ cs)) (place_of_below MAX_COLUMNS (letters_value (c ∷ cs)))
-corner_by_inside absolute (c ∷ cs) (b ∷ bs) = cell_inside (has_dollar (b ∷ bs)) absolute (row_of (behind_dollar (b ∷ bs))) (column_of (c ∷ cs)) (row_of_below (behind_dollar (b ∷ bs))) (place_of_below MAX_COLUMNS (letters_value (c ∷ cs)))
+corner_by_inside absolute [] behind = mapped_inside (λ row. Row row absolute) MAX_ROWS (λ n h. h) (row_named behind) (row_named_below behind)
+corner_by_inside absolute (c ∷ cs) [] = mapped_inside (λ col. Column col absolute) MAX_COLUMNS (λ n h. h) (column_named (c ∷ cs)) (place_numbered_below MAX_COLUMNS (letters_value (c ∷ cs)))
+corner_by_inside absolute (c ∷ cs) (b ∷ bs) = cell_inside (has_dollar (b ∷ bs)) absolute (row_named (behind_dollar (b ∷ bs))) (column_named (c ∷ cs)) (row_named_below (behind_dollar (b ∷ bs))) (place_numbered_below MAX_COLUMNS (letters_value (c ∷ cs)))
 
 pub corner_of_inside : (text : List ℕ) → IfSome (corner_of text) IsCornerInside
 unfolding corner_of
 corner_of_inside text = corner_by_inside (has_dollar text) (letters_of (behind_dollar text)) (behind_letters (behind_dollar text))
 
-alone_inside : (o : Option Corner) → IfSome o IsCornerInside → IfSome (alone o) IsInside
+alone_inside : (o : Option Corner) → IfSome o IsCornerInside → IfSome (alone o) IsInWorksheet
 alone_inside None inside = tt
 alone_inside (Some (Cell row col absolute_row absolute_col)) inside = (inside, tt)
 alone_inside (Some (Row row absolute)) inside = tt
 alone_inside (Some (Column col absolute)) inside = tt
 
-range_inside : (first second : Option Corner) → IfSome first IsCornerInside → IfSome second IsCornerInside → IfSome (range_of first second) IsInside
+range_inside : (first second : Option Corner) → IfSome first IsCornerInside → IfSome second IsCornerInside → IfSome (range_of first second) IsInWorksheet
 range_inside (Some first) (Some second) inside inside' = by_test (same_kind first second) where
-  by_test : (b : Bool) → IfSome (cond b (Some (record { first = first; second = Some second })) None) IsInside
+  by_test : (b : Bool) → IfSome (cond b (Some (record { first = first; second = Some second })) None) IsInWorksheet
   by_test true = (inside, inside')
   by_test false = tt
 range_inside (Some first) None inside inside' = tt
 range_inside None second inside inside' = tt
 
-reference_by_inside : (colon : Option ℕ) (word : List ℕ) → IfSome (reference_by colon word) IsInside
+reference_by_inside : (colon : Option ℕ) (word : List ℕ) → IfSome (reference_by colon word) IsInWorksheet
 reference_by_inside None word = alone_inside (corner_of word) (corner_of_inside word)
 reference_by_inside (Some colon) word = range_inside (corner_of (take colon word)) (corner_of (drop (colon + 1) word)) (corner_of_inside (take colon word)) (corner_of_inside (drop (colon + 1) word))
 
 -- what a Word names is inside
-pub word_reference_inside : (word : List ℕ) → IfSome (word_reference word) IsInside
+pub word_reference_inside : (word : List ℕ) → IfSome (word_reference word) IsInWorksheet
 unfolding word_reference
 word_reference_inside word = reference_by_inside (position (λ b. b == 58) word) word
 
@@ -86,21 +86,21 @@ displaced_corner_inside offset (Cell row col absolute_row absolute_col) inside =
 displaced_corner_inside offset (Row row absolute) inside = mapped_inside (λ moved. Row moved absolute) MAX_ROWS (λ n h. h) (displaced_place MAX_ROWS offset.0 absolute row) (displaced_place_below MAX_ROWS offset.0 absolute row inside)
 displaced_corner_inside offset (Column col absolute) inside = mapped_inside (λ moved. Column moved absolute) MAX_COLUMNS (λ n h. h) (displaced_place MAX_COLUMNS offset.1 absolute col) (displaced_place_below MAX_COLUMNS offset.1 absolute col inside)
 
-first_inside : (o : Option Corner) → IfSome o IsCornerInside → IfSome (option_map (λ moved. record { first = moved; second = None }) o) IsInside
+first_inside : (o : Option Corner) → IfSome o IsCornerInside → IfSome (option_map (λ moved. record { first = moved; second = None }) o) IsInWorksheet
 first_inside None inside = tt
 first_inside (Some corner) inside = (inside, tt)
 
-both_inside : (first second : Option Corner) → IfSome first IsCornerInside → IfSome second IsCornerInside → IfSome (both_corners first second) IsInside
+both_inside : (first second : Option Corner) → IfSome first IsCornerInside → IfSome second IsCornerInside → IfSome (both_corners first second) IsInWorksheet
 both_inside (Some first) (Some second) inside inside' = (inside, inside')
 both_inside (Some first) None inside inside' = tt
 both_inside None second inside inside' = tt
 
-displaced_by_inside : (offset : ℤ × ℤ) (first : Corner) (second : Option Corner) → IsCornerInside first → IfSome second IsCornerInside → IfSome (displaced_by offset first second) IsInside
+displaced_by_inside : (offset : ℤ × ℤ) (first : Corner) (second : Option Corner) → IsCornerInside first → IfSome second IsCornerInside → IfSome (displaced_by offset first second) IsInWorksheet
 displaced_by_inside offset first None inside inside' = first_inside (displaced_corner offset first) (displaced_corner_inside offset first inside)
 displaced_by_inside offset first (Some second) inside inside' = both_inside (displaced_corner offset first) (displaced_corner offset second) (displaced_corner_inside offset first inside) (displaced_corner_inside offset second inside')
 
 -- a reference inside, moved, is inside
-pub displaced_inside : (offset : ℤ × ℤ) (reference : Reference) → IsInside reference → IfSome (displaced offset reference) IsInside
+pub displaced_inside : (offset : ℤ × ℤ) (reference : Reference) → IsInWorksheet reference → IfSome (displaced offset reference) IsInWorksheet
 unfolding displaced
 displaced_inside offset reference inside = displaced_by_inside offset reference.first reference.second inside.0 inside.1
 
@@ -183,6 +183,6 @@ spelling_by first (Some second) inside inside' = joined_words 12 13 (corner_spel
   with_colon bs word = record { nonempty = omega arith; short = omega (arith, word.short); in_word = word.in_word }
 
 -- a reference inside is spelled by 1 to 25 bytes of a Word
-pub spelling_is_word : (reference : Reference) → IsInside reference → IsWordText 25 (spelling reference)
+pub spelling_is_word : (reference : Reference) → IsInWorksheet reference → IsWordText 25 (spelling reference)
 unfolding spelling
 spelling_is_word reference inside = spelling_by reference.first reference.second inside.0 inside.1

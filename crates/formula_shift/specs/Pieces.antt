@@ -105,5 +105,5 @@ abbrev pub pieces_left : Pieces → List PieceText
 pieces_left p = pieces (text_left p)
 
 -- pieces joined into a text
-abbrev pub joined : List PieceText → List ℕ
-joined ps = flat_map (λ p. p.bytes) ps
+abbrev pub joined_pieces : List PieceText → List ℕ
+joined_pieces ps = flat_map (λ p. p.bytes) ps

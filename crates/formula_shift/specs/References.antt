@@ -10,17 +10,17 @@ use Rattle.formula_shift.specs.declared.corner.Corner.TheVariants.{Cell, Row, Co
 use Rattle.formula_shift.specs.declared.reference.Reference.{Reference}
 
 -- the place, counted from 0, of a number counted from 1, where it is one up to the limit
-abbrev pub place_of : ℕ → ℕ → Option ℕ
-place_of limit zero = None
-place_of limit (suc n) = if nat_lt n limit then Some n else None
+abbrev pub place_numbered : ℕ → ℕ → Option ℕ
+place_numbered limit zero = None
+place_numbered limit (suc n) = if nat_lt n limit then Some n else None
 
 -- the column that letters name, and the row that digits name, if any
-abbrev pub column_of : List ℕ → Option ℕ
-column_of letters = place_of column_limit (letters_value letters)
+abbrev pub column_named : List ℕ → Option ℕ
+column_named letters = place_numbered column_limit (letters_value letters)
 
-abbrev pub row_of : List ℕ → Option ℕ
-row_of digits =
-    if list_all is_ascii_digit digits then place_of row_limit (digits_value 10 digits) else None
+abbrev pub row_named : List ℕ → Option ℕ
+row_named digits =
+    if list_all is_ascii_digit digits then place_numbered row_limit (digits_value 10 digits) else None
 
 -- whether a text begins with a $, and what follows it
 abbrev pub has_dollar : List ℕ → Bool
@@ -31,18 +31,18 @@ abbrev pub behind_dollar : List ℕ → List ℕ
 behind_dollar [] = []
 behind_dollar (b ∷ bs) = if b == 36 then bs else b ∷ bs
 
-abbrev pub cell_of : Bool → Bool → Option ℕ → Option ℕ → Option Corner
-cell_of absolute_row absolute_col (Some row) (Some col) = Some (Cell row col absolute_row absolute_col)
-cell_of absolute_row absolute_col (Some row) None = None
-cell_of absolute_row absolute_col None col = None
+abbrev pub cell_corner : Bool → Bool → Option ℕ → Option ℕ → Option Corner
+cell_corner absolute_row absolute_col (Some row) (Some col) = Some (Cell row col absolute_row absolute_col)
+cell_corner absolute_row absolute_col (Some row) None = None
+cell_corner absolute_row absolute_col None col = None
 
 -- the corner of letters and what stands behind them, where a $ stands before them or not: a row
 -- without letters, a column where nothing stands behind them, else a cell
 abbrev pub corner_by : Bool → List ℕ → List ℕ → Option Corner
-corner_by absolute [] behind = option_map (λ row. Row row absolute) (row_of behind)
-corner_by absolute (c ∷ cs) [] = option_map (λ col. Column col absolute) (column_of (c ∷ cs))
+corner_by absolute [] behind = option_map (λ row. Row row absolute) (row_named behind)
+corner_by absolute (c ∷ cs) [] = option_map (λ col. Column col absolute) (column_named (c ∷ cs))
 corner_by absolute (c ∷ cs) (b ∷ bs) =
-    cell_of (has_dollar (b ∷ bs)) absolute (row_of (behind_dollar (b ∷ bs))) (column_of (c ∷ cs))
+    cell_corner (has_dollar (b ∷ bs)) absolute (row_named (behind_dollar (b ∷ bs))) (column_named (c ∷ cs))
 
 -- the corner that a text names, if any
 unfoldable pub corner_of : List ℕ → Option Corner
@@ -91,8 +91,8 @@ IsCornerInside (Row row absolute) = row < row_limit
 IsCornerInside (Column col absolute) = col < column_limit
 
 -- both corners lie in a worksheet
-abbrev pub IsInside : Reference → Type 0
-IsInside reference = IsCornerInside reference.first × IfSome reference.second IsCornerInside
+abbrev pub IsInWorksheet : Reference → Type 0
+IsInWorksheet reference = IsCornerInside reference.first × IfSome reference.second IsCornerInside
 
 -- the place that a whole number is, if it lies below the limit
 abbrev pub place_within : ℕ → ℤ → Option ℕ
@@ -107,7 +107,7 @@ displaced_place limit offset false place = place_within limit (pos place +ℤ of
 -- a corner moved by rows and columns; none where a part leaves the worksheet
 abbrev pub displaced_corner : ℤ × ℤ → Corner → Option Corner
 displaced_corner offset (Cell row col absolute_row absolute_col) =
-    cell_of absolute_row absolute_col
+    cell_corner absolute_row absolute_col
     (displaced_place row_limit offset.0 absolute_row row)
     (displaced_place column_limit offset.1 absolute_col col)
 displaced_corner offset (Row row absolute) =

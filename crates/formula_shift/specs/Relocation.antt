@@ -1,6 +1,6 @@
 -- A formula's text moved to another cell: every reference is moved by the offset, all else stays.
 use Rattle.std.specs.Prelude.{ℕ, ◌==◌, ◌||◌, ◌&&◌, not, Bool, true, false, if◌then◌else◌, List, [], ◌∷◌, Option, None, Some, option_map, option_and_then, unwrap_or, option_to_list, IsSome, All, ◌++◌, ℤ, pos, ◌-ℤ◌}
-use Rattle.formula_shift.specs.Pieces.{PieceKind, word_kind, PieceText, pieces, joined}
+use Rattle.formula_shift.specs.Pieces.{PieceKind, word_kind, PieceText, pieces, joined_pieces}
 use Rattle.formula_shift.specs.References.{word_reference, displaced, spelling}
 use Rattle.formula_shift.specs.declared.reference.Reference.{Reference}
 
@@ -22,14 +22,14 @@ is_word word_kind = true
 is_word _ = false
 
 -- the reference that a piece is, if any, where this byte is behind it
-unfoldable pub reference_of : PieceText → Option ℕ → Option Reference
-reference_of piece behind =
+unfoldable pub piece_reference : PieceText → Option ℕ → Option Reference
+piece_reference piece behind =
     if is_word piece.kind && not (is_name_before behind) then word_reference piece.bytes else None
 
 -- the references among the pieces of a text
 abbrev pub references : List PieceText → List Reference
 references [] = []
-references (p ∷ ps) = option_to_list (reference_of p (first_byte (joined ps))) ++ references ps
+references (p ∷ ps) = option_to_list (piece_reference p (first_byte (joined_pieces ps))) ++ references ps
 
 -- no reference of a text would leave the worksheet by the offset
 abbrev pub NoneLeaves : ℤ × ℤ → List ℕ → Type 0
@@ -43,12 +43,12 @@ word_of reference = record { kind = word_kind; bytes = spelling reference }
 -- is spelled anew, all else stays
 abbrev pub moved_piece : ℤ × ℤ → PieceText → Option ℕ → PieceText
 moved_piece offset piece behind =
-    unwrap_or (option_map word_of (option_and_then (displaced offset) (reference_of piece behind))) piece
+    unwrap_or (option_map word_of (option_and_then (displaced offset) (piece_reference piece behind))) piece
 
 abbrev pub moved_pieces : ℤ × ℤ → List PieceText → List PieceText
 moved_pieces offset [] = []
-moved_pieces offset (p ∷ ps) = moved_piece offset p (first_byte (joined ps)) ∷ moved_pieces offset ps
+moved_pieces offset (p ∷ ps) = moved_piece offset p (first_byte (joined_pieces ps)) ∷ moved_pieces offset ps
 
 -- a text moved by an offset
 unfoldable pub moved : List ℕ → ℤ × ℤ → List ℕ
-moved text offset = joined (moved_pieces offset (pieces text))
+moved text offset = joined_pieces (moved_pieces offset (pieces text))

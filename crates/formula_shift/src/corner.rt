@@ -1,7 +1,7 @@
 ghost use Rattle.std.specs.Prelude.{◌≡◌, ◌+◌, ◌<◌, ◌≤◌, ◌++◌, length, IfSome, OnOk, OnErr, string_bytes, string_len, string_capacity};
 ghost use Rattle.std.specs.List.{AllPass, prefix_len};
 ghost use Rattle.std.specs.Char.{is_ascii_alphabetic};
-ghost use Rattle.formula_shift.specs.References.{corner_of, corner_by, column_of, row_of, has_dollar, behind_dollar, same_kind, displaced_place, displaced_corner, corner_spelling, IsCornerInside};
+ghost use Rattle.formula_shift.specs.References.{corner_of, corner_by, column_named, row_named, has_dollar, behind_dollar, same_kind, displaced_place, displaced_corner, corner_spelling, IsCornerInside};
 ghost use Rattle.cell_refs.specs.A1.{letters_of, behind_letters};
 
 use crate::spelling::{column_len, push_column, push_row, row_len};
@@ -151,15 +151,15 @@ fn corner_by(absolute: bool, letters: &[u8], behind: &[u8]) -> Option<Corner>
     ensures { result ≡ corner_by absolute letters.now behind.now }
 {
     if letters.is_empty() {
-        let row = row_of(behind)?;
+        let row = row_named(behind)?;
         return Some(Corner::Row { row, absolute });
     }
-    let col = column_of(letters)?;
+    let col = column_named(letters)?;
     if behind.is_empty() {
         return Some(Corner::Column { col, absolute });
     }
     let (absolute_row, digits) = cut_dollar(behind);
-    let row = row_of(digits)?;
+    let row = row_named(digits)?;
     Some(Corner::Cell {
         row,
         col,
@@ -195,9 +195,9 @@ fn letter_count(text: &[u8]) -> usize
 }
 
 // The column that letters name, if any.
-fn column_of(letters: &[u8]) -> Option<u32>
+fn column_named(letters: &[u8]) -> Option<u32>
     requires { AllPass is_ascii_alphabetic letters.now }
-    ensures { result ≡ column_of letters.now }
+    ensures { result ≡ column_named letters.now }
 {
     let mut number = 0;
     for b in letters {
@@ -210,8 +210,8 @@ fn column_of(letters: &[u8]) -> Option<u32>
 }
 
 // The row that digits name, if any. Other bytes name none.
-fn row_of(digits: &[u8]) -> Option<u32>
-    ensures { result ≡ row_of digits.now }
+fn row_named(digits: &[u8]) -> Option<u32>
+    ensures { result ≡ row_named digits.now }
 {
     let mut number = 0;
     for b in digits {

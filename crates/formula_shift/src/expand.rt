@@ -1,7 +1,7 @@
 ghost use Rattle.std.specs.Prelude.{◌≡◌, ◌+◌, ◌<◌, ◌≤◌, ◌++◌, [], length, IfOk, IfSome, OnOk, OnErr, IsOk, option_and_then, string_bytes, string_len, string_capacity};
 ghost use Rattle.formula_shift.specs.Pieces.{piece_text};
-ghost use Rattle.formula_shift.specs.References.{displaced, IsInside};
-ghost use Rattle.formula_shift.specs.Relocation.{offset_between, first_byte, is_name_before, reference_of, moved_piece, moved};
+ghost use Rattle.formula_shift.specs.References.{displaced, IsInWorksheet};
+ghost use Rattle.formula_shift.specs.Relocation.{offset_between, first_byte, is_name_before, piece_reference, moved_piece, moved};
 
 use crate::piece::{Piece, Pieces};
 use crate::reference::Reference;
@@ -115,11 +115,11 @@ fn moved_len(piece: Piece<'_>, rest: &str, offset: (i64, i64)) -> usize
 }
 
 // The reference that a piece is, moved, where it is one and does not leave the worksheet.
-#[tactic(auto, unfolding(crate::specs::Relocation::reference_of))]
+#[tactic(auto, unfolding(crate::specs::Relocation::piece_reference))]
 fn moved_reference(piece: Piece<'_>, rest: &str, offset: (i64, i64)) -> Option<Reference>
     ensures value { result ≡ option_and_then (displaced offset)
-        (reference_of (piece_text piece.entry) (first_byte rest.now)) }
-    ensures inside { IfSome result IsInside }
+        (piece_reference (piece_text piece.entry) (first_byte rest.now)) }
+    ensures inside { IfSome result IsInWorksheet }
 {
     match piece {
         Piece::Word(word) if !is_name_before(rest) => Reference::parse(word)?.displaced(offset),

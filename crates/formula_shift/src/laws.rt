@@ -1,5 +1,5 @@
 ghost use Rattle.std.specs.Prelude.{◌≡◌, ◌↔◌, ℕ, false, Some, Ok, IfSome, pos, suc, ◌+◌, [], ◌∷◌, ◌++◌, List, ℤ, length, drop, encode_utf8};
-ghost use Rattle.formula_shift.specs.Pieces.{kind_of, group_length, length_behind, first_piece, pieces, joined};
+ghost use Rattle.formula_shift.specs.Pieces.{kind_of, group_length, length_behind, first_piece, pieces, joined_pieces};
 ghost use Rattle.cell_refs.specs.A1.{column_name, corner};
 ghost use Rattle.cell_refs.specs.Reference.{reference, row_reference};
 ghost use Rattle.formula_shift.specs.References.{corner_of, corner_spelling, word_reference, spelling};
@@ -16,7 +16,7 @@ pub fn pieces_by_the_first()
 
 /// The pieces of a text joined are the text.
 pub fn pieces_joined_are_the_text()
-    ensures { (text : List ℕ) → joined (pieces text) ≡ text }
+    ensures { (text : List ℕ) → joined_pieces (pieces text) ≡ text }
 {}
 
 /// In a Group an apostrophe takes a whole character as plain, however many bytes it has.

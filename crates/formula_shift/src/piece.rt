@@ -1,6 +1,6 @@
 ghost use Rattle.std.specs.Prelude.{◌≡◌, ◌≤◌, length};
 ghost use Rattle.std.specs.List.{prefix_len};
-ghost use Rattle.formula_shift.specs.Pieces.{piece_text, kind_of, string_length, quoted_length, group_length, length_behind, is_word_byte, is_other_byte, joined, pieces};
+ghost use Rattle.formula_shift.specs.Pieces.{piece_text, kind_of, string_length, quoted_length, group_length, length_behind, is_word_byte, is_other_byte, joined_pieces, pieces};
 
 /// A piece of a formula. Its first byte decides which.
 #[derive(Clone, Copy, Debug, PartialEq, Eq)]
@@ -46,7 +46,7 @@ impl<'a> Pieces<'a> {
     pub fn new(formula: &'a str) -> Pieces<'a>
         ensures text { text_left result ≡ formula.now }
         ensures pieces { pieces_left result ≡ pieces formula.now }
-        ensures joined { joined (pieces_left result) ≡ formula.now }
+        ensures joined { joined_pieces (pieces_left result) ≡ formula.now }
         ensures few { length (pieces_left result) ≤ length formula.now }
     {
         Pieces { rest: formula }

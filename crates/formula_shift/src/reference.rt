@@ -1,5 +1,5 @@
 ghost use Rattle.std.specs.Prelude.{◌≡◌, ◌==◌, ◌+◌, ◌<◌, ◌≤◌, ◌++◌, if◌then◌else◌, length, IfSome, Some, OnOk, OnErr, is_ok, position, string_bytes, string_len, string_capacity};
-ghost use Rattle.formula_shift.specs.References.{word_reference, alone, range_of, same_kind, displaced, spelling, IsInside};
+ghost use Rattle.formula_shift.specs.References.{word_reference, alone, range_of, same_kind, displaced, spelling, IsInWorksheet};
 
 use crate::corner::Corner;
 use std::alloc::AllocError;
@@ -16,7 +16,7 @@ impl Reference {
     #[tactic(auto, unfolding(crate::specs::References::word_reference))]
     pub fn parse(word: &str) -> Option<Reference>
         ensures value { result ≡ word_reference word.now }
-        ensures inside { IfSome result IsInside }
+        ensures inside { IfSome result IsInWorksheet }
     {
         let word = word.as_bytes();
         match first_colon(word) {
@@ -31,9 +31,9 @@ impl Reference {
     /// The reference moved by rows and columns; `None` where a part would leave the worksheet.
     #[tactic(auto, unfolding(crate::specs::References::displaced))]
     pub fn displaced(self, offset: (i64, i64)) -> Option<Reference>
-        requires { IsInside self }
+        requires { IsInWorksheet self }
         ensures value { result ≡ displaced offset self }
-        ensures inside { IfSome result IsInside }
+        ensures inside { IfSome result IsInWorksheet }
     {
         let first = self.first.displaced(offset)?;
         let second = match self.second {
@@ -46,7 +46,7 @@ impl Reference {
     /// Appends the canonical spelling: capitals, a `$` where it was, no leading zeros. On `Err` the
     /// buffer is as it was.
     pub fn push_to(self, out: &mut String) -> Result<(), AllocError>
-        requires { IsInside self }
+        requires { IsInWorksheet self }
         ensures bytes { string_bytes out.new
             ≡ (if is_ok result then string_bytes out.old ++ spelling self else string_bytes out.old) }
         ensures capacity { string_capacity out.old ≤ string_capacity out.new }
@@ -61,7 +61,7 @@ impl Reference {
     // Appends the canonical spelling. On `Err` the buffer had no room for it, and may hold a part.
     #[tactic(auto, unfolding(crate::specs::References::spelling))]
     fn push_parts(self, out: &mut String) -> Result<(), AllocError>
-        requires { IsInside self }
+        requires { IsInWorksheet self }
         ensures ok { OnOk result (string_bytes out.new ≡ string_bytes out.old ++ spelling self) }
         ensures len { OnOk result (string_len out.new ≡ string_len out.old + length (spelling self)) }
         ensures capacity { string_capacity out.old ≤ string_capacity out.new }
@@ -78,7 +78,7 @@ impl Reference {
     // How many bytes the canonical spelling has.
     #[tactic(auto, unfolding(crate::specs::References::spelling))]
     pub(crate) fn spelled_len(self) -> usize
-        requires { IsInside self }
+        requires { IsInWorksheet self }
         ensures value { result ≡ length (spelling self) }
         ensures short { result ≤ 31 }
     {

@@ -1,14 +1,14 @@
 use Rattle.std.proofs.Common.{◌≡◌, ◌+◌, true, get_or, sym, arith}
 use Rattle.std.specs.Char.{is_ascii_digit}
-use Rattle.formula_shift.proofs.Numbers.{digits_more, all_digits_more, row_of_past}
-use Rattle.formula_shift.proofs.corner.row_of.Goals as goal
+use Rattle.formula_shift.proofs.Numbers.{digits_more, all_digits_more, row_named_past}
+use Rattle.formula_shift.proofs.corner.row_named.Goals as goal
 
 pub returns-then-number-gt-MAX_ROWS : goal.returns-then-number-gt-MAX_ROWS
 returns-then-number-gt-MAX_ROWS c =
     let digits = c.args.digits.now in
     let i = c.loop-b.b-index in
     let more = digits_more digits i (omega arith) (sym c.if-not-is_ascii_digit.ensures.value) in
-    sym (row_of_past digits (i + 1) (omega (arith, more, c.from.ensures)))
+    sym (row_named_past digits (i + 1) (omega (arith, more, c.from.ensures)))
 
 pub loop-b-preserved : goal.loop-b-preserved
 loop-b-preserved c =

@@ -1,5 +1,5 @@
 use Rattle.attr_text.proofs.LinesLemmas.{line_ends-nil, line_ends-return_and_feed, line_ends-lone_return, line_ends-last_return, line_ends-other}
-use Rattle.attr_text.proofs.text.line_ends_in_order.Goals as goal
+use Rattle.attr_text.proofs.line_ends.line_ends_in_order.Goals as goal
 
 pub returns : goal.returns
 returns c = record {

@@ -2,7 +2,7 @@ use Rattle.std.proofs.Common.{◌≡◌, ◌+◌, subst, arith, rules}
 use Rattle.std.specs.Str.{IsCharBoundary}
 use Rattle.std.proofs.lemmas.Str.{IsCharBoundary-after_ascii}
 use Rattle.attr_text.specs.Escapes.{HasEscapeAt}
-use Rattle.attr_text.proofs.text.unescape_hex.Goals as goal
+use Rattle.attr_text.proofs.escapes.unescape_hex.Goals as goal
 
 -- the escape ends in `_`, so that the text may be cut behind it
 pub range_from-rest-requires : goal.range_from-rest-requires

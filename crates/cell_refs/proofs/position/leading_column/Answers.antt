@@ -1,6 +1,6 @@
 use Rattle.std.proofs.Common.{arith, sym, ◌∙◌}
 use Rattle.cell_refs.proofs.Scans.{letters_end, letters_value_is}
-use Rattle.cell_refs.proofs.corner.leading_column.Goals as goal
+use Rattle.cell_refs.proofs.position.leading_column.Goals as goal
 
 -- the letters before a byte that is none are all that stand in front
 pub returns-then-not-is_ascii_alphabetic-clause-number : goal.returns-then-not-is_ascii_alphabetic-clause-number

@@ -2,7 +2,7 @@ use Rattle.std.proofs.Common.{◌≡◌, ◌+◌, ◌≤◌, ◌++◌, length, I
 use Rattle.std.specs.Prelude.{string_bytes}
 use Rattle.std.specs.String.{string_len, string_capacity}
 use Rattle.attr_text.specs.Text.{line_ends}
-use Rattle.attr_text.proofs.text.push_line_ends.Given as goal
+use Rattle.attr_text.proofs.line_ends.push_line_ends.Given as goal
 
 abbrev pub invariant-loop-run : goal.invariant-loop-run
 invariant-loop-run l = record {

@@ -2,7 +2,7 @@ use Rattle.std.proofs.Common.{◌≡◌, min, take, drop, not}
 use Rattle.std.specs.Prelude.{find}
 use Rattle.std.specs.Char.{is_ascii_digit}
 use Rattle.std.specs.Str.Parse.{digits_value}
-use Rattle.cell_refs.proofs.corner.row_number.Given as goal
+use Rattle.cell_refs.proofs.position.row_number.Given as goal
 
 abbrev pub invariant-loop-byte : goal.invariant-loop-byte
 invariant-loop-byte l = record {

@@ -2,7 +2,7 @@ use Rattle.std.proofs.Common.{sym, ap, ◌∙◌}
 use Rattle.std.proofs.lemmas.List.{take_rest}
 use Rattle.attr_text.specs.Text.{escaped_character}
 use Rattle.attr_text.proofs.EscapesLemmas.{unescaped-more, unescaped-end, HasEscapeAt-found}
-use Rattle.attr_text.proofs.text.next_escape.Goals as goal
+use Rattle.attr_text.proofs.escapes.next_escape.Goals as goal
 
 pub returns-in-Some : goal.returns-in-Some
 returns-in-Some c =

@@ -2,7 +2,7 @@ use Rattle.std.proofs.Common.{◌++◌, is_ok, sym, ap, ◌∙◌, arith}
 use Rattle.std.specs.Prelude.{string_bytes}
 use Rattle.std.proofs.ResultArms.{chosen}
 use Rattle.attr_text.proofs.LinesLemmas.{line_ends-plain, line_ends-first, length-line, length-mark, line_written}
-use Rattle.attr_text.proofs.text.push_line_ends.Goals as goal
+use Rattle.attr_text.proofs.line_ends.push_line_ends.Goals as goal
 
 pub push_line-requires : goal.push_line-requires
 push_line-requires c =

@@ -2,7 +2,7 @@ use Rattle.std.proofs.Common.{◌≡◌, ℕ, ◌<◌, min, true, get_or, take, 
 use Rattle.std.specs.Char.{is_ascii_alphabetic}
 use Rattle.std.specs.Int.Digits.{number_from_digits}
 use Rattle.cell_refs.specs.A1.{letter_value}
-use Rattle.cell_refs.proofs.corner.leading_column.Given as goal
+use Rattle.cell_refs.proofs.position.leading_column.Given as goal
 
 abbrev pub invariant-loop-i : goal.invariant-loop-i
 invariant-loop-i l = record {

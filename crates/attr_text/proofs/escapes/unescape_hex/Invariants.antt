@@ -1,7 +1,7 @@
 use Rattle.std.proofs.Common.{◌≡◌, ◌++◌, length, IsUtf8}
 use Rattle.std.specs.Prelude.{string_bytes}
 use Rattle.attr_text.specs.Text.{unescaped}
-use Rattle.attr_text.proofs.text.unescape_hex.Given as goal
+use Rattle.attr_text.proofs.escapes.unescape_hex.Given as goal
 
 abbrev pub invariant-loop-at : goal.invariant-loop-at
 invariant-loop-at l = record {

@@ -1,7 +1,7 @@
 use Rattle.std.proofs.Common.{None, arith}
 use Rattle.std.proofs.lemmas.Str.Pattern.{strip_prefix_char}
 use Rattle.attr_text.proofs.LinesLemmas.{without_line_feed-none}
-use Rattle.attr_text.proofs.text.skip_line_feed.Goals as goal
+use Rattle.attr_text.proofs.line_ends.skip_line_feed.Goals as goal
 
 pub returns-in-None : goal.returns-in-None
 returns-in-None c =
