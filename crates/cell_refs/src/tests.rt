@@ -60,6 +60,8 @@ fn areas_count_their_cells(rt: HostRuntime) -> Result<(), Fail> {
     assert_eq!(rt; all.len(), u64::MAX);
     let area = get_dimension("C2:D35")?;
     assert!(rt; area.contains(34, 3) && !area.contains(35, 3) && !area.contains(34, 1));
+    assert_ne!(rt; area, get_dimension("C2:D36")?);
+    assert_ne!(rt; area, get_dimension("C3:D35")?);
     assert_eq!(rt;
         Dimensions::default(),
         Dimensions {

@@ -44,6 +44,7 @@ fn references_move_and_all_else_stays(rt: HostRuntime) -> Result<(), Fail> {
         ("A6+NO1.VARIABLE+\\NO1", (1, 0), "A7+NO1.VARIABLE+\\NO1"),
         ("SUM($E:F,5:$6)", (1, 1), "SUM($E:G,6:$6)"),
         ("Z9+3", (1, 0), "Z10+3"),
+        ("A1!B2", (1, 0), "A1!B3"),
         ("NO1..VARIABLE+A1", (0, 1), "NO1..VARIABLE+B1"),
     ];
     let mut out = String::new(rt.alloc());
@@ -53,6 +54,20 @@ fn references_move_and_all_else_stays(rt: HostRuntime) -> Result<(), Fail> {
         expand_shared_formula_into(formula, (0, 0), end, &mut out)?;
         assert_eq!(rt; out.as_str(), expanded);
         assert_eq!(rt; expanded_len(formula, (0, 0), end), expanded.len() as u128);
+    }
+    Ok(())
+}
+
+#[test]
+fn formulas_move_by_the_way_from_start_to_end(rt: HostRuntime) -> Result<(), Fail> {
+    let cases = [
+        ("B3+$B$3", (4, 2), (5, 1), "A4+$B$3"),
+        ("B3:C4", (7, 7), (5, 6), "A1:B2"),
+        ("A1", (3, 0), (2, 0), "A1"),
+    ];
+    for (formula, start, end, expanded) in cases {
+        let text = expand_shared_formula(rt.alloc(), formula, start, end)?;
+        assert_eq!(rt; text.as_str(), expanded);
     }
     Ok(())
 }
