@@ -1,11 +1,14 @@
 -- The lookup of several keys is that of each by itself.
-use Rattle.std.proofs.Common.{◌≡◌, ℕ, zero, suc, ◌+◌, ◌<◌, Bool, true, false, List, [], ◌∷◌, map, length, get_or, Ok, Err, Option, Some, None, Result, refl, sym, ap, ap₂, ◌∙◌, inl, inr, arith}
+use Rattle.std.proofs.Common.{◌≡◌, ℕ, zero, suc, ◌+◌, ◌<◌, Bool, true, false, List, [], ◌∷◌, map}
+use Rattle.std.proofs.Common.{length, get_or, Ok, Err, Option, Some, None, Result, refl, sym, ap}
+use Rattle.std.proofs.Common.{ap₂, ◌∙◌, inl, inr, arith}
 use Rattle.std.proofs.lemmas.Bool.{and_cases}
 use Rattle.std.proofs.Math.Bool.{and-false}
 use Rattle.std.specs.Prelude.{is_some, Any, ◌⊎◌, ◌↔◌}
 use Rattle.std.specs.List.{list_all}
 use Rattle.std.specs.Str.{bytes_eq}
-use Rattle.attr_text.specs.Attributes.{Item, first_value, first_values, ending_fault, answer, items, value_of, lookup, with_values, all_values}
+use Rattle.attr_text.specs.Attributes.{Item, first_value, first_values, ending_fault, answer, items}
+use Rattle.attr_text.specs.Attributes.{value_of, lookup, with_values, all_values}
 use Rattle.attr_text.specs.declared.fault.AttrFault.{AttrFault}
 
 -- what is found for one key
@@ -19,7 +22,8 @@ one_answer all fault key = answer (found all key) (is_some (found all key)) faul
 -- one key before others
 with_values-answer : (v : Option (List ℕ)) (vs : List (Option (List ℕ))) (b : Bool)
     (o : Option AttrFault) → list_all is_some vs ≡ b →
-    with_values (answer v (is_some v) o) (answer vs b o) ≡ answer (v ∷ vs) (list_all is_some (v ∷ vs)) o
+    with_values (answer v (is_some v) o) (answer vs b o)
+    ≡ answer (v ∷ vs) (list_all is_some (v ∷ vs)) o
 with_values-answer None vs true None is = refl
 with_values-answer None vs false None is = refl
 with_values-answer None vs true (Some f) is = refl
@@ -86,7 +90,8 @@ answer-refused value true (Some f) fault is = absurd cc
 answer-refused value false (Some f) fault is = (refl, cc)
 
 answer-err : {A : Type 0} (value : A) (has_all : Bool) (ends : Option AttrFault)
-    (fault : AttrFault) → has_all ≡ false → ends ≡ Some fault → answer value has_all ends ≡ Err fault
+    (fault : AttrFault) → has_all ≡ false → ends ≡ Some fault →
+    answer value has_all ends ≡ Err fault
 answer-err value has_all ends fault missing refused = ap₂ (answer value) missing refused
 
 -- a wanted key without a pair
@@ -120,7 +125,8 @@ lookup-err keys fault text =
     let all = items text in
     let values = first_values keys all in (
       λ is.
-          let refused = answer-refused values (list_all is_some values) (ending_fault all) fault is in
+          let refused = answer-refused values (list_all is_some values)
+          (ending_fault all) fault is in
           let missing = first_missing all keys refused.0 in
           let here = found all missing.1 in (
             missing.0,

@@ -1,7 +1,10 @@
 -- What an attribute text says: its items, and the value that a key has in it.
-use Rattle.std.specs.Prelude.{ℕ, zero, suc, ◌-◌, Bool, true, false, ◌||◌, ◌==◌, nat_lt, List, [], ◌∷◌, map, take, drop, length, if◌then◌else◌, Option, None, Some, is_some, Result, Ok, Err}
+use Rattle.std.specs.Prelude.{ℕ, zero, suc, ◌-◌, Bool, true, false, ◌||◌, ◌==◌, nat_lt, List, []}
+use Rattle.std.specs.Prelude.{◌∷◌, map, take, drop, length, if◌then◌else◌, Option, None, Some}
+use Rattle.std.specs.Prelude.{is_some, Result, Ok, Err}
 use Rattle.std.specs.Char.{is_ascii_whitespace}
-use Rattle.std.specs.List.{prefix_len, suffix_len, position_or_len, before_first, after_first, after_last, ends_with, list_all}
+use Rattle.std.specs.List.{prefix_len, suffix_len, position_or_len, before_first, after_first}
+use Rattle.std.specs.List.{after_last, ends_with, list_all}
 use Rattle.std.specs.Str.{bytes_eq}
 use Rattle.std.specs.Prelude.{nat_eq}
 use Rattle.attr_text.specs.declared.fault.AttrFault.{AttrFault}
@@ -11,7 +14,8 @@ use Rattle.attr_text.specs.declared.fault.AttrFault.TheVariants.{ExpectedEq, Unq
 abbrev pub Item : Type 0
 Item = Result (List ℕ × List ℕ) AttrFault
 
--- what stands first in a text: nothing but white space, a fault, or a key, its value and what follows them
+-- what stands first in a text: nothing but white space, a fault, or a key, its value and what
+-- follows them
 pub data Front : Type 0 where
   nothing : Front
   broken : AttrFault → Front
@@ -36,15 +40,18 @@ begins_with_quote (b ∷ bs) = is_quote b
 abbrev pub is_equals_sign : ℕ → Bool
 is_equals_sign b = b == 61
 
--- What stands behind the `=` of a key, where `text` is the end of a text of `size` bytes, so that it
--- begins at the place `size - length text`. The value runs to the quote with which it begins, or to the end.
+-- What stands behind the `=` of a key, where `text` is the end of a text of `size` bytes, so that
+-- it
+-- begins at the place `size - length text`. The value runs to the quote with which it begins, or to
+-- the end.
 abbrev pub front_with_key : ℕ → List ℕ → List ℕ → Front
 front_with_key size key [] = broken (UnquotedValue size)
 front_with_key size key (b ∷ bs) =
     if is_quote b then attribute key (before_first (λ c. c == b) bs) (after_first (λ c. c == b) bs)
     else broken (UnquotedValue (size - length (b ∷ bs)))
 
--- what stands first behind white space: the key runs to the first `=`, without white space at its end
+-- what stands first behind white space: the key runs to the first `=`, without white space at its
+-- end
 abbrev pub front_behind_space : ℕ → List ℕ → Front
 front_behind_space size [] = nothing
 front_behind_space size (b ∷ bs) =
@@ -82,7 +89,8 @@ items text = items_left (length text) text
 abbrev pub first_value : (List ℕ → Bool) → List Item → Option (List ℕ)
 first_value accepts [] = None
 first_value accepts (Err fault ∷ others) = None
-first_value accepts (Ok pair ∷ others) = if accepts pair.0 then Some pair.1 else first_value accepts others
+first_value accepts (Ok pair ∷ others) =
+    if accepts pair.0 then Some pair.1 else first_value accepts others
 
 -- the fault in which the items end, if they end in one
 abbrev pub ending_fault : List Item → Option AttrFault

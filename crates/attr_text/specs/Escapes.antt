@@ -1,5 +1,6 @@
 -- Escapes, as the code finds them.
-use Rattle.std.specs.Prelude.{◌≡◌, ℕ, ◌+◌, ◌≤◌, List, ◌++◌, take, drop, length, slice_index, encode_utf8}
+use Rattle.std.specs.Prelude.{◌≡◌, ℕ, ◌+◌, ◌≤◌, List, ◌++◌, take, drop, length, slice_index}
+use Rattle.std.specs.Prelude.{encode_utf8}
 use Rattle.attr_text.specs.Text.{unescaped}
 
 -- the first escape with a character stands at this place

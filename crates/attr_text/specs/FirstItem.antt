@@ -13,7 +13,8 @@ front_read (Broken fault) = broken fault
 front_read (Attribute key value rest) = attribute key.now value.now rest.now
 
 -- the same, where nothing is `None` and an attribute is its three parts
-abbrev pub front_of_parts : Option (Result (Bor (List ℕ) × Bor (List ℕ) × Bor (List ℕ)) AttrFault) → Front
+abbrev pub front_of_parts : Option (Result (Bor (List ℕ) × Bor (List ℕ) × Bor (List ℕ)) AttrFault) →
+    Front
 front_of_parts None = nothing
 front_of_parts (Some (Err fault)) = broken fault
 front_of_parts (Some (Ok parts)) = attribute parts.0.now parts.1.now parts.2.now

@@ -1,5 +1,7 @@
 -- What a text with references, line ends or `_xHHHH_` says.
-use Rattle.std.specs.Prelude.{ℕ, zero, suc, ◌+◌, ◌-◌, Bool, true, false, not, ◌&&◌, ◌==◌, nat_lt, nat_le, List, [], ◌∷◌, ◌++◌, take, drop, length, if◌then◌else◌, Option, None, Some, Result, Ok, Err, codes, slice_index, encode_utf8}
+use Rattle.std.specs.Prelude.{ℕ, zero, suc, ◌+◌, ◌-◌, Bool, true, false, not, ◌&&◌, ◌==◌, nat_lt}
+use Rattle.std.specs.Prelude.{nat_le, List, [], ◌∷◌, ◌++◌, take, drop, length, if◌then◌else◌}
+use Rattle.std.specs.Prelude.{Option, None, Some, Result, Ok, Err, codes, slice_index, encode_utf8}
 use Rattle.std.specs.Char.{digit_value}
 use Rattle.std.specs.List.{position_or_len, before_first, list_all}
 use Rattle.std.specs.Str.{bytes_eq}
@@ -23,7 +25,8 @@ character_of_digits base (d ∷ ds) =
 -- the character of a name that begins with `#`: behind it digits, or `x` and hexadecimal digits
 abbrev pub referenced_character : List ℕ → Option ℕ
 referenced_character [] = None
-referenced_character (b ∷ bs) = if b == 120 then character_of_digits 16 bs else character_of_digits 10 (b ∷ bs)
+referenced_character (b ∷ bs) =
+    if b == 120 then character_of_digits 16 bs else character_of_digits 10 (b ∷ bs)
 
 -- a name that is none of the five
 abbrev pub unnamed_character : List ℕ → Option ℕ
@@ -61,7 +64,8 @@ abbrev pub onto_character : ℕ → Option ℕ → Result (List ℕ) ℕ → Res
 onto_character at None rest = Err at
 onto_character at (Some c) rest = onto_text (encode_utf8 c) rest
 
--- The end `text` of a text of `size` bytes, decoded, where the next `skipped` bytes belong to a reference
+-- The end `text` of a text of `size` bytes, decoded, where the next `skipped` bytes belong to a
+-- reference
 -- that was read already.
 unfoldable pub decoded_within : ℕ → List ℕ → ℕ → Result (List ℕ) ℕ
 decoded_within size [] skipped = Ok []
@@ -72,12 +76,14 @@ decoded_within size (b ∷ bs) zero =
     (decoded_within size bs (position_or_len is_semicolon bs + 1))
     else onto_text (b ∷ []) (decoded_within size bs zero)
 
--- The text with each `&name;` replaced by its character. It is refused at the place of the first `&` that
+-- The text with each `&name;` replaced by its character. It is refused at the place of the first
+-- `&` that
 -- has no later `;`, or a name without a character.
 unfoldable pub decoded : List ℕ → Result (List ℕ) ℕ
 decoded text = decoded_within (length text) text 0
 
--- the decoded text behind a front that takes this many bytes and says this; a refusal's place counts
+-- the decoded text behind a front that takes this many bytes and says this; a refusal's place
+-- counts
 -- from where the front begins
 abbrev pub onto_decoded : List ℕ → ℕ → Result (List ℕ) ℕ → Result (List ℕ) ℕ
 onto_decoded front taken (Ok text) = Ok (front ++ text)
@@ -113,7 +119,8 @@ abbrev pub onto_unescaped : Option ℕ → ℕ → List ℕ → List ℕ → Lis
 onto_unescaped None b behind_byte behind_escape = b ∷ behind_byte
 onto_unescaped (Some c) b behind_byte behind_escape = encode_utf8 c ++ behind_escape
 
--- the text without its escapes, where the next `skipped` bytes belong to an escape that was read already
+-- the text without its escapes, where the next `skipped` bytes belong to an escape that was read
+-- already
 unfoldable pub unescaped_within : List ℕ → ℕ → List ℕ
 unescaped_within [] skipped = []
 unescaped_within (b ∷ bs) (suc skipped) = unescaped_within bs skipped

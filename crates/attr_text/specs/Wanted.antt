@@ -19,7 +19,8 @@ answer_of (LocalName wanted) text = value_of_local wanted.now text
 
 -- what is found for a wanted key once this pair was read too
 abbrev pub value_noted : List ℕ → List ℕ → List ℕ → Option (List ℕ) → Option (List ℕ)
-value_noted key value wanted found = option_or found (if bytes_eq wanted key then Some value else None)
+value_noted key value wanted found =
+    option_or found (if bytes_eq wanted key then Some value else None)
 
 -- the same for each wanted key
 abbrev pub noted : List ℕ → List ℕ → List (List ℕ) → List (Option (List ℕ)) → List (Option (List ℕ))

@@ -1,8 +1,12 @@
-ghost use Rattle.std.specs.Prelude.{◌≡◌, ◌≢◌, ◌<◌, ◌≤◌, ◌+◌, ◌++◌, ℕ, List, [], ◌∷◌, length, min, true, false, MatchOption, IfOk, IfErr, IfSome, IsSomeAnd, OnOk, OnErr, Ok, Err, Some, None, encode_utf8, string_bytes};
+ghost use Rattle.std.specs.Prelude.{◌≡◌, ◌≢◌, ◌<◌, ◌≤◌, ◌+◌, ◌++◌, ℕ, List, [], ◌∷◌, length, min};
+ghost use Rattle.std.specs.Prelude.{true, false, MatchOption, IfOk, IfErr, IfSome, IsSomeAnd, OnOk};
+ghost use Rattle.std.specs.Prelude.{OnErr, Ok, Err, Some, None, encode_utf8, string_bytes};
 ghost use Rattle.std.specs.String.{string_len, string_capacity};
 ghost use Rattle.std.specs.List.{before_first, after_first};
 ghost use Rattle.std.specs.Str.Parse.{digits_value};
-ghost use Rattle.attr_text.specs.Text.{all_digits, character_of_digits, unnamed_character, entity_character, is_semicolon, character_behind, onto_decoded, decoded};
+ghost use Rattle.attr_text.specs.Text.{all_digits, character_of_digits, unnamed_character};
+ghost use Rattle.attr_text.specs.Text.{entity_character, is_semicolon, character_behind};
+ghost use Rattle.attr_text.specs.Text.{onto_decoded, decoded};
 ghost use Rattle.attr_text.specs.Fault.{DecodeFails, EntityFails};
 
 use crate::cuts::split_first;
@@ -17,7 +21,8 @@ pub(crate) fn digits_number(digits: &[u8], base: u32) -> Option<u32>
     requires low { 2 ≤ base }
     requires high { base ≤ 16 }
     ensures { MatchOption result (all_digits base digits.now ≡ false)
-        (λ n. (all_digits base digits.now ≡ true) × (n ≡ min (digits_value base digits.now) PAST_CHARACTERS)) }
+        (λ n. (all_digits base digits.now ≡ true)
+        × (n ≡ min (digits_value base digits.now) PAST_CHARACTERS)) }
 {
     let mut number = 0;
     for digit in digits {

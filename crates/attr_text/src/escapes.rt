@@ -1,4 +1,5 @@
-ghost use Rattle.std.specs.Prelude.{◌≡◌, ◌++◌, ℕ, List, [], ◌∷◌, drop, MatchOption, IfOk, Some, None, string_bytes, encode_utf8};
+ghost use Rattle.std.specs.Prelude.{◌≡◌, ◌++◌, ℕ, List, [], ◌∷◌, drop, MatchOption, IfOk, Some};
+ghost use Rattle.std.specs.Prelude.{None, string_bytes, encode_utf8};
 ghost use Rattle.attr_text.specs.Text.{unescaped, escaped_character};
 ghost use Rattle.attr_text.specs.Escapes.{HasEscapeAt};
 
@@ -17,7 +18,8 @@ fn escape_at(bytes: &[u8]) -> Option<char>
 
 // The place of the first escape that has a character, and that character.
 fn next_escape(bytes: &[u8]) -> Option<(usize, char)>
-    ensures { MatchOption result (unescaped bytes.now ≡ bytes.now) (λ p. HasEscapeAt bytes.now p.0 p.1) }
+    ensures { MatchOption result (unescaped bytes.now ≡ bytes.now)
+        (λ p. HasEscapeAt bytes.now p.0 p.1) }
 {
     for i in 0..bytes.len() {
         if let Some(c) = escape_at(&bytes[i..]) {

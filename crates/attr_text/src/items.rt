@@ -1,6 +1,7 @@
 ghost use Rattle.std.specs.Prelude.{◌≡◌, ◌==◌, ◌<◌, ◌≤◌, ◌∷◌, length, MatchOption, true, false};
 ghost use Rattle.std.specs.List.{before_first, after_first};
-ghost use Rattle.attr_text.specs.Attributes.{front_of, is_quote, begins_with_quote, items, items_left, items_from};
+ghost use Rattle.attr_text.specs.Attributes.{front_of, is_quote, begins_with_quote, items};
+ghost use Rattle.attr_text.specs.Attributes.{items_left, items_from};
 ghost use Rattle.attr_text.specs.FirstItem.{front_read};
 
 use crate::cuts::{split_first, trim_end, trim_start};

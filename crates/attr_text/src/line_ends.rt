@@ -1,4 +1,5 @@
-ghost use Rattle.std.specs.Prelude.{◌≡◌, ◌≢◌, ◌<◌, ◌≤◌, ◌+◌, ◌++◌, ℕ, List, [], ◌∷◌, length, OnOk, OnErr, string_bytes};
+ghost use Rattle.std.specs.Prelude.{◌≡◌, ◌≢◌, ◌<◌, ◌≤◌, ◌+◌, ◌++◌, ℕ, List, [], ◌∷◌, length, OnOk};
+ghost use Rattle.std.specs.Prelude.{OnErr, string_bytes};
 ghost use Rattle.std.specs.String.{string_len, string_capacity};
 ghost use Rattle.attr_text.specs.Text.{line_ends};
 ghost use Rattle.attr_text.specs.Lines.{without_line_feed};

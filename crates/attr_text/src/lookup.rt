@@ -1,6 +1,8 @@
-ghost use Rattle.std.specs.Prelude.{◌≡◌, ◌≤◌, ℕ, List, length, map, Any, Option, ◌↔◌, MatchResult, Ok, Err};
+ghost use Rattle.std.specs.Prelude.{◌≡◌, ◌≤◌, ℕ, List, length, map, Any, Option, ◌↔◌, MatchResult};
+ghost use Rattle.std.specs.Prelude.{Ok, Err};
 ghost use Rattle.std.specs.Option.{option_copied};
-ghost use Rattle.attr_text.specs.Attributes.{items, lookup, all_values, value_of, value_of_local, has_local_name, local_name_of};
+ghost use Rattle.attr_text.specs.Attributes.{items, lookup, all_values, value_of, value_of_local};
+ghost use Rattle.attr_text.specs.Attributes.{has_local_name, local_name_of};
 ghost use Rattle.attr_text.specs.AttrIter.{attrs_left};
 ghost use Rattle.attr_text.specs.Wanted.{accepts, answer_of};
 
@@ -92,7 +94,8 @@ pub trait RawAttributes {
     /// The value of the first pair whose key has this local name, by [`local_name_matches`].
     fn raw_attr_local(&self, local_name: &str) -> Result<Option<&str>, AttrFault>
         ensures { MatchResult result
-            (λ value. value_of_local local_name.now (attributes self.now) ≡ Ok (option_copied value))
+            (λ value. value_of_local local_name.now (attributes self.now)
+            ≡ Ok (option_copied value))
             (λ fault. value_of_local local_name.now (attributes self.now) ≡ Err fault) }
     {
         find_value(self.attributes_raw(), Wanted::LocalName(local_name))

@@ -69,7 +69,8 @@ pub(crate) fn five_keys<'a>(
     ensures { let keys = codes "r" ∷ codes "s" ∷ codes "t" ∷ codes "cm" ∷ codes "vm" ∷ [] in
         MatchResult result
         (λ p. lookup keys tag.now.text.now
-        ≡ Ok (option_copied p.0 ∷ option_copied p.1 ∷ option_copied p.2 ∷ option_copied p.3 ∷ option_copied p.4 ∷ []))
+        ≡ Ok (option_copied p.0 ∷ option_copied p.1 ∷ option_copied p.2 ∷ option_copied
+        p.3 ∷ option_copied p.4 ∷ []))
         (λ fault. lookup keys tag.now.text.now ≡ Err fault) }
 {
     get_attrs!(tag, "r" => r, "s" => s, "t" => t, "cm" => cm, "vm" => vm)
@@ -88,10 +89,12 @@ pub(crate) fn six_keys<'a>(
     ),
     AttrFault,
 >
-    ensures { let keys = codes "r" ∷ codes "s" ∷ codes "t" ∷ codes "cm" ∷ codes "vm" ∷ codes "ph" ∷ [] in
+    ensures { let keys =
+        codes "r" ∷ codes "s" ∷ codes "t" ∷ codes "cm" ∷ codes "vm" ∷ codes "ph" ∷ [] in
         MatchResult result
         (λ p. lookup keys tag.now.text.now
-        ≡ Ok (option_copied p.0 ∷ option_copied p.1 ∷ option_copied p.2 ∷ option_copied p.3 ∷ option_copied p.4 ∷ option_copied p.5 ∷ []))
+        ≡ Ok (option_copied p.0 ∷ option_copied p.1 ∷ option_copied p.2 ∷ option_copied
+        p.3 ∷ option_copied p.4 ∷ option_copied p.5 ∷ []))
         (λ fault. lookup keys tag.now.text.now ≡ Err fault) }
 {
     get_attrs!(tag, "r" => r, "s" => s, "t" => t, "cm" => cm, "vm" => vm, "ph" => ph)

@@ -12,7 +12,8 @@ pub type AttrValue<'a> = Option<&'a str>;
 
 // What is found for a wanted key once this pair was read too.
 fn with_pair<'a>(found: AttrValue<'a>, wanted: &str, key: &str, value: &'a str) -> AttrValue<'a>
-    ensures { option_copied result ≡ value_noted key.now value.now wanted.now (option_copied found.entry) }
+    ensures { option_copied result
+        ≡ value_noted key.now value.now wanted.now (option_copied found.entry) }
 {
     match found {
         Some(first) => Some(first),
@@ -140,7 +141,8 @@ pub fn five_values<'a>(
 >
     ensures { MatchResult result
         (λ p. lookup (a.now ∷ b.now ∷ c.now ∷ d.now ∷ e.now ∷ []) raw.now
-        ≡ Ok (option_copied p.0 ∷ option_copied p.1 ∷ option_copied p.2 ∷ option_copied p.3 ∷ option_copied p.4 ∷ []))
+        ≡ Ok (option_copied p.0 ∷ option_copied p.1 ∷ option_copied p.2 ∷ option_copied
+        p.3 ∷ option_copied p.4 ∷ []))
         (λ fault. lookup (a.now ∷ b.now ∷ c.now ∷ d.now ∷ e.now ∷ []) raw.now ≡ Err fault) }
 {
     let mut found = [None; 5];
@@ -171,7 +173,8 @@ pub fn six_values<'a>(
 >
     ensures { MatchResult result
         (λ p. lookup (a.now ∷ b.now ∷ c.now ∷ d.now ∷ e.now ∷ f.now ∷ []) raw.now
-        ≡ Ok (option_copied p.0 ∷ option_copied p.1 ∷ option_copied p.2 ∷ option_copied p.3 ∷ option_copied p.4 ∷ option_copied p.5 ∷ []))
+        ≡ Ok (option_copied p.0 ∷ option_copied p.1 ∷ option_copied p.2 ∷ option_copied
+        p.3 ∷ option_copied p.4 ∷ option_copied p.5 ∷ []))
         (λ fault. lookup (a.now ∷ b.now ∷ c.now ∷ d.now ∷ e.now ∷ f.now ∷ []) raw.now ≡ Err fault) }
 {
     let mut found = [None; 6];

@@ -2,7 +2,8 @@
 // definition.
 ghost use Rattle.std.specs.Prelude.{◌≡◌, ◌==◌, ◌≤◌, drop, length, map, IfOk};
 ghost use Rattle.std.specs.List.{position_or_len};
-ghost use Rattle.attr_text.specs.Attributes.{items, front_of, without_leading_space, without_trailing_space};
+ghost use Rattle.attr_text.specs.Attributes.{items, front_of, without_leading_space};
+ghost use Rattle.attr_text.specs.Attributes.{without_trailing_space};
 ghost use Rattle.attr_text.specs.AttrIter.{item_of};
 ghost use Rattle.attr_text.specs.FirstItem.{front_of_parts};
 

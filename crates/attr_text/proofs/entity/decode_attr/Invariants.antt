@@ -5,7 +5,8 @@ use Rattle.attr_text.proofs.entity.decode_attr.Given as goal
 
 abbrev pub invariant-loop-run : goal.invariant-loop-run
 invariant-loop-run l = record {
-  decoded : decoded l.text ≡ onto_text (string_bytes l.out) (decoded_within (length l.text) l.rest 0);
+  decoded : decoded l.text
+      ≡ onto_text (string_bytes l.out) (decoded_within (length l.text) l.rest 0);
   within : length l.rest ≤ length l.text;
   utf8 : IsUtf8 l.rest;
 }

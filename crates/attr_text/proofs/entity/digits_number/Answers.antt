@@ -11,8 +11,13 @@ loop-digit-preserved c =
     let i = c.loop-digit.digit-index in
     let read : c.from.result ≡ get_or digits i 0 = search rules in
     let value = c.in_ok-value.ensures.value in
-    let digit : nat_lt (digit_value (get_or digits i 0)) base ≡ true = lt-ltb _ _ (omega (arith, value.0, ap digit_value read)) in
+    let digit : nat_lt (digit_value (get_or digits i 0)) base ≡ true =
+    lt-ltb _ _ (omega (arith, value.0, ap digit_value read)) in
     record {
-      number = c.min-number.ensures ∙ capped-more base digits i c.loop-digit.number c.in_ok-value.value (omega arith) c.loop-digit-test.true c.loop-digit.invariant.number (value.1 ∙ ap digit_value read);
-      left = sym (all_digits-more base digits i c.loop-digit-test.true ∙ rw digit) ∙ c.loop-digit.invariant.left;
+      number = c.min-number.ensures
+          ∙ capped-more base digits i c.loop-digit.number c.in_ok-value.value
+          (omega arith) c.loop-digit-test.true c.loop-digit.invariant.number
+          (value.1 ∙ ap digit_value read);
+      left = sym (all_digits-more base digits i c.loop-digit-test.true ∙ rw digit)
+          ∙ c.loop-digit.invariant.left;
     }

@@ -27,4 +27,5 @@ pub returns-in_default : goal.returns-in_default
 returns-in_default c =
     let others = c.in_default in
     c.numbered_char.ensures ∙ ap unnamed_character c.as_bytes.ensures.value
-    ∙ entity_character-other c.args.name.now others.not-lt others.not-gt others.not-amp others.not-apos others.not-quot
+    ∙ entity_character-other c.args.name.now others.not-lt others.not-gt others.not-amp
+    others.not-apos others.not-quot

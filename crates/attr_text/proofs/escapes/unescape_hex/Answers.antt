@@ -10,4 +10,6 @@ range_from-rest-requires c =
     let rest = c.loop-at.rest.now in
     let found : HasEscapeAt rest c.in-Some.at c.in-Some.c = search rules in
     let behind : c.in-Some.at + 6 + 1 ≡ c.in-Some.at + 7 = omega arith in
-    λ _. subst (IsCharBoundary rest) behind (IsCharBoundary-after_ascii rest (c.in-Some.at + 6) c.loop-at.invariant.utf8 (omega (arith, found.within)) (omega (arith, found.ends)))
+    λ _. subst (IsCharBoundary rest) behind
+    (IsCharBoundary-after_ascii rest (c.in-Some.at + 6) c.loop-at.invariant.utf8
+    (omega (arith, found.within)) (omega (arith, found.ends)))

@@ -6,6 +6,7 @@ use Rattle.attr_text.proofs.lookup.find_value.Given as goal
 
 abbrev pub invariant-loop-item : goal.invariant-loop-item
 invariant-loop-item l = record {
-  value : first_value (accepts l.wanted) (attrs_left l.item-iterator) ≡ first_value (accepts l.wanted) (items l.raw);
+  value : first_value (accepts l.wanted) (attrs_left l.item-iterator)
+      ≡ first_value (accepts l.wanted) (items l.raw);
   fault : ending_fault (attrs_left l.item-iterator) ≡ ending_fault (items l.raw);
 }

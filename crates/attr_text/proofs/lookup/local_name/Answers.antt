@@ -11,4 +11,5 @@ returns-in-Some c =
 
 pub returns-in-None : goal.returns-in-None
 returns-in-None c =
-    local_name_of-none c.args.name.now (rfind_char 58 c.args.name.now None c.in-None.ensures.cases (omega arith))
+    local_name_of-none c.args.name.now
+    (rfind_char 58 c.args.name.now None c.in-None.ensures.cases (omega arith))

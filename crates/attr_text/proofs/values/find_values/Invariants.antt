@@ -9,7 +9,9 @@ use Rattle.attr_text.proofs.values.find_values.Given as goal
 
 abbrev pub invariant-loop-item : goal.invariant-loop-item
 invariant-loop-item l = record {
-  found : first_values (map (λ k. k.now) l.keys) (items l.raw) ≡ found_later (attrs_left l.item-iterator) (map (λ k. k.now) l.keys) (map option_copied l.values);
+  found : first_values (map (λ k. k.now) l.keys) (items l.raw)
+      ≡ found_later (attrs_left l.item-iterator) (map (λ k. k.now) l.keys)
+      (map option_copied l.values);
   fault : ending_fault (attrs_left l.item-iterator) ≡ ending_fault (items l.raw);
   missing : list_all is_some l.values ≡ false;
 }

@@ -1,12 +1,15 @@
 use Rattle.std.proofs.Common.{List, ◌∷◌, length, Err, sym, ap, subst, ◌∙◌, arith, rules}
 use Rattle.attr_text.specs.Attributes.{Front, Item}
-use Rattle.attr_text.proofs.ItemsLemmas.{RestIsBelow, front_of-below, items_left-nil, items_left-nothing, items_left-broken, items_left-attribute}
+use Rattle.attr_text.proofs.ItemsLemmas.{RestIsBelow, front_of-below, items_left-nil}
+use Rattle.attr_text.proofs.ItemsLemmas.{items_left-nothing, items_left-broken}
+use Rattle.attr_text.proofs.ItemsLemmas.{items_left-attribute}
 use Rattle.attr_text.proofs.items.RawAttrIterIterator.next.Goals as goal
 
 pub invariant_of-self-in-Attribute : goal.invariant_of-self-in-Attribute
 invariant_of-self-in-Attribute c =
     let self = c.args.self.now in
-    let below = subst (λ (f : Front). RestIsBelow f (length self.rest.now)) (sym c.in-Attribute.ensures) (front_of-below self.size self.rest.now) in
+    let below = subst (λ (f : Front). RestIsBelow f (length self.rest.now))
+    (sym c.in-Attribute.ensures) (front_of-below self.size self.rest.now) in
     record { within = omega (arith, below, self.within) }
 
 pub returns-in-Nothing-clause-steps : goal.returns-in-Nothing-clause-steps
@@ -15,7 +18,9 @@ returns-in-Nothing-clause-steps c =
 
 pub returns-in-Broken-clause-steps : goal.returns-in-Broken-clause-steps
 returns-in-Broken-clause-steps c =
-    items_left-broken _ _ _ c.in-Broken.ensures ∙ ap (λ (is : List Item). Err c.in-Broken.fault ∷ is) (sym (items_left-nil c.args.self.now.size))
+    items_left-broken _ _ _ c.in-Broken.ensures
+    ∙ ap (λ (is : List Item). Err c.in-Broken.fault ∷ is)
+    (sym (items_left-nil c.args.self.now.size))
 
 pub returns-in-Broken-clause-goes : goal.returns-in-Broken-clause-goes
 returns-in-Broken-clause-goes c =
@@ -30,5 +35,6 @@ returns-in-Attribute-clause-steps c = items_left-attribute _ _ _ _ _ c.in-Attrib
 pub returns-in-Attribute-clause-goes : goal.returns-in-Attribute-clause-goes
 returns-in-Attribute-clause-goes c =
     let self = c.args.self.now in
-    let shorter = ap length (items_left-attribute self.size self.rest.now _ _ _ c.in-Attribute.ensures) in
+    let shorter = ap length
+    (items_left-attribute self.size self.rest.now _ _ _ c.in-Attribute.ensures) in
     search rules
