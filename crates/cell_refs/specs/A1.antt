@@ -1,13 +1,20 @@
--- A1 texts: letters of either case name the column, A = 1 in base 26, and decimal digits behind them
+-- A1 texts: letters of either case name the column, A = 1 in base 26, and decimal digits behind
+-- them
 -- the row, counted from 1. Positions are pairs of a row and a column, both counted from 0.
-use Rattle.std.specs.Prelude.{ℕ, zero, suc, ◌+◌, ◌-◌, ◌/◌, ◌%◌, ◌≤◌, ◌==◌, nat_lt, not, if◌then◌else◌, List, [], ◌∷◌, ◌++◌, length, map, drop, find, take_while, Option, None, Some, Result, Ok, Err}
+use Rattle.std.specs.Prelude.{ℕ, zero, suc, ◌+◌, ◌-◌, ◌/◌, ◌%◌, ◌≤◌, ◌==◌, nat_lt, not}
+use Rattle.std.specs.Prelude.{if◌then◌else◌, List, [], ◌∷◌, ◌++◌, length, map, drop, find}
+use Rattle.std.specs.Prelude.{take_while, Option, None, Some, Result, Ok, Err}
 use Rattle.std.specs.Char.{is_ascii_alphabetic, is_ascii_digit, to_ascii_uppercase}
 use Rattle.std.specs.Int.Digits.{number_from_digits}
 use Rattle.std.specs.List.{prefix_len, slice_split}
 use Rattle.std.specs.Str.Parse.{digits_value}
 use Rattle.cell_refs.specs.declared.dimensions.Dimensions.{Dimensions}
 use Rattle.cell_refs.specs.declared.error.RefError.{RefError}
-use Rattle.cell_refs.specs.declared.error.RefError.TheVariants.{Alphanumeric, RangeWithoutRowComponent, RangeWithoutColumnComponent, ColumnNumberOverflow, RowNumberOverflow, DimensionCount}
+use Rattle.cell_refs.specs.declared.error.RefError.TheVariants.{Alphanumeric}
+use Rattle.cell_refs.specs.declared.error.RefError.TheVariants.{RangeWithoutRowComponent}
+use Rattle.cell_refs.specs.declared.error.RefError.TheVariants.{RangeWithoutColumnComponent}
+use Rattle.cell_refs.specs.declared.error.RefError.TheVariants.{ColumnNumberOverflow}
+use Rattle.cell_refs.specs.declared.error.RefError.TheVariants.{RowNumberOverflow, DimensionCount}
 
 -- the number of rows of a worksheet, and of its columns
 abbrev pub row_limit : ℕ
@@ -89,7 +96,8 @@ abbrev pub parts : List ℕ → List (List ℕ)
 parts text = slice_split (λ b. b == 58) text
 
 -- one corner more, before others
-abbrev pub with_corner : Result (ℕ × ℕ) RefError → Result (List (ℕ × ℕ)) RefError → Result (List (ℕ × ℕ)) RefError
+abbrev pub with_corner : Result (ℕ × ℕ) RefError → Result (List (ℕ × ℕ)) RefError →
+    Result (List (ℕ × ℕ)) RefError
 with_corner (Err e) others = Err e
 with_corner (Ok first) (Err e) = Err e
 with_corner (Ok first) (Ok others) = Ok (first ∷ others)

@@ -4,7 +4,8 @@ use Rattle.cell_refs.specs.declared.error.RefError.{RefError}
 
 -- the cell lies between the ends, which belong to the area
 abbrev pub IsInArea : Dimensions → ℕ → ℕ → Type 0
-IsInArea d row column = (d.start.0 ≤ row) × (row ≤ d.end.0) × (d.start.1 ≤ column) × (column ≤ d.end.1)
+IsInArea d row column = (d.start.0 ≤ row) × (row ≤ d.end.0) × (d.start.1 ≤ column)
+    × (column ≤ d.end.1)
 
 -- how many numbers there are from one to another, none where the last is below the first
 abbrev pub span : ℕ → ℕ → ℕ

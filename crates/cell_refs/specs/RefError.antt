@@ -2,7 +2,11 @@
 use Rattle.std.specs.Prelude.{List, ℕ, ◌++◌, codes, true}
 use Rattle.std.specs.Fmt.{decimal, digits}
 use Rattle.cell_refs.specs.declared.error.RefError.{RefError}
-use Rattle.cell_refs.specs.declared.error.RefError.TheVariants.{Alphanumeric, RangeWithoutRowComponent, RangeWithoutColumnComponent, ColumnNumberOverflow, RowNumberOverflow, DimensionCount}
+use Rattle.cell_refs.specs.declared.error.RefError.TheVariants.{Alphanumeric}
+use Rattle.cell_refs.specs.declared.error.RefError.TheVariants.{RangeWithoutRowComponent}
+use Rattle.cell_refs.specs.declared.error.RefError.TheVariants.{RangeWithoutColumnComponent}
+use Rattle.cell_refs.specs.declared.error.RefError.TheVariants.{ColumnNumberOverflow}
+use Rattle.cell_refs.specs.declared.error.RefError.TheVariants.{RowNumberOverflow, DimensionCount}
 
 -- the text of a refusal, a stray byte in hexadecimal capitals
 abbrev pub refusal_text : RefError → List ℕ

@@ -1,4 +1,5 @@
-ghost use Rattle.std.specs.Prelude.{◌≡◌, ℕ, ◌+◌, ◌<◌, ◌≤◌, List, length, take, ◌++◌, codes, All, if◌then◌else◌, nat_lt};
+ghost use Rattle.std.specs.Prelude.{◌≡◌, ℕ, ◌+◌, ◌<◌, ◌≤◌, List, length, take, ◌++◌, codes, All};
+ghost use Rattle.std.specs.Prelude.{if◌then◌else◌, nat_lt};
 ghost use Rattle.cell_refs.specs.A1.{column_limit, column_name, corner, IsCapital};
 
 use crate::{MAX_COLUMNS, RefError};
@@ -17,7 +18,8 @@ impl Model for ColumnName {
 
     ghost view = { λ name. take name.len name.letters };
 
-    ghost invariant = { λ name. (1 ≤ name.len) × (name.len ≤ 3) × All IsCapital (take name.len name.letters) };
+    ghost invariant = { λ name. (1 ≤ name.len) × (name.len ≤ 3)
+        × All IsCapital (take name.len name.letters) };
 }
 
 impl ColumnName {

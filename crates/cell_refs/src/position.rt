@@ -2,7 +2,9 @@ ghost use Rattle.std.specs.Prelude.{◌≡◌, ℕ, ◌+◌, ◌-◌, ◌<◌, �
 ghost use Rattle.std.specs.Char.{is_ascii_alphabetic};
 ghost use Rattle.std.specs.List.{prefix_len};
 ghost use Rattle.std.specs.Str.Parse.{digits_value};
-ghost use Rattle.cell_refs.specs.A1.{row_limit, column_limit, letter_value, letters_value, letters_of, behind_letters, stray_byte, unless_stray, corner, row_of};
+ghost use Rattle.cell_refs.specs.A1.{row_limit, column_limit, letter_value, letters_value};
+ghost use Rattle.cell_refs.specs.A1.{letters_of, behind_letters, stray_byte, unless_stray, corner};
+ghost use Rattle.cell_refs.specs.A1.{row_of};
 ghost use Rattle.cell_refs.specs.Scan.{scan_of};
 
 use crate::{MAX_COLUMNS, MAX_ROWS, RefError};
@@ -60,7 +62,8 @@ fn row_number(digits: &[u8]) -> Result<u32, RefError>
 }
 
 fn scan_text(range: &str) -> Result<Scan, RefError>
-    ensures { result ≡ unless_stray (stray_byte (behind_letters range.now)) (Ok (scan_of range.now)) }
+    ensures { result ≡ unless_stray (stray_byte (behind_letters range.now))
+        (Ok (scan_of range.now)) }
 {
     let text = range.as_bytes();
     let (column, letters) = leading_column(text);
@@ -79,7 +82,8 @@ fn scan_text(range: &str) -> Result<Scan, RefError>
 #[tactic(auto, unfolding(crate::specs::A1::corner), using(crate::proofs::Scans::whole_scan))]
 pub fn get_row_column(range: &str) -> Result<(u32, u32), RefError>
     ensures value { result ≡ corner range.now }
-    ensures inside { IfOk result (λ position. (position.0 < row_limit) × (position.1 < column_limit)) }
+    ensures inside { IfOk result
+        (λ position. (position.0 < row_limit) × (position.1 < column_limit)) }
 {
     let Scan {
         column,

@@ -1,4 +1,5 @@
-ghost use Rattle.std.specs.Prelude.{◌≡◌, ℕ, ◌+◌, ◌<◌, ◌≤◌, ◌++◌, List, length, OnOk, OnErr, string_bytes, string_len, string_capacity};
+ghost use Rattle.std.specs.Prelude.{◌≡◌, ℕ, ◌+◌, ◌<◌, ◌≤◌, ◌++◌, List, length, OnOk, OnErr};
+ghost use Rattle.std.specs.Prelude.{string_bytes, string_len, string_capacity};
 ghost use Rattle.cell_refs.specs.A1.{row_limit, column_limit, column_name, corner, row_of};
 ghost use Rattle.cell_refs.specs.Reference.{reference, row_reference};
 
@@ -13,10 +14,12 @@ use std::alloc::AllocError;
 pub fn push_row_reference(out: &mut String, row: u32) -> Result<(), AllocError>
     requires { row < row_limit }
     ensures ok { OnOk result (string_bytes out.new ≡ string_bytes out.old ++ row_reference row) }
-    ensures len { OnOk result (string_len out.new ≡ string_len out.old + length (row_reference row)) }
+    ensures len { OnOk result
+        (string_len out.new ≡ string_len out.old + length (row_reference row)) }
     ensures err { OnErr result (string_bytes out.new ≡ string_bytes out.old) }
     ensures capacity { string_capacity out.old ≤ string_capacity out.new }
-    ensures full { OnErr result (string_capacity out.old < string_len out.old + length (row_reference row)) }
+    ensures full { OnErr result
+        (string_capacity out.old < string_len out.old + length (row_reference row)) }
 {
     let mut buffer = Buffer::new();
     out.push_str(buffer.format(row + 1))
@@ -26,10 +29,12 @@ pub fn push_row_reference(out: &mut String, row: u32) -> Result<(), AllocError>
 pub fn push_column_name(out: &mut String, column: u32) -> Result<(), AllocError>
     requires { column < column_limit }
     ensures ok { OnOk result (string_bytes out.new ≡ string_bytes out.old ++ column_name column) }
-    ensures len { OnOk result (string_len out.new ≡ string_len out.old + length (column_name column)) }
+    ensures len { OnOk result
+        (string_len out.new ≡ string_len out.old + length (column_name column)) }
     ensures err { OnErr result (string_bytes out.new ≡ string_bytes out.old) }
     ensures capacity { string_capacity out.old ≤ string_capacity out.new }
-    ensures full { OnErr result (string_capacity out.old < string_len out.old + length (column_name column)) }
+    ensures full { OnErr result
+        (string_capacity out.old < string_len out.old + length (column_name column)) }
 {
     out.push_str(column_number_to_name(column).unwrap().as_str())
 }
@@ -38,7 +43,8 @@ pub fn push_column_name(out: &mut String, column: u32) -> Result<(), AllocError>
 pub fn push_reference(out: &mut String, row: u32, column: u32) -> Result<(), AllocError>
     requires in_rows { row < row_limit }
     requires in_columns { column < column_limit }
-    ensures ok { OnOk result (string_bytes out.new ≡ string_bytes out.old ++ reference (row, column)) }
+    ensures ok { OnOk result
+        (string_bytes out.new ≡ string_bytes out.old ++ reference (row, column)) }
     ensures err { OnErr result (string_bytes out.new ≡ string_bytes out.old) }
     ensures capacity { string_capacity out.old ≤ string_capacity out.new }
     ensures full { OnErr result
@@ -55,7 +61,7 @@ pub fn push_reference(out: &mut String, row: u32, column: u32) -> Result<(), All
 }
 
 /// The text of a position is read as that position, and the text of a row as that row.
-#[tactic(auto, using(crate::proofs::References::corner_of_reference, crate::proofs::References::row_of_reference))]
+#[tactic(auto, using(crate::proofs::References::read_back))]
 pub fn references_read_back()
     ensures position { (row column : ℕ) → row < row_limit → column < column_limit →
         corner (reference (row, column)) ≡ Ok (row, column) }

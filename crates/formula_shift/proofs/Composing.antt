@@ -1,6 +1,9 @@
 -- Moving a text twice is moving it once, where no reference leaves the worksheet on either way.
-use Rattle.std.proofs.Common.{◌≡◌, ℕ, ◌<◌, ◌⊎◌, ◌&&◌, Bool, true, false, cond, not, eqb, List, [], ◌∷◌, ◌++◌, length, Option, None, Some, sym, refl, ap, ◌∙◌, subst, inl, inr, arith, add-zero}
-use Rattle.std.specs.Prelude.{IfSome, IsSome, All, ℤ, pos, negsuc, ◌+ℤ◌, ◌-ℤ◌, unwrap_or, option_map, option_and_then, option_to_list}
+use Rattle.std.proofs.Common.{◌≡◌, ℕ, ◌<◌, ◌⊎◌, ◌&&◌, Bool, true, false, cond, not, eqb, List, []}
+use Rattle.std.proofs.Common.{◌∷◌, ◌++◌, length, Option, None, Some, sym, refl, ap, ◌∙◌, subst, inl}
+use Rattle.std.proofs.Common.{inr, arith, add-zero}
+use Rattle.std.specs.Prelude.{IfSome, IsSome, All, ℤ, pos, negsuc, ◌+ℤ◌, ◌-ℤ◌, unwrap_or}
+use Rattle.std.specs.Prelude.{option_map, option_and_then, option_to_list}
 use Rattle.std.proofs.lemmas.Bool.Decides.{nat_tests}
 use Rattle.std.proofs.lemmas.Int.{ints}
 use Rattle.std.specs.List.{list_all}
@@ -10,12 +13,18 @@ use Rattle.formula_shift.specs.declared.corner.Corner.{Corner}
 use Rattle.formula_shift.specs.declared.corner.Corner.TheVariants.{Cell, Row, Column}
 use Rattle.formula_shift.specs.declared.reference.Reference.{Reference}
 use Rattle.formula_shift.specs.Pieces.{word_kind, PieceText, is_word_byte, pieces, joined_pieces}
-use Rattle.formula_shift.specs.References.{cell_corner, IsCornerInside, IsInWorksheet, place_within, displaced_place, displaced_corner, both_corners, displaced_by, displaced, same_kind, word_reference, spelling}
-use Rattle.formula_shift.specs.Relocation.{offset_between, is_word, is_name_before, first_byte, piece_reference, references, NoneLeaves, word_of, moved_piece, moved_pieces, moved}
+use Rattle.formula_shift.specs.References.{cell_corner, IsCornerInside, IsInWorksheet, place_within}
+use Rattle.formula_shift.specs.References.{displaced_place, displaced_corner, both_corners}
+use Rattle.formula_shift.specs.References.{displaced_by, displaced, same_kind, word_reference}
+use Rattle.formula_shift.specs.References.{spelling}
+use Rattle.formula_shift.specs.Relocation.{offset_between, is_word, is_name_before, first_byte}
+use Rattle.formula_shift.specs.Relocation.{piece_reference, references, NoneLeaves, word_of}
+use Rattle.formula_shift.specs.Relocation.{moved_piece, moved_pieces, moved}
 use Rattle.formula_shift.proofs.Recutting.{word_is, StandsBefore, AreCut, are_cut-pieces}
 use Rattle.formula_shift.proofs.Spellings.{IsWordText, displaced_inside, word_reference_inside}
 use Rattle.formula_shift.proofs.Moving.{first_in_word, is_moved, piece_reference_word, pieces-moved}
-use Rattle.formula_shift.proofs.ReadBack.{AreFormed, IsFormed, formed_pair, pair_formed, word_reference_formed, reference_reads_back}
+use Rattle.formula_shift.proofs.ReadBack.{AreFormed, IsFormed, formed_pair, pair_formed}
+use Rattle.formula_shift.proofs.ReadBack.{word_reference_formed, reference_reads_back}
 
 -- two offsets, one after the other
 abbrev pub offsets : ℤ × ℤ → ℤ × ℤ → ℤ × ℤ
@@ -27,7 +36,9 @@ place_within_is : (limit : ℕ) (z : ℤ) (q : ℕ) → place_within limit z ≡
 place_within_is limit (pos n) q is = grind (arith, nat_tests)
 place_within_is limit (negsuc n) q is = cc
 
-place_twice : (limit : ℕ) (d e : ℤ) (absolute : Bool) (p q : ℕ) → displaced_place limit d absolute p ≡ Some q → displaced_place limit e absolute q ≡ displaced_place limit (d +ℤ e) absolute p
+place_twice : (limit : ℕ) (d e : ℤ) (absolute : Bool) (p q : ℕ) →
+    displaced_place limit d absolute p ≡ Some q →
+    displaced_place limit e absolute q ≡ displaced_place limit (d +ℤ e) absolute p
 place_twice limit d e true p q is = sym is
 place_twice limit d e false p q is =
     let there : pos p +ℤ d ≡ pos q = place_within_is limit (pos p +ℤ d) q is in
@@ -35,26 +46,41 @@ place_twice limit d e false p q is =
     ap (place_within limit) way
 
 -- what a cell's two parts are
-pub cell_parts : (absolute_row absolute_col : Bool) (row col : Option ℕ) (corner : Corner) → cell_corner absolute_row absolute_col row col ≡ Some corner → (r : ℕ) × (c : ℕ) × (row ≡ Some r) × (col ≡ Some c) × (corner ≡ Cell r c absolute_row absolute_col)
+pub cell_parts : (absolute_row absolute_col : Bool) (row col : Option ℕ) (corner : Corner) →
+    cell_corner absolute_row absolute_col row col ≡ Some corner →
+    (r : ℕ) × (c : ℕ) × (row ≡ Some r) × (col ≡ Some c)
+    × (corner ≡ Cell r c absolute_row absolute_col)
 cell_parts absolute_row absolute_col (Some r) (Some c) corner is = (r, c, refl, refl, cc)
 cell_parts absolute_row absolute_col (Some r) None corner is = cc
 cell_parts absolute_row absolute_col None col corner is = cc
 
-pub mapped_part : (f : ℕ → Corner) (o : Option ℕ) (corner : Corner) → option_map f o ≡ Some corner → (n : ℕ) × (o ≡ Some n) × (f n ≡ corner)
+pub mapped_part : (f : ℕ → Corner) (o : Option ℕ) (corner : Corner) → option_map f o ≡ Some corner →
+    (n : ℕ) × (o ≡ Some n) × (f n ≡ corner)
 mapped_part f (Some n) corner is = (n, refl, cc)
 mapped_part f None corner is = cc
 
 -- a corner displaced is of the same kind, and displaced on is displaced by both
-corner_twice : (d e : ℤ × ℤ) (corner moved : Corner) → displaced_corner d corner ≡ Some moved → (displaced_corner e moved ≡ displaced_corner (offsets d e) corner)
+corner_twice : (d e : ℤ × ℤ) (corner moved : Corner) → displaced_corner d corner ≡ Some moved →
+    (displaced_corner e moved ≡ displaced_corner (offsets d e) corner)
 corner_twice d e (Cell row col absolute_row absolute_col) moved is =
-    let parts = cell_parts absolute_row absolute_col (displaced_place MAX_ROWS d.0 absolute_row row) (displaced_place MAX_COLUMNS d.1 absolute_col col) moved is in
-    ap (displaced_corner e) parts.4 ∙ (λ i. cell_corner absolute_row absolute_col (place_twice MAX_ROWS d.0 e.0 absolute_row row parts.0 parts.2 i) (place_twice MAX_COLUMNS d.1 e.1 absolute_col col parts.1 parts.3 i))
+    let parts = cell_parts absolute_row absolute_col (displaced_place MAX_ROWS d.0 absolute_row row)
+    (displaced_place MAX_COLUMNS d.1 absolute_col col) moved is in
+    ap (displaced_corner e) parts.4
+    ∙ (λ i. cell_corner absolute_row absolute_col
+    (place_twice MAX_ROWS d.0 e.0 absolute_row row parts.0 parts.2 i)
+    (place_twice MAX_COLUMNS d.1 e.1 absolute_col col parts.1 parts.3 i))
 corner_twice d e (Row row absolute) moved is =
-    let part = mapped_part (λ n. Row n absolute) (displaced_place MAX_ROWS d.0 absolute row) moved is in
-    ap (displaced_corner e) (sym part.2) ∙ ap (option_map (λ n. Row n absolute)) (place_twice MAX_ROWS d.0 e.0 absolute row part.0 part.1)
+    let part = mapped_part (λ n. Row n absolute) (displaced_place MAX_ROWS d.0 absolute row)
+    moved is in
+    ap (displaced_corner e) (sym part.2)
+    ∙ ap (option_map (λ n. Row n absolute))
+    (place_twice MAX_ROWS d.0 e.0 absolute row part.0 part.1)
 corner_twice d e (Column col absolute) moved is =
-    let part = mapped_part (λ n. Column n absolute) (displaced_place MAX_COLUMNS d.1 absolute col) moved is in
-    ap (displaced_corner e) (sym part.2) ∙ ap (option_map (λ n. Column n absolute)) (place_twice MAX_COLUMNS d.1 e.1 absolute col part.0 part.1)
+    let part = mapped_part (λ n. Column n absolute) (displaced_place MAX_COLUMNS d.1 absolute col)
+    moved is in
+    ap (displaced_corner e) (sym part.2)
+    ∙ ap (option_map (λ n. Column n absolute))
+    (place_twice MAX_COLUMNS d.1 e.1 absolute col part.0 part.1)
 
 -- cells, rows and columns by number
 abbrev shape : Corner → ℕ
@@ -63,7 +89,8 @@ shape (Row row absolute) = 1
 shape (Column col absolute) = 2
 
 same_kind_is : (first second : Corner) → same_kind first second ≡ eqb (shape first) (shape second)
-same_kind_is (Cell row col absolute_row absolute_col) (Cell row' col' absolute_row' absolute_col') = refl
+same_kind_is (Cell row col absolute_row absolute_col) (Cell row' col' absolute_row' absolute_col') =
+    refl
 same_kind_is (Cell row col absolute_row absolute_col) (Row row' absolute') = refl
 same_kind_is (Cell row col absolute_row absolute_col) (Column col' absolute') = refl
 same_kind_is (Row row absolute) (Cell row' col' absolute_row' absolute_col') = refl
@@ -73,11 +100,17 @@ same_kind_is (Column col absolute) (Cell row' col' absolute_row' absolute_col') 
 same_kind_is (Column col absolute) (Row row' absolute') = refl
 same_kind_is (Column col absolute) (Column col' absolute') = refl
 
-shape_kept : (d : ℤ × ℤ) (corner there : Corner) → displaced_corner d corner ≡ Some there → shape there ≡ shape corner
+shape_kept : (d : ℤ × ℤ) (corner there : Corner) → displaced_corner d corner ≡ Some there →
+    shape there ≡ shape corner
 shape_kept d (Cell row col absolute_row absolute_col) there is =
-    ap shape (cell_parts absolute_row absolute_col (displaced_place MAX_ROWS d.0 absolute_row row) (displaced_place MAX_COLUMNS d.1 absolute_col col) there is).4
-shape_kept d (Row row absolute) there is = ap shape (sym (mapped_part (λ n. Row n absolute) (displaced_place MAX_ROWS d.0 absolute row) there is).2)
-shape_kept d (Column col absolute) there is = ap shape (sym (mapped_part (λ n. Column n absolute) (displaced_place MAX_COLUMNS d.1 absolute col) there is).2)
+    ap shape (cell_parts absolute_row absolute_col (displaced_place MAX_ROWS d.0 absolute_row row)
+    (displaced_place MAX_COLUMNS d.1 absolute_col col) there is).4
+shape_kept d (Row row absolute) there is =
+    ap shape (sym (mapped_part (λ n. Row n absolute) (displaced_place MAX_ROWS d.0 absolute row)
+    there is).2)
+shape_kept d (Column col absolute) there is =
+    ap shape (sym (mapped_part (λ n. Column n absolute)
+    (displaced_place MAX_COLUMNS d.1 absolute col) there is).2)
 
 formed_alone : (first : Corner) → AreFormed first None → shape first ≡ 0
 formed_alone (Cell row col absolute_row absolute_col) formed = refl
@@ -90,117 +123,180 @@ alone_formed (Row row absolute) is = absurd (omega (arith, is))
 alone_formed (Column col absolute) is = absurd (omega (arith, is))
 
 -- what a displaced reference is made of
-first_part : (o : Option Corner) (there : Reference) → option_map (λ first. record { first = first; second = None }) o ≡ Some there → (o ≡ Some there.first) × (there.second ≡ None)
+first_part : (o : Option Corner) (there : Reference) →
+    option_map (λ first. record { first = first; second = None }) o ≡ Some there →
+    (o ≡ Some there.first) × (there.second ≡ None)
 first_part (Some first) there is = (cc, cc)
 first_part None there is = cc
 
-both_parts : (a b : Option Corner) (there : Reference) → both_corners a b ≡ Some there → (second : Corner) × (a ≡ Some there.first) × (b ≡ Some second) × (there.second ≡ Some second)
+both_parts : (a b : Option Corner) (there : Reference) → both_corners a b ≡ Some there →
+    (second : Corner) × (a ≡ Some there.first) × (b ≡ Some second) × (there.second ≡ Some second)
 both_parts (Some first) (Some second) there is = (second, cc, refl, cc)
 both_parts (Some first) None there is = cc
 both_parts None b there is = cc
 
 -- a reference displaced is formed like it, and displaced on is displaced by both
-reference_twice : (d e : ℤ × ℤ) (first : Corner) (second : Option Corner) (there : Reference) → displaced_by d first second ≡ Some there → AreFormed first second → IsFormed there × (displaced_by e there.first there.second ≡ displaced_by (offsets d e) first second)
+reference_twice : (d e : ℤ × ℤ) (first : Corner) (second : Option Corner) (there : Reference) →
+    displaced_by d first second ≡ Some there → AreFormed first second →
+    IsFormed there × (displaced_by e there.first there.second
+    ≡ displaced_by (offsets d e) first second)
 reference_twice d e first None there is formed =
     let part = first_part (displaced_corner d first) there is in
     let shape_is = shape_kept d first there.first part.0 in (
-      subst (AreFormed there.first) (sym part.1) (alone_formed there.first (shape_is ∙ formed_alone first formed)),
-      ap (displaced_by e there.first) part.1 ∙ ap (option_map (λ moved. record { first = moved; second = None })) (corner_twice d e first there.first part.0),
+      subst (AreFormed there.first) (sym part.1)
+          (alone_formed there.first (shape_is ∙ formed_alone first formed)),
+      ap (displaced_by e there.first) part.1
+          ∙ ap (option_map (λ moved. record { first = moved; second = None }))
+          (corner_twice d e first there.first part.0),
     )
 reference_twice d e first (Some second) there is formed =
     let parts = both_parts (displaced_corner d first) (displaced_corner d second) there is in
     let same : same_kind there.first parts.0 ≡ same_kind first second =
-    same_kind_is there.first parts.0 ∙ (λ i. eqb (shape_kept d first there.first parts.1 i) (shape_kept d second parts.0 parts.2 i)) ∙ sym (same_kind_is first second) in (
-      subst (AreFormed there.first) (sym parts.3) (pair_formed there.first parts.0 (same ∙ formed_pair first second formed)),
-      ap (displaced_by e there.first) parts.3 ∙ (λ i. both_corners (corner_twice d e first there.first parts.1 i) (corner_twice d e second parts.0 parts.2 i)),
+    same_kind_is there.first parts.0
+    ∙ (λ i. eqb (shape_kept d first there.first parts.1 i)
+    (shape_kept d second parts.0 parts.2 i)) ∙ sym (same_kind_is first second) in (
+      subst (AreFormed there.first) (sym parts.3)
+          (pair_formed there.first parts.0 (same ∙ formed_pair first second formed)),
+      ap (displaced_by e there.first) parts.3
+          ∙ (λ i. both_corners (corner_twice d e first there.first parts.1 i)
+          (corner_twice d e second parts.0 parts.2 i)),
     )
 
-displaced_twice : (d e : ℤ × ℤ) (reference there : Reference) → displaced d reference ≡ Some there → IsFormed reference → IsFormed there × (displaced e there ≡ displaced (offsets d e) reference)
+displaced_twice : (d e : ℤ × ℤ) (reference there : Reference) → displaced d reference ≡ Some there →
+    IsFormed reference → IsFormed there × (displaced e there ≡ displaced (offsets d e) reference)
 unfolding displaced
-displaced_twice d e reference there is formed = reference_twice d e reference.first reference.second there is formed
+displaced_twice d e reference there is formed =
+    reference_twice d e reference.first reference.second there is formed
 
 -- ---- pieces
 
 -- the reference that a piece is depends on what is behind it only by whether a name ends there
-piece_reference_alike : (p : PieceText) (behind behind' : Option ℕ) → is_name_before behind ≡ is_name_before behind' → piece_reference p behind ≡ piece_reference p behind'
+piece_reference_alike : (p : PieceText) (behind behind' : Option ℕ) →
+    is_name_before behind ≡ is_name_before behind' →
+    piece_reference p behind ≡ piece_reference p behind'
 unfolding piece_reference
-piece_reference_alike p behind behind' alike = ap (λ b. cond (is_word p.kind && not b) (word_reference p.bytes) None) alike
+piece_reference_alike p behind behind' alike =
+    ap (λ b. cond (is_word p.kind && not b) (word_reference p.bytes) None) alike
 
 -- a piece that is a reference: it is formed, and nothing that makes it a name is behind it
-piece_reference_formed : (p : PieceText) (behind : Option ℕ) → IfSome (piece_reference p behind) (λ r. IsFormed r × (is_name_before behind ≡ false))
+piece_reference_formed : (p : PieceText) (behind : Option ℕ) →
+    IfSome (piece_reference p behind) (λ r. IsFormed r × (is_name_before behind ≡ false))
 unfolding piece_reference
-piece_reference_formed p behind = by_tests (is_word p.kind) (is_name_before behind) (word_reference p.bytes) (word_reference_formed p.bytes) where
-  by_tests : (a b : Bool) (o : Option Reference) → IfSome o IsFormed → IfSome (cond (a && not b) o None) (λ r. IsFormed r × (b ≡ false))
-  by_tests true false None formed = tt
-  by_tests true false (Some r) formed = (formed, refl)
-  by_tests true true o formed = tt
-  by_tests false b o formed = tt
+piece_reference_formed p behind =
+    by_tests (is_word p.kind) (is_name_before behind) (word_reference p.bytes)
+    (word_reference_formed p.bytes) where
+      by_tests : (a b : Bool) (o : Option Reference) → IfSome o IsFormed →
+          IfSome (cond (a && not b) o None) (λ r. IsFormed r × (b ≡ false))
+      by_tests true false None formed = tt
+      by_tests true false (Some r) formed = (formed, refl)
+      by_tests true true o formed = tt
+      by_tests false b o formed = tt
 
 -- the Word that spells a reference is that reference
-piece_reference_spelled : (r : Reference) (behind : Option ℕ) → IsInWorksheet r → IsFormed r → is_name_before behind ≡ false → piece_reference (word_of r) behind ≡ Some r
+piece_reference_spelled : (r : Reference) (behind : Option ℕ) → IsInWorksheet r → IsFormed r →
+    is_name_before behind ≡ false → piece_reference (word_of r) behind ≡ Some r
 unfolding piece_reference
-piece_reference_spelled r behind inside formed none = ap (λ b. cond (not b) (word_reference (spelling r)) None) none ∙ reference_reads_back r inside formed
+piece_reference_spelled r behind inside formed none =
+    ap (λ b. cond (not b) (word_reference (spelling r)) None) none
+    ∙ reference_reads_back r inside formed
 
 -- whether a name ends before the pieces stays when they are moved
 word_is_no_name : (b : ℕ) → is_word_byte b ≡ true → is_name_before (Some b) ≡ false
 word_is_no_name b word = grind (arith, nat_tests)
 
-first_of : (bytes rest : List ℕ) (b : ℕ) (bs : List ℕ) → bytes ≡ b ∷ bs → first_byte (bytes ++ rest) ≡ Some b
+first_of : (bytes rest : List ℕ) (b : ℕ) (bs : List ℕ) → bytes ≡ b ∷ bs →
+    first_byte (bytes ++ rest) ≡ Some b
 first_of bytes rest b bs are = ap (λ t. first_byte (t ++ rest)) are
 
-name_kept : (d : ℤ × ℤ) (ps : List PieceText) → AreCut ps → is_name_before (first_byte (joined_pieces ps)) ≡ is_name_before (first_byte (joined_pieces (moved_pieces d ps)))
+name_kept : (d : ℤ × ℤ) (ps : List PieceText) → AreCut ps →
+    is_name_before (first_byte (joined_pieces ps))
+    ≡ is_name_before (first_byte (joined_pieces (moved_pieces d ps)))
 name_kept d [] cut = refl
-name_kept d (p ∷ ps) cut = by_piece (moved_piece d p (first_byte (joined_pieces ps))) (is_moved d p (first_byte (joined_pieces ps))) where
-  stands : StandsBefore p (joined_pieces ps)
-  stands = cut.0
+name_kept d (p ∷ ps) cut =
+    by_piece (moved_piece d p (first_byte (joined_pieces ps)))
+    (is_moved d p (first_byte (joined_pieces ps))) where
+      stands : StandsBefore p (joined_pieces ps)
+      stands = cut.0
 
-  rest' : List ℕ
-  rest' = joined_pieces (moved_pieces d ps)
+      rest' : List ℕ
+      rest' = joined_pieces (moved_pieces d ps)
 
-  by_bytes : (q : PieceText) (bs : List ℕ) → q.bytes ≡ bs → 0 < length bs → list_all is_word_byte bs ≡ true → is_name_before (first_byte (q.bytes ++ joined_pieces (moved_pieces d ps))) ≡ false
-  by_bytes q [] are nonempty all = absurd (omega arith)
-  by_bytes q (w ∷ ws) are nonempty all = ap is_name_before (first_of q.bytes (joined_pieces (moved_pieces d ps)) w ws are) ∙ word_is_no_name w (first_in_word w ws all)
+      by_bytes : (q : PieceText) (bs : List ℕ) → q.bytes ≡ bs → 0 < length bs →
+          list_all is_word_byte bs ≡ true →
+          is_name_before (first_byte (q.bytes ++ joined_pieces (moved_pieces d ps))) ≡ false
+      by_bytes q [] are nonempty all = absurd (omega arith)
+      by_bytes q (w ∷ ws) are nonempty all =
+          ap is_name_before (first_of q.bytes (joined_pieces (moved_pieces d ps)) w ws are)
+          ∙ word_is_no_name w (first_in_word w ws all)
 
-  by_piece : (q : PieceText) → (q ≡ p) ⊎ ((p.kind ≡ word_kind) × (q.kind ≡ word_kind) × IsWordText 25 q.bytes) → is_name_before (first_byte (p.bytes ++ joined_pieces ps)) ≡ is_name_before (first_byte (q.bytes ++ joined_pieces (moved_pieces d ps)))
-  by_piece q (inl same) =
-      ap is_name_before (first_of p.bytes (joined_pieces ps) cut.0.first cut.0.behind cut.0.bytes_are)
-      ∙ sym (ap is_name_before (first_of q.bytes (joined_pieces (moved_pieces d ps)) cut.0.first cut.0.behind (ap (λ q. q.bytes) same ∙ cut.0.bytes_are)))
-  by_piece q (inr words) =
-      let word : is_word_byte cut.0.first ≡ true = sym (word_is cut.0.first) ∙ ap is_word (sym cut.0.kind_is ∙ words.0) in
-      ap is_name_before (first_of p.bytes (joined_pieces ps) cut.0.first cut.0.behind cut.0.bytes_are)
-      ∙ word_is_no_name cut.0.first word
-      ∙ sym (by_bytes q q.bytes refl words.2.nonempty words.2.in_word)
+      by_piece : (q : PieceText) →
+          (q ≡ p) ⊎ ((p.kind ≡ word_kind) × (q.kind ≡ word_kind) × IsWordText 25 q.bytes) →
+          is_name_before (first_byte (p.bytes ++ joined_pieces ps))
+          ≡ is_name_before (first_byte (q.bytes ++ joined_pieces (moved_pieces d ps)))
+      by_piece q (inl same) =
+          ap is_name_before (first_of p.bytes
+          (joined_pieces ps) cut.0.first cut.0.behind cut.0.bytes_are)
+          ∙ sym (ap is_name_before
+          (first_of q.bytes (joined_pieces (moved_pieces d ps)) cut.0.first cut.0.behind
+          (ap (λ q. q.bytes) same ∙ cut.0.bytes_are)))
+      by_piece q (inr words) =
+          let word : is_word_byte cut.0.first ≡ true = sym (word_is cut.0.first)
+          ∙ ap is_word (sym cut.0.kind_is ∙ words.0) in
+          ap is_name_before (first_of p.bytes
+          (joined_pieces ps) cut.0.first cut.0.behind cut.0.bytes_are)
+          ∙ word_is_no_name cut.0.first word
+          ∙ sym (by_bytes q q.bytes refl words.2.nonempty words.2.in_word)
 
 -- a piece moved twice
-module _ (d e : ℤ × ℤ) (p : PieceText) (behind behind' : Option ℕ) (alike : is_name_before behind ≡ is_name_before behind') where
-  stays_plain : (f : ℤ × ℤ) (after : Option ℕ) → piece_reference p after ≡ None → moved_piece f p after ≡ p
-  stays_plain f after none = ap (λ o. unwrap_or (option_map word_of (option_and_then (displaced f) o)) p) none
+module _ (d e : ℤ × ℤ) (p : PieceText) (behind behind' : Option ℕ)
+    (alike : is_name_before behind ≡ is_name_before behind') where
+  stays_plain : (f : ℤ × ℤ) (after : Option ℕ) → piece_reference p after ≡ None →
+      moved_piece f p after ≡ p
+  stays_plain f after none =
+      ap (λ o. unwrap_or (option_map word_of (option_and_then (displaced f) o)) p) none
 
-  becomes : (f : ℤ × ℤ) (q : PieceText) (after : Option ℕ) (r s : Reference) → piece_reference q after ≡ Some r → displaced f r ≡ Some s → moved_piece f q after ≡ word_of s
-  becomes f q after r s is there = ap (λ o. unwrap_or (option_map word_of (option_and_then (displaced f) o)) q) is ∙ ap (λ o. unwrap_or (option_map word_of o) q) there
+  becomes : (f : ℤ × ℤ) (q : PieceText) (after : Option ℕ) (r s : Reference) →
+      piece_reference q after ≡ Some r → displaced f r ≡ Some s → moved_piece f q after ≡ word_of s
+  becomes f q after r s is there =
+      ap (λ o. unwrap_or (option_map word_of (option_and_then (displaced f) o)) q) is
+      ∙ ap (λ o. unwrap_or (option_map word_of o) q) there
 
-  plain_twice : piece_reference p behind ≡ None → moved_piece e (moved_piece d p behind) behind' ≡ moved_piece (offsets d e) p behind
+  plain_twice : piece_reference p behind ≡ None →
+      moved_piece e (moved_piece d p behind) behind' ≡ moved_piece (offsets d e) p behind
   plain_twice none =
       ap (λ q. moved_piece e q behind') (stays_plain d behind none)
       ∙ stays_plain e behind' (sym (piece_reference_alike p behind behind' alike) ∙ none)
       ∙ sym (stays_plain (offsets d e) behind none)
 
-  reference_moved_twice : (r s t : Reference) → piece_reference p behind ≡ Some r → IsInWorksheet r → IsFormed r → is_name_before behind ≡ false → displaced d r ≡ Some s → displaced (offsets d e) r ≡ Some t → moved_piece e (moved_piece d p behind) behind' ≡ moved_piece (offsets d e) p behind
+  reference_moved_twice : (r s t : Reference) → piece_reference p behind ≡ Some r →
+      IsInWorksheet r → IsFormed r → is_name_before behind ≡ false → displaced d r ≡ Some s →
+      displaced (offsets d e) r ≡ Some t →
+      moved_piece e (moved_piece d p behind) behind' ≡ moved_piece (offsets d e) p behind
   reference_moved_twice r s t is inside formed none there further =
       let on = displaced_twice d e r s there formed in
-      let inside' : IsInWorksheet s = subst (λ o. IfSome o IsInWorksheet) there (displaced_inside d r inside) in
+      let inside' : IsInWorksheet s =
+      subst (λ o. IfSome o IsInWorksheet) there (displaced_inside d r inside) in
       ap (λ q. moved_piece e q behind') (becomes d p behind r s is there)
-      ∙ becomes e (word_of s) behind' s t (piece_reference_spelled s behind' inside' on.0 (sym alike ∙ none)) (on.1 ∙ further)
+      ∙ becomes e (word_of s) behind' s t
+      (piece_reference_spelled s behind' inside' on.0 (sym alike ∙ none)) (on.1 ∙ further)
       ∙ sym (becomes (offsets d e) p behind r t is further)
 
-  pub piece_twice : (o : Option Reference) → piece_reference p behind ≡ o → IfSome o (λ r. IsSome (displaced d r)) → IfSome o (λ r. IsSome (displaced (offsets d e) r)) → moved_piece e (moved_piece d p behind) behind' ≡ moved_piece (offsets d e) p behind
+  pub piece_twice : (o : Option Reference) → piece_reference p behind ≡ o →
+      IfSome o (λ r. IsSome (displaced d r)) → IfSome o (λ r. IsSome (displaced (offsets d e) r)) →
+      moved_piece e (moved_piece d p behind) behind' ≡ moved_piece (offsets d e) p behind
   piece_twice None is stays stays' = plain_twice is
   piece_twice (Some r) is stays stays' =
-      let known = subst (λ o. IfSome o (λ r. IsInWorksheet r × (p.kind ≡ word_kind))) is (piece_reference_word p behind) in
-      let formed = subst (λ o. IfSome o (λ r. IsFormed r × (is_name_before behind ≡ false))) is (piece_reference_formed p behind) in
-      by_answers (displaced d r) (displaced (offsets d e) r) refl refl stays stays' known.0 formed.0 formed.1 where
-        by_answers : (a b : Option Reference) → displaced d r ≡ a → displaced (offsets d e) r ≡ b → IsSome a → IsSome b → IsInWorksheet r → IsFormed r → is_name_before behind ≡ false → moved_piece e (moved_piece d p behind) behind' ≡ moved_piece (offsets d e) p behind
-        by_answers (Some s) (Some t) there further stays stays' inside formed none = reference_moved_twice r s t is inside formed none there further
+      let known = subst (λ o. IfSome o (λ r. IsInWorksheet r × (p.kind ≡ word_kind))) is
+      (piece_reference_word p behind) in
+      let formed = subst (λ o. IfSome o (λ r. IsFormed r × (is_name_before behind ≡ false))) is
+      (piece_reference_formed p behind) in
+      by_answers (displaced d r)
+      (displaced (offsets d e) r) refl refl stays stays' known.0 formed.0 formed.1 where
+        by_answers : (a b : Option Reference) → displaced d r ≡ a → displaced (offsets d e) r ≡ b →
+            IsSome a → IsSome b → IsInWorksheet r → IsFormed r → is_name_before behind ≡ false →
+            moved_piece e (moved_piece d p behind) behind' ≡ moved_piece (offsets d e) p behind
+        by_answers (Some s) (Some t) there further stays stays' inside formed none =
+            reference_moved_twice r s t is inside formed none there further
         by_answers (Some s) None there further stays stays' inside formed none = cc
         by_answers None b there further stays stays' inside formed none = cc
 
@@ -210,58 +306,89 @@ module _ (d e : ℤ × ℤ) (p : PieceText) (behind behind' : Option ℕ) (alike
 abbrev AllStay : ℤ × ℤ → List Reference → Type 0
 AllStay d rs = All (λ r. IsSome (displaced d r)) rs
 
-front_stays : (d : ℤ × ℤ) (o : Option Reference) (rs : List Reference) → AllStay d (option_to_list o ++ rs) → IfSome o (λ r. IsSome (displaced d r)) × AllStay d rs
+front_stays : (d : ℤ × ℤ) (o : Option Reference) (rs : List Reference) →
+    AllStay d (option_to_list o ++ rs) → IfSome o (λ r. IsSome (displaced d r)) × AllStay d rs
 front_stays d None rs stay = (tt, stay)
-front_stays d (Some r) rs stay = (All-head (λ r. IsSome (displaced d r)) r rs stay, All-tail (λ r. IsSome (displaced d r)) r rs stay)
+front_stays d (Some r) rs stay = (
+  All-head (λ r. IsSome (displaced d r)) r rs stay,
+  All-tail (λ r. IsSome (displaced d r)) r rs stay,
+)
 
-pieces_twice : (d e : ℤ × ℤ) (ps : List PieceText) → AreCut ps → AllStay d (references ps) → AllStay (offsets d e) (references ps) → moved_pieces e (moved_pieces d ps) ≡ moved_pieces (offsets d e) ps
+pieces_twice : (d e : ℤ × ℤ) (ps : List PieceText) → AreCut ps → AllStay d (references ps) →
+    AllStay (offsets d e) (references ps) →
+    moved_pieces e (moved_pieces d ps) ≡ moved_pieces (offsets d e) ps
 pieces_twice d e [] cut stay stay' = refl
 pieces_twice d e (p ∷ ps) cut stay stay' =
     let o = piece_reference p (first_byte (joined_pieces ps)) in
     let here = front_stays d o (references ps) stay in
     let here' = front_stays (offsets d e) o (references ps) stay' in
-    let one = piece_twice d e p (first_byte (joined_pieces ps)) (first_byte (joined_pieces (moved_pieces d ps))) (name_kept d ps cut.1) o refl here.0 here'.0 in
+    let one = piece_twice d e p (first_byte (joined_pieces ps))
+    (first_byte (joined_pieces (moved_pieces d ps)))
+    (name_kept d ps cut.1) o refl here.0 here'.0 in
     let others = pieces_twice d e ps cut.1 here.1 here'.1 in
     (λ i. one i ∷ others i)
 
-pub moved-moved : (text : List ℕ) (d e : ℤ × ℤ) → All (λ r. IsSome (displaced d r)) (references (pieces text)) → All (λ r. IsSome (displaced (offsets d e) r)) (references (pieces text)) → moved (moved text d) e ≡ moved text (offsets d e)
+pub moved-moved : (text : List ℕ) (d e : ℤ × ℤ) →
+    All (λ r. IsSome (displaced d r)) (references (pieces text)) →
+    All (λ r. IsSome (displaced (offsets d e) r)) (references (pieces text)) →
+    moved (moved text d) e ≡ moved text (offsets d e)
 unfolding moved
 moved-moved text d e stay stay' =
-    ap (λ ps. joined_pieces (moved_pieces e ps)) (pieces-moved text d) ∙ ap joined_pieces (pieces_twice d e (pieces text) (are_cut-pieces text) stay stay')
+    ap (λ ps. joined_pieces (moved_pieces e ps)) (pieces-moved text d)
+    ∙ ap joined_pieces (pieces_twice d e (pieces text) (are_cut-pieces text) stay stay')
 
 -- ---- between positions
 
 -- a reference inside is not moved by nothing
-place_stays : (limit : ℕ) (absolute : Bool) (p : ℕ) → p < limit → displaced_place limit (pos 0) absolute p ≡ Some p
+place_stays : (limit : ℕ) (absolute : Bool) (p : ℕ) → p < limit →
+    displaced_place limit (pos 0) absolute p ≡ Some p
 place_stays limit true p below = refl
 place_stays limit false p below = ap (λ n. place_within limit (pos n)) (add-zero p) ∙ by_test where
   by_test : place_within limit (pos p) ≡ Some p
   by_test = grind (arith, nat_tests)
 
-corner_stays : (corner : Corner) → IsCornerInside corner → displaced_corner (pos 0, pos 0) corner ≡ Some corner
-corner_stays (Cell row col absolute_row absolute_col) inside = λ i. cell_corner absolute_row absolute_col (place_stays MAX_ROWS absolute_row row inside.0 i) (place_stays MAX_COLUMNS absolute_col col inside.1 i)
-corner_stays (Row row absolute) inside = ap (option_map (λ n. Row n absolute)) (place_stays MAX_ROWS absolute row inside)
-corner_stays (Column col absolute) inside = ap (option_map (λ n. Column n absolute)) (place_stays MAX_COLUMNS absolute col inside)
+corner_stays : (corner : Corner) → IsCornerInside corner →
+    displaced_corner (pos 0, pos 0) corner ≡ Some corner
+corner_stays (Cell row col absolute_row absolute_col) inside =
+    λ i. cell_corner absolute_row absolute_col (place_stays MAX_ROWS absolute_row row inside.0 i)
+    (place_stays MAX_COLUMNS absolute_col col inside.1 i)
+corner_stays (Row row absolute) inside =
+    ap (option_map (λ n. Row n absolute)) (place_stays MAX_ROWS absolute row inside)
+corner_stays (Column col absolute) inside =
+    ap (option_map (λ n. Column n absolute)) (place_stays MAX_COLUMNS absolute col inside)
 
-by_parts_stays : (first : Corner) (second : Option Corner) → IsCornerInside first → IfSome second IsCornerInside → displaced_by (pos 0, pos 0) first second ≡ Some (record { first = first; second = second })
-by_parts_stays first None inside inside' = ap (option_map (λ moved. record { first = moved; second = None })) (corner_stays first inside)
-by_parts_stays first (Some second) inside inside' = λ i. both_corners (corner_stays first inside i) (corner_stays second inside' i)
+by_parts_stays : (first : Corner) (second : Option Corner) → IsCornerInside first →
+    IfSome second IsCornerInside →
+    displaced_by (pos 0, pos 0) first second ≡ Some (record { first = first; second = second })
+by_parts_stays first None inside inside' =
+    ap (option_map (λ moved. record { first = moved; second = None })) (corner_stays first inside)
+by_parts_stays first (Some second) inside inside' =
+    λ i. both_corners (corner_stays first inside i) (corner_stays second inside' i)
 
 reference_stays : (r : Reference) → IsInWorksheet r → IsSome (displaced (pos 0, pos 0) r)
 unfolding displaced
-reference_stays r inside = subst IsSome (sym (by_parts_stays r.first r.second inside.0 inside.1)) refl
+reference_stays r inside =
+    subst IsSome (sym (by_parts_stays r.first r.second inside.0 inside.1)) refl
 
 pieces_stay : (ps : List PieceText) → AllStay (pos 0, pos 0) (references ps)
 pieces_stay [] = All-nil (λ r. IsSome (displaced (pos 0, pos 0) r))
-pieces_stay (p ∷ ps) = one (piece_reference p (first_byte (joined_pieces ps))) (piece_reference_word p (first_byte (joined_pieces ps))) (pieces_stay ps) where
-  one : (o : Option Reference) → IfSome o (λ r. IsInWorksheet r × (p.kind ≡ word_kind)) → AllStay (pos 0, pos 0) (references ps) → AllStay (pos 0, pos 0) (option_to_list o ++ references ps)
-  one None inside stay = stay
-  one (Some r) inside stay = All-cons (λ r. IsSome (displaced (pos 0, pos 0) r)) r (references ps) (reference_stays r inside.0) stay
+pieces_stay (p ∷ ps) =
+    one (piece_reference p (first_byte (joined_pieces ps)))
+    (piece_reference_word p (first_byte (joined_pieces ps))) (pieces_stay ps) where
+      one : (o : Option Reference) → IfSome o (λ r. IsInWorksheet r × (p.kind ≡ word_kind)) →
+          AllStay (pos 0, pos 0) (references ps) →
+          AllStay (pos 0, pos 0) (option_to_list o ++ references ps)
+      one None inside stay = stay
+      one (Some r) inside stay =
+          All-cons (λ r. IsSome (displaced (pos 0, pos 0) r)) r (references ps)
+          (reference_stays r inside.0) stay
 
 way : (a b c : ℕ × ℕ) → offsets (offset_between a b) (offset_between b c) ≡ offset_between a c
 way a b c =
-    let rows : (pos b.0 -ℤ pos a.0) +ℤ (pos c.0 -ℤ pos b.0) ≡ pos c.0 -ℤ pos a.0 = omega (arith, ints) in
-    let columns : (pos b.1 -ℤ pos a.1) +ℤ (pos c.1 -ℤ pos b.1) ≡ pos c.1 -ℤ pos a.1 = omega (arith, ints) in
+    let rows : (pos b.0 -ℤ pos a.0) +ℤ (pos c.0 -ℤ pos b.0) ≡ pos c.0 -ℤ pos a.0 =
+    omega (arith, ints) in
+    let columns : (pos b.1 -ℤ pos a.1) +ℤ (pos c.1 -ℤ pos b.1) ≡ pos c.1 -ℤ pos a.1 =
+    omega (arith, ints) in
     (λ i. (rows i, columns i))
 
 no_way : (a : ℕ × ℕ) → offset_between a a ≡ (pos 0, pos 0)
@@ -270,17 +397,26 @@ no_way a =
     let columns : pos a.1 -ℤ pos a.1 ≡ pos 0 = omega (arith, ints) in
     (λ i. (rows i, columns i))
 
-pub compose : (text : List ℕ) (a b c : ℕ × ℕ) → NoneLeaves (offset_between a b) text → NoneLeaves (offset_between a c) text → moved (moved text (offset_between a b)) (offset_between b c) ≡ moved text (offset_between a c)
+pub compose : (text : List ℕ) (a b c : ℕ × ℕ) → NoneLeaves (offset_between a b) text →
+    NoneLeaves (offset_between a c) text →
+    moved (moved text (offset_between a b)) (offset_between b c) ≡ moved text (offset_between a c)
 compose text a b c stay stay' =
-    moved-moved text (offset_between a b) (offset_between b c) stay (subst (λ d. NoneLeaves d text) (sym (way a b c)) stay') ∙ ap (moved text) (way a b c)
+    moved-moved text (offset_between a b) (offset_between b c) stay
+    (subst (λ d. NoneLeaves d text) (sym (way a b c)) stay') ∙ ap (moved text) (way a b c)
 
-pub there_and_back : (text : List ℕ) (a b : ℕ × ℕ) → NoneLeaves (offset_between a b) text → moved (moved text (offset_between a b)) (offset_between b a) ≡ moved text (pos 0, pos 0)
+pub there_and_back : (text : List ℕ) (a b : ℕ × ℕ) → NoneLeaves (offset_between a b) text →
+    moved (moved text (offset_between a b)) (offset_between b a) ≡ moved text (pos 0, pos 0)
 there_and_back text a b stay =
-    compose text a b a stay (subst (λ d. NoneLeaves d text) (sym (no_way a)) (pieces_stay (pieces text))) ∙ ap (moved text) (no_way a)
+    compose text a b a stay
+    (subst (λ d. NoneLeaves d text) (sym (no_way a)) (pieces_stay (pieces text)))
+    ∙ ap (moved text) (no_way a)
 
 -- what a Word names is spelled so that it reads back
-pub word_reads_back : (word : List ℕ) → IfSome (word_reference word) (λ r. word_reference (spelling r) ≡ Some r)
-word_reads_back word = by_answer (word_reference word) (word_reference_inside word) (word_reference_formed word) where
-  by_answer : (o : Option Reference) → IfSome o IsInWorksheet → IfSome o IsFormed → IfSome o (λ r. word_reference (spelling r) ≡ Some r)
-  by_answer None inside formed = tt
-  by_answer (Some r) inside formed = reference_reads_back r inside formed
+pub word_reads_back : (word : List ℕ) →
+    IfSome (word_reference word) (λ r. word_reference (spelling r) ≡ Some r)
+word_reads_back word =
+    by_answer (word_reference word) (word_reference_inside word) (word_reference_formed word) where
+      by_answer : (o : Option Reference) → IfSome o IsInWorksheet → IfSome o IsFormed →
+          IfSome o (λ r. word_reference (spelling r) ≡ Some r)
+      by_answer None inside formed = tt
+      by_answer (Some r) inside formed = reference_reads_back r inside formed

@@ -1,5 +1,6 @@
 -- A text is a cell without `$` exactly where it is read as that position.
-use Rattle.std.proofs.Common.{◌≡◌, ℕ, zero, suc, ◌+◌, ◌<◌, Bool, true, false, cond, List, [], ◌∷◌, length, Option, None, Some, refl, sym, ap, ap₂, ◌∙◌, inl, inr, arith}
+use Rattle.std.proofs.Common.{◌≡◌, ℕ, zero, suc, ◌+◌, ◌<◌, Bool, true, false, cond, List, [], ◌∷◌}
+use Rattle.std.proofs.Common.{length, Option, None, Some, refl, sym, ap, ap₂, ◌∙◌, inl, inr, arith}
 use Rattle.std.specs.Prelude.{◌==◌, ◌↔◌, Ok, nat_lt, take_while, option_map}
 use Rattle.std.specs.Char.{is_ascii_digit, is_ascii_alphabetic}
 use Rattle.std.specs.List.{list_all}
@@ -7,12 +8,14 @@ use Rattle.std.specs.Str.Parse.{digits_value}
 use Rattle.std.proofs.lemmas.Bool.{cases_Bool, ltb-true}
 use Rattle.std.proofs.lemmas.Bool.Decides.{nat_tests}
 use Rattle.std.proofs.lemmas.List.Sums.{take_while-cons}
-use Rattle.cell_refs.specs.A1.{row_limit, column_limit, letters_value, letters_of, behind_letters, corner}
+use Rattle.cell_refs.specs.A1.{row_limit, column_limit, letters_value, letters_of, behind_letters}
+use Rattle.cell_refs.specs.A1.{corner}
 use Rattle.cell_refs.proofs.PositionParts.{WritesRow, WritesColumn, corner-ok, corner_from-written}
 use Rattle.cell_refs.proofs.ReadBack.{corner_from_parts}
 use Rattle.formula_shift.specs.declared.corner.Corner.{Corner}
 use Rattle.formula_shift.specs.declared.corner.Corner.TheVariants.{Cell, Row, Column}
-use Rattle.formula_shift.specs.References.{place_numbered, column_named, row_named, has_dollar, behind_dollar, cell_corner, corner_by, corner_of}
+use Rattle.formula_shift.specs.References.{place_numbered, column_named, row_named, has_dollar}
+use Rattle.formula_shift.specs.References.{behind_dollar, cell_corner, corner_by, corner_of}
 use Rattle.formula_shift.proofs.Composing.{cell_parts, mapped_part}
 use Rattle.formula_shift.proofs.ReadBack.{place_numbered_next}
 
@@ -28,17 +31,20 @@ row_named-written digits row in_row =
 row_named-some : (digits : List ℕ) (row : ℕ) → row_named digits ≡ Some row → WritesRow digits row
 row_named-some digits row is = by_test (list_all is_ascii_digit digits) refl is where
   by_test : (t : Bool) → list_all is_ascii_digit digits ≡ t →
-      cond t (place_numbered 1048576 (digits_value 10 digits)) None ≡ Some row → WritesRow digits row
+      cond t (place_numbered 1048576 (digits_value 10 digits)) None ≡ Some row →
+      WritesRow digits row
   by_test true all is =
       let place = place_numbered-some 1048576 (digits_value 10 digits) row is in
       record { are_digits = all; value = place.0; inside = place.1 }
   by_test false all is = absurd cc
 
-column_named-written : (letters : List ℕ) (column : ℕ) → WritesColumn letters column → column_named letters ≡ Some column
+column_named-written : (letters : List ℕ) (column : ℕ) → WritesColumn letters column →
+    column_named letters ≡ Some column
 column_named-written letters column in_column =
     rw in_column.value (place_numbered_next 16384 column in_column.inside)
 
-column_named-some : (letters : List ℕ) (column : ℕ) → column_named letters ≡ Some column → WritesColumn letters column
+column_named-some : (letters : List ℕ) (column : ℕ) → column_named letters ≡ Some column →
+    WritesColumn letters column
 column_named-some letters column is =
     let place = place_numbered-some 16384 (letters_value letters) column is in
     record { value = place.0; inside = place.1 }
@@ -50,15 +56,18 @@ no_dollar-letter (b ∷ bs) some =
     elim (cases_Bool (is_ascii_alphabetic b)) [
       | inl letter ↦ grind (arith, nat_tests)
       | inr none ↦
-          let empty : letters_of (b ∷ bs) ≡ [] = take_while-cons is_ascii_alphabetic b bs ∙ rw none refl in
+          let empty : letters_of (b ∷ bs) ≡ [] = take_while-cons is_ascii_alphabetic b bs
+          ∙ rw none refl in
           absurd (omega (arith, ap letters_value empty))
     ]
 
-no_dollar-digit : (b : ℕ) (bs : List ℕ) → list_all is_ascii_digit (b ∷ bs) ≡ true → (b == 36) ≡ false
+no_dollar-digit : (b : ℕ) (bs : List ℕ) → list_all is_ascii_digit (b ∷ bs) ≡ true →
+    (b == 36) ≡ false
 no_dollar-digit b bs all =
     elim (cases_Bool (is_ascii_digit b)) [
       | inl digit ↦ grind (arith, nat_tests)
-      | inr none ↦ absurd (let e = all in let f : list_all is_ascii_digit (b ∷ bs) ≡ false = rw none refl in cc)
+      | inr none ↦ absurd (let e = all in let f : list_all is_ascii_digit (b ∷ bs) ≡ false =
+          rw none refl in cc)
     ]
 
 behind_dollar-none : (text : List ℕ) → has_dollar text ≡ false → behind_dollar text ≡ text
@@ -66,7 +75,8 @@ behind_dollar-none [] none = refl
 behind_dollar-none (b ∷ bs) none = rw none refl
 
 corner_by-written : (letters digits : List ℕ) (row column : ℕ) → WritesRow digits row →
-    WritesColumn letters column → corner_by false letters digits ≡ Some (Cell row column false false)
+    WritesColumn letters column →
+    corner_by false letters digits ≡ Some (Cell row column false false)
 corner_by-written [] digits row column in_row in_column = absurd (omega (arith, in_column.value))
 corner_by-written (c ∷ cs) [] row column in_row in_column = absurd (omega (arith, in_row.value))
 corner_by-written (c ∷ cs) (b ∷ bs) row column in_row in_column =
@@ -89,13 +99,16 @@ corner_by-some : (absolute : Bool) (letters behind : List ℕ) (row column : ℕ
     corner_by absolute letters behind ≡ Some (Cell row column false false) →
     (absolute ≡ false) × WritesRow behind row × WritesColumn letters column
 corner_by-some absolute [] behind row column is =
-    let part = mapped_part (λ r. Row r absolute) (row_named behind) (Cell row column false false) is in
+    let part = mapped_part (λ r. Row r absolute) (row_named behind)
+    (Cell row column false false) is in
     absurd (let e = part.2 in cc)
 corner_by-some absolute (c ∷ cs) [] row column is =
-    let part = mapped_part (λ r. Column r absolute) (column_named (c ∷ cs)) (Cell row column false false) is in
+    let part = mapped_part (λ r. Column r absolute) (column_named (c ∷ cs))
+    (Cell row column false false) is in
     absurd (let e = part.2 in cc)
 corner_by-some absolute (c ∷ cs) (b ∷ bs) row column is =
-    let parts = cell_parts (b == 36) absolute (row_named (behind_dollar (b ∷ bs))) (column_named (c ∷ cs))
+    let parts = cell_parts (b == 36) absolute (row_named (behind_dollar (b ∷ bs)))
+    (column_named (c ∷ cs))
     (Cell row column false false) is in
     let same = parts.4 in
     let none : (b == 36) ≡ false = cc in
@@ -110,7 +123,8 @@ position-corner_of : (text : List ℕ) (row column : ℕ) →
 unfolding corner_of
 position-corner_of text row column is =
     let rest = behind_dollar text in
-    let parts = corner_by-some (has_dollar text) (letters_of rest) (behind_letters rest) row column is in
+    let parts = corner_by-some (has_dollar text) (letters_of rest)
+    (behind_letters rest) row column is in
     let whole = behind_dollar-none text parts.0 in
     corner_from_parts text (letters_of rest) (behind_letters rest) (ap letters_of (sym whole))
     (ap behind_letters (sym whole))

@@ -1,12 +1,18 @@
 -- Pieces that are cut alike: where each piece ends, whatever follows of the same kind.
-use Rattle.std.proofs.Common.{◌≡◌, ℕ, zero, suc, ◌<◌, Bool, true, false, cond, not, ◌||◌, eqb, List, [], ◌∷◌, ◌++◌, length, take, drop, Option, None, Some, sym, refl, ap, ◌∙◌, subst, inl, inr, arith}
+use Rattle.std.proofs.Common.{◌≡◌, ℕ, zero, suc, ◌<◌, Bool, true, false, cond, not, ◌||◌, eqb, List}
+use Rattle.std.proofs.Common.{[], ◌∷◌, ◌++◌, length, take, drop, Option, None, Some, sym, refl, ap}
+use Rattle.std.proofs.Common.{◌∙◌, subst, inl, inr, arith}
 use Rattle.std.proofs.lemmas.Bool.{cases_eq}
 use Rattle.std.proofs.lemmas.Bool.Decides.{nat_tests}
 use Rattle.std.proofs.lemmas.List.{take-append-drop, length-take-le, take_at, drop_at}
 use Rattle.std.specs.List.{prefix_len}
-use Rattle.formula_shift.specs.Pieces.{PieceKind, string_kind, quoted_kind, group_kind, word_kind, other_kind, PieceText, kind_of, string_length, quoted_length, group_length, is_word_byte, is_other_byte, length_behind, pieces_behind, pieces, joined_pieces}
+use Rattle.formula_shift.specs.Pieces.{PieceKind, string_kind, quoted_kind, group_kind, word_kind}
+use Rattle.formula_shift.specs.Pieces.{other_kind, PieceText, kind_of, string_length, quoted_length}
+use Rattle.formula_shift.specs.Pieces.{group_length, is_word_byte, is_other_byte, length_behind}
+use Rattle.formula_shift.specs.Pieces.{pieces_behind, pieces, joined_pieces}
 use Rattle.formula_shift.specs.Relocation.{is_word}
-use Rattle.formula_shift.proofs.Cutting.{length_behind-le, joined_pieces-pieces_behind, pieces-nil, pieces-cons}
+use Rattle.formula_shift.proofs.Cutting.{length_behind-le, joined_pieces-pieces_behind, pieces-nil}
+use Rattle.formula_shift.proofs.Cutting.{pieces-cons}
 
 abbrev is_quoted : PieceKind → Bool
 is_quoted quoted_kind = true
@@ -17,7 +23,9 @@ is_other other_kind = true
 is_other _ = false
 
 -- a fact of a byte and its kind, from the three bytes that begin a kind alone and from all others
-kind_by : (P : ℕ → PieceKind → Type 0) → P 34 string_kind → P 39 quoted_kind → P 91 group_kind → ((c : ℕ) → eqb c 34 ≡ false → eqb c 39 ≡ false → eqb c 91 ≡ false → P c (cond (is_word_byte c) word_kind other_kind)) → (c : ℕ) → P c (kind_of c)
+kind_by : (P : ℕ → PieceKind → Type 0) → P 34 string_kind → P 39 quoted_kind → P 91 group_kind →
+    ((c : ℕ) → eqb c 34 ≡ false → eqb c 39 ≡ false → eqb c 91 ≡ false →
+    P c (cond (is_word_byte c) word_kind other_kind)) → (c : ℕ) → P c (kind_of c)
 kind_by P quote apostrophe bracket others c =
     elim (cases_eq c 34) [
       | inl e ↦ subst (λ c. P c (kind_of c)) (sym e) quote
@@ -35,22 +43,27 @@ kind_by P quote apostrophe bracket others c =
     ]
 
 quoted_is : (c : ℕ) → is_quoted (kind_of c) ≡ eqb c 39
-quoted_is c = kind_by (λ c k. is_quoted k ≡ eqb c 39) refl refl refl (λ c a b d. by_word c (is_word_byte c) b) c where
-  by_word : (c : ℕ) (w : Bool) → eqb c 39 ≡ false → is_quoted (cond w word_kind other_kind) ≡ eqb c 39
-  by_word c true e = sym e
-  by_word c false e = sym e
+quoted_is c = kind_by (λ c k. is_quoted k ≡ eqb c 39) refl refl refl
+    (λ c a b d. by_word c (is_word_byte c) b) c where
+      by_word : (c : ℕ) (w : Bool) → eqb c 39 ≡ false →
+          is_quoted (cond w word_kind other_kind) ≡ eqb c 39
+      by_word c true e = sym e
+      by_word c false e = sym e
 
 pub word_is : (c : ℕ) → is_word (kind_of c) ≡ is_word_byte c
-word_is c = kind_by (λ c k. is_word k ≡ is_word_byte c) refl refl refl (λ c a b d. by_word (is_word_byte c)) c where
-  by_word : (w : Bool) → is_word (cond w word_kind other_kind) ≡ w
-  by_word true = refl
-  by_word false = refl
+word_is c = kind_by (λ c k. is_word k ≡ is_word_byte c) refl refl refl
+    (λ c a b d. by_word (is_word_byte c)) c where
+      by_word : (w : Bool) → is_word (cond w word_kind other_kind) ≡ w
+      by_word true = refl
+      by_word false = refl
 
 other_is : (c : ℕ) → is_other (kind_of c) ≡ is_other_byte c
-other_is c = kind_by (λ c k. is_other k ≡ is_other_byte c) refl refl refl (λ c a b d. by_word (is_word_byte c) (eqb c 34) (eqb c 39) (eqb c 91) a b d) c where
-  by_word : (w a b d : Bool) → a ≡ false → b ≡ false → d ≡ false → is_other (cond w word_kind other_kind) ≡ not (w || a || b || d)
-  by_word true a b d x y z = grind arith
-  by_word false a b d x y z = grind arith
+other_is c = kind_by (λ c k. is_other k ≡ is_other_byte c) refl refl refl
+    (λ c a b d. by_word (is_word_byte c) (eqb c 34) (eqb c 39) (eqb c 91) a b d) c where
+      by_word : (w a b d : Bool) → a ≡ false → b ≡ false → d ≡ false →
+          is_other (cond w word_kind other_kind) ≡ not (w || a || b || d)
+      by_word true a b d x y z = grind arith
+      by_word false a b d x y z = grind arith
 
 -- the kind of the piece that a text begins with
 abbrev pub first_kind : List ℕ → Option PieceKind
@@ -68,16 +81,19 @@ group_positive inner c [] = omega arith
 group_positive zero c (d ∷ r) = grind arith
 group_positive (suc inner) c (d ∷ r) = grind arith
 
--- Where a piece's bytes end before one text, they end before any other that begins with a piece of the
+-- Where a piece's bytes end before one text, they end before any other that begins with a piece of
+-- the
 -- same kind, or is empty with it. bs are the bytes behind the first.
-string_keeps : (bs rest rest' : List ℕ) → first_kind rest ≡ first_kind rest' → string_length (bs ++ rest) ≡ length bs → string_length (bs ++ rest') ≡ length bs
+string_keeps : (bs rest rest' : List ℕ) → first_kind rest ≡ first_kind rest' →
+    string_length (bs ++ rest) ≡ length bs → string_length (bs ++ rest') ≡ length bs
 unfolding string_length
 string_keeps [] [] [] alike ends = refl
 string_keeps [] [] (c' ∷ r') alike ends = cc
 string_keeps [] (c ∷ r) rest' alike ends = absurd (grind arith)
 string_keeps (b ∷ bs) rest rest' alike ends = grind (arith, string_keeps bs rest rest' alike)
 
-quoted_keeps : (bs rest rest' : List ℕ) → first_kind rest ≡ first_kind rest' → quoted_length (bs ++ rest) ≡ length bs → quoted_length (bs ++ rest') ≡ length bs
+quoted_keeps : (bs rest rest' : List ℕ) → first_kind rest ≡ first_kind rest' →
+    quoted_length (bs ++ rest) ≡ length bs → quoted_length (bs ++ rest') ≡ length bs
 unfolding quoted_length
 quoted_keeps [] [] [] alike ends = refl
 quoted_keeps [] [] (c' ∷ r') alike ends = cc
@@ -90,9 +106,11 @@ quoted_keeps (b ∷ []) (c ∷ r) (c' ∷ r') alike ends =
     let same : kind_of c ≡ kind_of c' = cc in
     let apostrophes : eqb c 39 ≡ eqb c' 39 = sym (quoted_is c) ∙ ap is_quoted same ∙ quoted_is c' in
     grind (arith, quoted_positive c r)
-quoted_keeps (b ∷ c ∷ bs) rest rest' alike ends = grind (arith, quoted_keeps bs rest rest' alike, quoted_keeps (c ∷ bs) rest rest' alike)
+quoted_keeps (b ∷ c ∷ bs) rest rest' alike ends =
+    grind (arith, quoted_keeps bs rest rest' alike, quoted_keeps (c ∷ bs) rest rest' alike)
 
-group_keeps : (inner : ℕ) (bs rest rest' : List ℕ) → first_kind rest ≡ first_kind rest' → group_length inner (bs ++ rest) ≡ length bs → group_length inner (bs ++ rest') ≡ length bs
+group_keeps : (inner : ℕ) (bs rest rest' : List ℕ) → first_kind rest ≡ first_kind rest' →
+    group_length inner (bs ++ rest) ≡ length bs → group_length inner (bs ++ rest') ≡ length bs
 unfolding group_length
 group_keeps inner [] [] [] alike ends = refl
 group_keeps inner [] [] (c' ∷ r') alike ends = cc
@@ -102,35 +120,64 @@ group_keeps (suc inner) [] (c ∷ d ∷ r) rest' alike ends = absurd (grind arit
 group_keeps inner (b ∷ []) [] [] alike ends = refl
 group_keeps inner (b ∷ []) [] (c' ∷ r') alike ends = cc
 group_keeps inner (b ∷ []) (c ∷ r) [] alike ends = cc
-group_keeps zero (b ∷ []) (c ∷ r) (c' ∷ r') alike ends = grind (arith, group_positive 1 c r, group_positive zero c r)
-group_keeps (suc inner) (b ∷ []) (c ∷ r) (c' ∷ r') alike ends = absurd (grind (arith, group_positive (suc (suc inner)) c r, group_positive inner c r, group_positive (suc inner) c r))
-group_keeps zero (b ∷ c ∷ bs) rest rest' alike ends = grind (arith, group_keeps zero bs rest rest' alike, group_keeps 1 (c ∷ bs) rest rest' alike, group_keeps zero (c ∷ bs) rest rest' alike)
-group_keeps (suc inner) (b ∷ c ∷ bs) rest rest' alike ends = grind (arith, group_keeps (suc inner) bs rest rest' alike, group_keeps (suc (suc inner)) (c ∷ bs) rest rest' alike, group_keeps inner (c ∷ bs) rest rest' alike, group_keeps (suc inner) (c ∷ bs) rest rest' alike)
+group_keeps zero (b ∷ []) (c ∷ r) (c' ∷ r') alike ends =
+    grind (arith, group_positive 1 c r, group_positive zero c r)
+group_keeps (suc inner) (b ∷ []) (c ∷ r) (c' ∷ r') alike ends =
+    absurd (grind (
+      arith,
+      group_positive (suc (suc inner)) c r,
+      group_positive inner c r,
+      group_positive (suc inner) c r,
+    ))
+group_keeps zero (b ∷ c ∷ bs) rest rest' alike ends =
+    grind (
+      arith,
+      group_keeps zero bs rest rest' alike,
+      group_keeps 1 (c ∷ bs) rest rest' alike,
+      group_keeps zero (c ∷ bs) rest rest' alike,
+    )
+group_keeps (suc inner) (b ∷ c ∷ bs) rest rest' alike ends =
+    grind (
+      arith,
+      group_keeps (suc inner) bs rest rest' alike,
+      group_keeps (suc (suc inner)) (c ∷ bs) rest rest' alike,
+      group_keeps inner (c ∷ bs) rest rest' alike,
+      group_keeps (suc inner) (c ∷ bs) rest rest' alike,
+    )
 
 -- whether a text begins with a byte that passes
 abbrev pub begins : (ℕ → Bool) → List ℕ → Bool
 begins p [] = false
 begins p (b ∷ bs) = p b
 
-run_keeps : (p : ℕ → Bool) (bs rest rest' : List ℕ) → begins p rest ≡ begins p rest' → prefix_len p (bs ++ rest) ≡ length bs → prefix_len p (bs ++ rest') ≡ length bs
+run_keeps : (p : ℕ → Bool) (bs rest rest' : List ℕ) → begins p rest ≡ begins p rest' →
+    prefix_len p (bs ++ rest) ≡ length bs → prefix_len p (bs ++ rest') ≡ length bs
 run_keeps p [] [] [] alike ends = refl
 run_keeps p [] [] (c' ∷ r') alike ends = grind arith
 run_keeps p [] (c ∷ r) [] alike ends = grind arith
 run_keeps p [] (c ∷ r) (c' ∷ r') alike ends = grind arith
 run_keeps p (b ∷ bs) rest rest' alike ends = grind (arith, run_keeps p bs rest rest' alike)
 
-pub begins_alike : (p : ℕ → Bool) (q : PieceKind → Bool) → ((c : ℕ) → q (kind_of c) ≡ p c) → (rest rest' : List ℕ) → first_kind rest ≡ first_kind rest' → begins p rest ≡ begins p rest'
+pub begins_alike : (p : ℕ → Bool) (q : PieceKind → Bool) → ((c : ℕ) → q (kind_of c) ≡ p c) →
+    (rest rest' : List ℕ) → first_kind rest ≡ first_kind rest' → begins p rest ≡ begins p rest'
 begins_alike p q is [] [] alike = refl
 begins_alike p q is [] (c' ∷ r') alike = cc
 begins_alike p q is (c ∷ r) [] alike = cc
-begins_alike p q is (c ∷ r) (c' ∷ r') alike = let same : kind_of c ≡ kind_of c' = cc in sym (is c) ∙ ap q same ∙ is c'
+begins_alike p q is (c ∷ r) (c' ∷ r') alike = let same : kind_of c ≡ kind_of c' = cc in sym (is c)
+    ∙ ap q same ∙ is c'
 
-pub length_behind_keeps : (kind : PieceKind) (bs rest rest' : List ℕ) → first_kind rest ≡ first_kind rest' → length_behind kind (bs ++ rest) ≡ length bs → length_behind kind (bs ++ rest') ≡ length bs
+pub length_behind_keeps : (kind : PieceKind) (bs rest rest' : List ℕ) →
+    first_kind rest ≡ first_kind rest' → length_behind kind (bs ++ rest) ≡ length bs →
+    length_behind kind (bs ++ rest') ≡ length bs
 length_behind_keeps string_kind bs rest rest' alike ends = string_keeps bs rest rest' alike ends
 length_behind_keeps quoted_kind bs rest rest' alike ends = quoted_keeps bs rest rest' alike ends
 length_behind_keeps group_kind bs rest rest' alike ends = group_keeps 0 bs rest rest' alike ends
-length_behind_keeps word_kind bs rest rest' alike ends = run_keeps is_word_byte bs rest rest' (begins_alike is_word_byte is_word word_is rest rest' alike) ends
-length_behind_keeps other_kind bs rest rest' alike ends = run_keeps is_other_byte bs rest rest' (begins_alike is_other_byte is_other other_is rest rest' alike) ends
+length_behind_keeps word_kind bs rest rest' alike ends =
+    run_keeps is_word_byte bs rest rest'
+    (begins_alike is_word_byte is_word word_is rest rest' alike) ends
+length_behind_keeps other_kind bs rest rest' alike ends =
+    run_keeps is_other_byte bs rest rest'
+    (begins_alike is_other_byte is_other other_is rest rest' alike) ends
 
 -- a piece stands before a text where its bytes are what belongs to the first piece of both together
 pub record StandsBefore (p : PieceText) (rest : List ℕ) : Type 0 where
@@ -156,7 +203,10 @@ are_cut_behind zero (b ∷ bs) =
         behind = take m bs;
         bytes_are = refl;
         kind_is = refl;
-        ends = ap (λ rest. length_behind (kind_of b) (take m bs ++ rest)) (joined_pieces-pieces_behind m bs) ∙ ap (length_behind (kind_of b)) (take-append-drop m bs) ∙ sym (length-take-le m bs (length_behind-le (kind_of b) bs));
+        ends = ap (λ rest. length_behind (kind_of b) (take m bs ++ rest))
+            (joined_pieces-pieces_behind m bs)
+            ∙ ap (length_behind (kind_of b)) (take-append-drop m bs)
+            ∙ sym (length-take-le m bs (length_behind-le (kind_of b) bs));
       },
       are_cut_behind m bs,
     )
@@ -166,18 +216,28 @@ unfolding pieces
 are_cut-pieces text = are_cut_behind 0 text
 
 -- such pieces are those that their text is cut into
-first_of_joined : (p : PieceText) (rest : List ℕ) → StandsBefore p rest → pieces (p.bytes ++ rest) ≡ p ∷ pieces rest
+first_of_joined : (p : PieceText) (rest : List ℕ) → StandsBefore p rest →
+    pieces (p.bytes ++ rest) ≡ p ∷ pieces rest
 first_of_joined p rest stands =
     let b = stands.first in
     let bs = stands.behind in
-    let counted : length_behind (kind_of b) (bs ++ rest) ≡ length bs = ap (λ k. length_behind k (bs ++ rest)) (sym stands.kind_is) ∙ stands.ends in
-    let cut : pieces (b ∷ (bs ++ rest)) ≡ record { kind = kind_of b; bytes = b ∷ take (length bs) (bs ++ rest) } ∷ pieces (drop (length bs) (bs ++ rest)) =
-    subst (λ k. pieces (b ∷ (bs ++ rest)) ≡ record { kind = kind_of b; bytes = b ∷ take k (bs ++ rest) } ∷ pieces (drop k (bs ++ rest))) counted (pieces-cons b (bs ++ rest)) in
+    let counted : length_behind (kind_of b) (bs ++ rest) ≡ length bs =
+    ap (λ k. length_behind k (bs ++ rest)) (sym stands.kind_is) ∙ stands.ends in
+    let cut : pieces (b ∷ (bs ++ rest))
+    ≡ record { kind = kind_of b; bytes = b ∷ take (length bs) (bs ++ rest) } ∷ pieces
+    (drop (length bs) (bs ++ rest)) =
+    subst (λ k. pieces (b ∷ (bs ++ rest))
+    ≡ record { kind = kind_of b; bytes = b ∷ take k (bs ++ rest) } ∷ pieces
+    (drop k (bs ++ rest))) counted (pieces-cons b (bs ++ rest)) in
     let front : take (length bs) (bs ++ rest) ≡ bs = take_at bs rest (length bs) refl in
     let after : drop (length bs) (bs ++ rest) ≡ rest = drop_at bs rest (length bs) refl in
-    let whole : record { kind = kind_of b; bytes = b ∷ bs } ≡ p = λ i. record { kind = sym stands.kind_is i; bytes = sym stands.bytes_are i } in
-    ap (λ t. pieces (t ++ rest)) stands.bytes_are ∙ cut ∙ (λ i. record { kind = kind_of b; bytes = b ∷ front i } ∷ pieces (after i)) ∙ ap (λ q. q ∷ pieces rest) whole
+    let whole : record { kind = kind_of b; bytes = b ∷ bs } ≡ p =
+    λ i. record { kind = sym stands.kind_is i; bytes = sym stands.bytes_are i } in
+    ap (λ t. pieces (t ++ rest)) stands.bytes_are ∙ cut
+    ∙ (λ i. record { kind = kind_of b; bytes = b ∷ front i } ∷ pieces (after i))
+    ∙ ap (λ q. q ∷ pieces rest) whole
 
 pub pieces-joined_pieces : (ps : List PieceText) → AreCut ps → pieces (joined_pieces ps) ≡ ps
 pieces-joined_pieces [] cut = pieces-nil
-pieces-joined_pieces (p ∷ ps) cut = first_of_joined p (joined_pieces ps) cut.0 ∙ ap (λ qs. p ∷ qs) (pieces-joined_pieces ps cut.1)
+pieces-joined_pieces (p ∷ ps) cut = first_of_joined p (joined_pieces ps) cut.0
+    ∙ ap (λ qs. p ∷ qs) (pieces-joined_pieces ps cut.1)

@@ -1,5 +1,6 @@
 -- The pieces of a formula. A text is a list of bytes.
-use Rattle.std.specs.Prelude.{ℕ, zero, suc, ◌==◌, ◌||◌, not, Bool, List, [], ◌∷◌, take, if◌then◌else◌}
+use Rattle.std.specs.Prelude.{ℕ, zero, suc, ◌==◌, ◌||◌, not, Bool, List, [], ◌∷◌, take}
+use Rattle.std.specs.Prelude.{if◌then◌else◌}
 use Rattle.std.specs.List.{prefix_len, flat_map}
 use Rattle.std.specs.Char.{is_ascii_alphanumeric}
 use Rattle.formula_shift.specs.declared.piece.Piece.{Piece}
@@ -29,7 +30,8 @@ piece_text (Other text) = record { kind = other_kind; bytes = text.now }
 
 -- ASCII letters, digits and \ . _ $ :
 abbrev pub is_word_byte : ℕ → Bool
-is_word_byte b = is_ascii_alphanumeric b || (b == 92) || (b == 46) || (b == 95) || (b == 36) || (b == 58)
+is_word_byte b = is_ascii_alphanumeric b || (b == 92) || (b == 46) || (b == 95) || (b == 36) ||
+    (b == 58)
 
 -- bytes that begin no other kind of piece
 abbrev pub is_other_byte : ℕ → Bool
@@ -93,7 +95,8 @@ pieces_behind n [] = []
 pieces_behind zero (b ∷ bs) = first_piece b bs ∷ pieces_behind (length_behind (kind_of b) bs) bs
 pieces_behind (suc n) (b ∷ bs) = pieces_behind n bs
 
--- the pieces of a text: none of an empty one, else the piece that it begins with and the pieces of the rest
+-- the pieces of a text: none of an empty one, else the piece that it begins with and the pieces of
+-- the rest
 unfoldable pub pieces : List ℕ → List PieceText
 pieces text = pieces_behind 0 text
 

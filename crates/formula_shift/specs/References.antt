@@ -1,10 +1,13 @@
 -- References: what a Word names, the same moved by an offset, and its canonical spelling. Rows and
 -- columns are counted from 0; in a text rows are counted from 1.
-use Rattle.std.specs.Prelude.{ℕ, zero, suc, ◌+◌, ◌<◌, ◌==◌, nat_lt, Bool, true, false, if◌then◌else◌, List, [], ◌∷◌, ◌++◌, take, drop, position, Option, None, Some, IfSome, option_map, ℤ, pos, negsuc, ◌+ℤ◌, decimal}
+use Rattle.std.specs.Prelude.{ℕ, zero, suc, ◌+◌, ◌<◌, ◌==◌, nat_lt, Bool, true, false}
+use Rattle.std.specs.Prelude.{if◌then◌else◌, List, [], ◌∷◌, ◌++◌, take, drop, position, Option}
+use Rattle.std.specs.Prelude.{None, Some, IfSome, option_map, ℤ, pos, negsuc, ◌+ℤ◌, decimal}
 use Rattle.std.specs.Char.{is_ascii_digit}
 use Rattle.std.specs.List.{list_all}
 use Rattle.std.specs.Str.Parse.{digits_value}
-use Rattle.cell_refs.specs.A1.{row_limit, column_limit, letters_value, letters_of, behind_letters, column_name}
+use Rattle.cell_refs.specs.A1.{row_limit, column_limit, letters_value, letters_of, behind_letters}
+use Rattle.cell_refs.specs.A1.{column_name}
 use Rattle.formula_shift.specs.declared.corner.Corner.{Corner}
 use Rattle.formula_shift.specs.declared.corner.Corner.TheVariants.{Cell, Row, Column}
 use Rattle.formula_shift.specs.declared.reference.Reference.{Reference}
@@ -20,7 +23,8 @@ column_named letters = place_numbered column_limit (letters_value letters)
 
 abbrev pub row_named : List ℕ → Option ℕ
 row_named digits =
-    if list_all is_ascii_digit digits then place_numbered row_limit (digits_value 10 digits) else None
+    if list_all is_ascii_digit digits then place_numbered row_limit
+    (digits_value 10 digits) else None
 
 -- whether a text begins with a $, and what follows it
 abbrev pub has_dollar : List ℕ → Bool
@@ -32,7 +36,8 @@ behind_dollar [] = []
 behind_dollar (b ∷ bs) = if b == 36 then bs else b ∷ bs
 
 abbrev pub cell_corner : Bool → Bool → Option ℕ → Option ℕ → Option Corner
-cell_corner absolute_row absolute_col (Some row) (Some col) = Some (Cell row col absolute_row absolute_col)
+cell_corner absolute_row absolute_col (Some row) (Some col) =
+    Some (Cell row col absolute_row absolute_col)
 cell_corner absolute_row absolute_col (Some row) None = None
 cell_corner absolute_row absolute_col None col = None
 
@@ -42,12 +47,14 @@ abbrev pub corner_by : Bool → List ℕ → List ℕ → Option Corner
 corner_by absolute [] behind = option_map (λ row. Row row absolute) (row_named behind)
 corner_by absolute (c ∷ cs) [] = option_map (λ col. Column col absolute) (column_named (c ∷ cs))
 corner_by absolute (c ∷ cs) (b ∷ bs) =
-    cell_corner (has_dollar (b ∷ bs)) absolute (row_named (behind_dollar (b ∷ bs))) (column_named (c ∷ cs))
+    cell_corner (has_dollar (b ∷ bs)) absolute (row_named (behind_dollar (b ∷ bs)))
+    (column_named (c ∷ cs))
 
 -- the corner that a text names, if any
 unfoldable pub corner_of : List ℕ → Option Corner
 corner_of text =
-    corner_by (has_dollar text) (letters_of (behind_dollar text)) (behind_letters (behind_dollar text))
+    corner_by (has_dollar text) (letters_of (behind_dollar text))
+    (behind_letters (behind_dollar text))
 
 -- a corner alone is a reference where it is a cell
 abbrev pub alone : Option Corner → Option Reference
@@ -58,7 +65,8 @@ alone (Some (Row row absolute)) = None
 alone (Some (Column col absolute)) = None
 
 abbrev pub same_kind : Corner → Corner → Bool
-same_kind (Cell row col absolute_row absolute_col) (Cell row' col' absolute_row' absolute_col') = true
+same_kind (Cell row col absolute_row absolute_col) (Cell row' col' absolute_row' absolute_col') =
+    true
 same_kind (Row row absolute) (Row row' absolute') = true
 same_kind (Column col absolute) (Column col' absolute') = true
 same_kind (Cell row col absolute_row absolute_col) (Row row' absolute') = false

@@ -1,5 +1,8 @@
--- A formula's text moved to another cell: every reference is moved by the offset, all else stays.
-use Rattle.std.specs.Prelude.{ℕ, ◌==◌, ◌||◌, ◌&&◌, not, Bool, true, false, if◌then◌else◌, List, [], ◌∷◌, Option, None, Some, option_map, option_and_then, unwrap_or, option_to_list, IsSome, All, ◌++◌, ℤ, pos, ◌-ℤ◌}
+-- A formula's text moved to another cell: a reference that would leave the worksheet stays, every other
+-- one is moved by the offset and spelled anew, and all else stays.
+use Rattle.std.specs.Prelude.{ℕ, ◌==◌, ◌||◌, ◌&&◌, not, Bool, true, false, if◌then◌else◌, List, []}
+use Rattle.std.specs.Prelude.{◌∷◌, Option, None, Some, option_map, option_and_then, unwrap_or}
+use Rattle.std.specs.Prelude.{option_to_list, IsSome, All, ◌++◌, ℤ, pos, ◌-ℤ◌}
 use Rattle.formula_shift.specs.Pieces.{PieceKind, word_kind, PieceText, pieces, joined_pieces}
 use Rattle.formula_shift.specs.References.{word_reference, displaced, spelling}
 use Rattle.formula_shift.specs.declared.reference.Reference.{Reference}
@@ -29,7 +32,8 @@ piece_reference piece behind =
 -- the references among the pieces of a text
 abbrev pub references : List PieceText → List Reference
 references [] = []
-references (p ∷ ps) = option_to_list (piece_reference p (first_byte (joined_pieces ps))) ++ references ps
+references (p ∷ ps) =
+    option_to_list (piece_reference p (first_byte (joined_pieces ps))) ++ references ps
 
 -- no reference of a text would leave the worksheet by the offset
 abbrev pub NoneLeaves : ℤ × ℤ → List ℕ → Type 0
@@ -39,15 +43,18 @@ NoneLeaves offset text = All (λ r. IsSome (displaced offset r)) (references (pi
 abbrev pub word_of : Reference → PieceText
 word_of reference = record { kind = word_kind; bytes = spelling reference }
 
--- a piece moved by an offset, where this byte is behind it: a reference that does not leave the worksheet
+-- a piece moved by an offset, where this byte is behind it: a reference that does not leave the
+-- worksheet
 -- is spelled anew, all else stays
 abbrev pub moved_piece : ℤ × ℤ → PieceText → Option ℕ → PieceText
 moved_piece offset piece behind =
-    unwrap_or (option_map word_of (option_and_then (displaced offset) (piece_reference piece behind))) piece
+    unwrap_or (option_map word_of
+    (option_and_then (displaced offset) (piece_reference piece behind))) piece
 
 abbrev pub moved_pieces : ℤ × ℤ → List PieceText → List PieceText
 moved_pieces offset [] = []
-moved_pieces offset (p ∷ ps) = moved_piece offset p (first_byte (joined_pieces ps)) ∷ moved_pieces offset ps
+moved_pieces offset (p ∷ ps) =
+    moved_piece offset p (first_byte (joined_pieces ps)) ∷ moved_pieces offset ps
 
 -- a text moved by an offset
 unfoldable pub moved : List ℕ → ℤ × ℤ → List ℕ

@@ -1,14 +1,19 @@
-ghost use Rattle.std.specs.Prelude.{◌≡◌, ◌+◌, ◌<◌, ◌≤◌, ◌++◌, length, IfSome, OnOk, OnErr, string_bytes, string_len, string_capacity};
+ghost use Rattle.std.specs.Prelude.{◌≡◌, ◌+◌, ◌<◌, ◌≤◌, ◌++◌, length, IfSome, OnOk, OnErr};
+ghost use Rattle.std.specs.Prelude.{string_bytes, string_len, string_capacity};
 ghost use Rattle.std.specs.List.{AllPass, prefix_len};
 ghost use Rattle.std.specs.Char.{is_ascii_alphabetic};
-ghost use Rattle.formula_shift.specs.References.{corner_of, corner_by, column_named, row_named, has_dollar, behind_dollar, same_kind, displaced_place, displaced_corner, corner_spelling, IsCornerInside};
+ghost use Rattle.formula_shift.specs.References.{corner_of, corner_by, column_named, row_named};
+ghost use Rattle.formula_shift.specs.References.{has_dollar, behind_dollar, same_kind};
+ghost use Rattle.formula_shift.specs.References.{displaced_place, displaced_corner};
+ghost use Rattle.formula_shift.specs.References.{corner_spelling, IsCornerInside};
 ghost use Rattle.cell_refs.specs.A1.{letters_of, behind_letters};
 
 use crate::spelling::{column_len, push_column, push_row, row_len};
 use cell_refs::{MAX_COLUMNS, MAX_ROWS};
 use std::alloc::AllocError;
 
-/// A cell, a row or a column, counted from 0. An absolute part has a `$`: it stays where others move.
+/// A cell, a row or a column, counted from 0. An absolute part has a `$`: it stays where others
+/// move.
 #[derive(Clone, Copy, Debug, PartialEq, Eq)]
 pub enum Corner {
     Cell {
@@ -28,7 +33,8 @@ pub enum Corner {
 }
 
 impl Corner {
-    /// The corner that a text names: letters for a column, a number from 1 for a row, both for a cell,
+    /// The corner that a text names: letters for a column, a number from 1 for a row, both for a
+    /// cell,
     /// each with or without a `$` before it. `None` where it names none, or none in a worksheet.
     pub fn parse(text: &str) -> Option<Corner>
         ensures value { result ≡ corner_of text.now }
@@ -91,10 +97,13 @@ impl Corner {
     // Appends the canonical spelling. On `Err` the buffer had no room for it, and may hold a part.
     pub(crate) fn push_to(self, out: &mut String) -> Result<(), AllocError>
         requires { IsCornerInside self }
-        ensures ok { OnOk result (string_bytes out.new ≡ string_bytes out.old ++ corner_spelling self) }
-        ensures len { OnOk result (string_len out.new ≡ string_len out.old + length (corner_spelling self)) }
+        ensures ok { OnOk result
+            (string_bytes out.new ≡ string_bytes out.old ++ corner_spelling self) }
+        ensures len { OnOk result
+            (string_len out.new ≡ string_len out.old + length (corner_spelling self)) }
         ensures capacity { string_capacity out.old ≤ string_capacity out.new }
-        ensures full { OnErr result (string_capacity out.old < string_len out.old + length (corner_spelling self)) }
+        ensures full { OnErr result
+            (string_capacity out.old < string_len out.old + length (corner_spelling self)) }
     {
         match self {
             Corner::Cell {

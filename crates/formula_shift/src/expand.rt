@@ -1,21 +1,27 @@
-ghost use Rattle.std.specs.Prelude.{◌≡◌, ◌+◌, ◌<◌, ◌≤◌, ◌++◌, [], length, IfOk, IfSome, OnOk, OnErr, IsOk, option_and_then, string_bytes, string_len, string_capacity};
+ghost use Rattle.std.specs.Prelude.{◌≡◌, ◌+◌, ◌<◌, ◌≤◌, ◌++◌, [], length, IfOk, IfSome, OnOk};
+ghost use Rattle.std.specs.Prelude.{OnErr, IsOk, option_and_then, string_bytes, string_len};
+ghost use Rattle.std.specs.Prelude.{string_capacity};
 ghost use Rattle.formula_shift.specs.Pieces.{piece_text};
 ghost use Rattle.formula_shift.specs.References.{displaced, IsInWorksheet};
-ghost use Rattle.formula_shift.specs.Relocation.{offset_between, first_byte, is_name_before, piece_reference, moved_piece, moved};
+ghost use Rattle.formula_shift.specs.Relocation.{offset_between, first_byte, is_name_before};
+ghost use Rattle.formula_shift.specs.Relocation.{piece_reference, moved_piece, moved};
 
 use crate::piece::{Piece, Pieces};
 use crate::reference::Reference;
 use std::alloc::{AllocError, Global};
 
-/// The formula of the cell at `start`, a row and a column counted from 0, as it stands in the cell at
-/// `end`: each reference is moved by the way between them, all else is as written.
+/// The formula of the cell at `start`, a row and a column counted from 0, as it stands in the cell
+/// at
+/// `end`: each reference is moved by the way between them and spelled anew, but one that would leave
+/// the worksheet stays, as all else does.
 pub fn expand_shared_formula(
     alloc: Global,
     formula: &str,
     start: (u32, u32),
     end: (u32, u32),
 ) -> Result<String, AllocError>
-    ensures { IfOk result (λ text. string_bytes text ≡ moved formula.now (offset_between start end)) }
+    ensures { IfOk result
+        (λ text. string_bytes text ≡ moved formula.now (offset_between start end)) }
 {
     let mut out = String::new(alloc);
     expand_shared_formula_into(formula, start, end, &mut out)?;
@@ -32,7 +38,8 @@ pub fn expand_shared_formula_into(
 ) -> Result<(), AllocError>
     ensures ok { OnOk result (string_bytes out.new ≡ moved formula.now (offset_between start end)) }
     ensures err { OnErr result (string_bytes out.new ≡ []) }
-    ensures room { length (moved formula.now (offset_between start end)) ≤ string_capacity out.old → IsOk result }
+    ensures room { length (moved formula.now (offset_between start end)) ≤ string_capacity out.old →
+        IsOk result }
     ensures capacity { string_capacity out.old ≤ string_capacity out.new }
 {
     out.clear();
@@ -70,9 +77,11 @@ fn offset_between(start: (u32, u32), end: (u32, u32)) -> (i64, i64)
 
 // Appends the moved text of a formula. On `Err` the buffer had no room for it, and may hold a part.
 fn push_moved(out: &mut String, formula: &str, offset: (i64, i64)) -> Result<(), AllocError>
-    ensures ok { OnOk result (string_bytes out.new ≡ string_bytes out.old ++ moved formula.now offset) }
+    ensures ok { OnOk result
+        (string_bytes out.new ≡ string_bytes out.old ++ moved formula.now offset) }
     ensures capacity { string_capacity out.old ≤ string_capacity out.new }
-    ensures full { OnErr result (string_capacity out.old < string_len out.old + length (moved formula.now offset)) }
+    ensures full { OnErr result
+        (string_capacity out.old < string_len out.old + length (moved formula.now offset)) }
 {
     let mut pieces = Pieces::new(formula);
     while let Some(piece) = pieces.next() {
@@ -106,7 +115,8 @@ fn push_piece(
 
 // How many bytes `push_piece` appends.
 fn moved_len(piece: Piece<'_>, rest: &str, offset: (i64, i64)) -> usize
-    ensures { result ≡ length (moved_piece offset (piece_text piece.entry) (first_byte rest.now)).bytes }
+    ensures { result ≡ length
+        (moved_piece offset (piece_text piece.entry) (first_byte rest.now)).bytes }
 {
     match moved_reference(piece, rest, offset) {
         Some(reference) => reference.spelled_len(),

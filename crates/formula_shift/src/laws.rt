@@ -1,9 +1,13 @@
-ghost use Rattle.std.specs.Prelude.{◌≡◌, ◌↔◌, ℕ, false, Some, Ok, IfSome, pos, suc, ◌+◌, [], ◌∷◌, ◌++◌, List, ℤ, length, drop, encode_utf8};
-ghost use Rattle.formula_shift.specs.Pieces.{kind_of, group_length, length_behind, first_piece, pieces, joined_pieces};
+ghost use Rattle.std.specs.Prelude.{◌≡◌, ◌↔◌, ℕ, false, Some, Ok, IfSome, pos, suc, ◌+◌, [], ◌∷◌};
+ghost use Rattle.std.specs.Prelude.{◌++◌, List, ℤ, length, drop, encode_utf8};
+ghost use Rattle.formula_shift.specs.Pieces.{kind_of, group_length, length_behind, first_piece};
+ghost use Rattle.formula_shift.specs.Pieces.{pieces, joined_pieces};
 ghost use Rattle.cell_refs.specs.A1.{column_name, corner};
 ghost use Rattle.cell_refs.specs.Reference.{reference, row_reference};
-ghost use Rattle.formula_shift.specs.References.{corner_of, corner_spelling, word_reference, spelling};
-ghost use Rattle.formula_shift.specs.Relocation.{NoneLeaves, offset_between, moved_pieces, references, moved};
+ghost use Rattle.formula_shift.specs.References.{corner_of, corner_spelling, word_reference};
+ghost use Rattle.formula_shift.specs.References.{spelling};
+ghost use Rattle.formula_shift.specs.Relocation.{NoneLeaves, offset_between, moved_pieces};
+ghost use Rattle.formula_shift.specs.Relocation.{references, moved};
 
 use crate::Corner;
 
@@ -35,15 +39,18 @@ pub fn moved_text_is_cut_into_the_moved_pieces()
 
 /// A text without a reference is its own expansion.
 pub fn text_without_reference_stays()
-    ensures { (text : List ℕ) (offset : ℤ × ℤ) → references (pieces text) ≡ [] → moved text offset ≡ text }
+    ensures { (text : List ℕ) (offset : ℤ × ℤ) → references (pieces text) ≡ [] →
+        moved text offset ≡ text }
 {}
 
 /// A reference that a Word names, spelled, is the Word of that reference again.
 pub fn spelling_reads_back()
-    ensures { (word : List ℕ) → IfSome (word_reference word) (λ r. word_reference (spelling r) ≡ Some r) }
+    ensures { (word : List ℕ) →
+        IfSome (word_reference word) (λ r. word_reference (spelling r) ≡ Some r) }
 {}
 
-/// Where no reference of a text leaves the worksheet from a to b, and none from a to c, expanding from a
+/// Where no reference of a text leaves the worksheet from a to b, and none from a to c, expanding
+/// from a
 /// to b and then from b to c gives the expansion from a to c.
 pub fn expansions_compose()
     ensures { (text : List ℕ) (a b c : ℕ × ℕ) →
@@ -62,7 +69,8 @@ pub fn expansion_and_back_is_the_canonical_spelling()
 /// are spelled as positions, rows and columns are.
 pub fn corners_are_positions()
     ensures read { (text : List ℕ) (row column : ℕ) →
-        corner text ≡ Ok (row, column) ↔ corner_of text ≡ Some (Corner.Cell row column false false) }
+        corner text ≡ Ok (row, column)
+        ↔ corner_of text ≡ Some (Corner.Cell row column false false) }
     ensures cell { (row column : ℕ) →
         corner_spelling (Corner.Cell row column false false) ≡ reference (row, column) }
     ensures row { (row : ℕ) → corner_spelling (Corner.Row row false) ≡ row_reference row }

@@ -1,6 +1,8 @@
 ghost use Rattle.std.specs.Prelude.{◌≡◌, ◌≤◌, length};
 ghost use Rattle.std.specs.List.{prefix_len};
-ghost use Rattle.formula_shift.specs.Pieces.{piece_text, kind_of, string_length, quoted_length, group_length, length_behind, is_word_byte, is_other_byte, joined_pieces, pieces};
+ghost use Rattle.formula_shift.specs.Pieces.{piece_text, kind_of, string_length, quoted_length};
+ghost use Rattle.formula_shift.specs.Pieces.{group_length, length_behind, is_word_byte};
+ghost use Rattle.formula_shift.specs.Pieces.{is_other_byte, joined_pieces, pieces};
 
 /// A piece of a formula. Its first byte decides which.
 #[derive(Clone, Copy, Debug, PartialEq, Eq)]
@@ -33,7 +35,8 @@ impl<'a> Piece<'a> {
     }
 }
 
-/// The pieces of a formula, from the left. Joined they are the formula; one that is not closed runs to
+/// The pieces of a formula, from the left. Joined they are the formula; one that is not closed runs
+/// to
 /// the formula's end.
 #[derive(Clone, Copy, Debug)]
 pub struct Pieces<'a> {

@@ -1,5 +1,8 @@
-ghost use Rattle.std.specs.Prelude.{◌≡◌, ◌==◌, ◌+◌, ◌<◌, ◌≤◌, ◌++◌, if◌then◌else◌, length, IfSome, Some, OnOk, OnErr, is_ok, position, string_bytes, string_len, string_capacity};
-ghost use Rattle.formula_shift.specs.References.{word_reference, alone, range_of, same_kind, displaced, spelling, IsInWorksheet};
+ghost use Rattle.std.specs.Prelude.{◌≡◌, ◌==◌, ◌+◌, ◌<◌, ◌≤◌, ◌++◌, if◌then◌else◌, length, IfSome};
+ghost use Rattle.std.specs.Prelude.{Some, OnOk, OnErr, is_ok, position, string_bytes, string_len};
+ghost use Rattle.std.specs.Prelude.{string_capacity};
+ghost use Rattle.formula_shift.specs.References.{word_reference, alone, range_of, same_kind};
+ghost use Rattle.formula_shift.specs.References.{displaced, spelling, IsInWorksheet};
 
 use crate::corner::Corner;
 use std::alloc::AllocError;
@@ -48,9 +51,11 @@ impl Reference {
     pub fn push_to(self, out: &mut String) -> Result<(), AllocError>
         requires { IsInWorksheet self }
         ensures bytes { string_bytes out.new
-            ≡ (if is_ok result then string_bytes out.old ++ spelling self else string_bytes out.old) }
+            ≡ (if is_ok result then string_bytes out.old ++ spelling self
+            else string_bytes out.old) }
         ensures capacity { string_capacity out.old ≤ string_capacity out.new }
-        ensures full { OnErr result (string_capacity out.old < string_len out.old + length (spelling self)) }
+        ensures full { OnErr result
+            (string_capacity out.old < string_len out.old + length (spelling self)) }
     {
         out.reserve(self.spelled_len())?;
         // There is room now.
@@ -63,9 +68,11 @@ impl Reference {
     fn push_parts(self, out: &mut String) -> Result<(), AllocError>
         requires { IsInWorksheet self }
         ensures ok { OnOk result (string_bytes out.new ≡ string_bytes out.old ++ spelling self) }
-        ensures len { OnOk result (string_len out.new ≡ string_len out.old + length (spelling self)) }
+        ensures len { OnOk result
+            (string_len out.new ≡ string_len out.old + length (spelling self)) }
         ensures capacity { string_capacity out.old ≤ string_capacity out.new }
-        ensures full { OnErr result (string_capacity out.old < string_len out.old + length (spelling self)) }
+        ensures full { OnErr result
+            (string_capacity out.old < string_len out.old + length (spelling self)) }
     {
         self.first.push_to(out)?;
         if let Some(corner) = self.second {

@@ -1,4 +1,5 @@
-ghost use Rattle.std.specs.Prelude.{◌≡◌, ◌+◌, ◌<◌, ◌≤◌, ◌++◌, length, decimal, OnOk, OnErr, string_bytes, string_len, string_capacity};
+ghost use Rattle.std.specs.Prelude.{◌≡◌, ◌+◌, ◌<◌, ◌≤◌, ◌++◌, length, decimal, OnOk, OnErr};
+ghost use Rattle.std.specs.Prelude.{string_bytes, string_len, string_capacity};
 ghost use Rattle.cell_refs.specs.A1.{row_limit, column_limit, column_name};
 ghost use Rattle.formula_shift.specs.References.{dollar};
 
@@ -12,7 +13,8 @@ fn push_dollar(out: &mut String, absolute: bool) -> Result<(), AllocError>
     ensures ok { OnOk result (string_bytes out.new ≡ string_bytes out.old ++ dollar absolute) }
     ensures len { OnOk result (string_len out.new ≡ string_len out.old + length (dollar absolute)) }
     ensures capacity { string_capacity out.old ≤ string_capacity out.new }
-    ensures full { OnErr result (string_capacity out.old < string_len out.old + length (dollar absolute)) }
+    ensures full { OnErr result
+        (string_capacity out.old < string_len out.old + length (dollar absolute)) }
 {
     if absolute {
         out.push('$')?;
@@ -29,7 +31,8 @@ pub(crate) fn push_row(out: &mut String, row: u32, absolute: bool) -> Result<(),
         (string_len out.new ≡ string_len out.old + length (dollar absolute ++ decimal (row + 1))) }
     ensures capacity { string_capacity out.old ≤ string_capacity out.new }
     ensures full { OnErr result
-        (string_capacity out.old < string_len out.old + length (dollar absolute ++ decimal (row + 1))) }
+        (string_capacity out.old
+        < string_len out.old + length (dollar absolute ++ decimal (row + 1))) }
 {
     push_dollar(out, absolute)?;
     push_row_reference(out, row)?;
@@ -45,7 +48,8 @@ pub(crate) fn push_column(out: &mut String, col: u32, absolute: bool) -> Result<
         (string_len out.new ≡ string_len out.old + length (dollar absolute ++ column_name col)) }
     ensures capacity { string_capacity out.old ≤ string_capacity out.new }
     ensures full { OnErr result
-        (string_capacity out.old < string_len out.old + length (dollar absolute ++ column_name col)) }
+        (string_capacity out.old
+        < string_len out.old + length (dollar absolute ++ column_name col)) }
 {
     push_dollar(out, absolute)?;
     push_column_name(out, col)?;

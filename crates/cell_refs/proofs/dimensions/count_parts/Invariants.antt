@@ -8,7 +8,8 @@ use Rattle.cell_refs.proofs.dimensions.count_parts.Given as goal
 abbrev pub invariant-loop-part : goal.invariant-loop-part
 invariant-loop-part l = record {
   is_text : IsUtf8 l.rest;
-  counted : corner_count (corners (parts l.dimension)) ≡ counted_behind l.before (corner_count (corners (parts l.rest)));
+  counted : corner_count (corners (parts l.dimension))
+      ≡ counted_behind l.before (corner_count (corners (parts l.rest)));
   small : l.before + length l.rest ≤ length l.dimension;
 }
 

@@ -6,5 +6,6 @@ use Rattle.cell_refs.proofs.position.leading_column.Goals as goal
 pub returns-then-not-is_ascii_alphabetic-clause-number : goal.returns-then-not-is_ascii_alphabetic-clause-number
 returns-then-not-is_ascii_alphabetic-clause-number c =
     letters_value_is c.args.text.now c.loop-i.i c.loop-i.number
-    (letters_end c.args.text.now c.loop-i.i (omega arith) c.loop-i.invariant.letters (λ _. sym c.is_ascii_alphabetic.ensures.value ∙ c.if-not-is_ascii_alphabetic.true))
+    (letters_end c.args.text.now c.loop-i.i (omega arith) c.loop-i.invariant.letters
+    (λ _. sym c.is_ascii_alphabetic.ensures.value ∙ c.if-not-is_ascii_alphabetic.true))
     c.loop-i.invariant.number

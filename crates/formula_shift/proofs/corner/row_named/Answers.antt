@@ -14,7 +14,8 @@ pub loop-b-preserved : goal.loop-b-preserved
 loop-b-preserved c =
     let digits = c.args.digits.now in
     let i = c.loop-b.b-index in
-    let digit : is_ascii_digit (get_or digits i 0) ≡ true = sym c.if-not-is_ascii_digit.ensures.value in
+    let digit : is_ascii_digit (get_or digits i 0) ≡ true =
+    sym c.if-not-is_ascii_digit.ensures.value in
     record {
       value = omega (arith, digits_more digits i (omega arith) digit, c.from.ensures);
       digits = all_digits_more digits i (omega arith) c.loop-b.invariant.digits digit;

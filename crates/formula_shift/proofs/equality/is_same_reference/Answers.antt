@@ -1,4 +1,5 @@
-use Rattle.std.proofs.Common.{◌≡◌, Bool, true, false, ◌&&◌, Option, Some, None, refl, sym, ap, ap₂, ◌∙◌, rules}
+use Rattle.std.proofs.Common.{◌≡◌, Bool, true, false, ◌&&◌, Option, Some, None, refl, sym, ap, ap₂}
+use Rattle.std.proofs.Common.{◌∙◌, rules}
 use Rattle.std.specs.Option.{option_eq}
 use Rattle.std.specs.Cmp.{IsEquivalence}
 use Rattle.formula_shift.specs.declared.corner.Corner.{Corner}
@@ -26,7 +27,8 @@ same_reference : (a b : Reference) →
 same_reference a b is =
     let parts = both (corner.eq-value.it a.first b.first)
     (option_eq corner.eq-value.it a.second b.second) is in
-    ap₂ (λ (f : Corner) (s : Option Corner). let r : Reference = record { first = f; second = s } in r)
+    ap₂ (λ (f : Corner) (s : Option Corner). let r : Reference = record { first = f; second = s } in
+    r)
     (same_corner a.first b.first parts.0) (same_option a.second b.second parts.1)
 
 equal_option : (a : Option Corner) → option_eq corner.eq-value.it a a ≡ true
