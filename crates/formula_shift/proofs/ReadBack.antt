@@ -8,12 +8,13 @@ use Rattle.std.specs.Char.{is_ascii_digit, is_ascii_alphabetic}
 use Rattle.std.specs.List.{list_all, prefix_len, position_or_len}
 use Rattle.std.specs.Str.Parse.{digits_value}
 use Rattle.std.proofs.lemmas.Bool.Decides.{nat_tests}
-use Rattle.std.proofs.lemmas.Fmt.{decimal_by_steps, decimal_is_IsNumeral, decimal_nonempty}
+use Rattle.std.proofs.lemmas.Fmt.{decimal_is_IsNumeral, decimal_nonempty}
 use Rattle.std.proofs.lemmas.List.{take_at, drop_at, drop-drop}
 use Rattle.std.proofs.lemmas.List.Elements.{All-head, All-tail}
 use Rattle.std.proofs.lemmas.List.Folds.{list_all-append}
 use Rattle.cell_refs.specs.A1.{IsCapital, letters_of, behind_letters, letters_value, column_name}
 use Rattle.cell_refs.specs.declared.TheConstants.{MAX_ROWS, MAX_COLUMNS}
+use Rattle.cell_refs.proofs.References.{digits-decimal}
 use Rattle.cell_refs.proofs.Names.{letters_value-column_name, All-capital-column_name}
 use Rattle.formula_shift.specs.declared.corner.Corner.{Corner}
 use Rattle.formula_shift.specs.declared.corner.Corner.TheVariants.{Cell, Row, Column}
@@ -33,20 +34,9 @@ place_numbered_next limit n below = ap (place_numbered limit) (add-one n) ∙ by
   by_test : place_numbered limit (suc n) ≡ Some n
   by_test = grind (arith, nat_tests)
 
-all_digits : (n : ℕ) → n < 2 ^ 64 → list_all is_ascii_digit (decimal n) ≡ true
-all_digits = decimal_by_steps (λ n ds. list_all is_ascii_digit ds ≡ true)
-    (λ n small. one_digit n small)
-    (λ n ds large digits. list_all-append is_ascii_digit ds ((48 + n % 10) ∷ [])
-    ∙ (λ i. digits i && one_digit (n % 10) (omega arith) i)) where
-      is_digit : (d : ℕ) → d < 10 → is_ascii_digit (48 + d) ≡ true
-      is_digit d small = grind (arith, nat_tests)
-
-      one_digit : (d : ℕ) → d < 10 → list_all is_ascii_digit ((48 + d) ∷ []) ≡ true
-      one_digit d small = λ i. is_digit d small i && true
-
 row_read : (row : ℕ) → row < MAX_ROWS → row_named (decimal (row + 1)) ≡ Some row
 row_read row below =
-    let digits = all_digits (row + 1) (omega arith) in
+    let digits = digits-decimal (row + 1) (omega arith) in
     let value : digits_value 10 (decimal (row + 1)) ≡ row + 1 =
     (decimal_is_IsNumeral (row + 1) (omega arith)).1 in
     (λ i. cond (digits i) (place_numbered MAX_ROWS (value i)) None)
@@ -194,10 +184,10 @@ corner_reads_back (Cell row col absolute_row absolute_col) inside =
     cell_form absolute_row absolute_col (column_name col) (decimal (row + 1)) row col
     (name_nonempty col) (All-capital-column_name col)
     (decimal_nonempty (row + 1) (omega (arith, inside.0)))
-    (all_digits (row + 1) (omega (arith, inside.0))) (row_read row inside.0)
+    (digits-decimal (row + 1) (omega (arith, inside.0))) (row_read row inside.0)
     (column_read col inside.1)
 corner_reads_back (Row row absolute) inside =
-    row_form absolute (decimal (row + 1)) row (all_digits (row + 1) (omega arith))
+    row_form absolute (decimal (row + 1)) row (digits-decimal (row + 1) (omega arith))
     (row_read row inside)
 corner_reads_back (Column col absolute) inside =
     column_form absolute (column_name col) col (name_nonempty col) (All-capital-column_name col)
@@ -308,10 +298,10 @@ corner_no_colon (Cell row col absolute_row absolute_col) inside =
     (joined_no_colon (dollar absolute_col) (column_name col) (dollar_no_colon absolute_col)
     (name_no_colon (column_name col) (All-capital-column_name col)))
     (joined_no_colon (dollar absolute_row) (decimal (row + 1)) (dollar_no_colon absolute_row)
-    (number_no_colon (decimal (row + 1)) (all_digits (row + 1) (omega (arith, inside.0)))))
+    (number_no_colon (decimal (row + 1)) (digits-decimal (row + 1) (omega (arith, inside.0)))))
 corner_no_colon (Row row absolute) inside =
     joined_no_colon (dollar absolute) (decimal (row + 1)) (dollar_no_colon absolute)
-    (number_no_colon (decimal (row + 1)) (all_digits (row + 1) (omega arith)))
+    (number_no_colon (decimal (row + 1)) (digits-decimal (row + 1) (omega arith)))
 corner_no_colon (Column col absolute) inside =
     joined_no_colon (dollar absolute) (column_name col) (dollar_no_colon absolute)
     (name_no_colon (column_name col) (All-capital-column_name col))
