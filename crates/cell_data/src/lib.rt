@@ -1,8 +1,10 @@
 //! What the cells of a workbook hold, and why reading one fails.
 #![tactic(auto)]
 
+mod decimal;
 mod error;
 
+pub use decimal::Decimal;
 pub use error::XlsxError;
 
 #[cfg(test)]
