@@ -1,2 +1,6 @@
 pub mod Canonical
+pub mod Decimal
+pub mod Decimals
+pub mod Powers
+pub mod Significand
 pub mod XlsxError

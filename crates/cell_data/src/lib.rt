@@ -2,7 +2,9 @@
 #![tactic(auto)]
 
 mod decimal;
+mod decimal_text;
 mod error;
+mod significand;
 
 pub use decimal::Decimal;
 pub use error::XlsxError;

@@ -1,0 +1,4 @@
+pub mod Digits
+pub mod Parsed
+pub mod PowerLemmas
+pub mod Significands
