@@ -1,10 +1,16 @@
-ghost use Rattle.std.specs.Prelude.{◌≡◌, ◌%◌, ◌==◌, if◌then◌else◌, Some, pos, SomeIff, FitsSigned};
+ghost use Rattle.std.specs.Prelude.{◌≡◌, ◌%◌, ◌==◌, ◌++◌, string_bytes, OnOk, OnErr, if◌then◌else◌, Some, pos, SomeIff, FitsSigned};
 ghost use Rattle.std.specs.Int.{w128};
 ghost use Rattle.cell_data.specs.Canonical.{IsTrimmed};
 ghost use Rattle.cell_data.specs.Decimals.{with_sign};
 
+use crate::decimal_printing::{push_digits, push_sign};
 use crate::decimal_text::{behind_sign, moved_power, read_fraction, read_power};
 use crate::significand::Significand;
+use itoa::Buffer;
+use std::alloc::AllocError;
+
+// No text of a number is longer: a sign, the digits of 128 bits and twenty zeros.
+const LONGEST_TEXT: usize = 61;
 
 /// An exact decimal number: a whole number, times ten to a power.
 ///
@@ -32,7 +38,7 @@ fn signed(is_negative: bool, number: u128) -> Option<i128>
 
 impl Decimal {
     ghost use Rattle.std.specs.Option.{option_map};
-    ghost use Rattle.cell_data.specs.Decimals.{fitting, decimal_of};
+    ghost use Rattle.cell_data.specs.Decimals.{fitting, decimal_of, printed};
     ghost use Rattle.cell_data.specs.Decimal.{number_of};
 
     // The number times ten to the power, where both fit. It has no zeros at its end.
@@ -71,6 +77,22 @@ impl Decimal {
         let places = digits.count - whole.count;
         let power = moved_power(power, digits.zeros, places);
         Decimal::fitting(is_negative, digits.number, power)
+    }
+
+    /// Appends the text of the number: its digits, with zeros behind them or a point between them
+    /// where the power is from -20 to 20, and with the power as an exponent elsewhere.
+    ///
+    /// A refusal leaves the text as it was.
+    #[tactic(auto, using(crate::proofs::Printed::digits_short))]
+    pub fn push_to(&self, out: &mut String) -> Result<(), AllocError>
+        ensures ok { OnOk result (string_bytes out.new ≡ string_bytes out.old ++ printed (number_of self.now)) }
+        ensures err { OnErr result (string_bytes out.new ≡ string_bytes out.old) }
+    {
+        let mut buffer = Buffer::new();
+        let digits = buffer.format(self.mantissa.unsigned_abs());
+        out.reserve(LONGEST_TEXT)?;
+        push_sign(out, self.mantissa < 0)?;
+        push_digits(out, digits, self.exponent)
     }
 
     /// The whole number.

@@ -2,6 +2,7 @@
 #![tactic(auto)]
 
 mod decimal;
+mod decimal_printing;
 mod decimal_text;
 mod error;
 mod significand;
