@@ -2,4 +2,5 @@ pub mod Digits
 pub mod Parsed
 pub mod PowerLemmas
 pub mod Printed
+pub mod ReadsBack
 pub mod Significands

@@ -41,7 +41,7 @@ zero_alike (suc n) power =
     let some : suc n ≤ suc n * 10 ^ power = le-mul_of_pos_right (suc n) (one-le-pow power 10 (omega arith)) in
     grind (arith, nat_tests, some)
 
-number_is : (negative : Bool) (digits : List ℕ) (power : ℤ) (s : Significand) → Keeps s digits → number_of_digits negative digits power ≡ (if s.number == 0 then (pos 0, pos 0) else (with_sign negative s.number, power +ℤ pos s.zeros))
+pub number_is : (negative : Bool) (digits : List ℕ) (power : ℤ) (s : Significand) → Keeps s digits → number_of_digits negative digits power ≡ (if s.number == 0 then (pos 0, pos 0) else (with_sign negative s.number, power +ℤ pos s.zeros))
 number_is negative digits power s keeps =
     let test : (digits_value 10 digits == 0) ≡ (s.number == 0) = ap (λ n. n == 0) (sym keeps.value) ∙ zero_alike s.number s.zeros in
     rw (test, ← keeps.number, ← keeps.zeros) refl

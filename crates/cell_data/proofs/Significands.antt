@@ -33,7 +33,7 @@ kept_behind_zero digits =
     omega (arith, zeros_behind digits 48, length-append digits (48 ∷ []), within) in
     ap (λ k. take k (digits ++ 48 ∷ [])) places ∙ take-append-le (length digits - trailing_zeros digits) digits (48 ∷ []) (omega arith)
 
-take_whole : (xs : List ℕ) → take (length xs) xs ≡ xs
+pub take_whole : (xs : List ℕ) → take (length xs) xs ≡ xs
 take_whole [] = refl
 take_whole (x ∷ xs) = ap (λ ys. x ∷ ys) (take_whole xs)
 

@@ -87,12 +87,14 @@ impl Decimal {
     pub fn push_to(&self, out: &mut String) -> Result<(), AllocError>
         ensures ok { OnOk result (string_bytes out.new ≡ string_bytes out.old ++ printed (number_of self.now)) }
         ensures err { OnErr result (string_bytes out.new ≡ string_bytes out.old) }
+        ensures back { decimal_of (printed (number_of self.now)) ≡ Some (number_of self.now) }
     {
+        let power = self.exponent;
         let mut buffer = Buffer::new();
         let digits = buffer.format(self.mantissa.unsigned_abs());
         out.reserve(LONGEST_TEXT)?;
         push_sign(out, self.mantissa < 0)?;
-        push_digits(out, digits, self.exponent)
+        push_digits(out, digits, power)
     }
 
     /// The whole number.
