@@ -1,4 +1,5 @@
 pub mod Digits
+pub mod Formats
 pub mod Parsed
 pub mod PowerLemmas
 pub mod Printed

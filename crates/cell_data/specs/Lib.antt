@@ -1,6 +1,10 @@
 pub mod Canonical
+pub mod CellError
+pub mod CellValue
 pub mod Decimal
 pub mod Decimals
+pub mod NumberFormat
 pub mod Powers
+pub mod SignOf
 pub mod Significand
 pub mod XlsxError

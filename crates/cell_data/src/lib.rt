@@ -5,10 +5,18 @@ mod decimal;
 mod decimal_printing;
 mod decimal_text;
 mod error;
+mod format;
 mod significand;
+mod value;
 
 pub use decimal::Decimal;
 pub use error::XlsxError;
+pub use format::{
+    CellFormat, builtin_format_by_id, builtin_format_code_by_id, detect_custom_number_format,
+};
+pub use value::{
+    CellErrorType, Data, DataRef, ExcelDateTime, ExcelDateTimeType, HeaderRow, UnknownCellError,
+};
 
 #[cfg(test)]
 mod tests;

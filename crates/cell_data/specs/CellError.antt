@@ -1,0 +1,16 @@
+-- The error that a text names.
+use Rattle.std.specs.Prelude.{ℕ, if◌then◌else◌, List, codes, Option, Some, None}
+use Rattle.std.specs.Str.{bytes_eq}
+use Rattle.cell_data.specs.declared.value.CellErrorType.{CellErrorType}
+use Rattle.cell_data.specs.declared.value.CellErrorType.TheVariants.{Div0, NA, Name, Null, Num, Ref, Value}
+
+abbrev pub cell_error : List ℕ → Option CellErrorType
+cell_error text =
+    if bytes_eq text (codes "#DIV/0!") then Some Div0
+    else (if bytes_eq text (codes "#N/A") then Some NA
+    else (if bytes_eq text (codes "#NAME?") then Some Name
+    else (if bytes_eq text (codes "#NULL!") then Some Null
+    else (if bytes_eq text (codes "#NUM!") then Some Num
+    else (if bytes_eq text (codes "#REF!") then Some Ref
+    else (if bytes_eq text (codes "#VALUE!") then Some Value
+    else None))))))
