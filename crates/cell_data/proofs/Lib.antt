@@ -1,6 +1,8 @@
+pub mod Areas
 pub mod Digits
 pub mod Formats
 pub mod Parsed
+pub mod Placing
 pub mod PowerLemmas
 pub mod Printed
 pub mod ReadsBack

@@ -1,10 +1,13 @@
 pub mod Canonical
 pub mod CellError
 pub mod CellValue
+pub mod Cells
 pub mod Decimal
 pub mod Decimals
 pub mod NumberFormat
+pub mod Positions
 pub mod Powers
+pub mod Range
 pub mod SignOf
 pub mod Significand
 pub mod XlsxError

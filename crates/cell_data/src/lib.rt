@@ -1,14 +1,18 @@
 //! What the cells of a workbook hold, and why reading one fails.
 #![tactic(auto)]
 
+mod cell;
 mod decimal;
 mod decimal_printing;
 mod decimal_text;
 mod error;
 mod format;
+mod range;
 mod significand;
+mod sparse;
 mod value;
 
+pub use cell::Cell;
 pub use decimal::Decimal;
 pub use error::XlsxError;
 pub use format::{

@@ -1,0 +1,10 @@
+use Rattle.std.proofs.Common.{◌≡◌, length}
+use Rattle.cell_data.specs.Cells.{placed_cells}
+use Rattle.cell_data.specs.Positions.{is_rising}
+use Rattle.cell_data.proofs.sparse.is_rising.Given as goal
+
+abbrev pub invariant-loop-first : goal.invariant-loop-first
+invariant-loop-first g l = is_rising (placed_cells l.left) ≡ is_rising (placed_cells l.cells)
+
+abbrev pub decreases-loop-first : goal.decreases-loop-first
+decreases-loop-first g l = length l.left
