@@ -1,21 +1,25 @@
 -- The area of cells has each of them, and lies on a sheet where they do.
 use Rattle.std.proofs.Common.{◌≡◌, ℕ, suc, ◌<◌, Bool, true, false, ◌&&◌}
 use Rattle.std.proofs.Common.{List, [], ◌∷◌, length, Some, None, Option, refl, sym, ap, ◌∙◌, arith}
+use Rattle.std.proofs.Common.{cond, ◌≤◌}
 use Rattle.std.specs.Prelude.{reverse, nat_le, nat_lt, All}
 use Rattle.std.specs.declared.cmp.Ordering.{Ordering}
 use Rattle.std.specs.declared.cmp.Ordering.TheVariants.{Less, Equal, Greater}
 use Rattle.std.specs.FinMap.{empty, from_entries, entries, put, entries-insert, len-entries, len-empty}
-use Rattle.std.specs.FinMap.Entries.{by_order}
-use Rattle.std.specs.List.{list_all}
+use Rattle.std.specs.FinMap.Entries.{by_order, is_sorted-where_key}
+use Rattle.std.specs.List.{list_all, filter}
 use Rattle.std.proofs.lemmas.Bool.Decides.{nat_tests}
 use Rattle.std.proofs.lemmas.List.{reverse-append}
 use Rattle.std.proofs.lemmas.List.Folds.{list_all-append}
 use Rattle.cell_refs.specs.declared.dimensions.Dimensions.{Dimensions}
 use Rattle.cell_data.specs.declared.cell.Cell.{Cell}
-use Rattle.cell_data.specs.Cells.{placed_cells, IsInSheet}
+use Rattle.cell_data.specs.Cells.{placed, placed_cells, IsInSheet}
 use Rattle.cell_data.specs.Positions.{position_cmp, last_of_each, area_with, least_area, is_in_area}
 use Rattle.cell_data.specs.Positions.{is_in_bounds, lie_inside, is_sheet_area, are_sheet_bounds}
-use Rattle.cell_data.proofs.Placing.{position_total, and_both}
+use Rattle.cell_data.specs.Positions.{lie_from}
+use Rattle.cell_data.specs.Range.{start_of}
+use Rattle.cell_data.specs.Positions.{is_rising}
+use Rattle.cell_data.proofs.Placing.{position_total, and_both, to_T, from_T}
 
 both_orders : (a b : Bool) → (a && b) ≡ (b && (a && true))
 both_orders true true = refl
@@ -82,7 +86,7 @@ own_area k None = grind (arith, nat_tests)
 own_area k (Some area) = grind (arith, nat_tests)
 
 module _ {X : Type 0} where
-  all_wider : (p q : ℕ × ℕ → Bool) (cells : List ((ℕ × ℕ) × X)) → ((k : ℕ × ℕ) → p k ≡ true → q k ≡ true) → list_all (λ cell. p cell.0) cells ≡ true → list_all (λ cell. q cell.0) cells ≡ true
+  pub all_wider : (p q : ℕ × ℕ → Bool) (cells : List ((ℕ × ℕ) × X)) → ((k : ℕ × ℕ) → p k ≡ true → q k ≡ true) → list_all (λ cell. p cell.0) cells ≡ true → list_all (λ cell. q cell.0) cells ≡ true
   all_wider p q [] wider inside = refl
   all_wider p q (e ∷ es) wider inside =
       let (own, others) = and_both (p e.0) (list_all (λ cell. p cell.0) es) inside in
@@ -112,3 +116,50 @@ sheet_bounds [] inside = refl
 sheet_bounds (cell ∷ cells) inside =
     let first = inside 0 cell (omega arith) in
     sheet_with cell.pos (least_area (placed_cells cells)) first.0 first.1 (sheet_bounds cells (λ k d below. inside (suc k) d (omega arith)))
+
+from_start : (bounds : Option Dimensions) (k : ℕ × ℕ) → is_in_bounds bounds k ≡ true → (nat_le (start_of bounds).0 k.0 && nat_le (start_of bounds).1 k.1) ≡ true
+from_start None k inside = absurd (cc)
+from_start (Some area) k inside =
+    let (rows, columns) = and_both (nat_le area.start.0 k.0 && nat_le k.0 area.end.0) (nat_le area.start.1 k.1 && nat_le k.1 area.end.1) inside in
+    let (top, bottom) = and_both (nat_le area.start.0 k.0) (nat_le k.0 area.end.0) rows in
+    let (left, right) = and_both (nat_le area.start.1 k.1) (nat_le k.1 area.end.1) columns in
+    ap (λ t. t && nat_le area.start.1 k.1) top ∙ left
+
+-- cells of an area stand behind its start
+pub lie_from_start : {X : Type 0} (bounds : Option Dimensions) (cells : List ((ℕ × ℕ) × X)) → lie_inside bounds cells ≡ true → lie_from (start_of bounds) cells ≡ true
+lie_from_start bounds cells inside =
+    all_wider (is_in_bounds bounds) (λ k. nat_le (start_of bounds).0 k.0 && nat_le (start_of bounds).1 k.1) cells (from_start bounds) inside
+
+filter_all : {X : Type 0} (p : ℕ × ℕ → Bool) (cells : List ((ℕ × ℕ) × X)) → list_all (λ cell. p cell.0) (filter (λ cell. p cell.0) cells) ≡ true
+filter_all p [] = refl
+filter_all p (e ∷ es) = filter_from p e es (p e.0) refl (filter_all p es)
+  where
+    filter_from : {X : Type 0} (p : ℕ × ℕ → Bool) (e : (ℕ × ℕ) × X) (es : List ((ℕ × ℕ) × X)) (test : Bool) → p e.0 ≡ test → list_all (λ cell. p cell.0) (filter (λ cell. p cell.0) es) ≡ true → list_all (λ cell. p cell.0) (cond test (e ∷ filter (λ cell. p cell.0) es) (filter (λ cell. p cell.0) es)) ≡ true
+    filter_from p e es true own rest = ap (λ t. t && list_all (λ cell. p cell.0) (filter (λ cell. p cell.0) es)) own ∙ rest
+    filter_from p e es false own rest = rest
+
+placed_filter : {X : Type 0} (p : ℕ × ℕ → Bool) (cells : List (Cell X)) → placed_cells (filter (λ cell. p cell.pos) cells) ≡ filter (λ cell. p cell.0) (placed_cells cells)
+placed_filter p [] = refl
+placed_filter p (c ∷ cs) = placed_from p c cs (p c.pos) (placed_filter p cs)
+  where
+    placed_from : {X : Type 0} (p : ℕ × ℕ → Bool) (c : Cell X) (cs : List (Cell X)) (test : Bool) → placed_cells (filter (λ cell. p cell.pos) cs) ≡ filter (λ cell. p cell.0) (placed_cells cs) → placed_cells (cond test (c ∷ filter (λ cell. p cell.pos) cs) (filter (λ cell. p cell.pos) cs)) ≡ cond test (placed c ∷ filter (λ cell. p cell.0) (placed_cells cs)) (filter (λ cell. p cell.0) (placed_cells cs))
+    placed_from p c cs true rest = ap (λ es. placed c ∷ es) rest
+    placed_from p c cs false rest = rest
+
+-- the cells of an area
+pub record Selects {X : Type 0} (area : Dimensions) (cells kept : List (Cell X)) : Type 0 where
+  pub keeps : placed_cells kept ≡ filter (λ cell. is_in_area area cell.0) (placed_cells cells)
+  pub rising : is_rising (placed_cells kept) ≡ true
+  pub inside : lie_inside (Some area) (placed_cells kept) ≡ true
+
+pub selected : {X : Type 0} (area : Dimensions) (cells kept : List (Cell X)) → is_rising (placed_cells cells) ≡ true → kept ≡ filter (λ cell. is_in_area area cell.pos) cells → Selects area cells kept
+selected area cells kept rising is =
+    let same : placed_cells kept ≡ filter (λ cell. is_in_area area cell.0) (placed_cells cells) = ap placed_cells is ∙ placed_filter (is_in_area area) cells in
+    record {
+      keeps = same;
+      rising = ap is_rising same ∙ from_T _ (is_sorted-where_key position_cmp (is_in_area area) (placed_cells cells) (to_T _ rising));
+      inside = ap (lie_inside (Some area)) same ∙ filter_all (is_in_area area) (placed_cells cells);
+    }
+
+pub area_on_sheet : (area : Dimensions) → area.start.0 ≤ area.end.0 → area.start.1 ≤ area.end.1 → area.end.0 < 1048576 → area.end.1 < 16384 → is_sheet_area area ≡ true
+area_on_sheet area rows columns in_rows in_columns = grind (arith, nat_tests)

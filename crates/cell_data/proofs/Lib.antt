@@ -1,5 +1,6 @@
 pub mod Areas
 pub mod Digits
+pub mod Finding
 pub mod Formats
 pub mod Parsed
 pub mod Placing

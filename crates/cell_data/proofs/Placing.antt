@@ -35,7 +35,7 @@ position_same a b same =
     let column : a.1 ≡ b.1 = nat_cmp-IsAntisymmetric a.1 b.1 columns in
     ap (λ (r : ℕ). (r, a.1)) row ∙ ap (λ (k : ℕ). (b.0, k)) column
 
-to_T : (b : Bool) → b ≡ true → T b
+pub to_T : (b : Bool) → b ≡ true → T b
 to_T b yields = subst T (sym yields) tt
 
 pub from_T : (b : Bool) → T b → b ≡ true
@@ -46,7 +46,7 @@ pub and_both : (a b : Bool) → (a && b) ≡ true → (a ≡ true) × (b ≡ tru
 and_both true b both = (refl, both)
 and_both false b both = (both, absurd (cc))
 
-less_from : (o : Ordering) → is_lt o ≡ true → o ≡ Less
+pub less_from : (o : Ordering) → is_lt o ≡ true → o ≡ Less
 less_from Less yields = refl
 less_from Equal yields = absurd (cc)
 less_from Greater yields = absurd (cc)

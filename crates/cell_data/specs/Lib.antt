@@ -8,6 +8,7 @@ pub mod NumberFormat
 pub mod Positions
 pub mod Powers
 pub mod Range
+pub mod RangeItems
 pub mod SignOf
 pub mod Significand
 pub mod XlsxError

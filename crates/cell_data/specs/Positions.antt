@@ -55,3 +55,7 @@ is_sheet_area area =
 abbrev pub are_sheet_bounds : Option Dimensions → Bool
 are_sheet_bounds None = true
 are_sheet_bounds (Some area) = is_sheet_area area
+
+-- no position stands above or left of the first one
+abbrev pub lie_from : {X : Type 0} → ℕ × ℕ → List ((ℕ × ℕ) × X) → Bool
+lie_from start cells = list_all (λ cell. nat_le start.0 cell.0.0 && nat_le start.1 cell.0.1) cells

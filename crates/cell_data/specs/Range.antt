@@ -1,5 +1,6 @@
 -- What a range holds, whatever keeps it: cells in the order of positions, an area, and a value for
 -- every other cell of it.
+use Rattle.std.specs.Prelude.{◌&&◌, nat_lt}
 use Rattle.std.specs.Prelude.{ℕ, ◌+◌, ◌-◌, List, if◌then◌else◌}
 use Rattle.std.specs.Prelude.{Option, Some, None}
 use Rattle.std.specs.FinMap.{find}
@@ -32,3 +33,20 @@ abbrev pub value_at : {X : Type 0} → Range X → ℕ × ℕ → Option X
 value_at range position =
     if is_in_bounds (bounds_of range) position
     then Some (unwrap_or (find position_cmp position (cells_of range)) (blank_of range)) else None
+
+-- the first position of the area
+abbrev pub start_of : Option Dimensions → ℕ × ℕ
+start_of None = (0, 0)
+start_of (Some area) = area.start
+
+-- the value of a cell or the blank, at a row and a column counted from the first ones
+abbrev pub filled : {X : Type 0} → Range X → ℕ × ℕ → X
+filled range place =
+    let start = start_of (bounds_of range) in
+    unwrap_or (find position_cmp (start.0 + place.0, start.1 + place.1) (cells_of range)) (blank_of range)
+
+-- the same, and none outside the area
+abbrev pub relative_value : {X : Type 0} → Range X → ℕ × ℕ → Option X
+relative_value range place =
+    if nat_lt place.0 (height_of (bounds_of range)) && nat_lt place.1 (width_of (bounds_of range))
+    then Some (filled range place) else None

@@ -8,6 +8,7 @@ mod decimal_text;
 mod error;
 mod format;
 mod range;
+mod range_iterators;
 mod significand;
 mod sparse;
 mod value;

@@ -1,10 +1,12 @@
-ghost use Rattle.std.specs.Prelude.{IsTrue};
+ghost use Rattle.std.specs.Prelude.{◌≡◌, IsTrue};
 ghost use Rattle.cell_data.specs.Cells.{placed_cells};
 ghost use Rattle.cell_data.specs.Positions.{is_rising, lie_inside, are_sheet_bounds};
+ghost use Rattle.cell_data.specs.Positions.{is_in_area};
 
 use crate::cell::Cell;
-use crate::sparse::{in_order, least_area};
-use cell_refs::Dimensions;
+use crate::range_iterators::{Cells, Rows, UsedCells};
+use crate::sparse::{in_order, least_area, value_of};
+use cell_refs::{Dimensions, MAX_COLUMNS, MAX_ROWS};
 use std::alloc::{AllocError, Global};
 
 /// An area of a sheet and its used cells, with a value that every other cell of the area has.
@@ -20,12 +22,27 @@ pub struct Range<T> {
     ghost limits: { IsTrue (are_sheet_bounds bounds) },
 }
 
+// Whether a position lies in the area with these first and last positions.
+fn is_between(start: (u32, u32), end: (u32, u32), pos: (u32, u32)) -> bool
+    ensures { result ≡ is_in_area (record { start = start; end = end }) pos }
+{
+    (start.0 <= pos.0 && pos.0 <= end.0) && (start.1 <= pos.1 && pos.1 <= end.1)
+}
+
 impl<T> Range<T> {
-    ghost use Rattle.std.specs.Prelude.{◌≡◌, ◌+◌, ◌-◌, is_none, IfOk, All};
-    ghost use Rattle.std.specs.Option.{option_map};
+    ghost use Rattle.std.specs.Prelude.{◌≡◌, ◌+◌, ◌-◌, ◌<◌, is_none, IfOk, All};
+    ghost use Rattle.std.specs.FinMap.{find};
+    ghost use Rattle.std.specs.Option.{option_map, option_copied, unwrap_or};
     ghost use Rattle.cell_data.specs.Range.{cells_of, bounds_of, blank_of, width_of, height_of};
+    ghost use Rattle.cell_data.specs.Range.{value_at, filled, relative_value};
+    ghost use Rattle.cell_data.specs.RangeItems.{box_count, used_items, box_items, row_items};
+    ghost use Rattle.cell_data.specs.RangeItems.{used_left, cells_left, rows_left};
+    ghost use Rattle.std.specs.Prelude.{◌/◌, ◌%◌, ◌≤◌};
+    ghost use Rattle.std.specs.List.{filter};
+    ghost use Rattle.cell_data.specs.Range.{start_of};
+    ghost use Rattle.cell_data.specs.Positions.{lie_from};
     ghost use Rattle.cell_data.specs.Cells.{IsInSheet};
-    ghost use Rattle.cell_data.specs.Positions.{last_of_each, least_area};
+    ghost use Rattle.cell_data.specs.Positions.{position_cmp, last_of_each, least_area, is_in_bounds};
 
     /// The range of these cells: the last of them at each position, in the least area that has them
     /// all. Without a cell the range is empty.
@@ -91,5 +108,129 @@ impl<T> Range<T> {
         ensures { result ≡ (height_of (bounds_of self.now), width_of (bounds_of self.now)) }
     {
         (self.height(), self.width())
+    }
+
+    fn is_inside(&self, pos: (u32, u32)) -> bool
+        ensures { result ≡ is_in_bounds (bounds_of self.now) pos }
+    {
+        match self.bounds {
+            Some(Dimensions { start, end }) => is_between(start, end, pos),
+            None => false,
+        }
+    }
+
+    // The value of the cell at a position, or else the blank.
+    fn value_or_blank(&self, pos: (u32, u32)) -> &T
+        ensures { result.now ≡
+            unwrap_or (find position_cmp pos (cells_of self.now)) (blank_of self.now) }
+    {
+        value_of(&self.cells, pos).unwrap_or(&self.blank)
+    }
+
+    /// The value at a row and a column, counted from 0 on the sheet; none outside the area.
+    pub fn get_value(&self, pos: (u32, u32)) -> Option<&T>
+        ensures { option_copied result ≡ value_at self.now pos }
+    {
+        if !self.is_inside(pos) {
+            return None;
+        }
+        Some(self.value_or_blank(pos))
+    }
+
+    // The value at a row and a column, counted from the first ones of the area.
+    pub(crate) fn filled(&self, pos: (usize, usize)) -> &T
+        requires row { pos.0 < height_of (bounds_of self.now) }
+        requires column { pos.1 < width_of (bounds_of self.now) }
+        ensures { result.now ≡ filled self.now pos }
+    {
+        let (row, column) = self.start().unwrap();
+        self.value_or_blank((row + pos.0 as u32, column + pos.1 as u32))
+    }
+
+    /// The value at a row and a column, counted from the first ones of the area; none outside it.
+    pub fn get(&self, pos: (usize, usize)) -> Option<&T>
+        ensures { option_copied result ≡ relative_value self.now pos }
+    {
+        if pos.0 >= self.height() || pos.1 >= self.width() {
+            return None;
+        }
+        Some(self.filled(pos))
+    }
+
+    // The used cells, in order.
+    pub(crate) fn used(&self) -> &[Cell<T>]
+        ensures cells { placed_cells result.now ≡ cells_of self.now }
+        ensures from { IsTrue (lie_from (start_of (bounds_of self.now)) (placed_cells result.now)) }
+    {
+        &self.cells
+    }
+
+    // How many cells the area has.
+    pub(crate) fn cell_count(&self) -> usize
+        ensures { result ≡ box_count self.now }
+    {
+        self.height() * self.width()
+    }
+
+    // The row and the column of the cell with this number, counted row by row.
+    pub(crate) fn place_of(&self, cell: usize) -> (usize, usize)
+        requires { cell < box_count self.now }
+        ensures row { result.0 ≡ cell / width_of (bounds_of self.now) }
+        ensures column { result.1 ≡ cell % width_of (bounds_of self.now) }
+        ensures in_rows { result.0 < height_of (bounds_of self.now) }
+        ensures in_columns { result.1 < width_of (bounds_of self.now) }
+    {
+        let width = self.width();
+        (cell / width, cell % width)
+    }
+
+    /// The used cells: their row and column, counted from the first ones of the area, and their
+    /// value, row by row.
+    pub fn used_cells(&self) -> UsedCells<'_, T>
+        ensures { used_left result ≡ used_items self.now }
+    {
+        UsedCells::new(self)
+    }
+
+    /// All cells of the area: their row and column, counted from the first ones, and their value,
+    /// row by row.
+    pub fn cells(&self) -> Cells<'_, T>
+        ensures { cells_left result ≡ box_items self.now }
+    {
+        Cells::new(self)
+    }
+
+    /// The rows of the area, with the values of all their cells.
+    pub fn rows(&self) -> Rows<'_, T>
+        ensures { rows_left result ≡ row_items self.now }
+    {
+        Rows::new(self)
+    }
+
+    /// The same cells in another area, with the blank in its other places. Cells outside it are
+    /// dropped. It takes no memory.
+    pub fn range(self, start: (u32, u32), end: (u32, u32)) -> Range<T>
+    where
+        T: Drop,
+        requires rows { start.0 ≤ end.0 }
+        requires columns { start.1 ≤ end.1 }
+        requires in_rows { end.0 < MAX_ROWS }
+        requires in_columns { end.1 < MAX_COLUMNS }
+        ensures cells { cells_of result ≡ filter
+            (λ cell. is_in_area (record { start = start; end = end }) cell.0) (cells_of self) }
+        ensures bounds { bounds_of result ≡ Some (record { start = start; end = end }) }
+        ensures blank { blank_of result ≡ blank_of self }
+    {
+        let Range {
+            mut cells,
+            blank,
+            ..
+        } = self;
+        cells.retain(|cell| is_between(start, end, cell.pos));
+        Range {
+            cells,
+            bounds: Some(Dimensions { start, end }),
+            blank,
+        }
     }
 }

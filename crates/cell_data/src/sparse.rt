@@ -1,5 +1,7 @@
 // What a list of cells is as the cells of a range.
-ghost use Rattle.std.specs.Prelude.{◌≡◌, IfOk};
+ghost use Rattle.std.specs.Prelude.{◌≡◌, true, IfOk};
+ghost use Rattle.std.specs.FinMap.{find};
+ghost use Rattle.std.specs.Option.{option_copied};
 ghost use Rattle.std.specs.Ordering.{is_lt};
 ghost use Rattle.cell_data.specs.Cells.{placed_cells};
 ghost use Rattle.cell_data.specs.Positions.{position_cmp, is_rising, last_of_each};
@@ -84,4 +86,15 @@ pub fn least_area<T>(cells: &[Cell<T>]) -> Option<Dimensions>
         area = Some(area_with(cells[place].pos, area));
     }
     area
+}
+
+// The value of the cell at a position.
+pub fn value_of<T>(cells: &[Cell<T>], pos: (u32, u32)) -> Option<&T>
+    requires { is_rising (placed_cells cells.now) ≡ true }
+    ensures { option_copied result ≡ find position_cmp pos (placed_cells cells.now) }
+{
+    match cells.binary_search_by_key(&pos, |cell| cell.pos) {
+        Ok(place) => Some(&cells[place].val),
+        Err(_) => None,
+    }
 }
