@@ -5,7 +5,8 @@ use Rattle.std.proofs.Common.{cond, ◌≤◌}
 use Rattle.std.specs.Prelude.{reverse, nat_le, nat_lt, All}
 use Rattle.std.specs.declared.cmp.Ordering.{Ordering}
 use Rattle.std.specs.declared.cmp.Ordering.TheVariants.{Less, Equal, Greater}
-use Rattle.std.specs.FinMap.{empty, from_entries, entries, put, entries-insert, len-entries, len-empty}
+use Rattle.std.specs.FinMap.{empty, from_entries, entries, put, entries-insert, len-entries}
+use Rattle.std.specs.FinMap.{len-empty}
 use Rattle.std.specs.FinMap.Entries.{by_order, is_sorted-where_key}
 use Rattle.std.specs.List.{list_all, filter}
 use Rattle.std.proofs.lemmas.Bool.Decides.{nat_tests}
@@ -32,34 +33,42 @@ module _ {X : Type 0} (p : ℕ × ℕ → Bool) where
   all : List ((ℕ × ℕ) × X) → Bool
   all cells = list_all (λ cell. p cell.0) cells
 
-  all_cons : (e : (ℕ × ℕ) × X) (es : List ((ℕ × ℕ) × X)) → p e.0 ≡ true → all es ≡ true → all (e ∷ es) ≡ true
+  all_cons : (e : (ℕ × ℕ) × X) (es : List ((ℕ × ℕ) × X)) → p e.0 ≡ true → all es ≡ true →
+      all (e ∷ es) ≡ true
   unfolding all
   all_cons e es first rest = ap (λ t. t && all es) first ∙ rest
 
-  all_by_order : (o : Ordering) (a b c : List ((ℕ × ℕ) × X)) → all a ≡ true → all b ≡ true → all c ≡ true → all (by_order o a b c) ≡ true
+  all_by_order : (o : Ordering) (a b c : List ((ℕ × ℕ) × X)) → all a ≡ true → all b ≡ true →
+      all c ≡ true → all (by_order o a b c) ≡ true
   all_by_order Less a b c all_a all_b all_c = all_a
   all_by_order Equal a b c all_a all_b all_c = all_b
   all_by_order Greater a b c all_a all_b all_c = all_c
 
-  all_put : (k : ℕ × ℕ) (v : X) (es : List ((ℕ × ℕ) × X)) → p k ≡ true → all es ≡ true → all (put position_cmp k v es) ≡ true
+  all_put : (k : ℕ × ℕ) (v : X) (es : List ((ℕ × ℕ) × X)) → p k ≡ true → all es ≡ true →
+      all (put position_cmp k v es) ≡ true
   unfolding all
   all_put k v [] first rest = all_cons (k, v) [] first refl
   all_put k v (e ∷ es) first rest =
       let (own, others) = and_both (p e.0) (all es) rest in
-      all_by_order (position_cmp k e.0) ((k, v) ∷ e ∷ es) ((e.0, v) ∷ es) (e ∷ put position_cmp k v es)
-      (all_cons (k, v) (e ∷ es) first rest) (all_cons (e.0, v) es own others) (all_cons e (put position_cmp k v es) own (all_put k v es first others))
+      all_by_order (position_cmp k e.0) ((k, v) ∷ e ∷ es) ((e.0, v) ∷ es)
+      (e ∷ put position_cmp k v es)
+      (all_cons (k, v) (e ∷ es) first rest) (all_cons (e.0, v) es own others)
+      (all_cons e (put position_cmp k v es) own (all_put k v es first others))
 
   all_none : (es : List ((ℕ × ℕ) × X)) → length es ≡ 0 → all es ≡ true
   unfolding all
   all_none [] none = refl
   all_none (e ∷ es) none = absurd (omega arith)
 
-  all_entries : (cells : List ((ℕ × ℕ) × X)) → all cells ≡ true → all (entries (from_entries {R = position_cmp} cells)) ≡ true
+  all_entries : (cells : List ((ℕ × ℕ) × X)) → all cells ≡ true →
+      all (entries (from_entries {R = position_cmp} cells)) ≡ true
   unfolding all
-  all_entries [] rest = all_none _ (sym (len-entries (empty {X = X} {R = position_cmp})) ∙ len-empty position_cmp X)
+  all_entries [] rest =
+      all_none _ (sym (len-entries (empty {X = X} {R = position_cmp})) ∙ len-empty position_cmp X)
   all_entries (e ∷ es) rest =
       let (own, others) = and_both (p e.0) (all es) rest in
-      ap all (entries-insert position_total (from_entries {R = position_cmp} es) e.0 e.1) ∙ all_put e.0 e.1 _ own (all_entries es others)
+      ap all (entries-insert position_total (from_entries {R = position_cmp} es) e.0 e.1)
+      ∙ all_put e.0 e.1 _ own (all_entries es others)
 
   all_reversed : (cells : List ((ℕ × ℕ) × X)) → all (reverse cells) ≡ all cells
   unfolding all
@@ -69,14 +78,18 @@ module _ {X : Type 0} (p : ℕ × ℕ → Bool) where
       ∙ (list_all-append (λ cell. p cell.0) (reverse es) (e ∷ [])
       ∙ (ap (λ t. t && (p e.0 && true)) (all_reversed es) ∙ sym (both_orders (p e.0) (all es))))
 
-  all_last : (cells : List ((ℕ × ℕ) × X)) → list_all (λ cell. p cell.0) cells ≡ true → list_all (λ cell. p cell.0) (last_of_each cells) ≡ true
+  all_last : (cells : List ((ℕ × ℕ) × X)) → list_all (λ cell. p cell.0) cells ≡ true →
+      list_all (λ cell. p cell.0) (last_of_each cells) ≡ true
   unfolding last_of_each all
   all_last cells rest = all_entries (reverse cells) (all_reversed cells ∙ rest)
 
-in_area_with : (k q : ℕ × ℕ) (bounds : Option Dimensions) → is_in_bounds bounds q ≡ true → is_in_area (area_with k bounds) q ≡ true
+in_area_with : (k q : ℕ × ℕ) (bounds : Option Dimensions) → is_in_bounds bounds q ≡ true →
+    is_in_area (area_with k bounds) q ≡ true
 in_area_with k q None inside = absurd (cc)
 in_area_with k q (Some area) inside =
-    let (rows, columns) = and_both (nat_le area.start.0 q.0 && nat_le q.0 area.end.0) (nat_le area.start.1 q.1 && nat_le q.1 area.end.1) inside in
+    let (rows, columns) =
+    and_both (nat_le area.start.0 q.0 && nat_le q.0 area.end.0)
+    (nat_le area.start.1 q.1 && nat_le q.1 area.end.1) inside in
     let (top, bottom) = and_both (nat_le area.start.0 q.0) (nat_le q.0 area.end.0) rows in
     let (left, right) = and_both (nat_le area.start.1 q.1) (nat_le q.1 area.end.1) columns in
     grind (arith, nat_tests, top, bottom, left, right)
@@ -86,7 +99,9 @@ own_area k None = grind (arith, nat_tests)
 own_area k (Some area) = grind (arith, nat_tests)
 
 module _ {X : Type 0} where
-  pub all_wider : (p q : ℕ × ℕ → Bool) (cells : List ((ℕ × ℕ) × X)) → ((k : ℕ × ℕ) → p k ≡ true → q k ≡ true) → list_all (λ cell. p cell.0) cells ≡ true → list_all (λ cell. q cell.0) cells ≡ true
+  pub all_wider : (p q : ℕ × ℕ → Bool) (cells : List ((ℕ × ℕ) × X)) →
+      ((k : ℕ × ℕ) → p k ≡ true → q k ≡ true) → list_all (λ cell. p cell.0) cells ≡ true →
+      list_all (λ cell. q cell.0) cells ≡ true
   all_wider p q [] wider inside = refl
   all_wider p q (e ∷ es) wider inside =
       let (own, others) = and_both (p e.0) (list_all (λ cell. p cell.0) es) inside in
@@ -96,53 +111,83 @@ module _ {X : Type 0} where
   pub least_inside : (cells : List ((ℕ × ℕ) × X)) → lie_inside (least_area cells) cells ≡ true
   least_inside [] = refl
   least_inside (e ∷ es) =
-      ap (λ t. t && list_all (λ cell. is_in_area (area_with e.0 (least_area es)) cell.0) es) (own_area e.0 (least_area es))
-      ∙ all_wider (is_in_bounds (least_area es)) (is_in_area (area_with e.0 (least_area es))) es (λ k inside. in_area_with e.0 k (least_area es) inside) (least_inside es)
+      ap (λ t. t && list_all (λ cell. is_in_area (area_with e.0 (least_area es)) cell.0) es)
+      (own_area e.0 (least_area es))
+      ∙ all_wider (is_in_bounds (least_area es)) (is_in_area (area_with e.0 (least_area es))) es
+      (λ k inside. in_area_with e.0 k (least_area es) inside) (least_inside es)
 
-  pub last_inside : (cells : List ((ℕ × ℕ) × X)) → lie_inside (least_area cells) (last_of_each cells) ≡ true
+  pub last_inside : (cells : List ((ℕ × ℕ) × X)) →
+      lie_inside (least_area cells) (last_of_each cells) ≡ true
   last_inside cells = all_last (is_in_bounds (least_area cells)) cells (least_inside cells)
 
-sheet_with : (k : ℕ × ℕ) (bounds : Option Dimensions) → k.0 < 1048576 → k.1 < 16384 → are_sheet_bounds bounds ≡ true → is_sheet_area (area_with k bounds) ≡ true
+sheet_with : (k : ℕ × ℕ) (bounds : Option Dimensions) → k.0 < 1048576 → k.1 < 16384 →
+    are_sheet_bounds bounds ≡ true → is_sheet_area (area_with k bounds) ≡ true
 sheet_with k None row column sheet = grind (arith, nat_tests)
 sheet_with k (Some area) row column sheet =
-    let (rows, columns) = and_both (nat_le area.start.0 area.end.0 && nat_lt area.end.0 1048576) (nat_le area.start.1 area.end.1 && nat_lt area.end.1 16384) sheet in
-    let (top, bottom) = and_both (nat_le area.start.0 area.end.0) (nat_lt area.end.0 1048576) rows in
-    let (left, right) = and_both (nat_le area.start.1 area.end.1) (nat_lt area.end.1 16384) columns in
+    let (rows, columns) =
+    and_both (nat_le area.start.0 area.end.0 && nat_lt area.end.0 1048576)
+    (nat_le area.start.1 area.end.1 && nat_lt area.end.1 16384) sheet in
+    let (top, bottom) =
+    and_both (nat_le area.start.0 area.end.0) (nat_lt area.end.0 1048576) rows in
+    let (left, right) =
+    and_both (nat_le area.start.1 area.end.1) (nat_lt area.end.1 16384) columns in
     grind (arith, nat_tests, top, bottom, left, right)
 
 -- cells of a sheet have an area of the sheet
-pub sheet_bounds : {X : Type 0} (cells : List (Cell X)) → All IsInSheet cells → are_sheet_bounds (least_area (placed_cells cells)) ≡ true
+pub sheet_bounds : {X : Type 0} (cells : List (Cell X)) → All IsInSheet cells →
+    are_sheet_bounds (least_area (placed_cells cells)) ≡ true
 sheet_bounds [] inside = refl
 sheet_bounds (cell ∷ cells) inside =
     let first = inside 0 cell (omega arith) in
-    sheet_with cell.pos (least_area (placed_cells cells)) first.0 first.1 (sheet_bounds cells (λ k d below. inside (suc k) d (omega arith)))
+    sheet_with cell.pos (least_area (placed_cells cells)) first.0 first.1
+    (sheet_bounds cells (λ k d below. inside (suc k) d (omega arith)))
 
-from_start : (bounds : Option Dimensions) (k : ℕ × ℕ) → is_in_bounds bounds k ≡ true → (nat_le (start_of bounds).0 k.0 && nat_le (start_of bounds).1 k.1) ≡ true
+from_start : (bounds : Option Dimensions) (k : ℕ × ℕ) → is_in_bounds bounds k ≡ true →
+    (nat_le (start_of bounds).0 k.0 && nat_le (start_of bounds).1 k.1) ≡ true
 from_start None k inside = absurd (cc)
 from_start (Some area) k inside =
-    let (rows, columns) = and_both (nat_le area.start.0 k.0 && nat_le k.0 area.end.0) (nat_le area.start.1 k.1 && nat_le k.1 area.end.1) inside in
+    let (rows, columns) =
+    and_both (nat_le area.start.0 k.0 && nat_le k.0 area.end.0)
+    (nat_le area.start.1 k.1 && nat_le k.1 area.end.1) inside in
     let (top, bottom) = and_both (nat_le area.start.0 k.0) (nat_le k.0 area.end.0) rows in
     let (left, right) = and_both (nat_le area.start.1 k.1) (nat_le k.1 area.end.1) columns in
     ap (λ t. t && nat_le area.start.1 k.1) top ∙ left
 
 -- cells of an area stand behind its start
-pub lie_from_start : {X : Type 0} (bounds : Option Dimensions) (cells : List ((ℕ × ℕ) × X)) → lie_inside bounds cells ≡ true → lie_from (start_of bounds) cells ≡ true
+pub lie_from_start : {X : Type 0} (bounds : Option Dimensions) (cells : List ((ℕ × ℕ) × X)) →
+    lie_inside bounds cells ≡ true → lie_from (start_of bounds) cells ≡ true
 lie_from_start bounds cells inside =
-    all_wider (is_in_bounds bounds) (λ k. nat_le (start_of bounds).0 k.0 && nat_le (start_of bounds).1 k.1) cells (from_start bounds) inside
+    all_wider (is_in_bounds bounds)
+    (λ k. nat_le (start_of bounds).0 k.0 && nat_le (start_of bounds).1 k.1) cells
+    (from_start bounds) inside
 
-filter_all : {X : Type 0} (p : ℕ × ℕ → Bool) (cells : List ((ℕ × ℕ) × X)) → list_all (λ cell. p cell.0) (filter (λ cell. p cell.0) cells) ≡ true
+filter_all : {X : Type 0} (p : ℕ × ℕ → Bool) (cells : List ((ℕ × ℕ) × X)) →
+    list_all (λ cell. p cell.0) (filter (λ cell. p cell.0) cells) ≡ true
 filter_all p [] = refl
 filter_all p (e ∷ es) = filter_from p e es (p e.0) refl (filter_all p es)
   where
-    filter_from : {X : Type 0} (p : ℕ × ℕ → Bool) (e : (ℕ × ℕ) × X) (es : List ((ℕ × ℕ) × X)) (test : Bool) → p e.0 ≡ test → list_all (λ cell. p cell.0) (filter (λ cell. p cell.0) es) ≡ true → list_all (λ cell. p cell.0) (cond test (e ∷ filter (λ cell. p cell.0) es) (filter (λ cell. p cell.0) es)) ≡ true
-    filter_from p e es true own rest = ap (λ t. t && list_all (λ cell. p cell.0) (filter (λ cell. p cell.0) es)) own ∙ rest
+    filter_from : {X : Type 0} (p : ℕ × ℕ → Bool) (e : (ℕ × ℕ) × X) (es : List ((ℕ × ℕ) × X))
+        (test : Bool) → p e.0 ≡ test →
+        list_all (λ cell. p cell.0) (filter (λ cell. p cell.0) es) ≡ true →
+        list_all (λ cell. p cell.0)
+        (cond test (e ∷ filter (λ cell. p cell.0) es) (filter (λ cell. p cell.0) es)) ≡ true
+    filter_from p e es true own rest =
+        ap (λ t. t && list_all (λ cell. p cell.0) (filter (λ cell. p cell.0) es)) own ∙ rest
     filter_from p e es false own rest = rest
 
-placed_filter : {X : Type 0} (p : ℕ × ℕ → Bool) (cells : List (Cell X)) → placed_cells (filter (λ cell. p cell.pos) cells) ≡ filter (λ cell. p cell.0) (placed_cells cells)
+placed_filter : {X : Type 0} (p : ℕ × ℕ → Bool) (cells : List (Cell X)) →
+    placed_cells (filter (λ cell. p cell.pos) cells) ≡ filter (λ cell. p cell.0)
+    (placed_cells cells)
 placed_filter p [] = refl
 placed_filter p (c ∷ cs) = placed_from p c cs (p c.pos) (placed_filter p cs)
   where
-    placed_from : {X : Type 0} (p : ℕ × ℕ → Bool) (c : Cell X) (cs : List (Cell X)) (test : Bool) → placed_cells (filter (λ cell. p cell.pos) cs) ≡ filter (λ cell. p cell.0) (placed_cells cs) → placed_cells (cond test (c ∷ filter (λ cell. p cell.pos) cs) (filter (λ cell. p cell.pos) cs)) ≡ cond test (placed c ∷ filter (λ cell. p cell.0) (placed_cells cs)) (filter (λ cell. p cell.0) (placed_cells cs))
+    placed_from : {X : Type 0} (p : ℕ × ℕ → Bool) (c : Cell X) (cs : List (Cell X)) (test : Bool) →
+        placed_cells (filter (λ cell. p cell.pos) cs) ≡ filter (λ cell. p cell.0)
+        (placed_cells cs) →
+        placed_cells
+        (cond test (c ∷ filter (λ cell. p cell.pos) cs) (filter (λ cell. p cell.pos) cs))
+        ≡ cond test (placed c ∷ filter (λ cell. p cell.0) (placed_cells cs))
+        (filter (λ cell. p cell.0) (placed_cells cs))
     placed_from p c cs true rest = ap (λ es. placed c ∷ es) rest
     placed_from p c cs false rest = rest
 
@@ -152,14 +197,20 @@ pub record Selects {X : Type 0} (area : Dimensions) (cells kept : List (Cell X))
   pub rising : is_rising (placed_cells kept) ≡ true
   pub inside : lie_inside (Some area) (placed_cells kept) ≡ true
 
-pub selected : {X : Type 0} (area : Dimensions) (cells kept : List (Cell X)) → is_rising (placed_cells cells) ≡ true → kept ≡ filter (λ cell. is_in_area area cell.pos) cells → Selects area cells kept
+pub selected : {X : Type 0} (area : Dimensions) (cells kept : List (Cell X)) →
+    is_rising (placed_cells cells) ≡ true → kept ≡ filter (λ cell. is_in_area area cell.pos) cells →
+    Selects area cells kept
 selected area cells kept rising is =
-    let same : placed_cells kept ≡ filter (λ cell. is_in_area area cell.0) (placed_cells cells) = ap placed_cells is ∙ placed_filter (is_in_area area) cells in
+    let same : placed_cells kept ≡ filter (λ cell. is_in_area area cell.0) (placed_cells cells) =
+    ap placed_cells is ∙ placed_filter (is_in_area area) cells in
     record {
       keeps = same;
-      rising = ap is_rising same ∙ from_T _ (is_sorted-where_key position_cmp (is_in_area area) (placed_cells cells) (to_T _ rising));
+      rising = ap is_rising same
+          ∙ from_T _
+          (is_sorted-where_key position_cmp (is_in_area area) (placed_cells cells) (to_T _ rising));
       inside = ap (lie_inside (Some area)) same ∙ filter_all (is_in_area area) (placed_cells cells);
     }
 
-pub area_on_sheet : (area : Dimensions) → area.start.0 ≤ area.end.0 → area.start.1 ≤ area.end.1 → area.end.0 < 1048576 → area.end.1 < 16384 → is_sheet_area area ≡ true
+pub area_on_sheet : (area : Dimensions) → area.start.0 ≤ area.end.0 → area.start.1 ≤ area.end.1 →
+    area.end.0 < 1048576 → area.end.1 < 16384 → is_sheet_area area ≡ true
 area_on_sheet area rows columns in_rows in_columns = grind (arith, nat_tests)

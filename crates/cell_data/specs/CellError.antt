@@ -2,7 +2,8 @@
 use Rattle.std.specs.Prelude.{ℕ, if◌then◌else◌, List, codes, Option, Some, None}
 use Rattle.std.specs.Str.{bytes_eq}
 use Rattle.cell_data.specs.declared.value.CellErrorType.{CellErrorType}
-use Rattle.cell_data.specs.declared.value.CellErrorType.TheVariants.{Div0, NA, Name, Null, Num, Ref, Value}
+use Rattle.cell_data.specs.declared.value.CellErrorType.TheVariants.{Div0, NA, Name, Null, Num, Ref}
+use Rattle.cell_data.specs.declared.value.CellErrorType.TheVariants.{Value}
 
 abbrev pub cell_error : List ℕ → Option CellErrorType
 cell_error text =

@@ -1,12 +1,15 @@
 -- The decimal number that a text writes, and the text that writes a decimal number. A number is a
 -- pair: a whole number, and the power of ten that it is taken times.
-use Rattle.std.specs.Prelude.{ℕ, ◌+◌, ◌-◌, ◌^◌, Bool, ◌&&◌, ◌||◌, ◌==◌, nat_lt, nat_le, if◌then◌else◌, List, [], ◌∷◌, ◌++◌, length, take, drop, replicate, Option, None, Some, ℤ, pos, negsuc, ◌+ℤ◌, ◌-ℤ◌, neg_ℤ}
+use Rattle.std.specs.Prelude.{ℕ, ◌+◌, ◌-◌, ◌^◌, Bool, ◌&&◌, ◌||◌, ◌==◌, nat_lt, nat_le}
+use Rattle.std.specs.Prelude.{if◌then◌else◌, List, [], ◌∷◌, ◌++◌, length, take, drop, replicate}
+use Rattle.std.specs.Prelude.{Option, None, Some, ℤ, pos, negsuc, ◌+ℤ◌, ◌-ℤ◌, neg_ℤ}
 use Rattle.std.specs.Char.{is_ascii_digit}
 use Rattle.std.specs.Fmt.{decimal, signed_decimal}
 use Rattle.std.specs.List.{prefix_len, suffix_len, take_while}
 use Rattle.std.specs.Option.{option_and_then}
 use Rattle.std.specs.Str.{all_ascii_digits}
-use Rattle.std.specs.Str.Parse.{digits_value, signed_digits_value, starts_with_minus, without_leading_sign}
+use Rattle.std.specs.Str.Parse.{digits_value, signed_digits_value, starts_with_minus}
+use Rattle.std.specs.Str.Parse.{without_leading_sign}
 
 -- the digits in front of a text, and what stands behind them
 abbrev pub digits_in_front : List ℕ → List ℕ
@@ -94,7 +97,8 @@ with_point_in places digits =
     take (length digits - places) digits ++ 46 ∷ drop (length digits - places) digits
 
 abbrev pub with_point : ℕ → List ℕ → List ℕ
-with_point places digits = with_point_in places (replicate (places + 1 - length digits) 48 ++ digits)
+with_point places digits =
+    with_point_in places (replicate (places + 1 - length digits) 48 ++ digits)
 
 abbrev pub with_exponent : List ℕ → ℤ → List ℕ
 with_exponent digits power = digits ++ 69 ∷ signed_decimal power

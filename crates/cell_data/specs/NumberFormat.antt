@@ -104,7 +104,8 @@ read_on (passed rest) read = read rest
 abbrev pub format_with_fuel : ℕ → List ℕ → CellFormat
 format_with_fuel turns [] = Other
 format_with_fuel zero (b ∷ bs) = Other
-format_with_fuel (suc turns) (b ∷ bs) = read_on (first_sign b bs) (λ rest. format_with_fuel turns rest)
+format_with_fuel (suc turns) (b ∷ bs) =
+    read_on (first_sign b bs) (λ rest. format_with_fuel turns rest)
 
 unfoldable pub custom_format : List ℕ → CellFormat
 custom_format text = format_with_fuel (length text) text

@@ -43,7 +43,8 @@ start_of (Some area) = area.start
 abbrev pub filled : {X : Type 0} → Range X → ℕ × ℕ → X
 filled range place =
     let start = start_of (bounds_of range) in
-    unwrap_or (find position_cmp (start.0 + place.0, start.1 + place.1) (cells_of range)) (blank_of range)
+    unwrap_or (find position_cmp (start.0 + place.0, start.1 + place.1) (cells_of range))
+    (blank_of range)
 
 -- the same, and none outside the area
 abbrev pub relative_value : {X : Type 0} → Range X → ℕ × ℕ → Option X

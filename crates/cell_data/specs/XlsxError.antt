@@ -1,4 +1,5 @@
--- The refusals of reading a workbook: their texts, and what the refusals of the layers below become.
+-- The refusals of reading a workbook: their texts, and what the refusals of the layers below
+-- become.
 use Rattle.std.specs.Prelude.{ℕ, List, ◌++◌, codes, string_bytes, true, Option, Some, None}
 use Rattle.std.specs.Fmt.{decimal, digits}
 use Rattle.part_events.specs.declared.fault.StreamError.{StreamError}
@@ -6,7 +7,19 @@ use Rattle.part_events.specs.declared.fault.StreamError.TheVariants as stream
 use Rattle.cell_refs.specs.declared.error.RefError.{RefError}
 use Rattle.cell_refs.specs.declared.error.RefError.TheVariants as ref
 use Rattle.cell_data.specs.declared.error.XlsxError.{XlsxError}
-use Rattle.cell_data.specs.declared.error.XlsxError.TheVariants.{OutOfMemory, Failed, NotBuilt, Io, Xml, XmlAttr, ParseFloat, ParseInt, XmlEof, UnexpectedNode, FileNotFound, RelationshipNotFound, Alphanumeric, RangeWithoutColumnComponent, RangeWithoutRowComponent, ColumnNumberOverflow, RowNumberOverflow, DimensionCount, CellTAttribute, Unexpected, Unrecognized, CellError, WorksheetNotFound, TableNotFound, NotAWorksheet, PivotTableNotFound}
+use Rattle.cell_data.specs.declared.error.XlsxError.TheVariants.{OutOfMemory, Failed, NotBuilt, Io}
+use Rattle.cell_data.specs.declared.error.XlsxError.TheVariants.{Xml, XmlAttr, ParseFloat, ParseInt}
+use Rattle.cell_data.specs.declared.error.XlsxError.TheVariants.{XmlEof, UnexpectedNode}
+use Rattle.cell_data.specs.declared.error.XlsxError.TheVariants.{FileNotFound, RelationshipNotFound}
+use Rattle.cell_data.specs.declared.error.XlsxError.TheVariants.{Alphanumeric}
+use Rattle.cell_data.specs.declared.error.XlsxError.TheVariants.{RangeWithoutColumnComponent}
+use Rattle.cell_data.specs.declared.error.XlsxError.TheVariants.{RangeWithoutRowComponent}
+use Rattle.cell_data.specs.declared.error.XlsxError.TheVariants.{ColumnNumberOverflow}
+use Rattle.cell_data.specs.declared.error.XlsxError.TheVariants.{RowNumberOverflow, DimensionCount}
+use Rattle.cell_data.specs.declared.error.XlsxError.TheVariants.{CellTAttribute, Unexpected}
+use Rattle.cell_data.specs.declared.error.XlsxError.TheVariants.{Unrecognized, CellError}
+use Rattle.cell_data.specs.declared.error.XlsxError.TheVariants.{WorksheetNotFound, TableNotFound}
+use Rattle.cell_data.specs.declared.error.XlsxError.TheVariants.{NotAWorksheet, PivotTableNotFound}
 
 -- what the refusal of a reader becomes
 abbrev pub of_stream : StreamError → XlsxError
@@ -23,7 +36,8 @@ of_reference ref.ColumnNumberOverflow = ColumnNumberOverflow
 of_reference ref.RowNumberOverflow = RowNumberOverflow
 of_reference (ref.DimensionCount count) = DimensionCount count
 
--- the text of a refusal; those of markup and of attributes end in the text of their fault, which is shown by tests
+-- the text of a refusal; those of markup and of attributes end in the text of their fault, which is
+-- shown by tests
 abbrev pub text_of : XlsxError → Option (List ℕ)
 text_of OutOfMemory = Some (codes "out of memory")
 text_of Failed = Some (codes "the reader has failed before")
@@ -33,21 +47,29 @@ text_of (Xml fault) = None
 text_of (XmlAttr fault) = None
 text_of (ParseFloat text) = Some (codes "Parse float error: " ++ string_bytes text)
 text_of (ParseInt text) = Some (codes "Parse integer error: " ++ string_bytes text)
-text_of (XmlEof name) = Some (codes "Unexpected end of xml, expecting '</" ++ (name.now ++ codes ">'"))
+text_of (XmlEof name) =
+    Some (codes "Unexpected end of xml, expecting '</" ++ (name.now ++ codes ">'"))
 text_of (UnexpectedNode name) = Some (codes "Expecting '" ++ (name.now ++ codes "' node"))
 text_of (FileNotFound name) = Some (codes "File not found '" ++ (string_bytes name ++ codes "'"))
 text_of RelationshipNotFound = Some (codes "Relationship not found")
-text_of (Alphanumeric byte) = Some (codes "Expecting alphanumeric character, got " ++ digits 16 true byte)
+text_of (Alphanumeric byte) =
+    Some (codes "Expecting alphanumeric character, got " ++ digits 16 true byte)
 text_of RangeWithoutColumnComponent = Some (codes "Range is missing the expected column component.")
 text_of RangeWithoutRowComponent = Some (codes "Range is missing the expected row component.")
 text_of ColumnNumberOverflow = Some (codes "column number overflow")
 text_of RowNumberOverflow = Some (codes "row number overflow")
-text_of (DimensionCount count) = Some (codes "Range dimension must be lower than 2. Got " ++ decimal count)
-text_of (CellTAttribute typ) = Some (codes "Unknown cell 't' attribute: \"" ++ (string_bytes typ ++ codes "\""))
+text_of (DimensionCount count) =
+    Some (codes "Range dimension must be lower than 2. Got " ++ decimal count)
+text_of (CellTAttribute typ) =
+    Some (codes "Unknown cell 't' attribute: \"" ++ (string_bytes typ ++ codes "\""))
 text_of (Unexpected text) = Some text.now
-text_of (Unrecognized typ val) = Some (codes "Unrecognized " ++ (typ.now ++ (codes ": " ++ string_bytes val)))
-text_of (CellError text) = Some (codes "Unsupported cell error value '" ++ (string_bytes text ++ codes "'"))
-text_of (WorksheetNotFound name) = Some (codes "Worksheet '" ++ (string_bytes name ++ codes "' not found"))
+text_of (Unrecognized typ val) =
+    Some (codes "Unrecognized " ++ (typ.now ++ (codes ": " ++ string_bytes val)))
+text_of (CellError text) =
+    Some (codes "Unsupported cell error value '" ++ (string_bytes text ++ codes "'"))
+text_of (WorksheetNotFound name) =
+    Some (codes "Worksheet '" ++ (string_bytes name ++ codes "' not found"))
 text_of (TableNotFound name) = Some (codes "Table '" ++ (string_bytes name ++ codes "' not found"))
 text_of (NotAWorksheet name) = Some (codes "Expecting a worksheet, got " ++ string_bytes name)
-text_of (PivotTableNotFound name) = Some (codes "Pivot Table '" ++ (string_bytes name ++ codes "' was not found on worksheet"))
+text_of (PivotTableNotFound name) =
+    Some (codes "Pivot Table '" ++ (string_bytes name ++ codes "' was not found on worksheet"))

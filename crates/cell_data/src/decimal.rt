@@ -1,4 +1,5 @@
-ghost use Rattle.std.specs.Prelude.{◌≡◌, ◌%◌, ◌==◌, ◌++◌, string_bytes, OnOk, OnErr, if◌then◌else◌, Some, pos, SomeIff, FitsSigned};
+ghost use Rattle.std.specs.Prelude.{◌≡◌, ◌%◌, ◌==◌, ◌++◌, string_bytes, OnOk, OnErr, if◌then◌else◌};
+ghost use Rattle.std.specs.Prelude.{Some, pos, SomeIff, FitsSigned};
 ghost use Rattle.std.specs.Int.{w128};
 ghost use Rattle.cell_data.specs.Canonical.{IsTrimmed};
 ghost use Rattle.cell_data.specs.Decimals.{with_sign};
@@ -85,7 +86,8 @@ impl Decimal {
     /// A refusal leaves the text as it was.
     #[tactic(auto, using(crate::proofs::Printed::digits_short))]
     pub fn push_to(&self, out: &mut String) -> Result<(), AllocError>
-        ensures ok { OnOk result (string_bytes out.new ≡ string_bytes out.old ++ printed (number_of self.now)) }
+        ensures ok { OnOk result
+            (string_bytes out.new ≡ string_bytes out.old ++ printed (number_of self.now)) }
         ensures err { OnErr result (string_bytes out.new ≡ string_bytes out.old) }
         ensures back { decimal_of (printed (number_of self.now)) ≡ Some (number_of self.now) }
     {

@@ -10,8 +10,10 @@ use itoa::Buffer;
 use std::alloc::AllocError;
 
 pub fn push_sign(out: &mut String, is_negative: bool) -> Result<(), AllocError>
-    ensures ok { OnOk result (string_bytes out.new ≡ string_bytes out.old ++ sign_text is_negative) }
-    ensures len { OnOk result (string_len out.new ≡ string_len out.old + length (sign_text is_negative)) }
+    ensures ok { OnOk result
+        (string_bytes out.new ≡ string_bytes out.old ++ sign_text is_negative) }
+    ensures len { OnOk result
+        (string_len out.new ≡ string_len out.old + length (sign_text is_negative)) }
     ensures capacity { string_capacity out.old ≤ string_capacity out.new }
     ensures full { OnErr result (string_capacity out.old < string_len out.old + 1) }
 {
@@ -36,7 +38,8 @@ fn push_zeros(out: &mut String, count: usize) -> Result<(), AllocError>
 // Appends the digits with a point before the last `places` of them.
 fn push_with_point(out: &mut String, digits: &str, places: usize) -> Result<(), AllocError>
     requires ascii { IsAscii digits.now }
-    ensures ok { OnOk result (string_bytes out.new ≡ string_bytes out.old ++ with_point places digits.now) }
+    ensures ok { OnOk result
+        (string_bytes out.new ≡ string_bytes out.old ++ with_point places digits.now) }
     ensures full { OnErr result (string_capacity out.old
         < string_len out.old + length (with_point places digits.now)) }
 {

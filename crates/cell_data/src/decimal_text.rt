@@ -1,5 +1,6 @@
 // The pieces of a decimal's text, in the order in which they stand.
-ghost use Rattle.std.specs.Prelude.{◌≡◌, ◌+◌, ◌-◌, ◌^◌, ◌≤◌, ◌≤ℤ◌, ◌+ℤ◌, ◌-ℤ◌, pos, negsuc, length, min, if◌then◌else◌, Some, None, IfSome, IfNone};
+ghost use Rattle.std.specs.Prelude.{◌≡◌, ◌+◌, ◌-◌, ◌^◌, ◌≤◌, ◌≤ℤ◌, ◌+ℤ◌, ◌-ℤ◌, pos, negsuc, length};
+ghost use Rattle.std.specs.Prelude.{min, if◌then◌else◌, Some, None, IfSome, IfNone};
 ghost use Rattle.std.specs.Option.{option_map};
 ghost use Rattle.std.specs.Str.{all_ascii_digits};
 ghost use Rattle.std.specs.Str.Parse.{digits_value, starts_with_minus, without_leading_sign};
@@ -33,7 +34,8 @@ pub fn read_fraction(digits: Significand, text: &[u8]) -> Option<(Significand, &
     requires room { digits.count + length text.now ≤ usize.MAX }
     ensures some { IfSome result (λ r. (r.0 ≡ digits_added digits (fraction_digits text.now))
         × (r.1.now ≡ behind_fraction text.now)) }
-    ensures none { IfNone result (2 ^ 128 ≤ (digits_added digits (fraction_digits text.now)).number) }
+    ensures none { IfNone result
+        (2 ^ 128 ≤ (digits_added digits (fraction_digits text.now)).number) }
     ensures room { IfSome result (λ r. (r.0.zeros ≤ r.0.count) × (digits.count ≤ r.0.count)) }
 {
     match text.split_first() {
@@ -61,7 +63,8 @@ fn power_number(digits: &[u8]) -> Option<u128>
 // The power that an exponent writes, or that nothing writes, up to the limit of powers.
 pub fn read_power(text: &[u8]) -> Option<i128>
     ensures power { result ≡ option_map near (power_of text.now) }
-    ensures limit { IfSome result (λ power. (negsuc (2 ^ 100 - 1) ≤ℤ power) × (power ≤ℤ pos (2 ^ 100))) }
+    ensures limit { IfSome result
+        (λ power. (negsuc (2 ^ 100 - 1) ≤ℤ power) × (power ≤ℤ pos (2 ^ 100))) }
 {
     let Some((mark, rest)) = text.split_first() else {
         return Some(0);

@@ -19,6 +19,8 @@ pub use error::XlsxError;
 pub use format::{
     CellFormat, builtin_format_by_id, builtin_format_code_by_id, detect_custom_number_format,
 };
+pub use range::Range;
+pub use range_iterators::{Cells, RowCells, Rows, UsedCells};
 pub use value::{
     CellErrorType, Data, DataRef, ExcelDateTime, ExcelDateTimeType, HeaderRow, UnknownCellError,
 };

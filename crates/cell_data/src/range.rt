@@ -42,7 +42,8 @@ impl<T> Range<T> {
     ghost use Rattle.cell_data.specs.Range.{start_of};
     ghost use Rattle.cell_data.specs.Positions.{lie_from};
     ghost use Rattle.cell_data.specs.Cells.{IsInSheet};
-    ghost use Rattle.cell_data.specs.Positions.{position_cmp, last_of_each, least_area, is_in_bounds};
+    ghost use Rattle.cell_data.specs.Positions.{position_cmp, last_of_each, least_area};
+    ghost use Rattle.cell_data.specs.Positions.{is_in_bounds};
 
     /// The range of these cells: the last of them at each position, in the least area that has them
     /// all. Without a cell the range is empty.
@@ -50,8 +51,10 @@ impl<T> Range<T> {
     where
         T: Drop,
         requires { All IsInSheet cells.items }
-        ensures cells { IfOk result (λ range. cells_of range ≡ last_of_each (placed_cells cells.items)) }
-        ensures bounds { IfOk result (λ range. bounds_of range ≡ least_area (placed_cells cells.items)) }
+        ensures cells { IfOk result
+            (λ range. cells_of range ≡ last_of_each (placed_cells cells.items)) }
+        ensures bounds { IfOk result
+            (λ range. bounds_of range ≡ least_area (placed_cells cells.items)) }
         ensures blank { IfOk result (λ range. blank_of range ≡ blank) }
     {
         let bounds = least_area(&cells);

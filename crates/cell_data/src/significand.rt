@@ -1,4 +1,5 @@
-ghost use Rattle.std.specs.Prelude.{◌≡◌, ◌+◌, ◌*◌, ◌^◌, ◌<◌, ◌≤◌, length, drop, IfSome, IfNone, SomeIff};
+ghost use Rattle.std.specs.Prelude.{◌≡◌, ◌+◌, ◌*◌, ◌^◌, ◌<◌, ◌≤◌, length, drop, IfSome, IfNone};
+ghost use Rattle.std.specs.Prelude.{SomeIff};
 ghost use Rattle.cell_data.specs.Decimals.{digits_in_front, behind_digits};
 ghost use Rattle.cell_data.specs.Significand.{digit_added, digits_added};
 
@@ -37,7 +38,8 @@ impl Significand {
         requires digit { digit < 10 }
         requires zeros { self.zeros ≤ self.count }
         requires room { self.count < usize.MAX }
-        ensures { SomeIff result ((digit_added self digit).number < 2 ^ 128) (digit_added self digit) }
+        ensures { SomeIff result
+            ((digit_added self digit).number < 2 ^ 128) (digit_added self digit) }
     {
         let count = self.count + 1;
         if digit == 0 {
@@ -62,7 +64,8 @@ impl Significand {
         requires room { self.count + length text.now ≤ usize.MAX }
         ensures some { IfSome result (λ r. (r.0 ≡ digits_added self (digits_in_front text.now))
             × (r.1.now ≡ behind_digits text.now)) }
-        ensures none { IfNone result (2 ^ 128 ≤ (digits_added self (digits_in_front text.now)).number) }
+        ensures none { IfNone result
+            (2 ^ 128 ≤ (digits_added self (digits_in_front text.now)).number) }
         ensures room { IfSome result (λ r. (r.0.zeros ≤ r.0.count) × (self.count ≤ r.0.count)
             × (r.0.count + length r.1.now ≡ self.count + length text.now)) }
     {

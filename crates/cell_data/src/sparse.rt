@@ -36,7 +36,8 @@ fn is_rising<T>(cells: &[Cell<T>]) -> bool
 
 // The last cell of each position, in the order of positions.
 fn last_cells<T: Drop>(alloc: Global, cells: Vec<Cell<T>>) -> Result<Vec<Cell<T>>, AllocError>
-    ensures { IfOk result (λ kept. placed_cells kept.items ≡ last_of_each (placed_cells cells.items)) }
+    ensures { IfOk result
+        (λ kept. placed_cells kept.items ≡ last_of_each (placed_cells cells.items)) }
 {
     let mut map = BTreeMap::new(alloc);
     for cell in cells {
@@ -51,7 +52,8 @@ fn last_cells<T: Drop>(alloc: Global, cells: Vec<Cell<T>>) -> Result<Vec<Cell<T>
 
 // The same. Cells that are in order already stay where they are.
 pub fn in_order<T: Drop>(alloc: Global, cells: Vec<Cell<T>>) -> Result<Vec<Cell<T>>, AllocError>
-    ensures { IfOk result (λ kept. placed_cells kept.items ≡ last_of_each (placed_cells cells.items)) }
+    ensures { IfOk result
+        (λ kept. placed_cells kept.items ≡ last_of_each (placed_cells cells.items)) }
 {
     if is_rising(&cells) {
         Ok(cells)

@@ -1,3 +1,8 @@
+mod decimals;
+mod formats;
+mod ranges;
+mod values;
+
 use super::*;
 use attr_text::AttrFault;
 use part_events::XmlFault;

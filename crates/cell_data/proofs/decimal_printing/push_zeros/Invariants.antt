@@ -1,4 +1,5 @@
-use Rattle.std.proofs.Common.{◌≡◌, ◌+◌, ◌≤◌, ◌++◌, replicate, string_bytes, string_len, string_capacity}
+use Rattle.std.proofs.Common.{◌≡◌, ◌+◌, ◌≤◌, ◌++◌, replicate, string_bytes, string_len}
+use Rattle.std.proofs.Common.{string_capacity}
 use Rattle.cell_data.proofs.decimal_printing.push_zeros.Given as goal
 
 abbrev pub invariant-loop : goal.invariant-loop

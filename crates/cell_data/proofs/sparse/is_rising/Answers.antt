@@ -8,5 +8,7 @@ use Rattle.cell_data.proofs.sparse.is_rising.Goals as goal
 pub loop-first-preserved-else-not-precedes : goal.loop-first-preserved-else-not-precedes
 loop-first-preserved-else-not-precedes g c =
     let at : Some c.in-Some-first.second.now ≡ slice_get c.in-Some.rest.now 0 = search rules in
-    let precedes : is_lt (position_cmp c.in-Some.first.now.pos c.in-Some-first.second.now.pos) ≡ true = search rules in
-    rising_left c.loop-first.left.now c.in-Some.rest.now c.in-Some.first.now c.in-Some-first.second.now c.in-Some.ensures.cases.0 at precedes ∙ c.loop-first.invariant
+    let precedes : is_lt (position_cmp c.in-Some.first.now.pos c.in-Some-first.second.now.pos)
+    ≡ true = search rules in
+    rising_left c.loop-first.left.now c.in-Some.rest.now c.in-Some.first.now
+    c.in-Some-first.second.now c.in-Some.ensures.cases.0 at precedes ∙ c.loop-first.invariant

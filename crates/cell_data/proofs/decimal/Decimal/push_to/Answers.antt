@@ -8,9 +8,14 @@ use Rattle.cell_data.proofs.decimal.Decimal.push_to.Goals as goal
 
 pub returns-clause-ok : goal.returns-clause-ok
 returns-clause-ok c =
-    let sign : string_bytes c.push_sign.new.out ≡ string_bytes c.args.out.now ++ sign_text (int_lt c.args.self.now.mantissa (pos 0)) = search rules in
-    let digits : OnOk c.push_digits.result (string_bytes c.push_digits.new.out ≡ string_bytes c.push_sign.new.out ++ printed_digits (decimal (unsigned_abs c.args.self.now.mantissa)) c.args.self.now.exponent) = search rules in
-    pushed_on c.push_digits.result _ _ _ _ _ _ digits sign (sign_first c.args.self.now.mantissa c.args.self.now.exponent)
+    let sign : string_bytes c.push_sign.new.out ≡ string_bytes c.args.out.now ++ sign_text
+    (int_lt c.args.self.now.mantissa (pos 0)) = search rules in
+    let digits : OnOk c.push_digits.result
+    (string_bytes c.push_digits.new.out ≡ string_bytes c.push_sign.new.out ++ printed_digits
+    (decimal (unsigned_abs c.args.self.now.mantissa)) c.args.self.now.exponent) =
+    search rules in
+    pushed_on c.push_digits.result _ _ _ _ _ _ digits sign
+    (sign_first c.args.self.now.mantissa c.args.self.now.exponent)
 
 pub returns-in_err-reserve-clause-back : goal.returns-in_err-reserve-clause-back
 returns-in_err-reserve-clause-back c = decimal_back c.args.self.now (search rules) (search rules)

@@ -7,11 +7,13 @@ use Rattle.cell_data.proofs.range.Range.from_sparse.Goals as goal
 
 pub invariant_of-result : goal.invariant_of-result
 invariant_of-result g c =
-    let bounds : c.least_area-bounds.result ≡ least_area (placed_cells c.args.cells.items) = search rules in
+    let bounds : c.least_area-bounds.result ≡ least_area (placed_cells c.args.cells.items) =
+    search rules in
     record {
       rising = ap is_rising c.in_ok-cells.ensures ∙ last_rising (placed_cells c.args.cells.items);
       inside =
           ap (λ area. lie_inside area (placed_cells c.in_ok-cells.cells.items)) bounds
-          ∙ (ap (lie_inside (least_area (placed_cells c.args.cells.items))) c.in_ok-cells.ensures ∙ last_inside (placed_cells c.args.cells.items));
+          ∙ (ap (lie_inside (least_area (placed_cells c.args.cells.items))) c.in_ok-cells.ensures
+          ∙ last_inside (placed_cells c.args.cells.items));
       limits = ap are_sheet_bounds bounds ∙ sheet_bounds c.args.cells.items c.requires;
     }

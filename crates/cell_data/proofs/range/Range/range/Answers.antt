@@ -10,19 +10,24 @@ use Rattle.cell_data.proofs.range.Range.range.Goals as goal
 pub invariant_of-result : goal.invariant_of-result
 invariant_of-result g c =
     let area : Dimensions = record { start = c.args.start; end = c.args.end } in
-    let kept : c.retain.new.self.items ≡ filter (λ (cell : Cell g.row.T.Denot). is_in_area area cell.pos) c.args.self.cells.items =
+    let kept : c.retain.new.self.items ≡ filter
+    (λ (cell : Cell g.row.T.Denot). is_in_area area cell.pos) c.args.self.cells.items =
     filter_same _ _ _ (λ x b f called. search rules) _ _ c.retain.ensures.filtered in
-    let selects = selected area c.args.self.cells.items c.retain.new.self.items c.args.self.rising kept in
+    let selects =
+    selected area c.args.self.cells.items c.retain.new.self.items c.args.self.rising kept in
     record {
       rising = selects.rising;
       inside = selects.inside;
-      limits = area_on_sheet area c.requires.rows c.requires.columns c.requires.in_rows c.requires.in_columns;
+      limits = area_on_sheet area c.requires.rows c.requires.columns c.requires.in_rows
+          c.requires.in_columns;
     }
 
 pub returns-clause-cells : goal.returns-clause-cells
 returns-clause-cells g c =
     let area : Dimensions = record { start = c.args.start; end = c.args.end } in
-    let kept : c.retain.new.self.items ≡ filter (λ (cell : Cell g.row.T.Denot). is_in_area area cell.pos) c.args.self.cells.items =
+    let kept : c.retain.new.self.items ≡ filter
+    (λ (cell : Cell g.row.T.Denot). is_in_area area cell.pos) c.args.self.cells.items =
     filter_same _ _ _ (λ x b f called. search rules) _ _ c.retain.ensures.filtered in
-    let selects = selected area c.args.self.cells.items c.retain.new.self.items c.args.self.rising kept in
+    let selects =
+    selected area c.args.self.cells.items c.retain.new.self.items c.args.self.rising kept in
     selects.keeps
