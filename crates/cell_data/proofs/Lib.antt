@@ -8,3 +8,4 @@ pub mod PowerLemmas
 pub mod Printed
 pub mod ReadsBack
 pub mod Significands
+pub mod Equalities

@@ -9,6 +9,7 @@ mod error;
 mod format;
 mod range;
 mod range_iterators;
+mod same;
 mod significand;
 mod sparse;
 mod value;
@@ -21,6 +22,7 @@ pub use format::{
 };
 pub use range::Range;
 pub use range_iterators::{Cells, RowCells, Rows, UsedCells};
+pub use same::{same_data, same_data_ref};
 pub use value::{
     CellErrorType, Data, DataRef, ExcelDateTime, ExcelDateTimeType, HeaderRow, UnknownCellError,
 };
