@@ -14,7 +14,7 @@ use Rattle.std.proofs.lemmas.List.{reverse-append}
 use Rattle.std.proofs.lemmas.List.Folds.{list_all-append}
 use Rattle.cell_refs.specs.declared.dimensions.Dimensions.{Dimensions}
 use Rattle.cell_data.specs.declared.cell.Cell.{Cell}
-use Rattle.cell_data.specs.Cells.{placed, placed_cells, IsInSheet}
+use Rattle.cell_data.specs.Cells.{cell_entry, placed_cells, IsInSheet}
 use Rattle.cell_data.specs.Positions.{position_cmp, last_of_each, area_with, least_area, is_in_area}
 use Rattle.cell_data.specs.Positions.{is_in_bounds, lie_inside, is_sheet_area, are_sheet_bounds}
 use Rattle.cell_data.specs.Positions.{lie_from}
@@ -186,9 +186,9 @@ placed_filter p (c ∷ cs) = placed_from p c cs (p c.pos) (placed_filter p cs)
         (placed_cells cs) →
         placed_cells
         (cond test (c ∷ filter (λ cell. p cell.pos) cs) (filter (λ cell. p cell.pos) cs))
-        ≡ cond test (placed c ∷ filter (λ cell. p cell.0) (placed_cells cs))
+        ≡ cond test (cell_entry c ∷ filter (λ cell. p cell.0) (placed_cells cs))
         (filter (λ cell. p cell.0) (placed_cells cs))
-    placed_from p c cs true rest = ap (λ es. placed c ∷ es) rest
+    placed_from p c cs true rest = ap (λ es. cell_entry c ∷ es) rest
     placed_from p c cs false rest = rest
 
 -- the cells of an area

@@ -18,7 +18,7 @@ use Rattle.std.specs.Ordering.{nat_cmp, ordering_then, is_lt, is_eq, eq_by_cmp, 
 use Rattle.std.proofs.lemmas.Cmp.{then_total, on_total, nat_cmp_total}
 use Rattle.std.proofs.lemmas.List.{reverse-append, map-append}
 use Rattle.cell_data.specs.declared.cell.Cell.{Cell}
-use Rattle.cell_data.specs.Cells.{placed, placed_cells}
+use Rattle.cell_data.specs.Cells.{cell_entry, placed_cells}
 use Rattle.cell_data.specs.Positions.{position_cmp, last_of_each, is_rising}
 
 pub position_total : IsTotalOrder position_cmp
@@ -100,7 +100,7 @@ module _ {X : Type 0} where
   last_cell_more cells cell old new known inserted =
       inserted ∙ (ap (λ es. insert_entry position_cmp es cell.pos cell.val) known
       ∙ (sym (last_more (placed_cells cells) cell.pos cell.val)
-      ∙ ap last_of_each (sym (map-append placed cells (cell ∷ [])))))
+      ∙ ap last_of_each (sym (map-append cell_entry cells (cell ∷ [])))))
 
   -- the last of each position rise
   pub last_rising : (cells : List ((ℕ × ℕ) × X)) → is_rising (last_of_each cells) ≡ true
@@ -199,4 +199,5 @@ pub rising_left : {X : Type 0} (left rest : List (Cell X)) (first second : Cell 
 rising_left left [] first second is at precedes = absurd (cc)
 rising_left left (other ∷ others) first second is at precedes =
     let same : second ≡ other = cc in
-    rw (is, ← same) (rising_past (placed first) (placed second) (placed_cells others) precedes)
+    rw (is, ← same) (rising_past (cell_entry first) (cell_entry second) (placed_cells others)
+    precedes)

@@ -3,11 +3,11 @@ use Rattle.std.specs.Prelude.{ℕ, ◌<◌, List, map}
 use Rattle.cell_refs.specs.declared.TheConstants.{MAX_ROWS, MAX_COLUMNS}
 use Rattle.cell_data.specs.declared.cell.Cell.{Cell}
 
-abbrev pub placed : {X : Type 0} → Cell X → (ℕ × ℕ) × X
-placed cell = (cell.pos, cell.val)
+abbrev pub cell_entry : {X : Type 0} → Cell X → (ℕ × ℕ) × X
+cell_entry cell = (cell.pos, cell.val)
 
 abbrev pub placed_cells : {X : Type 0} → List (Cell X) → List ((ℕ × ℕ) × X)
-placed_cells cells = map placed cells
+placed_cells cells = map cell_entry cells
 
 abbrev pub IsInSheet : {X : Type 0} → Cell X → Type 0
 IsInSheet cell = (cell.pos.0 < MAX_ROWS) × (cell.pos.1 < MAX_COLUMNS)

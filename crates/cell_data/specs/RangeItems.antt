@@ -32,13 +32,13 @@ abbrev pub box_items : {X : Type 0} → Range X → List (ℕ × ℕ × X)
 box_items range = map (box_item range) (range_with_len 0 (box_count range))
 
 -- the values of a row, from a column on
-abbrev pub row_from : {X : Type 0} → Range X → ℕ → ℕ → List X
-row_from range row column =
+abbrev pub row_values : {X : Type 0} → Range X → ℕ → ℕ → List X
+row_values range row column =
     map (λ k. filled range (row, k)) (range_with_len column (width_of (bounds_of range) - column))
 
 abbrev pub row_items : {X : Type 0} → Range X → List (List X)
 row_items range =
-    map (λ row. row_from range row 0) (range_with_len 0 (height_of (bounds_of range)))
+    map (λ row. row_values range row 0) (range_with_len 0 (height_of (bounds_of range)))
 
 -- what an iterator has left to give
 abbrev pub used_left : {X : Type 0} → UsedCells X → List (ℕ × ℕ × X)
@@ -49,13 +49,13 @@ cells_left it =
     map (box_item it.range.now) (range_with_len it.next (box_count it.range.now - it.next))
 
 abbrev pub row_left : {X : Type 0} → RowCells X → List X
-row_left it = row_from it.range.now it.row it.next
+row_left it = row_values it.range.now it.row it.next
 
 abbrev pub rows_left : {X : Type 0} → Rows X → List (List X)
 rows_left it =
-    map (λ row. row_from it.range.now row 0)
+    map (λ row. row_values it.range.now row 0)
     (range_with_len it.next (height_of (bounds_of it.range.now) - it.next))
 
 -- the item that an iterator gave, by its value
-abbrev pub item_of : {X : Type 0} → ℕ × ℕ × Bor X → ℕ × ℕ × X
-item_of item = (item.0, item.1, item.2.now)
+abbrev pub given_item : {X : Type 0} → ℕ × ℕ × Bor X → ℕ × ℕ × X
+given_item item = (item.0, item.1, item.2.now)

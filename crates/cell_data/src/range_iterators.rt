@@ -30,11 +30,11 @@ impl<'a, T> UsedCells<'a, T> {
 
 impl<'a, T> Iterator for UsedCells<'a, T> {
     ghost use Rattle.std.specs.Iterator.{YieldsFirstBy, item_count};
-    ghost use Rattle.cell_data.specs.RangeItems.{used_left, item_of};
+    ghost use Rattle.cell_data.specs.RangeItems.{used_left, given_item};
 
     type Item = (usize, usize, &'a T);
 
-    ghost next_gives = { YieldsFirstBy item_of used_left };
+    ghost next_gives = { YieldsFirstBy given_item used_left };
 
     ghost remaining = { item_count used_left };
 
@@ -67,11 +67,11 @@ impl<'a, T> Cells<'a, T> {
 
 impl<'a, T> Iterator for Cells<'a, T> {
     ghost use Rattle.std.specs.Iterator.{YieldsFirstBy, item_count};
-    ghost use Rattle.cell_data.specs.RangeItems.{cells_left, item_of};
+    ghost use Rattle.cell_data.specs.RangeItems.{cells_left, given_item};
 
     type Item = (usize, usize, &'a T);
 
-    ghost next_gives = { YieldsFirstBy item_of cells_left };
+    ghost next_gives = { YieldsFirstBy given_item cells_left };
 
     ghost remaining = { item_count cells_left };
 
