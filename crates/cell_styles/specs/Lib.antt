@@ -1,0 +1,6 @@
+pub mod Border
+pub mod Color
+pub mod Fill
+pub mod Font
+pub mod NumberFormat
+pub mod Style

@@ -1,0 +1,42 @@
+-- What a style names, and what of it can be seen.
+use Rattle.std.specs.Prelude.{◌≡◌, ◌≢◌, ◌⊎◌, Bool, true, false, Option, Some, None, IsSomeAnd, IsSome}
+use Rattle.cell_styles.specs.Border.{HasLine}
+use Rattle.cell_styles.specs.Font.{FontFields}
+use Rattle.cell_styles.specs.declared.alignment.Alignment.{Alignment}
+use Rattle.cell_styles.specs.declared.alignment.HorizontalAlignment.TheVariants.{General}
+use Rattle.cell_styles.specs.declared.alignment.VerticalAlignment.TheVariants.{Bottom}
+use Rattle.cell_styles.specs.declared.alignment.TextRotation.TheVariants as rotation
+use Rattle.cell_styles.specs.declared.fill.Fill.{Fill}
+use Rattle.cell_styles.specs.declared.fill.FillPattern.TheVariants as pattern
+use Rattle.cell_styles.specs.declared.font.FontWeight.TheVariants.{Bold}
+use Rattle.cell_styles.specs.declared.font.FontStyle.TheVariants.{Italic}
+use Rattle.cell_styles.specs.declared.style.Style.{Style}
+
+-- no property is named
+abbrev pub NamesNothing : Style → Type 0
+NamesNothing style =
+    (style.font ≡ None) × (style.fill ≡ None) × (style.borders ≡ None)
+    × (style.alignment ≡ None) × (style.number_format ≡ None) × (style.protection ≡ None)
+
+-- the font is bold, italic or has a color
+abbrev pub IsMarked : FontFields → Type 0
+IsMarked font = IsSome font.color ⊎ ((font.weight ≡ Bold) ⊎ (font.style ≡ Italic))
+
+-- the alignment of a cell that names none
+abbrev pub default_alignment : Alignment
+default_alignment = record {
+  horizontal = General;
+  vertical = Bottom;
+  text_rotation = rotation.None;
+  wrap_text = false;
+  indent = None;
+  shrink_to_fit = false;
+}
+
+-- some property can be seen
+abbrev pub IsSeen : Style → Type 0
+IsSeen style =
+    IsSomeAnd style.font IsMarked
+    ⊎ (IsSomeAnd style.fill (λ fill. fill.pattern ≢ pattern.None)
+    ⊎ (IsSomeAnd style.borders HasLine
+    ⊎ IsSomeAnd style.alignment (λ alignment. alignment ≢ default_alignment)))

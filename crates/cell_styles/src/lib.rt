@@ -1,0 +1,21 @@
+//! The style of cells: colors, borders, fonts, alignment, fills, number formats and protection, and
+//! which style each cell of a worksheet has.
+#![tactic(auto)]
+
+mod alignment;
+mod border;
+mod color;
+mod fill;
+mod font;
+mod number_format;
+mod protection;
+mod style;
+
+pub use alignment::{Alignment, HorizontalAlignment, TextRotation, VerticalAlignment};
+pub use border::{Border, BorderStyle, Borders};
+pub use color::Color;
+pub use fill::{Fill, FillPattern};
+pub use font::{Font, FontStyle, FontWeight, UnderlineStyle};
+pub use number_format::NumberFormat;
+pub use protection::Protection;
+pub use style::Style;

@@ -1,0 +1,8 @@
+/// What a protected worksheet keeps its reader from.
+#[derive(Clone, Debug, Default, PartialEq, Eq, Drop)]
+pub struct Protection {
+    /// The cell can't be changed.
+    pub locked: bool,
+    /// The cell's formula isn't shown.
+    pub hidden: bool,
+}
