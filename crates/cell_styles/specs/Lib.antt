@@ -1,5 +1,7 @@
 pub mod Border
 pub mod Color
+pub mod Default
+pub mod Equality
 pub mod Fill
 pub mod Font
 pub mod NumberFormat

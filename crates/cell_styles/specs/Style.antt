@@ -1,12 +1,8 @@
 -- What a style names, and what of it can be seen.
-use Rattle.std.specs.Prelude.{◌≡◌, ◌≢◌, ◌⊎◌, Bool, true, false, Option, Some, None, IsSomeAnd, IsSome}
+use Rattle.std.specs.Prelude.{◌≡◌, ◌≢◌, ◌⊎◌, None, IsSomeAnd, IsSome}
 use Rattle.cell_styles.specs.Border.{HasLine}
+use Rattle.cell_styles.specs.Default.{default_alignment}
 use Rattle.cell_styles.specs.Font.{FontFields}
-use Rattle.cell_styles.specs.declared.alignment.Alignment.{Alignment}
-use Rattle.cell_styles.specs.declared.alignment.HorizontalAlignment.TheVariants.{General}
-use Rattle.cell_styles.specs.declared.alignment.VerticalAlignment.TheVariants.{Bottom}
-use Rattle.cell_styles.specs.declared.alignment.TextRotation.TheVariants as rotation
-use Rattle.cell_styles.specs.declared.fill.Fill.{Fill}
 use Rattle.cell_styles.specs.declared.fill.FillPattern.TheVariants as pattern
 use Rattle.cell_styles.specs.declared.font.FontWeight.TheVariants.{Bold}
 use Rattle.cell_styles.specs.declared.font.FontStyle.TheVariants.{Italic}
@@ -21,17 +17,6 @@ NamesNothing style =
 -- the font is bold, italic or has a color
 abbrev pub IsMarked : FontFields → Type 0
 IsMarked font = IsSome font.color ⊎ ((font.weight ≡ Bold) ⊎ (font.style ≡ Italic))
-
--- the alignment of a cell that names none
-abbrev pub default_alignment : Alignment
-default_alignment = record {
-  horizontal = General;
-  vertical = Bottom;
-  text_rotation = rotation.None;
-  wrap_text = false;
-  indent = None;
-  shrink_to_fit = false;
-}
 
 -- some property can be seen
 abbrev pub IsSeen : Style → Type 0

@@ -56,14 +56,14 @@ impl Model for Font {
     ghost Value = { FontFields };
 
     ghost view = { λ font. record {
-        name = option_map string_bytes font.name;
-        size = font.size;
-        weight = font.weight;
-        style = font.style;
-        underline = font.underline;
-        strikethrough = font.strikethrough;
-        color = font.color;
-        family = font.family;
+      name = option_map string_bytes font.name;
+      size = font.size;
+      weight = font.weight;
+      style = font.style;
+      underline = font.underline;
+      strikethrough = font.strikethrough;
+      color = font.color;
+      family = font.family;
     } };
 }
 
@@ -129,22 +129,23 @@ impl PartialEq for Font {
     ghost use Rattle.cell_styles.specs.contracts.font.FontStyleEq.TheImpl.Laws as style;
     ghost use Rattle.cell_styles.specs.contracts.font.UnderlineStyleEq.TheImpl.Laws as underline;
 
-    ghost eq = {
-        eq_of_both (on (λ font. font.name) (option_eq (pointwise nat_eq)))
+    ghost eq = { eq_of_both (on (λ font. font.name) (option_eq (pointwise nat_eq)))
         (eq_of_both (on (λ font. font.size) (option_eq ⟦<Decimal as PartialEq>⟧.eq))
         (eq_of_both (on (λ font. font.weight) ⟦<FontWeight as PartialEq>⟧.eq)
         (eq_of_both (on (λ font. font.style) ⟦<FontStyle as PartialEq>⟧.eq)
         (eq_of_both (on (λ font. font.underline) ⟦<UnderlineStyle as PartialEq>⟧.eq)
         (eq_of_both (on (λ font. font.strikethrough) beq)
         (eq_of_both (on (λ font. font.color) (option_eq ⟦<Color as PartialEq>⟧.eq))
-        (on (λ font. font.family) (option_eq nat_eq))))))))
-    };
+        (on (λ font. font.family) (option_eq nat_eq)))))))) };
 
-    ghost laws = {
-        Prim.search (
-            comparing, size.laws-law, weight.laws-law, style.laws-law, underline.laws-law, color.laws-law
-        ) depth 24
-    };
+    ghost laws = { Prim.search (
+      comparing,
+      size.laws-law,
+      weight.laws-law,
+      style.laws-law,
+      underline.laws-law,
+      color.laws-law,
+    ) depth 24 };
 
     fn eq(&self, other: &Font) -> bool {
         self.name == other.name

@@ -17,8 +17,8 @@ impl Model for NumberFormat {
     ghost Value = { NumberFormatFields };
 
     ghost view = { λ format. record {
-        format_code = string_bytes format.format_code;
-        format_id = format.format_id;
+      format_code = string_bytes format.format_code;
+      format_id = format.format_id;
     } };
 }
 

@@ -1,8 +1,8 @@
 ghost use Rattle.std.specs.Prelude.{◌≡◌, ◌↔◌, IsTrue, IfOk, None};
 
 use crate::{
-    Alignment, Border, Borders, Fill, Font, HorizontalAlignment, NumberFormat, Protection, TextRotation,
-    VerticalAlignment,
+    Alignment, Border, Borders, Fill, Font, HorizontalAlignment, NumberFormat, Protection,
+    TextRotation, VerticalAlignment,
 };
 use std::alloc::{AllocError, Global};
 
@@ -40,8 +40,14 @@ impl Style {
         self.font.as_ref().is_some_and(|font| {
             font.color.is_some() || font.is_bold() || font.is_italic()
         }) || self.fill.as_ref().is_some_and(|fill| fill.is_visible())
-            || self.borders.as_ref().is_some_and(|borders| borders.has_visible_borders())
-            || self.alignment.as_ref().is_some_and(|alignment| *alignment != Alignment::default())
+            || self
+                .borders
+                .as_ref()
+                .is_some_and(|borders| borders.has_visible_borders())
+            || self
+                .alignment
+                .as_ref()
+                .is_some_and(|alignment| *alignment != Alignment::default())
     }
 
     /// A copy in memory of its own.

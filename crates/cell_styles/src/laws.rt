@@ -1,0 +1,60 @@
+ghost use Rattle.std.specs.Prelude.{◌≡◌, ℕ, ◌^◌, ◌<◌};
+ghost use Rattle.cell_styles.specs.Color.{argb_of, color_of_argb};
+ghost use Rattle.cell_styles.specs.Default.{IsOnly, default_color, default_border, default_borders, default_font, default_alignment, default_fill, default_protection, default_style};
+ghost use Rattle.cell_styles.specs.Equality.{IsEquality};
+ghost use Rattle.cell_styles.specs.declared.color.Color.{Color};
+
+use crate::{
+    Alignment, Border, BorderStyle, Borders, Color, Fill, FillPattern, Font, FontStyle, FontWeight,
+    HorizontalAlignment, NumberFormat, Protection, Style, TextRotation, UnderlineStyle,
+    VerticalAlignment,
+};
+
+/// `a == b` exactly where all fields are the same, at each type of this crate.
+pub fn equality_is_by_all_fields()
+    ensures color { IsEquality ⟦<Color as PartialEq>⟧.eq }
+    ensures border_style { IsEquality ⟦<BorderStyle as PartialEq>⟧.eq }
+    ensures border { IsEquality ⟦<Border as PartialEq>⟧.eq }
+    ensures borders { IsEquality ⟦<Borders as PartialEq>⟧.eq }
+    ensures font_weight { IsEquality ⟦<FontWeight as PartialEq>⟧.eq }
+    ensures font_style { IsEquality ⟦<FontStyle as PartialEq>⟧.eq }
+    ensures underline_style { IsEquality ⟦<UnderlineStyle as PartialEq>⟧.eq }
+    ensures font { IsEquality ⟦<Font as PartialEq>⟧.eq }
+    ensures horizontal { IsEquality ⟦<HorizontalAlignment as PartialEq>⟧.eq }
+    ensures vertical { IsEquality ⟦<VerticalAlignment as PartialEq>⟧.eq }
+    ensures text_rotation { IsEquality ⟦<TextRotation as PartialEq>⟧.eq }
+    ensures alignment { IsEquality ⟦<Alignment as PartialEq>⟧.eq }
+    ensures fill_pattern { IsEquality ⟦<FillPattern as PartialEq>⟧.eq }
+    ensures fill { IsEquality ⟦<Fill as PartialEq>⟧.eq }
+    ensures number_format { IsEquality ⟦<NumberFormat as PartialEq>⟧.eq }
+    ensures protection { IsEquality ⟦<Protection as PartialEq>⟧.eq }
+    ensures style { IsEquality ⟦<Style as PartialEq>⟧.eq }
+{}
+
+/// The default of each type: zeros for a color, the variants None, Normal, General and Bottom, false,
+/// and None for what is optional.
+pub fn defaults_are_these()
+    ensures color { IsOnly ⟦<Color as Default>⟧.is_default default_color }
+    ensures border_style { IsOnly ⟦<BorderStyle as Default>⟧.is_default BorderStyle.None }
+    ensures border { IsOnly ⟦<Border as Default>⟧.is_default default_border }
+    ensures borders { IsOnly ⟦<Borders as Default>⟧.is_default default_borders }
+    ensures font_weight { IsOnly ⟦<FontWeight as Default>⟧.is_default FontWeight.Normal }
+    ensures font_style { IsOnly ⟦<FontStyle as Default>⟧.is_default FontStyle.Normal }
+    ensures underline_style { IsOnly ⟦<UnderlineStyle as Default>⟧.is_default UnderlineStyle.None }
+    ensures font { IsOnly ⟦<Font as Default>⟧.is_default default_font }
+    ensures horizontal { IsOnly ⟦<HorizontalAlignment as Default>⟧.is_default HorizontalAlignment.General }
+    ensures vertical { IsOnly ⟦<VerticalAlignment as Default>⟧.is_default VerticalAlignment.Bottom }
+    ensures text_rotation { IsOnly ⟦<TextRotation as Default>⟧.is_default TextRotation.None }
+    ensures alignment { IsOnly ⟦<Alignment as Default>⟧.is_default default_alignment }
+    ensures fill_pattern { IsOnly ⟦<FillPattern as Default>⟧.is_default FillPattern.None }
+    ensures fill { IsOnly ⟦<Fill as Default>⟧.is_default default_fill }
+    ensures protection { IsOnly ⟦<Protection as Default>⟧.is_default default_protection }
+    ensures style { IsOnly ⟦<Style as Default>⟧.is_default default_style }
+{}
+
+/// A color's number is the number of that color, and back.
+pub fn colors_read_back()
+    ensures number { (argb : ℕ) → argb < 2 ^ 32 → argb_of (color_of_argb argb) ≡ argb }
+    ensures color { (color : Color) → color.alpha < 256 → color.red < 256 → color.green < 256
+        → color.blue < 256 → color_of_argb (argb_of color) ≡ color }
+{}
