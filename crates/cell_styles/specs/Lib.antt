@@ -3,6 +3,10 @@ pub mod Color
 pub mod Default
 pub mod Equality
 pub mod Fill
+pub mod Filling
 pub mod Font
+pub mod Groups
 pub mod NumberFormat
 pub mod Style
+pub mod StyleMap
+pub mod StyleRuns
