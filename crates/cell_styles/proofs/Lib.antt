@@ -1,4 +1,5 @@
 pub mod Areas
+pub mod CellLists
 pub mod Equality
 pub mod Fillings
 pub mod Grouping
@@ -6,3 +7,5 @@ pub mod Lookups
 pub mod Meaning
 pub mod RunLists
 pub mod RunSearch
+pub mod RunSteps
+pub mod StyledLists

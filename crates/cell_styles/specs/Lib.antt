@@ -8,5 +8,6 @@ pub mod Font
 pub mod Groups
 pub mod NumberFormat
 pub mod Style
+pub mod StyleItems
 pub mod StyleMap
 pub mod StyleRuns

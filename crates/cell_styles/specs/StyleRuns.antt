@@ -1,5 +1,6 @@
 -- Numbers kept as runs of equal neighbours.
-use Rattle.std.specs.Prelude.{◌≡◌, ◌≢◌, ℕ, ◌+◌, ◌-◌, ◌<◌, ◌==◌, if◌then◌else◌, List, [], ◌∷◌, ◌++◌, replicate, Bool, false}
+use Rattle.std.specs.Prelude.{◌≡◌, ◌≢◌, ℕ, ◌+◌, ◌-◌, ◌<◌, ◌==◌, if◌then◌else◌, List, [], ◌∷◌, ◌++◌, replicate, Bool, true, false, slice_index_or}
+use Rattle.std.specs.List.{list_all}
 use Rattle.cell_styles.specs.declared.style_runs.StyleRun.{StyleRun}
 
 -- the numbers of runs, of which the first begins at this place
@@ -29,3 +30,12 @@ abbrev pub last_is : ℕ → List StyleRun → Bool
 last_is id [] = false
 last_is id (run ∷ []) = run.id == id
 last_is id (run ∷ next ∷ runs) = last_is id (next ∷ runs)
+
+-- what is left of runs behind the first of their places
+pub record PassesOne (place : ℕ) (runs left : List StyleRun) : Type 0 where
+  pub canonical : IsCanonical (place + 1) left
+  pub ends : end_along (place + 1) left ≡ end_along place runs
+  pub begins : place < end_along place runs
+  pub kept : (P : StyleRun → Bool) → list_all P runs ≡ true → list_all P left ≡ true
+  pub numbers : (d : StyleRun)
+      → numbers_along place runs ≡ (slice_index_or runs 0 d).id ∷ numbers_along (place + 1) left

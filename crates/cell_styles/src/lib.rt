@@ -13,8 +13,10 @@ mod number_format;
 mod protection;
 mod steps;
 mod style;
+mod style_cells;
 mod style_range;
 mod style_runs;
+mod styled_cells;
 
 pub use alignment::{Alignment, HorizontalAlignment, TextRotation, VerticalAlignment};
 pub use border::{Border, BorderStyle, Borders};
@@ -26,4 +28,6 @@ pub use number_format::NumberFormat;
 pub use protection::Protection;
 pub use steps::Steps;
 pub use style::Style;
+pub use style_cells::StyleRangeCells;
 pub use style_range::StyleRange;
+pub use styled_cells::StyledCells;

@@ -1,11 +1,12 @@
 ghost use Rattle.std.specs.Prelude.{◌≡◌, ◌+◌, ◌-◌, ◌*◌, ◌^◌, ◌<◌, ◌≤◌, ◌↔◌, None, IfOk, IsTrue, IsSome, All, nat_lt, count_by};
 ghost use Rattle.std.specs.Option.{option_map, option_map_or, option_copied};
 ghost use Rattle.cell_styles.specs.Groups.{group_count};
+ghost use Rattle.cell_styles.specs.StyleItems.{cells_of, styled_of};
 ghost use Rattle.cell_styles.specs.StyleMap.{IsOnSheet, IsInBounds, no_styles, place_in, styles_of, style_at, width_of, height_of};
 
 use crate::filling::{bounds_of, explicit, filled, height, in_order, place_in, width};
 use crate::style_runs::StyleRuns;
-use crate::{Steps, Style};
+use crate::{Steps, Style, StyleRangeCells, StyledCells};
 use cell_refs::Dimensions;
 use std::alloc::{AllocError, Global};
 use std::marker::{Brand, Model};
@@ -160,6 +161,26 @@ impl StyleRange {
         }
         let id = self.ids.id_at(place_in(bounds, pos.0, pos.1), steps);
         Some(&self.palette[id])
+    }
+
+    /// The positions of the area with their styles, row by row.
+    pub fn cells(&self) -> StyleRangeCells<'_>
+        ensures { result ≡ cells_of self.now }
+    {
+        match self.bounds {
+            Some(area) => StyleRangeCells::new(area, &self.palette, self.ids.as_slice()),
+            None => StyleRangeCells::new(Dimensions::default(), &[], &[]),
+        }
+    }
+
+    /// The positions of the area that have an id above 0, with that id, row by row.
+    pub fn styled(&self) -> StyledCells<'_>
+        ensures { result ≡ styled_of self.now }
+    {
+        match self.bounds {
+            Some(area) => StyledCells::new(area, self.ids.as_slice()),
+            None => StyledCells::new(Dimensions::default(), &[]),
+        }
     }
 
     // The search, by a counter that nobody reads.

@@ -1,6 +1,6 @@
 ghost use Rattle.std.specs.Prelude.{◌≡◌, ◌++◌, ◌+◌, ◌-◌, ◌*◌, ◌^◌, ◌<◌, ◌≤◌, [], ◌↔◌, IsTrue, IfOk, OnOk, OnErr, length, replicate, slice_index};
 ghost use Rattle.cell_styles.specs.Groups.{group_count};
-ghost use Rattle.cell_styles.specs.StyleRuns.{end_along, last_is, numbers_along, IsCanonical};
+ghost use Rattle.cell_styles.specs.StyleRuns.{end_along, last_is, numbers_along, IsCanonical, PassesOne};
 
 use crate::Steps;
 use std::alloc::{AllocError, Global};
@@ -152,4 +152,16 @@ fn found_id<L: Ledger>(runs: &[StyleRun], place: usize, steps: &mut Steps<L>) ->
         }
     }
     runs[low].id
+}
+
+/// The runs behind the first of their places.
+pub fn behind_first(runs: &[StyleRun], place: usize) -> &[StyleRun]
+    requires canonical { IsCanonical place runs.now }
+    requires some { 0 < length runs.now }
+    ensures { PassesOne place runs.now result.now }
+{
+    match runs.split_first() {
+        Some((run, others)) if run.end == place + 1 => others,
+        _ => runs,
+    }
 }
