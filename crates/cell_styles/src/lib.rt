@@ -31,3 +31,6 @@ pub use style::Style;
 pub use style_cells::StyleRangeCells;
 pub use style_range::StyleRange;
 pub use styled_cells::StyledCells;
+
+#[cfg(test)]
+mod tests;
