@@ -1,0 +1,2 @@
+pub mod Theme
+pub mod Tint
