@@ -1,0 +1,285 @@
+#!/usr/bin/env python3
+"""Writes the package text of a workbook file to standard output (docs/FORMAT.md)."""
+
+import argparse
+import contextlib
+import errno
+import html
+import json
+import lzma
+import os
+import re
+import signal
+import struct
+import sys
+import tempfile
+import zipfile
+import zlib
+
+from markup import MarkupFault, events, spelled
+
+STATUSES = """\
+Statuses: 0 the package text was written whole; 2 usage; 3 the file can't be
+read; 4 the text is longer than the limit; 7 the text can't be written;
+8 out of memory; 10 no zip archive; 11 a workbook of another kind, as .xls;
+12 encrypted; 13 the archive or a part is broken. All but 7 write nothing.
+"""
+
+# How many bytes are read and written at a time.
+PIECE = 1 << 18
+
+# The first bytes of a compound file, in which .xls and encrypted workbooks lie.
+COMPOUND = bytes.fromhex("d0cf11e0a1b11ae1")
+NO_ARCHIVE = "no zip archive, and so no .xlsx workbook"
+
+# What a zip archive raises that is damaged, or packed in a way that isn't known.
+BROKEN = (
+    zipfile.BadZipFile,
+    zlib.error,
+    lzma.LZMAError,
+    struct.error,
+    EOFError,
+    RuntimeError,
+    ValueError,
+    OverflowError,
+)
+
+# Relationships of these types lead to what the reader opens, now or later.
+TYPES = {
+    "officeDocument",
+    "worksheet",
+    "chartsheet",
+    "dialogsheet",
+    "table",
+    "pivotTable",
+    "pivotCacheDefinition",
+    "pivotCacheRecords",
+}
+# It looks for parts of these file names whether a relationship leads to them or not.
+FILES = {
+    "workbook.xml",
+    "sharedstrings.xml",
+    "styles.xml",
+    "theme1.xml",
+    "core.xml",
+    "app.xml",
+    "custom.xml",
+}
+MARKUP = (".xml", ".rels", ".vml")
+
+PAIR = re.compile(r"""([^\s=]+)\s*=\s*(?:"([^"]*)"|'([^']*)')""")
+
+
+class Refusal(Exception):
+    def __init__(self, status, text):
+        super().__init__(text)
+        self.status = status
+
+
+def file_name(path):
+    """What stands behind the last slash. As in the reader, `\\` is one, and letters are folded."""
+    return re.split(r"[/\\]", path)[-1].lower()
+
+
+def directory_names(file):
+    """The names in a compound file's directory that tell its kind. An entry has 128 bytes and lies
+    at a multiple of that: the name in UTF-16 with its end, and at byte 64 how long these are."""
+    names = {
+        f"{name}\0".encode("utf-16-le"): name for name in ("EncryptedPackage", "Workbook", "Book")
+    }
+    pattern, found = re.compile(b"|".join(map(re.escape, names))), set()
+    file.seek(0)
+    for piece in iter(lambda: file.read(PIECE), b""):
+        for match in pattern.finditer(piece):
+            length = piece[match.start() + 64 : match.start() + 66]
+            if match.start() % 128 == 0 and length == struct.pack("<H", len(match[0])):
+                found.add(names[match[0]])
+    return found
+
+
+def compound_refusal(file):
+    names = directory_names(file)
+    if "EncryptedPackage" in names:
+        return Refusal(12, "an encrypted workbook")
+    if names:
+        return Refusal(11, "an .xls workbook: save it as .xlsx")
+    return Refusal(10, NO_ARCHIVE)
+
+
+@contextlib.contextmanager
+def read(what):
+    """Tells what becomes of a fault of the file or of the archive in it."""
+    try:
+        yield
+    except OSError as error:
+        # A broken archive has some of these: without a number, or for a place that no file has.
+        if error.errno in (None, errno.EINVAL):
+            raise Refusal(13, f"{what} is broken: {error}") from None
+        raise Refusal(3, f"can't be read: {error.strerror}") from None
+    except BROKEN as error:
+        raise Refusal(13, f"{what} is broken: {error}") from None
+
+
+@contextlib.contextmanager
+def written():
+    try:
+        yield
+    except OSError as error:
+        raise Refusal(7, f"write fault: {error.strerror}") from None
+
+
+def archive_of(file):
+    with read("the zip archive"):
+        front = file.read(len(COMPOUND))
+        if front == COMPOUND:
+            raise compound_refusal(file)
+        if zipfile.is_zipfile(file):
+            return zipfile.ZipFile(file)
+        if front.startswith(b"PK"):
+            raise Refusal(13, "the zip archive is cut off or broken")
+        raise Refusal(10, NO_ARCHIVE)
+
+
+def targets_of(attributes):
+    """The file names that a relationship leads to, where its type is wanted."""
+    pairs = [(key, html.unescape(a or b)) for key, a, b in PAIR.findall(attributes)]
+    if not any(key == "Type" and kind.split("/")[-1] in TYPES for key, kind in pairs):
+        return set()
+    return {file_name(target) for key, target in pairs if key == "Target"}
+
+
+class Workbook:
+    """The parts of a workbook file that are written."""
+
+    def __init__(self, archive, is_all):
+        self.archive, self.is_all = archive, is_all
+        # Of entries with one name the last stands, since an archive is added to at its end.
+        self.entries = {entry.filename: entry for entry in archive.infolist()}
+        self.targets = self.found_targets()
+        if any(name.endswith(".bin") for name in self.targets):
+            raise Refusal(11, "an .xlsb workbook: save it as .xlsx")
+
+    def found_targets(self):
+        """The file names that relationships of the wanted types lead to, wherever they stand."""
+        found = set()
+        for name, entry in self.entries.items():
+            if file_name(name).endswith(".rels"):
+                for event in json.loads(f"[{','.join(self.events(entry))}]"):
+                    if event[0] == "s" and event[1].split(":")[-1] == "Relationship":
+                        found |= targets_of(event[2])
+        return found
+
+    def is_written(self, name):
+        if self.is_all:
+            return name.endswith(MARKUP)
+        return name.endswith(".rels") or name in FILES or name in self.targets
+
+    def parts(self):
+        for name, entry in self.entries.items():
+            if self.is_written(file_name(name)):
+                yield name, self.events(entry)
+
+    def events(self, entry):
+        """The events of a part, as texts of one or more with commas between them."""
+        try:
+            for some in events(self.pieces(entry)):
+                if some:
+                    yield ",".join(some)
+        except MarkupFault as fault:
+            raise Refusal(13, f"{entry.filename} is broken: {fault}") from None
+
+    def pieces(self, entry):
+        if entry.flag_bits & 1:
+            raise Refusal(12, f"{entry.filename} is encrypted")
+        with read(entry.filename), self.archive.open(entry) as part:
+            yield from iter(lambda: part.read(PIECE), b"")
+
+
+class Output:
+    """Keeps the text in a temporary file, so that nothing is written before all of it is there."""
+
+    def __init__(self, kept, limit):
+        self.kept, self.limit, self.size = kept, limit, 0
+
+    def add(self, text):
+        piece = text.encode()
+        self.size += len(piece)
+        if self.limit is not None and self.size > self.limit:
+            raise Refusal(
+                4, f"input too large: its package text has more than {self.limit:,} bytes"
+            )
+        with written():
+            self.kept.write(piece)
+
+    def add_list(self, items, between=","):
+        for number, item in enumerate(items):
+            if number > 0:
+                self.add(between)
+            self.add(item)
+
+    def add_package(self, parts):
+        self.add('{"version":1,"parts":[')
+        for number, (name, some_events) in enumerate(parts):
+            self.add(("," if number else "") + f'\n{{"name":{spelled(name)},"events":[')
+            self.add_list(some_events)
+            self.add("]}")
+        self.add("\n]}\n")
+
+    def send(self, descriptor):
+        with written():
+            self.kept.seek(0)
+            for piece in iter(lambda: self.kept.read(PIECE), b""):
+                while piece:
+                    piece = piece[os.write(descriptor, piece) :]
+
+
+def write(path, is_all, limit, descriptor):
+    with contextlib.ExitStack() as stack:
+        with read("the file"):
+            file = stack.enter_context(open(path, "rb"))
+        archive = stack.enter_context(archive_of(file))
+        with written():
+            kept = stack.enter_context(tempfile.TemporaryFile())
+        output = Output(kept, limit)
+        output.add_package(Workbook(archive, is_all).parts())
+        output.send(descriptor)
+
+
+class Parser(argparse.ArgumentParser):
+    def error(self, message):
+        self.exit(2, f"{self.prog}: {message}\n")
+
+
+def asked_of(words):
+    parser = Parser(
+        description=__doc__, epilog=STATUSES, formatter_class=argparse.RawDescriptionHelpFormatter
+    )
+    parser.add_argument("file", metavar="FILE.xlsx")
+    parser.add_argument(
+        "--all",
+        action="store_true",
+        help="write all parts of markup (default: those that the reader opens, now or later)",
+    )
+    parser.add_argument(
+        "--limit", type=int, metavar="BYTES", help="refuse a text that is longer than this"
+    )
+    return parser.parse_args(words)
+
+
+def main():
+    signal.signal(signal.SIGINT, signal.SIG_DFL)
+    asked = asked_of(sys.argv[1:])
+    try:
+        write(asked.file, asked.all, asked.limit, 1)
+        return 0
+    except Refusal as refusal:
+        status, text = refusal.status, str(refusal)
+    except MemoryError:
+        status, text = 8, "out of memory"
+    with contextlib.suppress(OSError):
+        os.write(2, f"{asked.file}: {text}\n".encode(errors="surrogateescape"))
+    return status
+
+
+if __name__ == "__main__":
+    sys.exit(main())

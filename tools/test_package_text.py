@@ -1,0 +1,320 @@
+"""Tests which parts of a workbook file become its package text, and which files are refused."""
+
+import io
+import json
+import os
+import pathlib
+import struct
+import subprocess
+import sys
+import tempfile
+import unittest
+import zipfile
+
+from package_text import Refusal, write
+
+HERE = pathlib.Path(__file__).resolve().parent
+SHIPPED = HERE.parent / "crates" / "xlsx_tool" / "stdin"
+
+TYPES = "http://schemas.openxmlformats.org/officeDocument/2006/relationships/"
+
+
+def relationship(number, kind, target):
+    return f'<Relationship Id="rId{number}" Type="{TYPES}{kind}" Target="{target}"/>'
+
+
+def relationships(*kinds_and_targets):
+    each = (relationship(n, *pair) for n, pair in enumerate(kinds_and_targets, 1))
+    return f"<Relationships>{''.join(each)}</Relationships>"
+
+
+# The markup of the package that is shipped.
+MINIMAL = {
+    "_rels/.rels": relationships(("officeDocument", "xl/workbook.xml")),
+    "xl/_rels/workbook.xml.rels": relationships(("worksheet", "worksheets/sheet1.xml")),
+    "xl/workbook.xml": (
+        '<workbook><sheets><sheet name="S" sheetId="1" r:id="rId1"/></sheets></workbook>'
+    ),
+    "xl/worksheets/sheet1.xml": (
+        '<worksheet><sheetData><row r="1"><c r="A1" t="str"><v>nut</v></c>'
+        '<c r="B1" t="str"><f>UPPER(A1)</f><v>NUT</v></c></row></sheetData></worksheet>'
+    ),
+}
+
+
+def archive(parts, **how):
+    """A zip archive with these parts, in this order."""
+    held = io.BytesIO()
+    with zipfile.ZipFile(held, "w", zipfile.ZIP_DEFLATED, **how) as made:
+        for name, markup in parts.items() if isinstance(parts, dict) else parts:
+            made.writestr(name, markup)
+    return held.getvalue()
+
+
+def with_parts(**parts):
+    return archive({**MINIMAL, **parts})
+
+
+def directory_entry(name):
+    """An entry of a compound file's directory."""
+    text = f"{name}\0".encode("utf-16-le")
+    return text.ljust(64, b"\0") + struct.pack("<H", len(text)) + bytes(62)
+
+
+def compound(*names):
+    front = bytes.fromhex("d0cf11e0a1b11ae1").ljust(512, b"\0")
+    return front + b"".join(map(directory_entry, ("Root Entry", *names)))
+
+
+class Files(unittest.TestCase):
+    def setUp(self):
+        folder = tempfile.TemporaryDirectory()
+        self.addCleanup(folder.cleanup)
+        self.path = os.path.join(folder.name, "book.xlsx")
+
+    def run_on(self, data, *words, stdout=subprocess.PIPE):
+        """Runs the program on a file of these bytes, none where they are None."""
+        if data is not None:
+            pathlib.Path(self.path).write_bytes(data)
+        ran = subprocess.run(
+            [sys.executable, HERE / "package_text.py", self.path, *words],
+            stdout=stdout,
+            stderr=subprocess.PIPE,
+        )
+        return ran.returncode, ran.stdout, ran.stderr.decode()
+
+    def package_of(self, data, *words):
+        status, text, said = self.run_on(data, *words)
+        self.assertEqual((status, said), (0, ""))
+        return json.loads(text.decode())
+
+    def names_of(self, data, *words):
+        return [part["name"] for part in self.package_of(data, *words)["parts"]]
+
+    def check_refused(self, data, status, text, *words):
+        self.assertEqual(self.run_on(data, *words), (status, b"", f"{self.path}: {text}\n"))
+
+
+class Parts(Files):
+    def test_the_markup_of_the_shipped_package_gives_the_shipped_package(self):
+        wanted = json.loads(SHIPPED.read_text(encoding="utf-8"))
+        self.assertEqual(self.package_of(archive(MINIMAL)), wanted)
+
+    def test_parts_keep_their_order(self):
+        turned = dict(reversed(MINIMAL.items()))
+        self.assertEqual(self.names_of(archive(turned)), list(turned))
+
+    def test_parts_that_the_reader_opens_are_written(self):
+        more = {
+            "xl/sharedStrings.xml": "<sst/>",
+            "xl/styles.xml": "<styleSheet/>",
+            "xl/theme/theme1.xml": "<theme/>",
+            "docProps/core.xml": "<coreProperties/>",
+            "docProps/app.xml": "<Properties/>",
+            "docProps/custom.xml": "<Properties/>",
+            "xl/worksheets/_rels/sheet1.xml.rels": relationships(
+                ("table", "../tables/table1.xml"), ("pivotTable", "../pivotTables/pivotTable1.xml")
+            ),
+            "xl/tables/table1.xml": "<table/>",
+            "xl/pivotTables/pivotTable1.xml": "<pivotTableDefinition/>",
+            "xl/pivotTables/_rels/pivotTable1.xml.rels": relationships(
+                ("pivotCacheDefinition", "../pivotCache/pivotCacheDefinition1.xml")
+            ),
+            "xl/pivotCache/pivotCacheDefinition1.xml": "<pivotCacheDefinition/>",
+            "xl/pivotCache/_rels/pivotCacheDefinition1.xml.rels": relationships(
+                ("pivotCacheRecords", "pivotCacheRecords1.xml")
+            ),
+            "xl/pivotCache/pivotCacheRecords1.xml": "<pivotCacheRecords/>",
+        }
+        self.assertEqual(self.names_of(with_parts(**more)), [*MINIMAL, *more])
+
+    def test_other_parts_are_left_out(self):
+        more = {
+            "[Content_Types].xml": "<Types/>",
+            "xl/worksheets/_rels/sheet1.xml.rels": relationships(
+                ("drawing", "../drawings/drawing1.xml")
+            ),
+            "xl/drawings/drawing1.xml": "<wsDr/>",
+            "xl/media/image1.png": b"\x89PNG\0",
+            "xl/calcChain.xml": "<calcChain/>",
+            "xl/folder/": "",
+        }
+        wanted = [*MINIMAL, "xl/worksheets/_rels/sheet1.xml.rels"]
+        self.assertEqual(self.names_of(with_parts(**more)), wanted)
+
+    def test_all_parts_of_markup(self):
+        more = {
+            "[Content_Types].xml": "<Types/>",
+            "xl/drawings/vmlDrawing1.vml": "<xml><br></xml>",
+            "xl/media/image1.png": b"\x89PNG\0",
+            "CustomXml/Item1.XML": "<a/>",
+            "xl/folder/": "",
+        }
+        wanted = [
+            *MINIMAL,
+            "[Content_Types].xml",
+            "xl/drawings/vmlDrawing1.vml",
+            "CustomXml/Item1.XML",
+        ]
+        self.assertEqual(self.names_of(with_parts(**more), "--all"), wanted)
+
+    def test_a_sheet_may_lie_anywhere(self):
+        for target, name in (
+            ("/media/A.xml", "media/a.xml"),
+            ("..\\b.xml", "B.XML"),
+            ("c&amp;d.xml", "xl/c&d.xml"),
+            ("e.png", "xl/e.png"),
+        ):
+            with self.subTest(target):
+                more = {
+                    "xl/_rels/workbook.xml.rels": relationships(("worksheet", target)),
+                    name: "<a/>",
+                }
+                self.assertIn(name, self.names_of(with_parts(**more)))
+
+    def test_relationships_of_the_strict_form(self):
+        kind = "http://purl.oclc.org/ooxml/officeDocument/relationships/chartsheet"
+        strict = f"<x:Relationship Target='c.xml' Type = \"{kind}\"/>"
+        more = {
+            "xl/_rels/workbook.xml.rels": strict,
+            "xl/c.xml": "<a/>",
+            "xl/worksheets/sheet1.xml": "<a/>",
+        }
+        wanted = [name for name in MINIMAL if "sheet1" not in name] + ["xl/c.xml"]
+        self.assertEqual(self.names_of(with_parts(**more)), wanted)
+
+    def test_of_parts_with_one_name_the_last_stands(self):
+        # The library warns of the second entry, which is what is tried here.
+        with self.assertWarns(UserWarning):
+            data = archive([*MINIMAL.items(), ("xl/workbook.xml", "<b/>")])
+        parts = {part["name"]: part["events"] for part in self.package_of(data)["parts"]}
+        self.assertEqual(list(parts), list(MINIMAL))
+        self.assertEqual(parts["xl/workbook.xml"], [["s", "b", ""], ["e", "b"]])
+
+    def test_parts_whose_names_differ_in_case_are_both_written(self):
+        self.assertEqual(
+            self.names_of(with_parts(**{"XL/Workbook.xml": "<b/>"})), [*MINIMAL, "XL/Workbook.xml"]
+        )
+
+    def test_a_part_in_utf_16(self):
+        more = {"xl/workbook.xml": MINIMAL["xl/workbook.xml"].encode("utf-16")}
+        self.assertEqual(self.package_of(with_parts(**more)), self.package_of(archive(MINIMAL)))
+
+    def test_a_part_without_events(self):
+        parts = self.package_of(archive({"_rels/.rels": ""}))["parts"]
+        self.assertEqual(parts, [{"name": "_rels/.rels", "events": []}])
+
+    def test_an_archive_without_parts(self):
+        self.assertEqual(self.package_of(archive({})), {"version": 1, "parts": []})
+
+    def test_a_long_part_is_one_list(self):
+        row = '<row r="1"/>'
+        more = {"xl/worksheets/sheet1.xml": row * 100_000}
+        part = self.package_of(with_parts(**more))["parts"][3]
+        self.assertEqual(part["events"], [["s", "row", ' r="1"'], ["e", "row"]] * 100_000)
+
+
+class Refusals(Files):
+    def test_no_file(self):
+        self.check_refused(None, 3, "can't be read: No such file or directory")
+
+    def test_a_folder(self):
+        os.mkdir(self.path)
+        self.check_refused(None, 3, "can't be read: Is a directory")
+
+    def test_no_zip_archive(self):
+        for data in (b"", b"nut", b"<workbook/>", compound("WordDocument")):
+            self.check_refused(data, 10, "no zip archive, and so no .xlsx workbook")
+
+    def test_an_xls_workbook(self):
+        for names in (["Workbook"], ["Book"], ["a", "b", "c", "Workbook"]):
+            self.check_refused(compound(*names), 11, "an .xls workbook: save it as .xlsx")
+
+    def test_an_xlsb_workbook(self):
+        data = archive({"_rels/.rels": relationships(("officeDocument", "xl/workbook.bin"))})
+        self.check_refused(data, 11, "an .xlsb workbook: save it as .xlsx")
+
+    def test_an_encrypted_workbook(self):
+        self.check_refused(
+            compound("EncryptionInfo", "EncryptedPackage"), 12, "an encrypted workbook"
+        )
+
+    def test_an_encrypted_part(self):
+        data = bytearray(archive({"_rels/.rels": "<a/>"}))
+        for mark, place in ((b"PK\3\4", 6), (b"PK\1\2", 8)):
+            data[data.index(mark) + place] |= 1
+        self.check_refused(bytes(data), 12, "_rels/.rels is encrypted")
+
+    def test_an_archive_that_is_cut_off(self):
+        data = archive(MINIMAL)
+        for size in (8, len(data) // 2, len(data) - 30):
+            self.check_refused(data[:size], 13, "the zip archive is cut off or broken")
+
+    def test_a_part_with_a_wrong_checksum(self):
+        data = bytearray(archive({"_rels/.rels": "<a/>"}))
+        for mark, place in ((b"PK\3\4", 14), (b"PK\1\2", 16)):
+            data[data.index(mark) + place] ^= 1
+        self.check_refused(
+            bytes(data), 13, "_rels/.rels is broken: Bad CRC-32 for file '_rels/.rels'"
+        )
+
+    def test_a_part_packed_in_an_unknown_way(self):
+        data = bytearray(archive({"_rels/.rels": "<a/>"}))
+        for mark, place in ((b"PK\3\4", 8), (b"PK\1\2", 10)):
+            data[data.index(mark) + place] = 99
+        self.check_refused(
+            bytes(data), 13, "_rels/.rels is broken: That compression method is not supported"
+        )
+
+    def test_a_part_that_is_no_markup(self):
+        for markup, text in (
+            (b"<a>b</a", "markup without an end, at character 4"),
+            (b"a & b <c>", "a `&` without its `;`, at character 2"),
+            (b"<a>\xff", "neither UTF-8 nor UTF-16"),
+        ):
+            self.check_refused(
+                with_parts(**{"xl/workbook.xml": markup}), 13, f"xl/workbook.xml is broken: {text}"
+            )
+
+    def test_a_broken_part_that_is_not_written_refuses_nothing(self):
+        self.assertEqual(self.names_of(with_parts(**{"xl/calcChain.xml": "<"})), list(MINIMAL))
+
+    def test_a_text_that_is_too_large(self):
+        data = archive(MINIMAL)
+        status, text, _ = self.run_on(data)
+        self.assertEqual(status, 0)
+        self.assertEqual(self.run_on(data, "--limit", str(len(text))), (0, text, ""))
+        limit = len(text) - 1
+        self.check_refused(
+            data,
+            4,
+            f"input too large: its package text has more than {limit:,} bytes",
+            f"--limit={limit}",
+        )
+
+    def test_a_full_device(self):
+        with open("/dev/full", "wb") as full:
+            ran = self.run_on(archive(MINIMAL), stdout=full)
+        self.assertEqual(ran, (7, None, f"{self.path}: write fault: No space left on device\n"))
+
+    def test_faulty_words(self):
+        for words in (["--none"], ["more"], ["--limit", "x"]):
+            status, text, said = self.run_on(archive(MINIMAL), *words)
+            self.assertEqual((status, text, said.count("\n")), (2, b"", 1))
+
+    def test_damage_is_told_as_damage(self):
+        """Each byte of an archive is damaged in turn."""
+        data = archive({"_rels/.rels": MINIMAL["_rels/.rels"]})
+        for at in range(len(data)):
+            damaged = data[:at] + bytes([data[at] ^ 0x55]) + data[at + 1 :]
+            pathlib.Path(self.path).write_bytes(damaged)
+            with self.subTest(at=at), tempfile.TemporaryFile() as out:
+                try:
+                    write(self.path, False, None, out.fileno())
+                except Refusal as refusal:
+                    self.assertIn(refusal.status, (10, 12, 13))
+                    self.assertEqual(os.fstat(out.fileno()).st_size, 0)
+
+
+if __name__ == "__main__":
+    unittest.main()
