@@ -140,9 +140,11 @@ def archive_of(file):
         raise Refusal(10, NO_ARCHIVE)
 
 
-def targets_of(attributes):
+def targets_of(event):
     """The file names that a relationship leads to, where its type is wanted."""
-    pairs = [(key, html.unescape(a or b)) for key, a, b in PAIR.findall(attributes)]
+    if event[0] != "s" or event[1].split(":")[-1] != "Relationship":
+        return set()
+    pairs = [(key, html.unescape(a or b)) for key, a, b in PAIR.findall(event[2])]
     if not any(key == "Type" and kind.split("/")[-1] in TYPES for key, kind in pairs):
         return set()
     return {file_name(target) for key, target in pairs if key == "Target"}
@@ -164,9 +166,8 @@ class Workbook:
         found = set()
         for name, entry in self.entries.items():
             if file_name(name).endswith(".rels"):
-                for event in json.loads(f"[{','.join(self.events(entry))}]"):
-                    if event[0] == "s" and event[1].split(":")[-1] == "Relationship":
-                        found |= targets_of(event[2])
+                for some in self.events(entry):
+                    found.update(*map(targets_of, json.loads(f"[{some}]")))
         return found
 
     def is_written(self, name):

@@ -1,6 +1,5 @@
 """Tests which parts of a workbook file become its package text, and which files are refused."""
 
-import io
 import json
 import os
 import pathlib
@@ -9,46 +8,12 @@ import subprocess
 import sys
 import tempfile
 import unittest
-import zipfile
 
+from fixtures import MINIMAL, archive, relationships
 from package_text import Refusal, write
 
 HERE = pathlib.Path(__file__).resolve().parent
 SHIPPED = HERE.parent / "crates" / "xlsx_tool" / "stdin"
-
-TYPES = "http://schemas.openxmlformats.org/officeDocument/2006/relationships/"
-
-
-def relationship(number, kind, target):
-    return f'<Relationship Id="rId{number}" Type="{TYPES}{kind}" Target="{target}"/>'
-
-
-def relationships(*kinds_and_targets):
-    each = (relationship(n, *pair) for n, pair in enumerate(kinds_and_targets, 1))
-    return f"<Relationships>{''.join(each)}</Relationships>"
-
-
-# The markup of the package that is shipped.
-MINIMAL = {
-    "_rels/.rels": relationships(("officeDocument", "xl/workbook.xml")),
-    "xl/_rels/workbook.xml.rels": relationships(("worksheet", "worksheets/sheet1.xml")),
-    "xl/workbook.xml": (
-        '<workbook><sheets><sheet name="S" sheetId="1" r:id="rId1"/></sheets></workbook>'
-    ),
-    "xl/worksheets/sheet1.xml": (
-        '<worksheet><sheetData><row r="1"><c r="A1" t="str"><v>nut</v></c>'
-        '<c r="B1" t="str"><f>UPPER(A1)</f><v>NUT</v></c></row></sheetData></worksheet>'
-    ),
-}
-
-
-def archive(parts, **how):
-    """A zip archive with these parts, in this order."""
-    held = io.BytesIO()
-    with zipfile.ZipFile(held, "w", zipfile.ZIP_DEFLATED, **how) as made:
-        for name, markup in parts.items() if isinstance(parts, dict) else parts:
-            made.writestr(name, markup)
-    return held.getvalue()
 
 
 def with_parts(**parts):

@@ -1,0 +1,311 @@
+"""Tries the built program through real pipes and files, by the texts of docs/FORMAT.md."""
+
+import fcntl
+import os
+import pathlib
+import re
+import resource
+import signal
+import socket
+import subprocess
+import tempfile
+import termios
+import time
+import unittest
+
+from fixtures import LINES, MINIMAL, package_text, with_rows
+
+TOP = pathlib.Path(__file__).resolve().parent.parent
+FORMAT = (TOP / "docs" / "FORMAT.md").read_text(encoding="utf-8")
+OUT = TOP / "crates" / "xlsx_tool" / "out"
+# The gate builds the program twice, by two compilers; ./xlsx builds the first alone.
+BUILDS = ["xlsx_tool", "xlsx_tool.by-rattle"]
+
+LIMIT = 67_108_864
+CELLS = ["cells", "S"]
+PACKAGE = package_text(MINIMAL)
+
+
+def section(title):
+    """The section of the page of formats with this title."""
+    return re.search(rf"^## {title}\n(.*?)(?=^## |\Z)", FORMAT, re.MULTILINE | re.DOTALL)[1]
+
+
+def page(words):
+    """What the page of formats says that these words print."""
+    return re.search(rf"`{words}` prints\n\n```\n(.*?)```\n", FORMAT, re.DOTALL)[1].encode()
+
+
+# The text of each status, but for those of a workbook that can't be opened.
+TEXTS = {
+    int(status): f"{text}\n".encode()
+    for status, text in re.findall(r"^\| (\d+) \| `([^`]+)` \|", section("Statuses"), re.MULTILINE)
+}
+
+
+def refusal(status):
+    """What a run that is refused ends with, and what it wrote."""
+    return status, b"", TEXTS[status]
+
+
+def no_workbook(text):
+    return 6, b"", text + b"\n"
+
+
+WRITE_FAULT = 7, TEXTS[7]
+
+
+def long_sheet():
+    """A package whose lines have some 20 MB, and these lines."""
+    rows, lines = [], []
+    for row in range(1, 21):
+        # No two stretches of it are the same.
+        text = " ".join(map(str, range(row * 1_000_000, row * 1_000_000 + 125_000)))
+        rows.append(f'<row r="{row}"><c r="A{row}" t="str"><v>{text}</v></c></row>')
+        lines.append(f"A{row}\ts:{text}\t-\t-\n")
+    return package_text(with_rows("".join(rows))), "".join(lines).encode()
+
+
+def filled(size):
+    """The shipped package with spaces behind it, of this size."""
+    return PACKAGE.ljust(size)
+
+
+class Edge:
+    """The tests, over one build of the program."""
+
+    program = None
+
+    @classmethod
+    def setUpClass(cls):
+        if not os.access(cls.program, os.X_OK):
+            raise AssertionError(f"{cls.program} isn't built")
+        cls.long_package, cls.long_lines = long_sheet()
+
+    def start(self, words, **given):
+        """Starts the program. What isn't given is a pipe."""
+        given = {"stdin": subprocess.PIPE, "stdout": subprocess.PIPE, **given}
+        child = subprocess.Popen([self.program, *words], stderr=subprocess.PIPE, **given)
+        self.addCleanup(child.communicate)
+        self.addCleanup(child.kill)
+        return child
+
+    def run_on(self, data, words=CELLS, **given):
+        child = self.start(words, **given)
+        out, said = child.communicate(data, timeout=100)
+        return child.returncode, out, said
+
+    def file_of(self, data):
+        file = self.enter(tempfile.TemporaryFile())
+        file.write(data)
+        file.seek(0)
+        return file
+
+    def whole(self, file):
+        file.seek(0)
+        return file.read()
+
+    def enter(self, file):
+        self.addCleanup(file.close)
+        return file
+
+    # Pages and statuses
+
+    def test_the_shipped_package_gives_its_lines(self):
+        self.assertEqual(self.run_on(PACKAGE), (0, LINES, b""))
+
+    def test_pages(self):
+        self.assertEqual(self.run_on(b"", ["--help"]), (0, page("--help"), b""))
+        self.assertEqual(self.run_on(b"", ["--version"]), (0, page("--version"), b""))
+
+    def test_words_that_are_no_command(self):
+        for words in ([], ["cells"], ["cells", "S", "S"], ["cell", "S"], ["Cells", "S"], [""]):
+            self.assertEqual(self.run_on(PACKAGE, words), refusal(2), words)
+        for words in (["--help", "--version"], ["--help", "S"], ["cells", b"\xff"]):
+            self.assertEqual(self.run_on(PACKAGE, words), refusal(2), words)
+
+    def test_pages_and_words_that_are_no_command_read_nothing(self):
+        for words in (["--help"], ["--version"], ["cells"]):
+            file = self.file_of(PACKAGE)
+            self.run_on(None, words, stdin=file)
+            self.assertEqual(os.lseek(file.fileno(), 0, os.SEEK_CUR), 0, words)
+
+    def test_no_package(self):
+        for data in (
+            b"",
+            b"{}",
+            PACKAGE[:-1],
+            PACKAGE + b"]",
+            b"\xef\xbb\xbf" + PACKAGE,
+            PACKAGE.replace(b"nut", b"n\xff"),
+            PACKAGE.replace(b'"version":1', b'"version":2'),
+            PACKAGE.replace(b'"version":1', b'"version":1,"x":0.5'),
+            PACKAGE.replace(b'["t","nut"]', b'["u","nut"]'),
+        ):
+            self.assertEqual(self.run_on(data), refusal(5), data[:40])
+
+    def test_no_workbook(self):
+        self.assertEqual(
+            self.run_on(package_text({})), no_workbook(b"File not found '_rels/.rels'")
+        )
+        self.assertEqual(
+            self.run_on(PACKAGE, ["cells", "X"]), no_workbook(b"Worksheet 'X' not found")
+        )
+        self.assertEqual(
+            self.run_on(PACKAGE.replace(b"sheetId", b'state=\\"none\\" sheetId')),
+            no_workbook(b"Unrecognized sheet:state: none"),
+        )
+
+    def test_what_is_not_built_yet(self):
+        self.assertEqual(
+            self.run_on(package_text({**MINIMAL, "xl/sharedStrings.xml": "<sst/>"})), refusal(9)
+        )
+        self.assertEqual(
+            self.run_on(package_text(with_rows('<row r="1"><c r="A1"><v>1</v></c></row>'))),
+            refusal(9),
+        )
+
+    def test_want_of_memory(self):
+        def bound():
+            resource.setrlimit(resource.RLIMIT_AS, (40_000_000, 40_000_000))
+
+        data = filled(LIMIT)
+        self.assertEqual(self.run_on(data, preexec_fn=bound), refusal(8))
+
+    # Sources
+
+    def test_slow_small_pieces(self):
+        package = PACKAGE.replace(b"nut", "n\u00fct\U0001f330".encode())
+        child, at = self.start(CELLS), 0
+        while at < len(package):
+            size = 1 + at % 7
+            os.write(child.stdin.fileno(), package[at : at + size])
+            at += size
+            time.sleep(0.001)
+        out, said = child.communicate(timeout=100)
+        wanted = LINES.replace(b"nut", "n\u00fct\U0001f330".encode())
+        self.assertEqual((child.returncode, out, said), (0, wanted, b""))
+
+    def test_a_source_that_fails_at_once(self):
+        folder = os.open("/", os.O_RDONLY)
+        self.addCleanup(os.close, folder)
+        self.assertEqual(self.run_on(None, stdin=folder), refusal(3))
+        self.assertEqual(self.run_on(None, preexec_fn=lambda: os.close(0)), refusal(3))
+
+    def test_a_source_that_fails_behind_a_whole_package(self):
+        """A socket that is closed before what came to it was read fails at the other's end."""
+        ours, theirs = map(self.enter, socket.socketpair())
+        theirs.sendall(b"unread")
+        ours.sendall(PACKAGE)
+        ours.close()
+        self.assertEqual(self.run_on(None, stdin=theirs), refusal(3))
+
+    def test_exactly_the_limit(self):
+        data = filled(LIMIT)
+        self.assertEqual(self.run_on(data), (0, LINES, b""))
+        self.assertEqual(self.run_on(None, stdin=self.file_of(data)), (0, LINES, b""))
+
+    def test_one_byte_more_than_the_limit_is_taken_and_no_more(self):
+        for more in (1, 100_000):
+            data = filled(LIMIT + more)
+            file = self.file_of(data)
+            self.assertEqual(self.run_on(None, stdin=file), refusal(4))
+            self.assertEqual(os.lseek(file.fileno(), 0, os.SEEK_CUR), LIMIT + 1)
+        child = self.start(CELLS)
+        child.stdin.write(data[: LIMIT + 1])
+        # It ends though the pipe is still open.
+        child.stdin.flush()
+        self.assertEqual(child.wait(timeout=100), 4)
+
+    # Sinks
+
+    def test_long_output_comes_whole_and_once(self):
+        status, out, said = self.run_on(self.long_package)
+        self.assertEqual((status, said), (0, b""))
+        self.assertTrue(out == self.long_lines)
+
+    def test_long_output_into_a_file(self):
+        file = self.file_of(b"")
+        self.assertEqual(self.run_on(self.long_package, stdout=file), (0, None, b""))
+        self.assertTrue(self.whole(file) == self.long_lines)
+
+    def test_long_output_through_writes_that_are_cut_short(self):
+        """A write to a full pipe that a stop interrupts takes a front of its piece."""
+        child = self.start(CELLS, stdin=self.file_of(self.long_package))
+        out = b""
+        for _ in range(20):
+            self.until_full(child.stdout)
+            for number in (signal.SIGSTOP, signal.SIGCONT):
+                child.send_signal(number)
+                time.sleep(0.002)
+            out += os.read(child.stdout.fileno(), 100_000)
+        rest, said = child.communicate(timeout=100)
+        self.assertEqual((child.returncode, said), (0, b""))
+        self.assertTrue(out + rest == self.long_lines)
+
+    def until_full(self, pipe):
+        """Waits until no more has come into the pipe for a while."""
+        before, now = -1, 0
+        deadline = time.monotonic() + 100
+        while (now == 0 or now != before) and time.monotonic() < deadline:
+            time.sleep(0.01)
+            held = fcntl.ioctl(pipe.fileno(), termios.FIONREAD, bytes(4))
+            before, now = now, int.from_bytes(held, "little")
+
+    def test_a_full_device(self):
+        full = self.enter(open("/dev/full", "wb"))
+        for words in (CELLS, ["--help"], ["--version"]):
+            status, _, said = self.run_on(PACKAGE, words, stdout=full)
+            self.assertEqual((status, said), WRITE_FAULT, words)
+
+    def test_no_standard_output(self):
+        status, _, said = self.run_on(PACKAGE, preexec_fn=lambda: os.close(1))
+        self.assertEqual((status, said), WRITE_FAULT)
+
+    def test_a_file_that_may_not_grow_gets_a_front_of_the_lines(self):
+        """The write that reaches the bound is cut short, and the next one fails."""
+
+        def bound():
+            signal.signal(signal.SIGXFSZ, signal.SIG_IGN)
+            resource.setrlimit(resource.RLIMIT_FSIZE, (1_000_000, 1_000_000))
+
+        file = self.file_of(b"")
+        status, _, said = self.run_on(self.long_package, stdout=file, preexec_fn=bound)
+        self.assertEqual((status, said), WRITE_FAULT)
+        self.assertTrue(self.whole(file) == self.long_lines[:1_000_000])
+
+    def test_a_closed_pipe(self):
+        for data in (PACKAGE, self.long_package):
+            for is_ignored in (False, True):
+                to_read, to_write = os.pipe()
+                os.close(to_read)
+                ran = self.run_on(data, stdout=to_write, restore_signals=not is_ignored)
+                os.close(to_write)
+                self.assertEqual((ran[0], ran[2]), WRITE_FAULT)
+
+    def test_a_pipe_that_is_closed_behind_some_bytes(self):
+        child = self.start(CELLS, stdin=self.file_of(self.long_package))
+        self.assertEqual(child.stdout.read(1000), self.long_lines[:1000])
+        child.stdout.close()
+        self.assertEqual((child.wait(timeout=100), child.stderr.read()), WRITE_FAULT)
+
+    def test_the_status_stands_where_its_text_cannot_be_written(self):
+        for shell in ("2>/dev/full", "2>&-"):
+            words = ["sh", "-c", f'exec "$0" cells X {shell}', self.program]
+            ran = subprocess.run(words, input=PACKAGE, stdout=subprocess.PIPE)
+            self.assertEqual((ran.returncode, ran.stdout), (6, b""), shell)
+
+
+def load_tests(loader, _standard, _pattern):
+    """The tests over each build that is there, and over the first in any case."""
+    suite = unittest.TestSuite()
+    for number, build in enumerate(BUILDS):
+        if number == 0 or (OUT / build).exists():
+            name = f"Edge of {build}"
+            case = type(name, (Edge, unittest.TestCase), {"program": str(OUT / build)})
+            suite.addTests(loader.loadTestsFromTestCase(case))
+    return suite
+
+
+if __name__ == "__main__":
+    unittest.main()

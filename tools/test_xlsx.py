@@ -1,0 +1,214 @@
+"""Tries ./xlsx in a copy of its own, with a program and an rt that stand in for the real ones."""
+
+import os
+import pathlib
+import shutil
+import subprocess
+import tempfile
+import unittest
+
+from fixtures import LINES, MINIMAL, archive, package_text
+
+TOP = pathlib.Path(__file__).resolve().parent.parent
+PROGRAM = TOP / "crates" / "xlsx_tool" / "out" / "xlsx_tool"
+
+# Takes the words `cells NAME`, prints them and its input's size, and ends with the status NAME.
+STAND_IN = """\
+#!/bin/sh
+[ "$*" != --help ] || { echo page; exit 0; }
+[ "$*" != --version ] || { echo version; exit 0; }
+[ "$#" -eq 2 ] && [ "$1" = cells ] || { echo usage >&2; exit 2; }
+echo "$*: $(wc -c | tr -d ' ')"
+exit "$2"
+"""
+RT = """\
+#!/bin/sh
+echo "rt $* speaks"
+[ ! -e "$FAILING" ] || exit 1
+cp "$STAND_IN" out/xlsx_tool
+"""
+PROVING = (
+    "xlsx: proving and building xlsx_tool first, which takes ten minutes or more from nothing\n"
+)
+BUILT = f"{PROVING}rt run -- --version speaks\nxlsx: built\n"
+
+
+class Wrapper(unittest.TestCase):
+    def setUp(self):
+        folder = tempfile.TemporaryDirectory()
+        self.addCleanup(folder.cleanup)
+        self.folder = pathlib.Path(folder.name)
+        self.crate = self.folder / "top" / "crates" / "xlsx_tool"
+        self.program = self.crate / "out" / "xlsx_tool"
+        (self.crate / "src").mkdir(parents=True)
+        self.source = self.crate / "src" / "main.rt"
+        self.source.write_text("")
+        (self.folder / "top" / "crates.txt").write_text("xlsx_tool:\n")
+        (self.folder / "top" / "tools").mkdir()
+        for name in ("xlsx", "tools/markup.py", "tools/package_text.py"):
+            shutil.copy(TOP / name, self.folder / "top" / name)
+        self.written("program", STAND_IN)
+        self.written("bin/rt", RT)
+        self.book = self.written("book.xlsx", archive(MINIMAL))
+        self.size = len(self.text_of_book())
+
+    def written(self, name, data):
+        path = self.folder / name
+        path.parent.mkdir(exist_ok=True)
+        path.write_bytes(data.encode() if isinstance(data, str) else data)
+        path.chmod(0o755)
+        return path
+
+    def text_of_book(self):
+        words = ["python3", self.folder / "top" / "tools" / "package_text.py", self.book]
+        return subprocess.run(words, stdout=subprocess.PIPE, check=True).stdout
+
+    def build(self, program=None):
+        self.program.parent.mkdir(exist_ok=True)
+        shutil.copy(program or self.folder / "program", self.program)
+
+    def run_on(self, *words, data=b"", path=None, **given):
+        path = f"{self.folder / 'bin'}:{os.environ['PATH']}" if path is None else path
+        about = {"STAND_IN": self.folder / "program", "FAILING": self.folder / "failing"}
+        ran = subprocess.run(
+            [self.folder / "top" / "xlsx", *words],
+            input=data,
+            stderr=subprocess.PIPE,
+            env={**os.environ, **about, "PATH": path},
+            cwd=self.folder,
+            **{"stdout": subprocess.PIPE, **given},
+        )
+        return ran.returncode, ran.stdout, ran.stderr.decode()
+
+    # The build
+
+    def test_a_first_run_says_that_it_proves_and_how_long_that_takes(self):
+        self.assertEqual(self.run_on("cells", "0", data=b"12"), (0, b"cells 0: 2\n", BUILT))
+
+    def test_a_fresh_program_is_run_without_a_word(self):
+        self.build()
+        self.assertEqual(self.run_on("cells", "0", data=b"12"), (0, b"cells 0: 2\n", ""))
+
+    def test_a_program_older_than_its_source_is_built_anew(self):
+        self.build()
+        os.utime(self.program, (1, 1))
+        self.assertEqual(self.run_on("cells", "0"), (0, b"cells 0: 0\n", BUILT))
+        self.assertEqual(self.run_on("cells", "0"), (0, b"cells 0: 0\n", ""))
+
+    def test_a_build_that_fails(self):
+        self.written("failing", "")
+        said = f"{PROVING}rt run -- --version speaks\nxlsx: xlsx_tool could not be built\n"
+        self.assertEqual(self.run_on("cells", "0"), (1, b"", said))
+
+    def test_no_rt(self):
+        said = "xlsx: rt, the command of the Rattle kit, is not among the commands (PATH)\n"
+        said += "xlsx: xlsx_tool could not be built\n"
+        bare = self.folder / "bare"
+        bare.mkdir()
+        for name in ("sh", "dirname", "awk", "find"):
+            (bare / name).symlink_to(shutil.which(name))
+        self.assertEqual(self.run_on("cells", "0", path=str(bare)), (1, b"", said))
+
+    # Words and files
+
+    def test_the_words_and_the_status_are_the_programs(self):
+        self.build()
+        for status in (0, 5, 9):
+            self.assertEqual(
+                self.run_on("cells", str(status), data=b"1"),
+                (status, f"cells {status}: 1\n".encode(), ""),
+            )
+        self.assertEqual(self.run_on(), (2, b"", "usage\n"))
+        self.assertEqual(self.run_on("--version"), (0, b"version\n", ""))
+
+    def test_a_workbook_file_becomes_the_programs_input(self):
+        self.build()
+        for status in (0, 6, 9):
+            self.assertEqual(
+                self.run_on("book.xlsx", "cells", str(status)),
+                (status, f"cells {status}: {self.size}\n".encode(), ""),
+            )
+
+    def test_a_file_of_any_name(self):
+        self.build()
+        for name in ("book", "-b.xlsx", "a b\n.c", "cells"):
+            self.written(name, archive(MINIMAL))
+            self.assertEqual(
+                self.run_on(name, "cells", "0"), (0, f"cells 0: {self.size}\n".encode(), "")
+            )
+
+    def test_a_command_is_not_taken_for_a_file(self):
+        self.build()
+        self.written("cells", archive(MINIMAL))
+        self.assertEqual(self.run_on("cells", "0", data=b"1"), (0, b"cells 0: 1\n", ""))
+
+    def test_words_behind_a_file_that_are_no_command(self):
+        self.build()
+        for words in (["book.xlsx"], ["book.xlsx", "cells"], ["none.xlsx", "cell", "0"]):
+            self.assertEqual(self.run_on(*words), (2, b"", "usage\n"))
+
+    def test_a_file_that_is_refused(self):
+        self.build()
+        self.written("no.xlsx", "nut")
+        for name, status, text in (
+            ("none.xlsx", 3, "can't be read: No such file or directory"),
+            ("no.xlsx", 10, "no zip archive, and so no .xlsx workbook"),
+        ):
+            self.assertEqual(self.run_on(name, "cells", "0"), (status, b"", f"{name}: {text}\n"))
+
+    def test_a_file_whose_package_text_is_too_large(self):
+        self.build()
+        self.written("long.xlsx", archive({"xl/workbook.xml": "x" * 67_108_864}))
+        status, out, said = self.run_on("long.xlsx", "cells", "0")
+        self.assertEqual((status, out), (4, b""))
+        self.assertIn("input too large", said)
+
+    def test_nothing_is_left_behind(self):
+        self.build()
+        room = self.folder / "room"
+        room.mkdir()
+        for words in (["book.xlsx", "cells", "0"], ["none.xlsx", "cells", "0"]):
+            subprocess.run(
+                [self.folder / "top" / "xlsx", *words],
+                cwd=self.folder,
+                env={**os.environ, "TMPDIR": str(room)},
+                stdout=subprocess.DEVNULL,
+                stderr=subprocess.DEVNULL,
+            )
+        self.assertEqual(list(room.iterdir()), [])
+
+    # The page
+
+    def test_help_shows_both_forms_and_the_programs_page(self):
+        self.build()
+        status, out, said = self.run_on("--help")
+        self.assertEqual((status, said), (0, ""))
+        for text in (b"./xlsx FILE.xlsx WORDS", b"./xlsx WORDS < package.json"):
+            self.assertIn(text, out)
+        self.assertTrue(out.endswith(b"\npage\n"))
+
+    def test_help_builds_nothing(self):
+        status, out, said = self.run_on("--help")
+        self.assertEqual((status, said), (0, ""))
+        self.assertIn(b"./xlsx FILE.xlsx WORDS", out)
+        self.assertFalse(self.program.exists())
+
+    def test_help_on_a_full_device(self):
+        self.build()
+        with open("/dev/full", "wb") as full:
+            self.assertEqual(self.run_on("--help", stdout=full), (7, None, "write fault\n"))
+
+    # With the program itself
+
+    def test_the_program_reads_a_workbook_file(self):
+        self.build(PROGRAM)
+        self.assertEqual(self.run_on("book.xlsx", "cells", "S"), (0, LINES, ""))
+        self.assertEqual(
+            self.run_on("book.xlsx", "cells", "X"), (6, b"", "Worksheet 'X' not found\n")
+        )
+        data = package_text(MINIMAL)
+        self.assertEqual(self.run_on("cells", "S", data=data), (0, LINES, ""))
+
+
+if __name__ == "__main__":
+    unittest.main()
