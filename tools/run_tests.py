@@ -11,7 +11,7 @@ HERE = pathlib.Path(__file__).resolve().parent
 def main():
     tests = unittest.defaultTestLoader.discover(str(HERE))
     result = unittest.TextTestRunner(stream=sys.stdout, verbosity=2).run(tests)
-    # What failed in several of its cases is one test. What could not be set up was no test that ran.
+    # What failed in several of its cases is one test. What could not be set up is no test.
     bad = {getattr(test, "test_case", test) for test, _ in result.failures + result.errors}
     passed = result.testsRun - sum(isinstance(test, unittest.TestCase) for test in bad)
     # Where nothing ran, something is wrong.
