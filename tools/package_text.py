@@ -144,7 +144,12 @@ def targets_of(event):
     """The file names that a relationship leads to, where its type is wanted."""
     if event[0] != "s" or event[1].split(":")[-1] != "Relationship":
         return set()
-    pairs = [(key, html.unescape(a or b)) for key, a, b in PAIR.findall(event[2])]
+    # The reader takes some of these texts as written, and others with their references resolved.
+    pairs = [
+        (key, value)
+        for key, double, single in PAIR.findall(event[2])
+        for value in (double or single, html.unescape(double or single))
+    ]
     if not any(key == "Type" and kind.split("/")[-1] in TYPES for key, kind in pairs):
         return set()
     return {file_name(target) for key, target in pairs if key == "Target"}

@@ -128,6 +128,7 @@ class Parts(Files):
             ("/media/A.xml", "media/a.xml"),
             ("..\\b.xml", "B.XML"),
             ("c&amp;d.xml", "xl/c&d.xml"),
+            ("c&amp;d.xml", "xl/c&amp;d.xml"),
             ("e.png", "xl/e.png"),
         ):
             with self.subTest(target):
