@@ -1,0 +1,156 @@
+#!/usr/bin/env python3
+"""Measures `./xlsx FILE.xlsx cells S`, from the file to the lines, beside openpyxl, and prints one
+table (docs/PERFORMANCE.md)."""
+
+import argparse
+import os
+import subprocess
+import sys
+import tempfile
+import zipfile
+from xml.sax.saxutils import escape
+
+from cells import Listing, cells_of, check, row_lines
+from measure import TOP, TYPES, add_repeats, each, measured, mib, table
+
+MAIN = "http://schemas.openxmlformats.org/spreadsheetml/2006/main"
+PACKAGE = "http://schemas.openxmlformats.org/package/2006/"
+CONTENT = "application/vnd.openxmlformats-officedocument.spreadsheetml."
+
+CONTENT_TYPES = f"""\
+<Types xmlns="{PACKAGE}content-types">\
+<Default Extension="rels" ContentType="application/vnd.openxmlformats-package.relationships+xml"/>\
+<Override PartName="/xl/workbook.xml" ContentType="{CONTENT}sheet.main+xml"/>\
+<Override PartName="/xl/worksheets/sheet1.xml" ContentType="{CONTENT}worksheet+xml"/></Types>"""
+
+# Reads every cell once, and answers how many there are.
+OPENPYXL = """\
+import sys
+from openpyxl import load_workbook
+book = load_workbook(sys.argv[1], read_only=sys.argv[2] == "True")
+print(sum(cell.value is not None for row in book["S"].iter_rows() for cell in row))
+"""
+
+
+def relationships(kind, target):
+    return (
+        f'<Relationships xmlns="{PACKAGE}relationships">'
+        f'<Relationship Id="rId1" Type="{TYPES}{kind}" Target="{target}"/></Relationships>'
+    )
+
+
+def workbook():
+    return (
+        f'<workbook xmlns="{MAIN}" xmlns:r="{TYPES[:-1]}">'
+        '<sheets><sheet name="S" sheetId="1" r:id="rId1"/></sheets></workbook>'
+    )
+
+
+def sheet(rows, namespace):
+    """The markup of the sheet, piece by piece. The plain form has no namespace."""
+    yield f"<worksheet{namespace}><sheetData>"
+    for row in range(1, rows + 1):
+        yield f'<row r="{row}">'
+        for reference, formula, text in cells_of(row):
+            told = "" if formula is None else f"<f>{escape(formula)}</f>"
+            yield f'<c r="{reference}" t="str">{told}<v>{escape(text)}</v></c>'
+        yield "</row>"
+    yield "</sheetData></worksheet>"
+
+
+def write_book(path, rows, namespace):
+    with zipfile.ZipFile(path, "w", zipfile.ZIP_DEFLATED) as book:
+        book.writestr("[Content_Types].xml", CONTENT_TYPES)
+        book.writestr("_rels/.rels", relationships("officeDocument", "xl/workbook.xml"))
+        book.writestr(
+            "xl/_rels/workbook.xml.rels", relationships("worksheet", "worksheets/sheet1.xml")
+        )
+        book.writestr("xl/workbook.xml", workbook())
+        book.writestr("xl/worksheets/sheet1.xml", "".join(sheet(rows, namespace)))
+
+
+class Size:
+    """A workbook in two files that differ in a namespace: the plain form, which is all that is read
+    yet, has none, and openpyxl reads nothing without one."""
+
+    def __init__(self, folder, python, rows):
+        self.rows, self.python = rows, python
+        self.plain = os.path.join(folder, f"plain-{rows}.xlsx")
+        self.common = os.path.join(folder, f"common-{rows}.xlsx")
+        self.lines = os.path.join(folder, "lines.txt")
+        write_book(self.plain, rows, "")
+        write_book(self.common, rows, f' xmlns="{MAIN}"')
+        self.listing = Listing()
+        for row in range(1, rows + 1):
+            self.listing.add(row_lines(row))
+        self.ours, self.full, self.read_only = [], [], []
+
+    def run(self):
+        self.ours.append(
+            measured([str(TOP / "xlsx"), self.plain, "cells", "S"], os.devnull, self.lines)
+        )
+        check(self.lines, self.listing)
+        for runs, is_read_only in ((self.full, False), (self.read_only, True)):
+            words = [self.python, "-c", OPENPYXL, self.common, str(is_read_only)]
+            runs.append(measured(words, os.devnull, self.lines))
+            with open(self.lines, encoding="ascii") as found:
+                assert int(found.read()) == 4 * self.rows
+
+    def row(self):
+        ours, full, read_only = (each(min, runs) for runs in (self.ours, self.full, self.read_only))
+        return [
+            f"{4 * self.rows:,}",
+            f"{os.path.getsize(self.plain):,}",
+            f"{ours.seconds:.2f}",
+            f"{full.seconds:.2f}",
+            f"{ours.seconds / full.seconds:.2f}",
+            f"{read_only.seconds:.2f}",
+            f"{ours.seconds / read_only.seconds:.2f}",
+            mib(ours.peak),
+            mib(full.peak),
+        ]
+
+
+HEAD = [
+    "cells",
+    "bytes",
+    "seconds",
+    "openpyxl",
+    "ratio",
+    "read_only",
+    "ratio",
+    "peak MiB",
+    "openpyxl",
+]
+
+
+def main():
+    parser = argparse.ArgumentParser(description=__doc__)
+    parser.add_argument(
+        "--rows",
+        type=int,
+        default=25_000,
+        help="rows of four cells (default: 25,000, and twice that)",
+    )
+    parser.add_argument(
+        "--python", default=sys.executable, help="an interpreter that has openpyxl (default: this)"
+    )
+    add_repeats(parser, 5)
+    asked = parser.parse_args()
+    if asked.rows < 1 or asked.repeats < 1:
+        parser.error("--rows and --repeats take at least 1")
+    if subprocess.run(
+        [asked.python, "-c", "import openpyxl"], stderr=subprocess.DEVNULL
+    ).returncode:
+        sys.exit(f"file.py: {asked.python} has no openpyxl: name one that has with --python")
+    subprocess.run([TOP / "xlsx", "--version"], stdout=subprocess.DEVNULL, check=True)
+    with tempfile.TemporaryDirectory() as folder:
+        sizes = [Size(folder, asked.python, rows) for rows in (asked.rows, 2 * asked.rows)]
+        for _ in range(asked.repeats):
+            for size in sizes:
+                size.run()
+        table(HEAD, [size.row() for size in sizes])
+
+
+if __name__ == "__main__":
+    main()
