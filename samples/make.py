@@ -1,0 +1,152 @@
+#!/usr/bin/env python3
+"""Makes the workbooks of this folder. It needs openpyxl 3.0 and XlsxWriter, as Debian's packages
+python3-openpyxl and python3-xlsxwriter, and is no part of the tests."""
+
+import datetime
+import pathlib
+import sys
+
+import openpyxl
+import xlsxwriter
+from openpyxl.styles import Font, PatternFill
+from openpyxl.styles.colors import Color
+
+HERE = pathlib.Path(__file__).resolve().parent
+sys.path.insert(0, str(HERE.parent / "tools"))
+
+from fixtures import archive, with_rows
+
+MADE = datetime.datetime(2024, 1, 2, 3, 4, 5)
+
+
+def written(name, **options):
+    """A workbook of XlsxWriter, which writes its file when it is closed."""
+    book = xlsxwriter.Workbook(str(HERE / name), options)
+    book.set_properties({"title": name, "author": "Ann & Bo", "created": MADE})
+    return book
+
+
+def plain_form():
+    """The plain form: texts and formulas alone, in a workbook without strings and styles."""
+    rows = (
+        '<row r="1"><c r="A1" t="str"><v>nut</v></c>'
+        '<c r="B1" t="str"><f>UPPER(A1)</f><v>NUT</v></c></row>'
+        '<row r="3"><c r="A3" t="str"></c><c r="C3" t="str"><v>a\tb\\c\nd\u00e9</v></c></row>'
+    )
+    (HERE / "plain_form.xlsx").write_bytes(archive(with_rows(rows)))
+
+
+def shared_formulas():
+    """Two groups of shared formulas, one of them over rows and columns, and one formula more."""
+    book = openpyxl.Workbook()
+    sheet = book.active
+    sheet.title = "Sales"
+    for row in range(1, 6):
+        sheet.cell(row, 1, row * 10)
+        sheet.cell(row, 2, row * row)
+        sheet.cell(row, 3, f"=SUM(A$1:A{row})*$B{row}")
+        for column in (4, 5):
+            sheet.cell(row, column, f"='Sales'!A{row}&\"A1\"")
+    shared(sheet, "C1:C5", 0)
+    shared(sheet, "D1:E5", 1)
+    sheet["G1"] = "=LOG10(A1)"
+    book.save(HERE / "shared_formulas.xlsx")
+
+
+def shared(sheet, area, index):
+    """Has the area's first cell keep its formula for the others."""
+    for cell in (cell for row in sheet[area] for cell in row):
+        sheet.formula_attributes[cell.coordinate] = {"t": "shared", "si": str(index)}
+    sheet.formula_attributes[area.split(":")[0]]["ref"] = area
+
+
+def dates():
+    """Dates, times and durations, counted from 1900 and from 1904."""
+    for epoch in (1900, 1904):
+        book = written(f"dates_{epoch}.xlsx", date_1904=epoch == 1904)
+        sheet = book.add_worksheet("Dates")
+        for row, code in enumerate(("yyyy-mm-dd", "h:mm:ss", "[h]:mm", '"day" 0', "d mmm yy h:mm")):
+            kind = book.add_format({"num_format": code})
+            sheet.write_datetime(row, 0, MADE, kind)
+            sheet.write_number(row, 1, 45_292.25, kind)
+        sheet.write_number(5, 0, 45_292.25)
+        book.close()
+
+
+def rich_text():
+    """Strings with runs, white space at their ends, line ends, and what is escaped."""
+    book = written("rich_text.xlsx")
+    sheet = book.add_worksheet("Goods & prices")
+    bold = book.add_format({"bold": True, "font_color": "red"})
+    sheet.write_rich_string("A1", " plain ", bold, "bold ", "<end> ")
+    for row, text in enumerate((" a ", "b\nc", "_x000D_", "\u00e9\U0001f330", 'a&b<c>"d"', ""), 1):
+        sheet.write_string(row, 0, text, bold if text == "" else None)
+    book.close()
+
+
+def themes_and_tints():
+    """Fills by theme and tint, by palette and by colour, and a hidden sheet."""
+    book = openpyxl.Workbook()
+    sheet = book.active
+    sheet.title = "Fills"
+    tints = (0.0, 0.3999755851924192, -0.249977111117893)
+    colors = [Color(theme=theme, tint=tint) for theme in range(10) for tint in tints]
+    colors += [Color(indexed=index) for index in (10, 22, 64)] + [Color(rgb="80FF9900")]
+    for row, color in enumerate(colors, 1):
+        sheet.cell(row, 1, row).fill = PatternFill("solid", fgColor=color)
+        sheet.cell(row, 2).font = Font(bold=True)
+    book.create_sheet("Hidden").sheet_state = "hidden"
+    book.save(HERE / "themes_and_tints.xlsx")
+
+
+def chart_sheet():
+    """A chart sheet between two worksheets, a chart on one of them, and defined names."""
+    book = written("chart_sheet.xlsx")
+    sheet, chart_sheet = book.add_worksheet("Data"), book.add_chartsheet("Chart")
+    other = book.add_worksheet("More")
+    sheet.write_column("A1", [3, 1, 2])
+    for place in (chart_sheet, other):
+        chart = book.add_chart({"type": "line"})
+        chart.add_series({"values": "=Data!$A$1:$A$3"})
+        place.set_chart(chart) if place is chart_sheet else place.insert_chart("B2", chart)
+    book.define_name("Total", "=SUM(Data!$A$1:$A$3)")
+    book.define_name("More!Local", "=1&2")
+    book.close()
+
+
+def inline_strings():
+    """Strings in the cells themselves."""
+    book = written("inline_strings.xlsx", constant_memory=True)
+    sheet = book.add_worksheet("S")
+    for row, text in enumerate(("nut", " bolt ", "a&b")):
+        sheet.write_row(row, 0, [text, row, row % 2 == 0])
+    book.close()
+
+
+def tables_links_and_merges():
+    """A table, links, merged cells, and properties of its own."""
+    book = written("tables_links_and_merges.xlsx")
+    book.set_custom_property("Checked", True)
+    sheet = book.add_worksheet("S")
+    names = [{"header": "Name", "total_string": "Total"}, {"header": "Qty"}]
+    data = [["nut", 3], ["bolt", 2]]
+    sheet.add_table("A1:B4", {"name": "Goods", "columns": names, "data": data, "total_row": True})
+    sheet.write_url("A6", "https://example.com/?a=1&b=2", string="link", tip="a&b")
+    sheet.write_url("B6", "internal:S!A1")
+    sheet.merge_range("A8:B9", "merged")
+    book.close()
+
+
+def main():
+    plain_form()
+    shared_formulas()
+    dates()
+    rich_text()
+    themes_and_tints()
+    chart_sheet()
+    inline_strings()
+    tables_links_and_merges()
+
+
+if __name__ == "__main__":
+    main()
