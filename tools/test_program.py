@@ -234,7 +234,7 @@ class Edge:
         child = self.start(CELLS, stdin=self.file_of(self.long_package))
         out = b""
         for _ in range(20):
-            self.until_full(child.stdout)
+            self.until_full(child)
             for number in (signal.SIGSTOP, signal.SIGCONT):
                 child.send_signal(number)
                 time.sleep(0.002)
@@ -243,13 +243,12 @@ class Edge:
         self.assertEqual((child.returncode, said), (0, b""))
         self.assertTrue(out + rest == self.long_lines)
 
-    def until_full(self, pipe):
-        """Waits until no more has come into the pipe for a while."""
+    def until_full(self, child):
+        """Waits until no more has come into the pipe for a while, or the program has ended."""
         before, now = -1, 0
-        deadline = time.monotonic() + 100
-        while (now == 0 or now != before) and time.monotonic() < deadline:
+        while (now == 0 or now != before) and child.poll() is None:
             time.sleep(0.01)
-            held = fcntl.ioctl(pipe.fileno(), termios.FIONREAD, bytes(4))
+            held = fcntl.ioctl(child.stdout.fileno(), termios.FIONREAD, bytes(4))
             before, now = now, int.from_bytes(held, "little")
 
     def test_a_full_device(self):
