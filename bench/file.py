@@ -101,11 +101,11 @@ class Size:
         return [
             f"{4 * self.rows:,}",
             f"{os.path.getsize(self.plain):,}",
-            f"{ours.seconds:.2f}",
-            f"{full.seconds:.2f}",
-            f"{ours.seconds / full.seconds:.2f}",
-            f"{read_only.seconds:.2f}",
-            f"{ours.seconds / read_only.seconds:.2f}",
+            f"{ours.processor:.2f}",
+            f"{full.processor:.2f}",
+            f"{ours.processor / full.processor:.2f}",
+            f"{read_only.processor:.2f}",
+            f"{ours.processor / read_only.processor:.2f}",
             mib(ours.peak),
             mib(full.peak),
         ]
