@@ -30,19 +30,19 @@ pub record GoesOnBehind (inner outer within : ℕ) (events : List Event) : Type 
   pub closed : is_closed within events ≡ is_closed outer (behind inner events)
   pub left : behind within events ≡ behind outer (behind inner events)
   pub size :
-    is_closed inner events ≡ true →
-    length (content within events)
-    ≡ length (content inner events) + suc (length (content outer (behind inner events)))
+      is_closed inner events ≡ true →
+      length (content within events)
+      ≡ length (content inner events) + suc (length (content outer (behind inner events)))
   pub starts :
-    (wanted : Tag → Bool) → starts_by wanted others ≡ starts_by wanted (content outer (behind inner events))
+      (wanted : Tag → Bool) → starts_by wanted others ≡ starts_by wanted (content outer (behind inner events))
   pub elements :
-    (wanted : Tag → Bool) →
-    outermost_from wanted (suc inner) (content within events)
-    ≡ outermost_from wanted 0 (content outer (behind inner events))
+      (wanted : Tag → Bool) →
+      outermost_from wanted (suc inner) (content within events)
+      ≡ outermost_from wanted 0 (content outer (behind inner events))
   pub unclosed :
-    (wanted : Tag → Bool) →
-    unclosed_from wanted (suc inner) (content within events)
-    ≡ unclosed_from wanted 0 (content outer (behind inner events))
+      (wanted : Tag → Bool) →
+      unclosed_from wanted (suc inner) (content within events)
+      ≡ unclosed_from wanted 0 (content outer (behind inner events))
 
 pub goes_on_behind : (inner outer within : ℕ) (events : List Event) → within ≡ inner + suc outer → GoesOnBehind inner outer within events
 goes_on_behind inner outer within [] is = record {

@@ -69,7 +69,7 @@ stops_at_entity data_too base old mid new first written read tracked takes part 
       part,
       rw (taken, place, slice_get-append (reverse mid.source.past) new.source.rest event) unknown,
       rw (here, unknown_entity-behind read.front (event ∷ content (inside base new) (ahead new)) read.known, unknown)
-      (omega (arith, read.size, length-append read.front (event ∷ content (inside base new) (ahead new)))),
+          (omega (arith, read.size, length-append read.front (event ∷ content (inside base new) (ahead new)))),
     )
 
 -- the text of an event can't be put

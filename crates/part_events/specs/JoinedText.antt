@@ -75,7 +75,7 @@ TextFails old new (Xml (Entity at)) =
     old.source.is_told ≡ true →
     (events_of new ≡ events_of old) × IsUnknownAt (events_of new) at
     × IsSomeAnd (unknown_entity (content 0 (ahead old)))
-      (λ behind. at + suc behind ≡ old.at + length (content 0 (ahead old)))
+    (λ behind. at + suc behind ≡ old.at + length (content 0 (ahead old)))
 TextFails old new OutOfMemory = ⊤
 
 -- when the text of an event can't be put

@@ -37,14 +37,14 @@ pub record ContentIsByMatch : Type 0 where
 pub record OutermostInOrder : Type 0 where
   pub nothing : (wanted : Tag → Bool) → outermost wanted [] ≡ []
   pub wanted :
-    (wanted : Tag → Bool) (tag : Tag) (events : List Event) → wanted tag ≡ true →
-    outermost wanted (start tag ∷ events) ≡ element_of tag events ∷ outermost wanted (behind 0 events)
+      (wanted : Tag → Bool) (tag : Tag) (events : List Event) → wanted tag ≡ true →
+      outermost wanted (start tag ∷ events) ≡ element_of tag events ∷ outermost wanted (behind 0 events)
   pub unwanted :
-    (wanted : Tag → Bool) (tag : Tag) (events : List Event) → wanted tag ≡ false →
-    outermost wanted (start tag ∷ events) ≡ outermost wanted events
+      (wanted : Tag → Bool) (tag : Tag) (events : List Event) → wanted tag ≡ false →
+      outermost wanted (start tag ∷ events) ≡ outermost wanted events
   pub other :
-    (wanted : Tag → Bool) (event : Event) (events : List Event) → is_start event ≡ false →
-    outermost wanted (event ∷ events) ≡ outermost wanted events
+      (wanted : Tag → Bool) (event : Event) (events : List Event) → is_start event ≡ false →
+      outermost wanted (event ∷ events) ≡ outermost wanted events
 
 -- the starts of a list at a depth, where `past` stands before the list
 abbrev pub starts_at : ℕ → List Event → List Event → List Tag

@@ -92,8 +92,8 @@ pub record MovesForward (old new : Reading) : Type 0 where
   pub taken : min new.source.taken (2 ^ 64 - 1) ≡ min (old.source.taken + (new.at - old.at)) (2 ^ 64 - 1)
   pub bounded : new.source.taken + new.source.left ≤ old.source.taken + old.source.left
   pub within :
-    old.source.is_told ≡ true →
-    new.source.taken + length new.source.rest ≤ old.source.taken + length old.source.rest
+      old.source.is_told ≡ true →
+      new.source.taken + length new.source.rest ≤ old.source.taken + length old.source.rest
 
 -- the same events of the same part
 abbrev pub SamePart : Reading → Reading → Type 0

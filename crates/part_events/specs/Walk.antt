@@ -103,8 +103,8 @@ pub record SameAhead (wanted : Tag → Bool) (base : ℕ) (old new : Reading) : 
 pub record IsNextStart (wanted : Tag → Bool) (base : ℕ) (tag : Tag) (old new : Reading) : Type 0 where
   pub is_wanted : wanted tag ≡ true
   pub starts :
-    starts_by wanted (section_ahead base old)
-    ≡ record { tag = tag; behind = length (section_ahead base new) }
+      starts_by wanted (section_ahead base old)
+      ≡ record { tag = tag; behind = length (section_ahead base new) }
       ∷ starts_by wanted (section_ahead base new)
   pub closed : is_closed_ahead base old ≡ is_closed_ahead base new
   pub behind : behind_section base old ≡ behind_section base new
@@ -128,11 +128,11 @@ section_behind base r = content (inside base r - 1) (behind 0 (ahead r))
 pub record IsNextElement (wanted : Tag → Bool) (base : ℕ) (tag : Tag) (old new : Reading) : Type 0 where
   pub is_wanted : wanted tag ≡ true
   pub elements :
-    outermost wanted (section_ahead base old)
-    ≡ element_at base tag new ∷ outermost wanted (section_behind base new)
+      outermost wanted (section_ahead base old)
+      ≡ element_at base tag new ∷ outermost wanted (section_behind base new)
   pub unclosed :
-    unclosed wanted (section_ahead base old)
-    ≡ (if is_closed 0 (ahead new) then unclosed wanted (section_behind base new)
+      unclosed wanted (section_ahead base old)
+      ≡ (if is_closed 0 (ahead new) then unclosed wanted (section_behind base new)
       else Some (element_at base tag new))
   pub closed : is_closed_ahead base old ≡ is_closed (inside base new - 1) (behind 0 (ahead new))
   pub behind : behind_section base old ≡ behind (inside base new - 1) (behind 0 (ahead new))

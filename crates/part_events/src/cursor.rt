@@ -41,26 +41,18 @@ impl Cursor {
     /// innermost open element.
     pub fn next<P: Package>(&mut self, package: &mut P) -> Result<bool, StreamError>
         requires { IsReading (reading (P.state «package».old) self.old) }
-        ensures reads {
-            let old = reading (P.state «package».old) self.old in
+        ensures reads { let old = reading (P.state «package».old) self.old in
             let new = reading (P.state «package».new) self.new in
-            Reads Io result old new
-        }
-        ensures steps {
-            let old = reading (P.state «package».old) self.old in
+            Reads Io result old new }
+        ensures steps { let old = reading (P.state «package».old) self.old in
             let new = reading (P.state «package».new) self.new in
-            IfOk result (λ more. Steps more old new)
-        }
-        ensures ahead {
-            let old = reading (P.state «package».old) self.old in
+            IfOk result (λ more. Steps more old new) }
+        ensures ahead { let old = reading (P.state «package».old) self.old in
             let new = reading (P.state «package».new) self.new in
-            old.source.is_told ≡ true → IfOk result (λ more. StepsAhead more old new)
-        }
-        ensures err {
-            let old = reading (P.state «package».old) self.old in
+            old.source.is_told ≡ true → IfOk result (λ more. StepsAhead more old new) }
+        ensures err { let old = reading (P.state «package».old) self.old in
             let new = reading (P.state «package».new) self.new in
-            IfErr result (NextFails old new)
-        }
+            IfErr result (NextFails old new) }
     {
         // Each refusal leaves it so.
         self.failed = true;

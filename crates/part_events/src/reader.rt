@@ -46,24 +46,16 @@ impl<'a, P: Package> XlReader<'a, P> {
         package: &'a mut P,
         name: &str,
     ) -> Result<Option<XlReader<'a, P>>, StreamError>
-        ensures same_reference {
-            IfOk result (λ found. IfSome found
-                (λ reader. reference_of reader ≡ «package».entry.ghost_name))
-        }
-        ensures opens {
-            IfOk result (λ found. IfSome found
-                (λ reader. OpensReader (P.state «package».old) (reading_by P.state reader)))
-        }
-        ensures part {
-            let part = part_of (P.state «package».old).parts name.now in
+        ensures same_reference { IfOk result (λ found. IfSome found
+            (λ reader. reference_of reader ≡ «package».entry.ghost_name)) }
+        ensures opens { IfOk result (λ found. IfSome found
+            (λ reader. OpensReader (P.state «package».old) (reading_by P.state reader))) }
+        ensures part { let part = part_of (P.state «package».old).parts name.now in
             (P.state «package».old).is_told ≡ true → IfOk result (λ found. MatchOption found
-                (part ≡ None)
-                (λ reader. part ≡ Some (events_of (reading_by P.state reader))))
-        }
-        ensures alloc {
-            IfOk result (λ found. IfSome found
-                (λ reader. (reading_by P.state reader).alloc ≡ alloc))
-        }
+            (part ≡ None)
+            (λ reader. part ≡ Some (events_of (reading_by P.state reader)))) }
+        ensures alloc { IfOk result (λ found. IfSome found
+            (λ reader. (reading_by P.state reader).alloc ≡ alloc)) }
         ensures err { IfErr result (λ error. error ≡ Io) }
     {
         if !package.open(name)? {
@@ -102,21 +94,15 @@ impl<'a, P: Package> XlReader<'a, P> {
         requires reading { IsReading (reading_by P.state self.old) }
         ensures same_package { SamePackage self.old self.new }
         ensures reads { Reads Io result (reading_by P.state self.old) (reading_by P.state self.new) }
-        ensures steps {
-            let old = reading_by P.state self.old in
+        ensures steps { let old = reading_by P.state self.old in
             let new = reading_by P.state self.new in
-            IfOk result (λ more. Steps more old new)
-        }
-        ensures ahead {
-            let old = reading_by P.state self.old in
+            IfOk result (λ more. Steps more old new) }
+        ensures ahead { let old = reading_by P.state self.old in
             let new = reading_by P.state self.new in
-            old.source.is_told ≡ true → IfOk result (λ more. StepsAhead more old new)
-        }
-        ensures err {
-            let old = reading_by P.state self.old in
+            old.source.is_told ≡ true → IfOk result (λ more. StepsAhead more old new) }
+        ensures err { let old = reading_by P.state self.old in
             let new = reading_by P.state self.new in
-            IfErr result (NextFails old new)
-        }
+            IfErr result (NextFails old new) }
     {
         self.cursor.next(self.package)
     }
@@ -135,21 +121,15 @@ impl<'a, P: Package> XlReader<'a, P> {
         requires element { IsAtElement (reading_by P.state self.old) }
         ensures same_package { SamePackage self.old self.new }
         ensures reads { Reads Io result (reading_by P.state self.old) (reading_by P.state self.new) }
-        ensures depth {
-            let old = reading_by P.state self.old in
+        ensures depth { let old = reading_by P.state self.old in
             let new = reading_by P.state self.new in
-            OnOk result (length old.names ≡ suc (length new.names))
-        }
-        ensures skips {
-            let old = reading_by P.state self.old in
+            OnOk result (length old.names ≡ suc (length new.names)) }
+        ensures skips { let old = reading_by P.state self.old in
             let new = reading_by P.state self.new in
-            old.source.is_told ≡ true → OnOk result (Skips old new)
-        }
-        ensures err {
-            let old = reading_by P.state self.old in
+            old.source.is_told ≡ true → OnOk result (Skips old new) }
+        ensures err { let old = reading_by P.state self.old in
             let new = reading_by P.state self.new in
-            IfErr result (SkipFails old new)
-        }
+            IfErr result (SkipFails old new) }
     {
         self.cursor.skip_element(self.package)
     }
@@ -162,27 +142,19 @@ impl<'a, P: Package> XlReader<'a, P> {
         requires element { IsAtElement (reading_by P.state self.old) }
         ensures same_package { SamePackage self.old self.new }
         ensures reads { Reads Io result (reading_by P.state self.old) (reading_by P.state self.new) }
-        ensures depth {
-            let old = reading_by P.state self.old in
+        ensures depth { let old = reading_by P.state self.old in
             let new = reading_by P.state self.new in
-            IfOk result (λ closed. closed ≡ true → length old.names ≡ suc (length new.names))
-        }
-        ensures text {
-            let old = reading_by P.state self.old in
+            IfOk result (λ closed. closed ≡ true → length old.names ≡ suc (length new.names)) }
+        ensures text { let old = reading_by P.state self.old in
             let new = reading_by P.state self.new in
             let texts : List ℕ × List ℕ = (string_bytes out.old, string_bytes out.new) in
-            old.source.is_told ≡ true → IfOk result (λ closed. ReadsText char_data closed texts old new)
-        }
-        ensures front {
-            let old = reading_by P.state self.old in
+            old.source.is_told ≡ true → IfOk result (λ closed. ReadsText char_data closed texts old new) }
+        ensures front { let old = reading_by P.state self.old in
             let texts : List ℕ × List ℕ = (string_bytes out.old, string_bytes out.new) in
-            old.source.is_told ≡ true → OnErr result (PutsFront char_data (content 0 (ahead old)) texts)
-        }
-        ensures err {
-            let old = reading_by P.state self.old in
+            old.source.is_told ≡ true → OnErr result (PutsFront char_data (content 0 (ahead old)) texts) }
+        ensures err { let old = reading_by P.state self.old in
             let new = reading_by P.state self.new in
-            IfErr result (TextFails old new)
-        }
+            IfErr result (TextFails old new) }
     {
         self.cursor.read_text(self.package, out, char_data)
     }
@@ -194,21 +166,15 @@ impl<'a, P: Package> XlReader<'a, P> {
         requires within { base ≤ length (reading_by P.state self.old).names }
         ensures same_package { SamePackage self.old self.new }
         ensures reads { Reads Io result (reading_by P.state self.old) (reading_by P.state self.new) }
-        ensures stands {
-            let old = reading_by P.state self.old in
+        ensures stands { let old = reading_by P.state self.old in
             let new = reading_by P.state self.new in
-            IfOk result (λ step. StandsInside base step old new)
-        }
-        ensures inside {
-            let old = reading_by P.state self.old in
+            IfOk result (λ step. StandsInside base step old new) }
+        ensures inside { let old = reading_by P.state self.old in
             let new = reading_by P.state self.new in
-            old.source.is_told ≡ true → IfOk result (λ step. StepsInside base step old new)
-        }
-        ensures err {
-            let old = reading_by P.state self.old in
+            old.source.is_told ≡ true → IfOk result (λ step. StepsInside base step old new) }
+        ensures err { let old = reading_by P.state self.old in
             let new = reading_by P.state self.new in
-            IfErr result (InsideFails base old new)
-        }
+            IfErr result (InsideFails base old new) }
     {
         self.cursor.next_inside(self.package, base)
     }
@@ -220,24 +186,18 @@ impl<'a, P: Package> XlReader<'a, P> {
         requires within { base ≤ length (reading_by P.state self.old).names }
         ensures same_package { SamePackage self.old self.new }
         ensures reads { Reads Io result (reading_by P.state self.old) (reading_by P.state self.new) }
-        ensures stands {
-            let old = reading_by P.state self.old in
+        ensures stands { let old = reading_by P.state self.old in
             let new = reading_by P.state self.new in
             let wanted = is_named (map (λ name. name.now) names.now) in
-            IfOk result (λ step. StandsAt wanted base step old new)
-        }
-        ensures found {
-            let old = reading_by P.state self.old in
+            IfOk result (λ step. StandsAt wanted base step old new) }
+        ensures found { let old = reading_by P.state self.old in
             let new = reading_by P.state self.new in
             let wanted = is_named (map (λ name. name.now) names.now) in
-            old.source.is_told ≡ true → IfOk result (λ step. FindsStart wanted base step old new)
-        }
-        ensures err {
-            let old = reading_by P.state self.old in
+            old.source.is_told ≡ true → IfOk result (λ step. FindsStart wanted base step old new) }
+        ensures err { let old = reading_by P.state self.old in
             let new = reading_by P.state self.new in
             let wanted = is_named (map (λ name. name.now) names.now) in
-            IfErr result (WalkFails wanted base old new)
-        }
+            IfErr result (WalkFails wanted base old new) }
     {
         self.cursor.next_start(self.package, base, names)
     }
@@ -249,24 +209,18 @@ impl<'a, P: Package> XlReader<'a, P> {
         requires within { base ≤ length (reading_by P.state self.old).names }
         ensures same_package { SamePackage self.old self.new }
         ensures reads { Reads Io result (reading_by P.state self.old) (reading_by P.state self.new) }
-        ensures stands {
-            let old = reading_by P.state self.old in
+        ensures stands { let old = reading_by P.state self.old in
             let new = reading_by P.state self.new in
             let wanted = is_named (map (λ name. name.now) names.now) in
-            IfOk result (λ step. StandsAt wanted base step old new)
-        }
-        ensures found {
-            let old = reading_by P.state self.old in
+            IfOk result (λ step. StandsAt wanted base step old new) }
+        ensures found { let old = reading_by P.state self.old in
             let new = reading_by P.state self.new in
             let wanted = is_named (map (λ name. name.now) names.now) in
-            old.source.is_told ≡ true → IfOk result (λ step. FindsElement wanted base step old new)
-        }
-        ensures err {
-            let old = reading_by P.state self.old in
+            old.source.is_told ≡ true → IfOk result (λ step. FindsElement wanted base step old new) }
+        ensures err { let old = reading_by P.state self.old in
             let new = reading_by P.state self.new in
             let wanted = is_named (map (λ name. name.now) names.now) in
-            IfErr result (WalkFails wanted base old new)
-        }
+            IfErr result (WalkFails wanted base old new) }
     {
         self.cursor.next_element(self.package, base, names)
     }
@@ -278,21 +232,15 @@ impl<'a, P: Package> XlReader<'a, P> {
         requires within { base ≤ length (reading_by P.state self.old).names }
         ensures same_package { SamePackage self.old self.new }
         ensures reads { Reads Io result (reading_by P.state self.old) (reading_by P.state self.new) }
-        ensures stands {
-            let old = reading_by P.state self.old in
+        ensures stands { let old = reading_by P.state self.old in
             let new = reading_by P.state self.new in
-            IfOk result (λ step. StandsAt is_any base step old new)
-        }
-        ensures found {
-            let old = reading_by P.state self.old in
+            IfOk result (λ step. StandsAt is_any base step old new) }
+        ensures found { let old = reading_by P.state self.old in
             let new = reading_by P.state self.new in
-            old.source.is_told ≡ true → IfOk result (λ step. FindsElement is_any base step old new)
-        }
-        ensures err {
-            let old = reading_by P.state self.old in
+            old.source.is_told ≡ true → IfOk result (λ step. FindsElement is_any base step old new) }
+        ensures err { let old = reading_by P.state self.old in
             let new = reading_by P.state self.new in
-            IfErr result (WalkFails is_any base old new)
-        }
+            IfErr result (WalkFails is_any base old new) }
     {
         self.cursor.next_child(self.package, base)
     }

@@ -1,8 +1,8 @@
 ghost use Rattle.std.specs.Prelude.{◌≡◌, ◌<◌, length};
 
 use crate::{
-    FailingPackage, MemoryPackage, Package, PartEvent, StartTag, Step, StreamError,
-    XlReader, XmlFault, children_are_at_depth_one, content_is_by_match, innermost_open_is_by_depth,
+    FailingPackage, MemoryPackage, Package, PartEvent, StartTag, Step, StreamError, XlReader,
+    XmlFault, children_are_at_depth_one, content_is_by_match, innermost_open_is_by_depth,
     outermost_is_in_order, whole_is_longest,
 };
 use std::alloc::{AllocError, Global};

@@ -14,15 +14,9 @@ use attr_text::{TextFault, push_entity, push_line_ends};
 
 /// Appends the text of an event: a Text, or a CharData where `char_data` says so, with its line ends as LF, or the
 /// character of a reference. After a refusal `out` is as it was.
-pub fn push_text(
-    out: &mut String,
-    event: PartEvent<'_>,
-    char_data: bool,
-) -> Result<(), TextFault>
-    ensures ok {
-        let text = event_text char_data (event_of event.entry) in
-        OnOk result (string_bytes out.new ≡ string_bytes out.old ++ text)
-    }
+pub fn push_text(out: &mut String, event: PartEvent<'_>, char_data: bool) -> Result<(), TextFault>
+    ensures ok { let text = event_text char_data (event_of event.entry) in
+        OnOk result (string_bytes out.new ≡ string_bytes out.old ++ text) }
     ensures known { OnOk result (is_unknown (event_of event.entry) ≡ false) }
     ensures err { IfErr result (EventFails (event_of event.entry)) }
     ensures unchanged { OnErr result (string_bytes out.new ≡ string_bytes out.old) }
@@ -65,31 +59,21 @@ impl Cursor {
     ) -> Result<bool, StreamError>
         requires reading { IsReading (reading (P.state «package».old) self.old) }
         requires element { IsAtElement (reading (P.state «package».old) self.old) }
-        ensures reads {
-            let old = reading (P.state «package».old) self.old in
+        ensures reads { let old = reading (P.state «package».old) self.old in
             let new = reading (P.state «package».new) self.new in
-            Reads Io result old new
-        }
-        ensures depth {
-            let before = length (open_elements self.old) in
-            IfOk result (λ closed. closed ≡ true → before ≡ suc (length (open_elements self.new)))
-        }
-        ensures text {
-            let old = reading (P.state «package».old) self.old in
+            Reads Io result old new }
+        ensures depth { let before = length (open_elements self.old) in
+            IfOk result (λ closed. closed ≡ true → before ≡ suc (length (open_elements self.new))) }
+        ensures text { let old = reading (P.state «package».old) self.old in
             let new = reading (P.state «package».new) self.new in
             let texts : List ℕ × List ℕ = (string_bytes out.old, string_bytes out.new) in
-            old.source.is_told ≡ true → IfOk result (λ closed. ReadsText char_data closed texts old new)
-        }
-        ensures front {
-            let old = reading (P.state «package».old) self.old in
+            old.source.is_told ≡ true → IfOk result (λ closed. ReadsText char_data closed texts old new) }
+        ensures front { let old = reading (P.state «package».old) self.old in
             let texts : List ℕ × List ℕ = (string_bytes out.old, string_bytes out.new) in
-            old.source.is_told ≡ true → OnErr result (PutsFront char_data (content 0 (ahead old)) texts)
-        }
-        ensures err {
-            let old = reading (P.state «package».old) self.old in
+            old.source.is_told ≡ true → OnErr result (PutsFront char_data (content 0 (ahead old)) texts) }
+        ensures err { let old = reading (P.state «package».old) self.old in
             let new = reading (P.state «package».new) self.new in
-            IfErr result (TextFails old new)
-        }
+            IfErr result (TextFails old new) }
     {
         let base = self.depth();
         'events: loop {

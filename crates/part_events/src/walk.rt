@@ -63,26 +63,18 @@ impl Cursor {
     ) -> Result<Step, StreamError>
         requires reading { IsReading (reading (P.state «package».old) self.old) }
         requires within { base ≤ length (open_elements self.old) }
-        ensures reads {
-            let old = reading (P.state «package».old) self.old in
+        ensures reads { let old = reading (P.state «package».old) self.old in
             let new = reading (P.state «package».new) self.new in
-            Reads Io result old new
-        }
-        ensures stands {
-            let old = reading (P.state «package».old) self.old in
+            Reads Io result old new }
+        ensures stands { let old = reading (P.state «package».old) self.old in
             let new = reading (P.state «package».new) self.new in
-            IfOk result (λ step. StandsInside base step old new)
-        }
-        ensures inside {
-            let old = reading (P.state «package».old) self.old in
+            IfOk result (λ step. StandsInside base step old new) }
+        ensures inside { let old = reading (P.state «package».old) self.old in
             let new = reading (P.state «package».new) self.new in
-            old.source.is_told ≡ true → IfOk result (λ step. StepsInside base step old new)
-        }
-        ensures err {
-            let old = reading (P.state «package».old) self.old in
+            old.source.is_told ≡ true → IfOk result (λ step. StepsInside base step old new) }
+        ensures err { let old = reading (P.state «package».old) self.old in
             let new = reading (P.state «package».new) self.new in
-            IfErr result (InsideFails base old new)
-        }
+            IfErr result (InsideFails base old new) }
     {
         if !self.next(package)? {
             return Ok(Step::Ended);
@@ -103,33 +95,23 @@ impl Cursor {
     ) -> Result<Step, StreamError>
         requires reading { IsReading (reading (P.state «package».old) self.old) }
         requires within { base ≤ length (open_elements self.old) }
-        ensures reads {
-            let old = reading (P.state «package».old) self.old in
+        ensures reads { let old = reading (P.state «package».old) self.old in
             let new = reading (P.state «package».new) self.new in
-            Reads Io result old new
-        }
-        ensures stands {
-            let old = reading (P.state «package».old) self.old in
+            Reads Io result old new }
+        ensures stands { let old = reading (P.state «package».old) self.old in
             let new = reading (P.state «package».new) self.new in
-            IfOk result (λ step. StandsAt (wants wanted.entry) base step old new)
-        }
-        ensures starts {
-            let old = reading (P.state «package».old) self.old in
+            IfOk result (λ step. StandsAt (wants wanted.entry) base step old new) }
+        ensures starts { let old = reading (P.state «package».old) self.old in
             let new = reading (P.state «package».new) self.new in
             old.source.is_told ≡ true →
-            IfOk result (λ step. FindsStart (wants wanted.entry) base step old new)
-        }
-        ensures elements {
-            let old = reading (P.state «package».old) self.old in
+            IfOk result (λ step. FindsStart (wants wanted.entry) base step old new) }
+        ensures elements { let old = reading (P.state «package».old) self.old in
             let new = reading (P.state «package».new) self.new in
             old.source.is_told ≡ true →
-            IfOk result (λ step. FindsElement (wants wanted.entry) base step old new)
-        }
-        ensures err {
-            let old = reading (P.state «package».old) self.old in
+            IfOk result (λ step. FindsElement (wants wanted.entry) base step old new) }
+        ensures err { let old = reading (P.state «package».old) self.old in
             let new = reading (P.state «package».new) self.new in
-            IfErr result (WalkFails (wants wanted.entry) base old new)
-        }
+            IfErr result (WalkFails (wants wanted.entry) base old new) }
     {
         'events: loop {
             match self.next_inside(package, base)? {
@@ -155,29 +137,21 @@ impl Cursor {
     ) -> Result<Step, StreamError>
         requires reading { IsReading (reading (P.state «package».old) self.old) }
         requires within { base ≤ length (open_elements self.old) }
-        ensures reads {
-            let old = reading (P.state «package».old) self.old in
+        ensures reads { let old = reading (P.state «package».old) self.old in
             let new = reading (P.state «package».new) self.new in
-            Reads Io result old new
-        }
-        ensures stands {
-            let old = reading (P.state «package».old) self.old in
+            Reads Io result old new }
+        ensures stands { let old = reading (P.state «package».old) self.old in
             let new = reading (P.state «package».new) self.new in
             let wanted = is_named (map (λ name. name.now) names.now) in
-            IfOk result (λ step. StandsAt wanted base step old new)
-        }
-        ensures found {
-            let old = reading (P.state «package».old) self.old in
+            IfOk result (λ step. StandsAt wanted base step old new) }
+        ensures found { let old = reading (P.state «package».old) self.old in
             let new = reading (P.state «package».new) self.new in
             let wanted = is_named (map (λ name. name.now) names.now) in
-            old.source.is_told ≡ true → IfOk result (λ step. FindsStart wanted base step old new)
-        }
-        ensures err {
-            let old = reading (P.state «package».old) self.old in
+            old.source.is_told ≡ true → IfOk result (λ step. FindsStart wanted base step old new) }
+        ensures err { let old = reading (P.state «package».old) self.old in
             let new = reading (P.state «package».new) self.new in
             let wanted = is_named (map (λ name. name.now) names.now) in
-            IfErr result (WalkFails wanted base old new)
-        }
+            IfErr result (WalkFails wanted base old new) }
     {
         self.walk(package, base, Wanted::Named(names))
     }
@@ -192,29 +166,21 @@ impl Cursor {
     ) -> Result<Step, StreamError>
         requires reading { IsReading (reading (P.state «package».old) self.old) }
         requires within { base ≤ length (open_elements self.old) }
-        ensures reads {
-            let old = reading (P.state «package».old) self.old in
+        ensures reads { let old = reading (P.state «package».old) self.old in
             let new = reading (P.state «package».new) self.new in
-            Reads Io result old new
-        }
-        ensures stands {
-            let old = reading (P.state «package».old) self.old in
+            Reads Io result old new }
+        ensures stands { let old = reading (P.state «package».old) self.old in
             let new = reading (P.state «package».new) self.new in
             let wanted = is_named (map (λ name. name.now) names.now) in
-            IfOk result (λ step. StandsAt wanted base step old new)
-        }
-        ensures found {
-            let old = reading (P.state «package».old) self.old in
+            IfOk result (λ step. StandsAt wanted base step old new) }
+        ensures found { let old = reading (P.state «package».old) self.old in
             let new = reading (P.state «package».new) self.new in
             let wanted = is_named (map (λ name. name.now) names.now) in
-            old.source.is_told ≡ true → IfOk result (λ step. FindsElement wanted base step old new)
-        }
-        ensures err {
-            let old = reading (P.state «package».old) self.old in
+            old.source.is_told ≡ true → IfOk result (λ step. FindsElement wanted base step old new) }
+        ensures err { let old = reading (P.state «package».old) self.old in
             let new = reading (P.state «package».new) self.new in
             let wanted = is_named (map (λ name. name.now) names.now) in
-            IfErr result (WalkFails wanted base old new)
-        }
+            IfErr result (WalkFails wanted base old new) }
     {
         self.walk(package, base, Wanted::Named(names))
     }
@@ -228,26 +194,18 @@ impl Cursor {
     ) -> Result<Step, StreamError>
         requires reading { IsReading (reading (P.state «package».old) self.old) }
         requires within { base ≤ length (open_elements self.old) }
-        ensures reads {
-            let old = reading (P.state «package».old) self.old in
+        ensures reads { let old = reading (P.state «package».old) self.old in
             let new = reading (P.state «package».new) self.new in
-            Reads Io result old new
-        }
-        ensures stands {
-            let old = reading (P.state «package».old) self.old in
+            Reads Io result old new }
+        ensures stands { let old = reading (P.state «package».old) self.old in
             let new = reading (P.state «package».new) self.new in
-            IfOk result (λ step. StandsAt is_any base step old new)
-        }
-        ensures found {
-            let old = reading (P.state «package».old) self.old in
+            IfOk result (λ step. StandsAt is_any base step old new) }
+        ensures found { let old = reading (P.state «package».old) self.old in
             let new = reading (P.state «package».new) self.new in
-            old.source.is_told ≡ true → IfOk result (λ step. FindsElement is_any base step old new)
-        }
-        ensures err {
-            let old = reading (P.state «package».old) self.old in
+            old.source.is_told ≡ true → IfOk result (λ step. FindsElement is_any base step old new) }
+        ensures err { let old = reading (P.state «package».old) self.old in
             let new = reading (P.state «package».new) self.new in
-            IfErr result (WalkFails is_any base old new)
-        }
+            IfErr result (WalkFails is_any base old new) }
     {
         self.walk(package, base, Wanted::Any)
     }
@@ -256,24 +214,16 @@ impl Cursor {
     pub fn skip_element<P: Package>(&mut self, package: &mut P) -> Result<(), StreamError>
         requires reading { IsReading (reading (P.state «package».old) self.old) }
         requires element { IsAtElement (reading (P.state «package».old) self.old) }
-        ensures reads {
-            let old = reading (P.state «package».old) self.old in
+        ensures reads { let old = reading (P.state «package».old) self.old in
             let new = reading (P.state «package».new) self.new in
-            Reads Io result old new
-        }
-        ensures depth {
-            OnOk result (length (open_elements self.old) ≡ suc (length (open_elements self.new)))
-        }
-        ensures skips {
-            let old = reading (P.state «package».old) self.old in
+            Reads Io result old new }
+        ensures depth { OnOk result (length (open_elements self.old) ≡ suc (length (open_elements self.new))) }
+        ensures skips { let old = reading (P.state «package».old) self.old in
             let new = reading (P.state «package».new) self.new in
-            old.source.is_told ≡ true → OnOk result (Skips old new)
-        }
-        ensures err {
-            let old = reading (P.state «package».old) self.old in
+            old.source.is_told ≡ true → OnOk result (Skips old new) }
+        ensures err { let old = reading (P.state «package».old) self.old in
             let new = reading (P.state «package».new) self.new in
-            IfErr result (SkipFails old new)
-        }
+            IfErr result (SkipFails old new) }
     {
         let depth = self.depth();
         match self.walk(package, depth, Wanted::Named(&[]))? {

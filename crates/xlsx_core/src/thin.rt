@@ -37,9 +37,7 @@ pub fn read_thin<P: Package>(alloc: Global, package: P, name: &str) -> ThinAnswe
     ensures faults { OnOk result.result ((P.state result.package).faults ≡ (P.state «package»).faults) }
     ensures cells { (P.state «package»).is_told ≡ true → IfOk result.result (λ cells. ReadsAs (P.state «package»).parts name.now (cells_of cells.items)) }
     ensures err { IfErr result.result (ThinFails name.now (P.state «package») (P.state result.package)) }
-    ensures counts {
-        IfErr result.result (KeepsFaults Io (P.state «package») (P.state result.package))
-    }
+    ensures counts { IfErr result.result (KeepsFaults Io (P.state «package») (P.state result.package)) }
     ensures kind { IfErr result.result (IsThinError name.now) }
 {
     match Xlsx::new(alloc, package) {

@@ -39,31 +39,21 @@ impl<P: Package> Xlsx<P> {
     ///
     /// A package with shared strings or styles is refused as not built yet.
     pub fn new(alloc: Global, package: P) -> Result<Xlsx<P>, OpenFailure<P>>
-        ensures uses {
-            MatchResult result
-                (λ xlsx. OpensFrom (P.state «package») (P.state xlsx.package))
-                (λ failure.
-                    FailsToOpen Io (P.state «package») (P.state failure.package) failure.error)
-        }
-        ensures opens {
-            let old = P.state «package» in
+        ensures uses { MatchResult result
+            (λ xlsx. OpensFrom (P.state «package») (P.state xlsx.package))
+            (λ failure.
+            FailsToOpen Io (P.state «package») (P.state failure.package) failure.error) }
+        ensures opens { let old = P.state «package» in
             old.is_told ≡ true → IfOk result (λ xlsx. (opening : Opening)
-                × HoldsOpening xlsx.metadata xlsx.paths.items xlsx.is_1904 opening
-                × OpensAs old.parts opening)
-        }
-        ensures built {
-            (P.state «package»).is_told ≡ true → OnOk result (IsBuilt (P.state «package»).parts)
-        }
-        ensures err {
-            IfErr result (λ failure.
-                OpeningFails (P.state «package») (P.state failure.package) failure.error)
-        }
+            × HoldsOpening xlsx.metadata xlsx.paths.items xlsx.is_1904 opening
+            × OpensAs old.parts opening) }
+        ensures built { (P.state «package»).is_told ≡ true → OnOk result (IsBuilt (P.state «package»).parts) }
+        ensures err { IfErr result (λ failure.
+            OpeningFails (P.state «package») (P.state failure.package) failure.error) }
         ensures kind { IfErr result (λ failure. IsOpeningError failure.error) }
-        ensures sound {
-            let old = P.state «package» in
+        ensures sound { let old = P.state «package» in
             old.is_told ≡ true → OpensSoundly old.parts → IfErr result (λ failure.
-                SoundFails old (P.state failure.package) failure.error)
-        }
+            SoundFails old (P.state failure.package) failure.error) }
     {
         let mut package = package;
         match open(alloc, &mut package) {
@@ -81,22 +71,16 @@ impl<P: Package> Xlsx<P> {
     /// The cells, in order, of the first sheet of this name, where its part is in plain form.
     pub(crate) fn thin_cells(&mut self, name: &str) -> Result<Vec<ThinCell>, XlsxError>
         ensures keeps { SameParts (P.state self.old.package) (P.state self.new.package) }
-        ensures rest {
-            (self.new.metadata ≡ self.old.metadata) × (self.new.paths ≡ self.old.paths)
-            × (self.new.is_1904 ≡ self.old.is_1904)
-        }
+        ensures rest { (self.new.metadata ≡ self.old.metadata) × (self.new.paths ≡ self.old.paths)
+            × (self.new.is_1904 ≡ self.old.is_1904) }
         ensures faults { OnOk result ((P.state self.new.package).faults ≡ (P.state self.old.package).faults) }
-        ensures cells {
-            let old = P.state self.old.package in
+        ensures cells { let old = P.state self.old.package in
             let path = path_listed name.now self.old.metadata.sheets.items self.old.paths.items in
             old.is_told ≡ true → IfOk result (λ cells.
-                HasCells path old.parts (cells_of cells.items))
-        }
-        ensures err {
-            let path = path_listed name.now self.old.metadata.sheets.items self.old.paths.items in
+            HasCells path old.parts (cells_of cells.items)) }
+        ensures err { let path = path_listed name.now self.old.metadata.sheets.items self.old.paths.items in
             IfErr result
-                (SheetFails name.now path (P.state self.old.package) (P.state self.new.package))
-        }
+            (SheetFails name.now path (P.state self.old.package) (P.state self.new.package)) }
         ensures counts { IfErr result (KeepsFaults Io (P.state self.old.package) (P.state self.new.package)) }
     {
         sheet_cells(

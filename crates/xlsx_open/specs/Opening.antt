@@ -120,7 +120,7 @@ abbrev pub WorkbookCause : List Part → List ℕ → XlsxError → Type 0
 WorkbookCause parts path error =
     RelationshipsCause parts path error
     ⊎ ((related : List ℕ → Option Related)
-      × HasRelationships parts path related × ContentsCause parts path related error)
+    × HasRelationships parts path related × ContentsCause parts path related error)
 
 abbrev pub OpeningCause : List Part → XlsxError → Type 0
 OpeningCause parts error =
@@ -185,7 +185,7 @@ abbrev pub TakesOpening : List Part → ℕ → ℕ → Type 0
 TakesOpening parts before after =
     (after ≤ before + events_in parts (codes "_rels/.rels"))
     ⊎ ((path : List ℕ) × HasPath parts path
-      × (after ≤ before + (events_in parts (codes "_rels/.rels") + workbook_events parts path)))
+    × (after ≤ before + (events_in parts (codes "_rels/.rels") + workbook_events parts path)))
 
 -- what opening keeps of its package that isn't refused, and what it keeps that is
 pub record OpensFrom (old new : PackageState) : Type 0 where

@@ -27,8 +27,8 @@ pub record KeepsSheets
     (folder : List ℕ) (related : List ℕ → Option Related)
     (first : WorkbookContents) (events : List Event) (last : WorkbookContents) (left : List Event) : Type 0 where
   pub sheets :
-    prepended (sheets_of last) (sheets_in folder related left)
-    ≡ prepended (sheets_of first) (sheets_in folder related events)
+      prepended (sheets_of last) (sheets_in folder related left)
+      ≡ prepended (sheets_of first) (sheets_in folder related events)
   pub epoch : or_earlier last.epoch (epoch_in left) ≡ or_earlier first.epoch (epoch_in events)
 
 -- a sheet of these events, or what they say of the dates, is refused

@@ -29,21 +29,15 @@ fn relationships_part(alloc: Global, path: &str) -> Result<String, AllocError>
 
 /// Refuses a package that has this part.
 fn refuse_part<P: Package>(package: &mut P, part: &str) -> Result<(), XlsxError>
-    ensures uses {
-        let old = P.state «package».old in
+    ensures uses { let old = P.state «package».old in
         let new = P.state «package».new in
-        Uses 0 Io result old new
-    }
-    ensures absent {
-        let old = P.state «package».old in
+        Uses 0 Io result old new }
+    ensures absent { let old = P.state «package».old in
         let new = P.state «package».new in
-        old.is_told ≡ true → OnOk result (part_of old.parts part.now ≡ None)
-    }
-    ensures err {
-        let old = P.state «package».old in
+        old.is_told ≡ true → OnOk result (part_of old.parts part.now ≡ None) }
+    ensures err { let old = P.state «package».old in
         let new = P.state «package».new in
-        IfErr result (PresenceFails part.now old new)
-    }
+        IfErr result (PresenceFails part.now old new) }
 {
     if package.open(part)? {
         Err(XlsxError::NotBuilt)
@@ -54,21 +48,15 @@ fn refuse_part<P: Package>(package: &mut P, part: &str) -> Result<(), XlsxError>
 
 /// Refuses a package in which the workbook at this path has shared strings or styles.
 fn refuse_unbuilt<P: Package>(alloc: Global, package: &mut P, path: &str) -> Result<(), XlsxError>
-    ensures uses {
-        let old = P.state «package».old in
+    ensures uses { let old = P.state «package».old in
         let new = P.state «package».new in
-        Uses 0 Io result old new
-    }
-    ensures absent {
-        let old = P.state «package».old in
+        Uses 0 Io result old new }
+    ensures absent { let old = P.state «package».old in
         let new = P.state «package».new in
-        old.is_told ≡ true → OnOk result (LacksUnbuilt path.now old.parts)
-    }
-    ensures err {
-        let old = P.state «package».old in
+        old.is_told ≡ true → OnOk result (LacksUnbuilt path.now old.parts) }
+    ensures err { let old = P.state «package».old in
         let new = P.state «package».new in
-        IfErr result (UnbuiltFails path.now old new)
-    }
+        IfErr result (UnbuiltFails path.now old new) }
 {
     let strings = joined(alloc, folder_of(path), "sharedStrings.xml")?;
     refuse_part(package, strings.as_str())?;
@@ -86,13 +74,9 @@ pub struct Opened {
 }
 
 fn from_contents(alloc: Global, contents: WorkbookContents) -> Result<Opened, AllocError>
-    ensures sheets {
-        IfOk result (λ o.
-            o.metadata.sheets.items ≡ map (λ entry. entry.sheet) contents.entries.items)
-    }
-    ensures paths {
-        IfOk result (λ o. o.paths.items ≡ map (λ entry. entry.path) contents.entries.items)
-    }
+    ensures sheets { IfOk result (λ o.
+        o.metadata.sheets.items ≡ map (λ entry. entry.sheet) contents.entries.items) }
+    ensures paths { IfOk result (λ o. o.paths.items ≡ map (λ entry. entry.path) contents.entries.items) }
     ensures names { IfOk result (λ o. o.metadata.names.items ≡ contents.names.items) }
     ensures epoch { IfOk result (λ o. o.is_1904 ≡ unwrap_or contents.epoch false) }
 {
@@ -114,10 +98,8 @@ fn from_contents(alloc: Global, contents: WorkbookContents) -> Result<Opened, Al
 
 /// What a workbook without a part of its own opens as.
 fn nothing_opened(alloc: Global) -> Opened
-    ensures {
-        HoldsOpening result.metadata result.paths.items result.is_1904
-            (record { sheets = []; names = []; is_1904 = false })
-    }
+    ensures { HoldsOpening result.metadata result.paths.items result.is_1904
+        (record { sheets = []; names = []; is_1904 = false }) }
 {
     Opened {
         metadata: Metadata {
@@ -135,23 +117,17 @@ fn open_workbook<P: Package>(
     package: &mut P,
     path: &str,
 ) -> Result<Opened, XlsxError>
-    ensures uses {
-        let old = P.state «package».old in
+    ensures uses { let old = P.state «package».old in
         let new = P.state «package».new in
-        Uses (workbook_events old.parts path.now) Io result old new
-    }
-    ensures opened {
-        let old = P.state «package».old in
+        Uses (workbook_events old.parts path.now) Io result old new }
+    ensures opened { let old = P.state «package».old in
         let new = P.state «package».new in
         old.is_told ≡ true → IfOk result (λ o. (opening : Opening)
-            × HoldsOpening o.metadata o.paths.items o.is_1904 opening
-            × WorkbookOpens old.parts path.now opening)
-    }
-    ensures err {
-        let old = P.state «package».old in
+        × HoldsOpening o.metadata o.paths.items o.is_1904 opening
+        × WorkbookOpens old.parts path.now opening) }
+    ensures err { let old = P.state «package».old in
         let new = P.state «package».new in
-        IfErr result (WorkbookFails path.now old new)
-    }
+        IfErr result (WorkbookFails path.now old new) }
     ensures kind { IfErr result IsOpeningError }
 {
     let part = relationships_part(alloc, path)?;
@@ -175,27 +151,19 @@ fn open_workbook<P: Package>(
 ///
 /// A package with shared strings or styles is refused as `NotBuilt`.
 pub fn open<P: Package>(alloc: Global, package: &mut P) -> Result<Opened, XlsxError>
-    ensures uses {
-        let old = P.state «package».old in
+    ensures uses { let old = P.state «package».old in
         let new = P.state «package».new in
-        OpensPackage Io result old new
-    }
-    ensures opens {
-        let old = P.state «package».old in
+        OpensPackage Io result old new }
+    ensures opens { let old = P.state «package».old in
         let new = P.state «package».new in
         old.is_told ≡ true → IfOk result (λ o. (opening : Opening)
-            × HoldsOpening o.metadata o.paths.items o.is_1904 opening × OpensAs old.parts opening)
-    }
-    ensures built {
-        let old = P.state «package».old in
+        × HoldsOpening o.metadata o.paths.items o.is_1904 opening × OpensAs old.parts opening) }
+    ensures built { let old = P.state «package».old in
         let new = P.state «package».new in
-        old.is_told ≡ true → OnOk result (IsBuilt old.parts)
-    }
-    ensures err {
-        let old = P.state «package».old in
+        old.is_told ≡ true → OnOk result (IsBuilt old.parts) }
+    ensures err { let old = P.state «package».old in
         let new = P.state «package».new in
-        IfErr result (OpeningFails old new)
-    }
+        IfErr result (OpeningFails old new) }
     ensures kind { IfErr result IsOpeningError }
 {
     let path = read_path(alloc, package, "_rels/.rels")?;

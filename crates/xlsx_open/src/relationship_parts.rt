@@ -25,33 +25,29 @@ fn path_in<P: Package>(
 ) -> Result<Option<String>, XlsxError>
     requires reading { IsReading (reading (P.state «package».old) cursor.old) }
     requires within { base ≤ length (open_elements cursor.old) }
-    ensures reads {
-        let old = reading (P.state «package».old) cursor.old in
+    ensures reads { let old = reading (P.state «package».old) cursor.old in
         let new = reading (P.state «package».new) cursor.new in
-        ReadsPart Io result old new
-    }
-    ensures closed {
-        let old = reading (P.state «package».old) cursor.old in
+        ReadsPart Io result old new }
+    ensures closed { let old = reading (P.state «package».old) cursor.old in
         let new = reading (P.state «package».new) cursor.new in
-        old.source.is_told ≡ true → OnOk result (is_closed_ahead base old ≡ true)
-    }
-    ensures path {
-        let old = reading (P.state «package».old) cursor.old in
+        old.source.is_told ≡ true → OnOk result (is_closed_ahead base old ≡ true) }
+    ensures path { let old = reading (P.state «package».old) cursor.old in
         let new = reading (P.state «package».new) cursor.new in
         old.source.is_told ≡ true →
-        IfOk result (λ path. path_in (section_ahead base old) ≡ Ok (option_map string_bytes path))
-    }
-    ensures err {
-        let old = reading (P.state «package».old) cursor.old in
+        IfOk result (λ path. path_in (section_ahead base old) ≡ Ok (option_map string_bytes path)) }
+    ensures err { let old = reading (P.state «package».old) cursor.old in
         let new = reading (P.state «package».new) cursor.new in
-        IfErr result (SectionFails (always (codes "Relationships")) IsTargetRefused base old new)
-    }
+        IfErr result (SectionFails (always (codes "Relationships")) IsTargetRefused base old new) }
     ensures kind { IfErr result IsOpeningError }
 {
     let mut path = None;
-    'starts: while let Some(at) =
-        next_start_in(package, cursor, base, "Relationship", "Relationships")?
-    {
+    'starts: while let Some(at) = next_start_in(
+        package,
+        cursor,
+        base,
+        "Relationship",
+        "Relationships",
+    )? {
         keep_target(alloc, &mut path, start_tag(package), at)?;
     }
     Ok(path)
@@ -67,34 +63,30 @@ fn relationships_in<P: Package>(
 ) -> Result<BTreeMap<String, Relationship>, XlsxError>
     requires reading { IsReading (reading (P.state «package».old) cursor.old) }
     requires within { base ≤ length (open_elements cursor.old) }
-    ensures reads {
-        let old = reading (P.state «package».old) cursor.old in
+    ensures reads { let old = reading (P.state «package».old) cursor.old in
         let new = reading (P.state «package».new) cursor.new in
-        ReadsPart Io result old new
-    }
-    ensures closed {
-        let old = reading (P.state «package».old) cursor.old in
+        ReadsPart Io result old new }
+    ensures closed { let old = reading (P.state «package».old) cursor.old in
         let new = reading (P.state «package».new) cursor.new in
-        old.source.is_told ≡ true → OnOk result (is_closed_ahead base old ≡ true)
-    }
-    ensures related {
-        let old = reading (P.state «package».old) cursor.old in
+        old.source.is_told ≡ true → OnOk result (is_closed_ahead base old ≡ true) }
+    ensures related { let old = reading (P.state «package».old) cursor.old in
         let new = reading (P.state «package».new) cursor.new in
         old.source.is_told ≡ true → IfOk result (λ map. (id : List ℕ) →
-            related_in (section_ahead base old) id ≡ Ok (related_by_id map id))
-    }
-    ensures err {
-        let old = reading (P.state «package».old) cursor.old in
+        related_in (section_ahead base old) id ≡ Ok (related_by_id map id)) }
+    ensures err { let old = reading (P.state «package».old) cursor.old in
         let new = reading (P.state «package».new) cursor.new in
         let ending = always (codes "Relationships") in
-        IfErr result (SectionFails ending AreRelationshipsRefused base old new)
-    }
+        IfErr result (SectionFails ending AreRelationshipsRefused base old new) }
     ensures kind { IfErr result IsOpeningError }
 {
     let mut map = BTreeMap::new(alloc);
-    'starts: while let Some(_at) =
-        next_start_in(package, cursor, base, "Relationship", "Relationships")?
-    {
+    'starts: while let Some(_at) = next_start_in(
+        package,
+        cursor,
+        base,
+        "Relationship",
+        "Relationships",
+    )? {
         keep_relationship(alloc, &mut map, start_tag(package))?;
     }
     Ok(map)
@@ -107,24 +99,18 @@ pub fn read_path<P: Package>(
     package: &mut P,
     part: &str,
 ) -> Result<String, XlsxError>
-    ensures uses {
-        let old = P.state «package».old in
+    ensures uses { let old = P.state «package».old in
         let new = P.state «package».new in
-        Uses (events_in old.parts part.now) Io result old new
-    }
-    ensures path {
-        let old = P.state «package».old in
+        Uses (events_in old.parts part.now) Io result old new }
+    ensures path { let old = P.state «package».old in
         let new = P.state «package».new in
         let inside = closed_section_of (codes "Relationships") part.now old.parts in
         old.is_told ≡ true → IfOk result (λ path.
-            IsSomeAnd inside (λ inside. path_in inside ≡ Ok (Some (string_bytes path))))
-    }
-    ensures err {
-        let old = P.state «package».old in
+        IsSomeAnd inside (λ inside. path_in inside ≡ Ok (Some (string_bytes path)))) }
+    ensures err { let old = P.state «package».old in
         let new = P.state «package».new in
         let name = codes "Relationships" in
-        IfErr result (PartFails name (always name) IsPathRefused part.now old new)
-    }
+        IfErr result (PartFails name (always name) IsPathRefused part.now old new) }
     ensures kind { IfErr result IsOpeningError }
 {
     let Some(mut cursor) = enter_part(alloc, package, part, "Relationships")? else {
@@ -144,24 +130,18 @@ pub fn read_relationships<P: Package>(
     package: &mut P,
     part: &str,
 ) -> Result<BTreeMap<String, Relationship>, XlsxError>
-    ensures uses {
-        let old = P.state «package».old in
+    ensures uses { let old = P.state «package».old in
         let new = P.state «package».new in
-        Uses (events_in old.parts part.now) Io result old new
-    }
-    ensures related {
-        let old = P.state «package».old in
+        Uses (events_in old.parts part.now) Io result old new }
+    ensures related { let old = P.state «package».old in
         let new = P.state «package».new in
         let inside = closed_section_of (codes "Relationships") part.now old.parts in
         old.is_told ≡ true → IfOk result (λ map. IsSomeAnd inside (λ inside. (id : List ℕ) →
-            related_in inside id ≡ Ok (related_by_id map id)))
-    }
-    ensures err {
-        let old = P.state «package».old in
+        related_in inside id ≡ Ok (related_by_id map id))) }
+    ensures err { let old = P.state «package».old in
         let new = P.state «package».new in
         let name = codes "Relationships" in
-        IfErr result (PartFails name (always name) AreRelationshipsRefused part.now old new)
-    }
+        IfErr result (PartFails name (always name) AreRelationshipsRefused part.now old new) }
     ensures kind { IfErr result IsOpeningError }
 {
     let Some(mut cursor) = enter_part(alloc, package, part, "Relationships")? else {

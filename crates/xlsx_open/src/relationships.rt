@@ -32,14 +32,10 @@ fn is_office_document(typ: &str) -> bool
 
 #[tactic(auto, using(crate::proofs::OpeningErrors::decoding))]
 fn office_target(alloc: Global, tag: StartTag<'_>, at: u64) -> Result<Option<String>, XlsxError>
-    ensures ok {
-        IfOk result (λ target. (behind : ℕ) →
-            target_of (placed_at (tag_of tag.entry) behind) ≡ Ok (option_map string_bytes target))
-    }
-    ensures err {
-        IfErr result (λ error. (behind : ℕ) →
-            ElementFails (target_of (placed_at (tag_of tag.entry) behind)) at behind error)
-    }
+    ensures ok { IfOk result (λ target. (behind : ℕ) →
+        target_of (placed_at (tag_of tag.entry) behind) ≡ Ok (option_map string_bytes target)) }
+    ensures err { IfErr result (λ error. (behind : ℕ) →
+        ElementFails (target_of (placed_at (tag_of tag.entry) behind)) at behind error) }
     ensures kind { IfErr result IsOpeningError }
 {
     let (typ, target) = get_attrs!(tag, "Type" => typ, "Target" => target)?;
@@ -59,16 +55,12 @@ pub fn keep_target(
     tag: StartTag<'_>,
     at: u64,
 ) -> Result<(), XlsxError>
-    ensures ok {
-        OnOk result ((behind : ℕ) →
-            or_earlier (option_map string_bytes kept.old)
-                (target_of (placed_at (tag_of tag.entry) behind))
-            ≡ Ok (option_map string_bytes kept.new))
-    }
-    ensures err {
-        IfErr result (λ error. (behind : ℕ) →
-            ElementFails (target_of (placed_at (tag_of tag.entry) behind)) at behind error)
-    }
+    ensures ok { OnOk result ((behind : ℕ) →
+        or_earlier (option_map string_bytes kept.old)
+        (target_of (placed_at (tag_of tag.entry) behind))
+        ≡ Ok (option_map string_bytes kept.new)) }
+    ensures err { IfErr result (λ error. (behind : ℕ) →
+        ElementFails (target_of (placed_at (tag_of tag.entry) behind)) at behind error) }
     ensures kind { IfErr result IsOpeningError }
 {
     if let Some(target) = office_target(alloc, tag, at)? {
@@ -93,12 +85,10 @@ fn put(
     id: String,
     relationship: Relationship,
 ) -> Result<(), XlsxError>
-    ensures ok {
-        OnOk result ((q : List ℕ) →
-            related_by_id map.new q
-            ≡ (if bytes_eq q (string_bytes id) then Some (relationship_of relationship)
-                else related_by_id map.old q))
-    }
+    ensures ok { OnOk result ((q : List ℕ) →
+        related_by_id map.new q
+        ≡ (if bytes_eq q (string_bytes id) then Some (relationship_of relationship)
+        else related_by_id map.old q)) }
     ensures err { IfErr result (λ e. e ≡ OutOfMemory) }
 {
     map.insert(id, relationship)?;
@@ -121,16 +111,12 @@ pub fn keep_relationship(
     map: &mut BTreeMap<String, Relationship>,
     tag: StartTag<'_>,
 ) -> Result<(), XlsxError>
-    ensures ok {
-        OnOk result ((id : List ℕ) (behind : ℕ) →
-            or_earlier (related_by_id map.old id)
-                (related_of id (placed_at (tag_of tag.entry) behind))
-            ≡ Ok (related_by_id map.new id))
-    }
-    ensures err {
-        IfErr result (λ error. (id : List ℕ) (at behind : ℕ) →
-            ElementFails (related_of id (placed_at (tag_of tag.entry) behind)) at behind error)
-    }
+    ensures ok { OnOk result ((id : List ℕ) (behind : ℕ) →
+        or_earlier (related_by_id map.old id)
+        (related_of id (placed_at (tag_of tag.entry) behind))
+        ≡ Ok (related_by_id map.new id)) }
+    ensures err { IfErr result (λ error. (id : List ℕ) (at behind : ℕ) →
+        ElementFails (related_of id (placed_at (tag_of tag.entry) behind)) at behind error) }
     ensures kind { IfErr result IsOpeningError }
 {
     let (id, typ, target) = get_attrs!(tag, "Id" => id, "Type" => typ, "Target" => target)?;

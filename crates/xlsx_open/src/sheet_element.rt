@@ -46,18 +46,14 @@ fn related_sheet(
     visible: SheetVisible,
     relationship: Option<&Relationship>,
 ) -> Result<SheetEntry, XlsxError>
-    ensures ok {
-        let related = option_map relationship_of (option_copied relationship.entry) in
+    ensures ok { let related = option_map relationship_of (option_copied relationship.entry) in
         IfOk result (λ entry.
-            related_sheet folder.now (string_bytes name) visible related
-            ≡ Ok (sheet_of_entry entry))
-    }
-    ensures err {
-        let related = option_map relationship_of (option_copied relationship.entry) in
+        related_sheet folder.now (string_bytes name) visible related
+        ≡ Ok (sheet_of_entry entry)) }
+    ensures err { let related = option_map relationship_of (option_copied relationship.entry) in
         IfErr result (λ error. (at behind : ℕ) →
-            ElementFails (related_sheet folder.now (string_bytes name) visible related)
-                at behind error)
-    }
+        ElementFails (related_sheet folder.now (string_bytes name) visible related)
+        at behind error) }
     ensures kind { IfErr result IsOpeningError }
 {
     let Some(relationship) = relationship else {
@@ -86,18 +82,14 @@ pub fn sheet_of(
     tag: StartTag<'_>,
     at: u64,
 ) -> Result<SheetEntry, XlsxError>
-    ensures ok {
-        let related = related_by_id relationships.now in
+    ensures ok { let related = related_by_id relationships.now in
         IfOk result (λ entry. (behind : ℕ) →
-            sheet_of folder.now related (placed_at (tag_of tag.entry) behind)
-            ≡ Ok (sheet_of_entry entry))
-    }
-    ensures err {
-        let related = related_by_id relationships.now in
+        sheet_of folder.now related (placed_at (tag_of tag.entry) behind)
+        ≡ Ok (sheet_of_entry entry)) }
+    ensures err { let related = related_by_id relationships.now in
         IfErr result (λ error. (behind : ℕ) →
-            ElementFails (sheet_of folder.now related (placed_at (tag_of tag.entry) behind))
-                at behind error)
-    }
+        ElementFails (sheet_of folder.now related (placed_at (tag_of tag.entry) behind))
+        at behind error) }
     ensures kind { IfErr result IsOpeningError }
 {
     let (name, state) = get_attrs!(tag, "name" => name, "state" => state)?;
@@ -122,12 +114,10 @@ fn is_true_text(text: &str) -> bool
 
 /// Whether a start says that dates count from 1904.
 pub fn epoch_of(tag: StartTag<'_>) -> Result<Option<bool>, AttrFault>
-    ensures {
-        MatchResult result
-            (λ epoch. (behind : ℕ) → epoch_of (placed_at (tag_of tag.entry) behind) ≡ Ok epoch)
-            (λ fault. (behind : ℕ) →
-                epoch_of (placed_at (tag_of tag.entry) behind) ≡ Err (lookup_fault fault))
-    }
+    ensures { MatchResult result
+        (λ epoch. (behind : ℕ) → epoch_of (placed_at (tag_of tag.entry) behind) ≡ Ok epoch)
+        (λ fault. (behind : ℕ) →
+        epoch_of (placed_at (tag_of tag.entry) behind) ≡ Err (lookup_fault fault)) }
 {
     match tag.raw_attr("date1904")? {
         Some(text) => Ok(Some(is_true_text(text))),
@@ -144,21 +134,17 @@ pub fn push_sheet(
     tag: StartTag<'_>,
     at: u64,
 ) -> Result<(), XlsxError>
-    ensures ok {
-        let related = related_by_id relationships.now in
+    ensures ok { let related = related_by_id relationships.now in
         let first = map sheet_of_entry sheets.old.items in
         let last = map sheet_of_entry sheets.new.items in
         OnOk result ((behind : ℕ) (others : Result (List PlacedSheet) Refusal) →
-            prepended last others
-            ≡ prepended first (and_others
-                (sheet_of folder.now related (placed_at (tag_of tag.entry) behind)) others))
-    }
-    ensures err {
-        let related = related_by_id relationships.now in
+        prepended last others
+        ≡ prepended first (and_others
+        (sheet_of folder.now related (placed_at (tag_of tag.entry) behind)) others)) }
+    ensures err { let related = related_by_id relationships.now in
         IfErr result (λ error. (behind : ℕ) →
-            ElementFails (sheet_of folder.now related (placed_at (tag_of tag.entry) behind))
-                at behind error)
-    }
+        ElementFails (sheet_of folder.now related (placed_at (tag_of tag.entry) behind))
+        at behind error) }
     ensures kind { IfErr result IsOpeningError }
 {
     let entry = sheet_of(alloc, folder, relationships, tag, at)?;
@@ -168,16 +154,12 @@ pub fn push_sheet(
 
 /// Keeps what a start says of the dates, in place of what an earlier one said.
 pub fn keep_epoch(kept: &mut Option<bool>, tag: StartTag<'_>) -> Result<(), AttrFault>
-    ensures ok {
-        OnOk result ((behind : ℕ) (others : Result (Option Bool) Refusal) →
-            or_earlier kept.new others
-            ≡ or_earlier kept.old
-                (or_later (epoch_of (placed_at (tag_of tag.entry) behind)) others))
-    }
-    ensures err {
-        IfErr result (λ fault. (behind : ℕ) →
-            epoch_of (placed_at (tag_of tag.entry) behind) ≡ Err (lookup_fault fault))
-    }
+    ensures ok { OnOk result ((behind : ℕ) (others : Result (Option Bool) Refusal) →
+        or_earlier kept.new others
+        ≡ or_earlier kept.old
+        (or_later (epoch_of (placed_at (tag_of tag.entry) behind)) others)) }
+    ensures err { IfErr result (λ fault. (behind : ℕ) →
+        epoch_of (placed_at (tag_of tag.entry) behind) ≡ Err (lookup_fault fault)) }
 {
     match epoch_of(tag)? {
         Some(epoch) => *kept = Some(epoch),

@@ -48,22 +48,18 @@ fn take_start(
     tag: StartTag<'_>,
     at: u64,
 ) -> Result<(), XlsxError>
-    ensures ok {
-        let folder = places.entry.folder.now in
+    ensures ok { let folder = places.entry.folder.now in
         let related = related_by_id places.entry.relationships.now in
         OnOk result ((others : List Event) →
-            KeepsSheets folder related found.old (start (tag_of tag.entry) ∷ others)
-                found.new others)
-    }
+        KeepsSheets folder related found.old (start (tag_of tag.entry) ∷ others)
+        found.new others) }
     ensures names { OnOk result (names_of found.new ≡ names_of found.old) }
-    ensures err {
-        let folder = places.entry.folder.now in
+    ensures err { let folder = places.entry.folder.now in
         let related = related_by_id places.entry.relationships.now in
         IfErr result (λ error. (others : List Event) →
-            RefusedAt
-                (AreSheetsRefused folder related found.old (start (tag_of tag.entry) ∷ others))
-                at (length others) error)
-    }
+        RefusedAt
+        (AreSheetsRefused folder related found.old (start (tag_of tag.entry) ∷ others))
+        at (length others) error) }
     ensures kind { IfErr result IsOpeningError }
 {
     let name = tag.local_name();
@@ -91,21 +87,17 @@ fn take_event(
     event: PartEvent<'_>,
     at: u64,
 ) -> Result<(), XlsxError>
-    ensures ok {
-        let folder = places.entry.folder.now in
+    ensures ok { let folder = places.entry.folder.now in
         let related = related_by_id places.entry.relationships.now in
         OnOk result ((others : List Event) →
-            KeepsSheets folder related found.old (event_of event.entry ∷ others) found.new others)
-    }
+        KeepsSheets folder related found.old (event_of event.entry ∷ others) found.new others) }
     ensures names { OnOk result (names_of found.new ≡ names_of found.old) }
-    ensures err {
-        let folder = places.entry.folder.now in
+    ensures err { let folder = places.entry.folder.now in
         let related = related_by_id places.entry.relationships.now in
         IfErr result (λ error. (others : List Event) →
-            RefusedAt
-                (AreSheetsRefused folder related found.old (event_of event.entry ∷ others))
-                at (length others) error)
-    }
+        RefusedAt
+        (AreSheetsRefused folder related found.old (event_of event.entry ∷ others))
+        at (length others) error) }
     ensures kind { IfErr result IsOpeningError }
 {
     match event {
@@ -121,14 +113,10 @@ fn take_event(
 /// The name of the start of a defined name, decoded, which is event number `at` of its part.
 #[tactic(auto, using(crate::proofs::OpeningErrors::decoding))]
 fn name_by(alloc: Global, tag: StartTag<'_>, at: u64) -> Result<Option<String>, XlsxError>
-    ensures ok {
-        IfOk result (λ name. (behind : ℕ) →
-            name_by (placed_at (tag_of tag.entry) behind) ≡ Ok (option_map string_bytes name))
-    }
-    ensures err {
-        IfErr result (λ error. (behind : ℕ) →
-            ElementFails (name_by (placed_at (tag_of tag.entry) behind)) at behind error)
-    }
+    ensures ok { IfOk result (λ name. (behind : ℕ) →
+        name_by (placed_at (tag_of tag.entry) behind) ≡ Ok (option_map string_bytes name)) }
+    ensures err { IfErr result (λ error. (behind : ℕ) →
+        ElementFails (name_by (placed_at (tag_of tag.entry) behind)) at behind error) }
     ensures kind { IfErr result IsOpeningError }
 {
     match tag.raw_attr("name")? {
@@ -144,10 +132,8 @@ fn push_wanted(
     event: PartEvent<'_>,
     at: u64,
 ) -> Result<(), XlsxError>
-    ensures text {
-        let text = event_text false (event_of event.entry) in
-        OnOk result (wanted ≡ true → string_bytes out.new ≡ string_bytes out.old ++ text)
-    }
+    ensures text { let text = event_text false (event_of event.entry) in
+        OnOk result (wanted ≡ true → string_bytes out.new ≡ string_bytes out.old ++ text) }
     ensures known { OnOk result (wanted ≡ true → is_unknown (event_of event.entry) ≡ false) }
     ensures err { IfErr result (TextRefused wanted (event_of event.entry) at) }
     ensures kind { IfErr result IsOpeningError }
@@ -168,11 +154,9 @@ fn push_name(
     name: Option<String>,
     text: String,
 ) -> Result<(), XlsxError>
-    ensures ok {
-        let pair = option_map (λ own. (string_bytes own, string_bytes text)) name in
+    ensures ok { let pair = option_map (λ own. (string_bytes own, string_bytes text)) name in
         OnOk result (map pair_of names.new.items
-            ≡ map pair_of names.old.items ++ option_to_list pair)
-    }
+        ≡ map pair_of names.old.items ++ option_to_list pair) }
     ensures err { IfErr result (λ error. error ≡ OutOfMemory) }
 {
     if let Some(name) = name {
@@ -195,46 +179,32 @@ fn read_name<P: Package>(
 ) -> Result<(), XlsxError>
     requires reading { IsReading (reading (P.state «package».old) cursor.old) }
     requires within { base < length (open_elements cursor.old) }
-    ensures reads {
-        let old = reading (P.state «package».old) cursor.old in
+    ensures reads { let old = reading (P.state «package».old) cursor.old in
         let new = reading (P.state «package».new) cursor.new in
-        ReadsPart Io result old new
-    }
-    ensures section {
-        let old = reading (P.state «package».old) cursor.old in
+        ReadsPart Io result old new }
+    ensures section { let old = reading (P.state «package».old) cursor.old in
         let new = reading (P.state «package».new) cursor.new in
-        OnOk result (KeepsSection base old new)
-    }
-    ensures depth {
-        OnOk result (length (open_elements cursor.old) ≡ suc (length (open_elements cursor.new)))
-    }
-    ensures skips {
-        let old = reading (P.state «package».old) cursor.old in
+        OnOk result (KeepsSection base old new) }
+    ensures depth { OnOk result (length (open_elements cursor.old) ≡ suc (length (open_elements cursor.new))) }
+    ensures skips { let old = reading (P.state «package».old) cursor.old in
         let new = reading (P.state «package».new) cursor.new in
-        old.source.is_told ≡ true → OnOk result (Skips old new)
-    }
-    ensures sheets {
-        let old = reading (P.state «package».old) cursor.old in
+        old.source.is_told ≡ true → OnOk result (Skips old new) }
+    ensures sheets { let old = reading (P.state «package».old) cursor.old in
         let new = reading (P.state «package».new) cursor.new in
         let folder = places.entry.folder.now in
         let related = related_by_id places.entry.relationships.now in
         old.source.is_told ≡ true → OnOk result (KeepsSheets folder related
-            found.old (section_ahead base old) found.new (section_ahead base new))
-    }
-    ensures names {
-        let old = reading (P.state «package».old) cursor.old in
+        found.old (section_ahead base old) found.new (section_ahead base new)) }
+    ensures names { let old = reading (P.state «package».old) cursor.old in
         let inside = content 0 (ahead old) in
         old.source.is_told ≡ true → OnOk result (KeepsName (option_map string_bytes name) inside
-            (length (section_ahead base old)) (names_of found.old) (names_of found.new))
-    }
-    ensures err {
-        let old = reading (P.state «package».old) cursor.old in
+        (length (section_ahead base old)) (names_of found.old) (names_of found.new)) }
+    ensures err { let old = reading (P.state «package».old) cursor.old in
         let new = reading (P.state «package».new) cursor.new in
         let folder = places.entry.folder.now in
         let related = related_by_id places.entry.relationships.now in
         let refused = IsNameRefused folder related found.old (option_map string_bytes name) in
-        IfErr result (SectionFails (always (codes "workbook")) refused base old new)
-    }
+        IfErr result (SectionFails (always (codes "workbook")) refused base old new) }
     ensures kind { IfErr result IsOpeningError }
 {
     let depth = cursor.depth();
@@ -251,10 +221,8 @@ fn read_name<P: Package>(
 
 /// The start of a defined name that an event is.
 fn name_start(event: PartEvent<'_>) -> Option<StartTag<'_>>
-    ensures {
-        MatchOption result (is_name_start (event_of event.entry) ≡ false) (λ tag.
-            (event_of event.entry ≡ start (tag_of tag)) × (is_defined_name (tag_of tag) ≡ true))
-    }
+    ensures { MatchOption result (is_name_start (event_of event.entry) ≡ false) (λ tag.
+        (event_of event.entry ≡ start (tag_of tag)) × (is_defined_name (tag_of tag) ≡ true)) }
 {
     match event {
         PartEvent::Start(tag) if tag.local_name() == "definedName" => Some(tag),
@@ -273,32 +241,24 @@ fn contents_in<P: Package>(
 ) -> Result<WorkbookContents, XlsxError>
     requires reading { IsReading (reading (P.state «package».old) cursor.old) }
     requires within { base ≤ length (open_elements cursor.old) }
-    ensures reads {
-        let old = reading (P.state «package».old) cursor.old in
+    ensures reads { let old = reading (P.state «package».old) cursor.old in
         let new = reading (P.state «package».new) cursor.new in
-        ReadsPart Io result old new
-    }
-    ensures closed {
-        let old = reading (P.state «package».old) cursor.old in
+        ReadsPart Io result old new }
+    ensures closed { let old = reading (P.state «package».old) cursor.old in
         let new = reading (P.state «package».new) cursor.new in
-        old.source.is_told ≡ true → OnOk result (is_closed_ahead base old ≡ true)
-    }
-    ensures contents {
-        let old = reading (P.state «package».old) cursor.old in
+        old.source.is_told ≡ true → OnOk result (is_closed_ahead base old ≡ true) }
+    ensures contents { let old = reading (P.state «package».old) cursor.old in
         let new = reading (P.state «package».new) cursor.new in
         let folder = places.entry.folder.now in
         let related = related_by_id places.entry.relationships.now in
         old.source.is_told ≡ true →
-        IfOk result (IsContents folder related (section_ahead base old))
-    }
-    ensures err {
-        let old = reading (P.state «package».old) cursor.old in
+        IfOk result (IsContents folder related (section_ahead base old)) }
+    ensures err { let old = reading (P.state «package».old) cursor.old in
         let new = reading (P.state «package».new) cursor.new in
         let folder = places.entry.folder.now in
         let related = related_by_id places.entry.relationships.now in
         let refused = AreContentsRefused folder related in
-        IfErr result (SectionFails (always (codes "workbook")) refused base old new)
-    }
+        IfErr result (SectionFails (always (codes "workbook")) refused base old new) }
     ensures kind { IfErr result IsOpeningError }
 {
     let mut found = WorkbookContents {
@@ -325,30 +285,24 @@ pub fn read_contents<P: Package>(
     part: &str,
     places: SheetPlaces<'_>,
 ) -> Result<Option<WorkbookContents>, XlsxError>
-    ensures uses {
-        let old = P.state «package».old in
+    ensures uses { let old = P.state «package».old in
         let new = P.state «package».new in
-        Uses (events_in old.parts part.now) Io result old new
-    }
-    ensures contents {
-        let old = P.state «package».old in
+        Uses (events_in old.parts part.now) Io result old new }
+    ensures contents { let old = P.state «package».old in
         let new = P.state «package».new in
         let folder = places.entry.folder.now in
         let related = related_by_id places.entry.relationships.now in
         let inside = closed_section_of (codes "workbook") part.now old.parts in
         old.is_told ≡ true → IfOk result (λ found. MatchOption found
-            (part_of old.parts part.now ≡ None)
-            (λ contents. IsSomeAnd inside (λ inside. IsContents folder related inside contents)))
-    }
-    ensures err {
-        let old = P.state «package».old in
+        (part_of old.parts part.now ≡ None)
+        (λ contents. IsSomeAnd inside (λ inside. IsContents folder related inside contents))) }
+    ensures err { let old = P.state «package».old in
         let new = P.state «package».new in
         let folder = places.entry.folder.now in
         let related = related_by_id places.entry.relationships.now in
         let name = codes "workbook" in
         let refused = AreContentsRefused folder related in
-        IfErr result (OptionalPartFails name (always name) refused part.now old new)
-    }
+        IfErr result (OptionalPartFails name (always name) refused part.now old new) }
     ensures kind { IfErr result IsOpeningError }
 {
     let Some(mut cursor) = enter_part(alloc, package, part, "workbook")? else {

@@ -42,8 +42,8 @@ pub record IsEventInside (base : ℕ) (event : Event) (place : ℕ) (first old n
   pub behind : first.source.is_told ≡ true → behind_section base old ≡ behind_section base new
   pub ends : first.source.is_told ≡ true → section_end base old ≡ section_end base new
   pub there :
-    first.source.is_told ≡ true →
-    place + suc (length (section_ahead base new)) ≡ last_of (section_left base first)
+      first.source.is_told ≡ true →
+      place + suc (length (section_ahead base new)) ≡ last_of (section_left base first)
 
 pub event_inside : {base place : ℕ} {event : Event} {first old new : Reading} → event ≡ new.source.current → KeepsSection base first old → ReadsOn old new → StandsAtEvent base (Some place) old new → (old.source.is_told ≡ true → FindsEvent base (Some place) old new) → IsEventInside base event place first old new
 event_inside {base = base} {place = place} {event = event} {first = first} {old = old} {new = new} current before reads stands finds =
@@ -70,13 +70,13 @@ event_inside {base = base} {place = place} {event = event} {first = first} {old 
 pub record IsStartFound (wanted : Tag → Bool) (base : ℕ) (tag : Tag) (place : ℕ) (first old new : Reading) : Type 0 where
   pub read : KeepsSection base first new
   pub starts :
-    first.source.is_told ≡ true →
-    starts_by wanted (section_ahead base old)
-    ≡ record { tag = tag; behind = length (section_ahead base new) }
+      first.source.is_told ≡ true →
+      starts_by wanted (section_ahead base old)
+      ≡ record { tag = tag; behind = length (section_ahead base new) }
       ∷ starts_by wanted (section_ahead base new)
   pub there :
-    first.source.is_told ≡ true →
-    place + suc (length (section_ahead base new)) ≡ last_of (section_left base first)
+      first.source.is_told ≡ true →
+      place + suc (length (section_ahead base new)) ≡ last_of (section_left base first)
 
 pub start_found : {base place : ℕ} {tag : Tag} {first old new : Reading} (wanted : Tag → Bool) → start tag ≡ new.source.current → KeepsSection base first old → ReadsOn old new → StandsAtStart wanted base (Some place) old new → (old.source.is_told ≡ true → FindsStartIn wanted base (Some place) old new) → IsStartFound wanted base tag place first old new
 start_found {base = base} {place = place} {tag = tag} {first = first} {old = old} {new = new} wanted current before reads stands finds =

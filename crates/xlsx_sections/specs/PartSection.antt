@@ -57,8 +57,8 @@ pub record KeepsSection (base : ℕ) (first now : Reading) : Type 0 where
   pub within : base ≤ length now.names
   pub closed : first.source.is_told ≡ true → is_closed_ahead base now ≡ is_closed_ahead base first
   pub last :
-    first.source.is_told ≡ true →
-    last_of (section_left base now) ≡ last_of (section_left base first)
+      first.source.is_told ≡ true →
+      last_of (section_left base now) ≡ last_of (section_left base first)
 
 -- the part ends in the section, whose nesting isn't broken
 abbrev pub EndsOpenIn : PartSection → Type 0
@@ -113,12 +113,12 @@ pub record EntersSection (name path : List ℕ) (old : PackageState) (new : Read
   pub parts : SameParts old new.source
   pub faults : new.source.faults ≡ old.faults
   pub taken :
-    old.is_told ≡ true →
-    new.source.taken + length new.source.rest ≤ old.taken + events_in old.parts path
+      old.is_told ≡ true →
+      new.source.taken + length new.source.rest ≤ old.taken + events_in old.parts path
   pub part : old.is_told ≡ true → part_of old.parts path ≡ Some (events_of new)
   pub section :
-    old.is_told ≡ true →
-    section_in name (events_of new) ≡ Some (section_left (length new.names) new)
+      old.is_told ≡ true →
+      section_in name (events_of new) ≡ Some (section_left (length new.names) new)
 
 -- the part has no such section
 abbrev pub LacksSection : List ℕ → Option (List Event) → XlsxError → Type 0

@@ -29,23 +29,17 @@ pub fn enter<P: Package>(
     name: &'static str,
 ) -> Result<(), XlsxError>
     requires reading { IsReading (reading (P.state «package».old) cursor.old) }
-    ensures reads {
-        let old = reading (P.state «package».old) cursor.old in
+    ensures reads { let old = reading (P.state «package».old) cursor.old in
         let new = reading (P.state «package».new) cursor.new in
-        ReadsPart Io result old new
-    }
+        ReadsPart Io result old new }
     ensures element { OnOk result (IsAtElement (reading (P.state «package».new) cursor.new)) }
-    ensures found {
-        let old = reading (P.state «package».old) cursor.old in
+    ensures found { let old = reading (P.state «package».old) cursor.old in
         let new = reading (P.state «package».new) cursor.new in
         old.source.is_told ≡ true →
-        OnOk result (behind_start (is_named (name.now ∷ [])) (ahead old) ≡ Some (ahead new))
-    }
-    ensures err {
-        let old = reading (P.state «package».old) cursor.old in
+        OnOk result (behind_start (is_named (name.now ∷ [])) (ahead old) ≡ Some (ahead new)) }
+    ensures err { let old = reading (P.state «package».old) cursor.old in
         let new = reading (P.state «package».new) cursor.new in
-        IfErr result (StartFails name.now old new)
-    }
+        IfErr result (StartFails name.now old new) }
     ensures kind { IfErr result (IsStepError name.now) }
 {
     match cursor.next_start(package, 0, &[name])? {
@@ -66,27 +60,19 @@ pub fn next_start_in<P: Package>(
 ) -> Result<Option<u64>, XlsxError>
     requires reading { IsReading (reading (P.state «package».old) cursor.old) }
     requires within { base ≤ length (open_elements cursor.old) }
-    ensures reads {
-        let old = reading (P.state «package».old) cursor.old in
+    ensures reads { let old = reading (P.state «package».old) cursor.old in
         let new = reading (P.state «package».new) cursor.new in
-        ReadsPart Io result old new
-    }
-    ensures stands {
-        let old = reading (P.state «package».old) cursor.old in
+        ReadsPart Io result old new }
+    ensures stands { let old = reading (P.state «package».old) cursor.old in
         let new = reading (P.state «package».new) cursor.new in
-        IfOk result (λ found. StandsAtStart (is_named (name.now ∷ [])) base found old new)
-    }
-    ensures found {
-        let old = reading (P.state «package».old) cursor.old in
+        IfOk result (λ found. StandsAtStart (is_named (name.now ∷ [])) base found old new) }
+    ensures found { let old = reading (P.state «package».old) cursor.old in
         let new = reading (P.state «package».new) cursor.new in
         old.source.is_told ≡ true →
-        IfOk result (λ found. FindsStartIn (is_named (name.now ∷ [])) base found old new)
-    }
-    ensures err {
-        let old = reading (P.state «package».old) cursor.old in
+        IfOk result (λ found. FindsStartIn (is_named (name.now ∷ [])) base found old new) }
+    ensures err { let old = reading (P.state «package».old) cursor.old in
         let new = reading (P.state «package».new) cursor.new in
-        IfErr result (SectionFails (always section.now) Never base old new)
-    }
+        IfErr result (SectionFails (always section.now) Never base old new) }
     ensures kind { IfErr result (IsStepError section.now) }
 {
     match cursor.next_start(package, base, &[name])? {
@@ -106,26 +92,18 @@ pub fn next_event_in<P: Package>(
 ) -> Result<Option<u64>, XlsxError>
     requires reading { IsReading (reading (P.state «package».old) cursor.old) }
     requires within { base ≤ length (open_elements cursor.old) }
-    ensures reads {
-        let old = reading (P.state «package».old) cursor.old in
+    ensures reads { let old = reading (P.state «package».old) cursor.old in
         let new = reading (P.state «package».new) cursor.new in
-        ReadsPart Io result old new
-    }
-    ensures stands {
-        let old = reading (P.state «package».old) cursor.old in
+        ReadsPart Io result old new }
+    ensures stands { let old = reading (P.state «package».old) cursor.old in
         let new = reading (P.state «package».new) cursor.new in
-        IfOk result (λ found. StandsAtEvent base found old new)
-    }
-    ensures found {
-        let old = reading (P.state «package».old) cursor.old in
+        IfOk result (λ found. StandsAtEvent base found old new) }
+    ensures found { let old = reading (P.state «package».old) cursor.old in
         let new = reading (P.state «package».new) cursor.new in
-        old.source.is_told ≡ true → IfOk result (λ found. FindsEvent base found old new)
-    }
-    ensures err {
-        let old = reading (P.state «package».old) cursor.old in
+        old.source.is_told ≡ true → IfOk result (λ found. FindsEvent base found old new) }
+    ensures err { let old = reading (P.state «package».old) cursor.old in
         let new = reading (P.state «package».new) cursor.new in
-        IfErr result (SectionFails (always section.now) Never base old new)
-    }
+        IfErr result (SectionFails (always section.now) Never base old new) }
     ensures kind { IfErr result (IsStepError section.now) }
 {
     match cursor.next_inside(package, base)? {
@@ -143,25 +121,17 @@ pub fn enter_part<P: Package>(
     path: &str,
     name: &'static str,
 ) -> Result<Option<Cursor>, XlsxError>
-    ensures absent {
-        let old = P.state «package».old in
+    ensures absent { let old = P.state «package».old in
         let new = P.state «package».new in
         IfOk result (λ found. IfNone found (
-            UsesPackage 0 old new × (old.is_told ≡ true → part_of old.parts path.now ≡ None)))
-    }
-    ensures enters {
-        let old = P.state «package».old in
+        UsesPackage 0 old new × (old.is_told ≡ true → part_of old.parts path.now ≡ None))) }
+    ensures enters { let old = P.state «package».old in
         IfOk result (λ found. IfSome found (λ cursor.
-            EntersSection name.now path.now old (reading (P.state «package».new) cursor)))
-    }
-    ensures leaves {
-        let old = P.state «package».old in
+        EntersSection name.now path.now old (reading (P.state «package».new) cursor))) }
+    ensures leaves { let old = P.state «package».old in
         let new = P.state «package».new in
-        IfErr result (LeavesPackage (events_in old.parts path.now) Io old new)
-    }
-    ensures err {
-        IfErr result (EnterFails name.now path.now (P.state «package».old) (P.state «package».new))
-    }
+        IfErr result (LeavesPackage (events_in old.parts path.now) Io old new) }
+    ensures err { IfErr result (EnterFails name.now path.now (P.state «package».old) (P.state «package».new)) }
     ensures kind { IfErr result (IsStepError name.now) }
 {
     if !package.open(path)? {

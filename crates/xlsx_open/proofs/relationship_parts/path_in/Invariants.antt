@@ -13,9 +13,9 @@ invariant-starts g l =
     record {
       section : KeepsSection l.base old now;
       path :
-        old.source.is_told ≡ true →
-        or_earlier (option_map string_bytes l.path) (path_in (section_ahead l.base now))
-        ≡ path_in (section_ahead l.base old);
+          old.source.is_told ≡ true →
+          or_earlier (option_map string_bytes l.path) (path_in (section_ahead l.base now))
+          ≡ path_in (section_ahead l.base old);
     }
 
 abbrev pub decreases-starts : goal.decreases-starts

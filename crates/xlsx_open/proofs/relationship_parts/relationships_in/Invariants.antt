@@ -14,9 +14,9 @@ invariant-starts g l =
     record {
       section : KeepsSection l.base old now;
       related :
-        old.source.is_told ≡ true → (id : List ℕ) →
-        or_earlier (related_by_id l.map id) (related_in (section_ahead l.base now) id)
-        ≡ related_in (section_ahead l.base old) id;
+          old.source.is_told ≡ true → (id : List ℕ) →
+          or_earlier (related_by_id l.map id) (related_in (section_ahead l.base now) id)
+          ≡ related_in (section_ahead l.base old) id;
     }
 
 abbrev pub decreases-starts : goal.decreases-starts

@@ -14,9 +14,9 @@ invariant-events g l =
     record {
       section : KeepsSection l.base old now;
       keeps :
-        old.source.is_told ≡ true →
-        KeepsContents l.places.folder.now related (section_ahead l.base old) l.found
-        (section_ahead l.base now);
+          old.source.is_told ≡ true →
+          KeepsContents l.places.folder.now related (section_ahead l.base old) l.found
+          (section_ahead l.base now);
     }
 
 abbrev pub decreases-events : goal.decreases-events

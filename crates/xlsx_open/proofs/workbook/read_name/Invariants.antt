@@ -22,12 +22,12 @@ invariant-events g l =
       wanted : l.wanted ≡ is_some l.name;
       names : names_of l.found ≡ names_of l.fn.found;
       sheets :
-        old.source.is_told ≡ true →
-        KeepsSheets l.places.folder.now related l.fn.found (section_ahead l.base old) l.found
-        (section_ahead l.base now);
+          old.source.is_told ≡ true →
+          KeepsSheets l.places.folder.now related l.fn.found (section_ahead l.base old) l.found
+          (section_ahead l.base now);
       text :
-        old.source.is_told ≡ true → l.wanted ≡ true →
-        JoinsText (content 0 (ahead old)) (string_bytes l.text) (section_ahead l.depth now);
+          old.source.is_told ≡ true → l.wanted ≡ true →
+          JoinsText (content 0 (ahead old)) (string_bytes l.text) (section_ahead l.depth now);
       behind : old.source.is_told ≡ true → behind_section l.depth now ≡ behind 0 (ahead old);
     }
 
