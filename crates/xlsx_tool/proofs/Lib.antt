@@ -1,5 +1,5 @@
-pub mod Listings
-pub mod PackageTexts
-pub mod Pieces
-pub mod Running
-pub mod Runs
+pub mod InputLemmas
+pub mod ListingLemmas
+pub mod PackageTextLemmas
+pub mod RunLemmas
+pub mod SourceLemmas

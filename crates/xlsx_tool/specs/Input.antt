@@ -2,38 +2,46 @@
 use Rattle.std.specs.Prelude.{◌≡◌, ℕ, ◌+◌, ◌<◌, ◌≤◌, List, [], ◌++◌, length, Bool, true, false}
 use Rattle.part_events.specs.Package.{Rose}
 use Rattle.xlsx_tool.specs.Source.{SourceState}
-use Rattle.xlsx_tool.specs.declared.input.TheConstants.{INPUT_LIMIT}
 use Rattle.xlsx_tool.specs.declared.error.ToolError.{ToolError}
-use Rattle.xlsx_tool.specs.declared.error.ToolError.TheVariants.{ReadFault, InputTooLarge, OutOfMemory}
+use Rattle.xlsx_tool.specs.declared.error.ToolError.TheVariants.{ReadFault, InputTooLarge}
+use Rattle.xlsx_tool.specs.declared.error.ToolError.TheVariants.{OutOfMemory}
+
+-- the most bytes that an input may have: 2 ^ 26
+abbrev pub longest_input : ℕ
+longest_input = 67108864
 
 -- the whole input was read, and is these bytes
-pub record InputRead (bytes : List ℕ) (source source' : SourceState) : Type 0 where
-  pub fits : length bytes ≤ INPUT_LIMIT
-  pub faults : source'.faults ≡ source.faults
-  pub whole : source.told ≡ true → (source.left ≡ bytes) × (source'.left ≡ [])
+pub record InputRead (bytes : List ℕ) (old new : SourceState) : Type 0 where
+  pub fits : length bytes ≤ longest_input
+  pub faults : new.faults ≡ old.faults
+  pub whole : old.is_told ≡ true → (old.left ≡ bytes) × (new.left ≡ [])
 
 -- more bytes than the limit were taken
-pub record TookTooMany (source source' : SourceState) : Type 0 where
+pub record TookTooMany (old new : SourceState) : Type 0 where
   pub taken : List ℕ
-  pub many : length taken ≡ INPUT_LIMIT + 1
-  pub from : source.left ≡ taken ++ source'.left
+  pub many : length taken ≡ longest_input + 1
+  pub from : old.left ≡ taken ++ new.left
 
 -- why the input was not read
-abbrev pub InputFails : ToolError → SourceState → SourceState → Type 0
-InputFails ReadFault source source' = Rose source.faults source'.faults
-InputFails InputTooLarge source source' = (source'.faults ≡ source.faults) × (source.told ≡ true → TookTooMany source source')
-InputFails OutOfMemory source source' = source'.faults ≡ source.faults
-InputFails _ source source' = ⊥
+abbrev pub InputFails : SourceState → SourceState → ToolError → Type 0
+InputFails old new ReadFault = Rose old.faults new.faults
+InputFails old new InputTooLarge =
+    (new.faults ≡ old.faults) × (old.is_told ≡ true → TookTooMany old new)
+InputFails old new OutOfMemory = new.faults ≡ old.faults
+InputFails old new _ = ⊥
 
--- A piece was read: bytes were appended that were left before, or nothing was left.
-abbrev pub PieceRead : Bool → ℕ → List ℕ → List ℕ → SourceState → SourceState → Type 0
-PieceRead true room old new source source' =
-    (source'.told ≡ source.told) × (source'.faults ≡ source.faults) × (length old < length new) × (length new ≤ length old + room)
-    × (source.told ≡ true → old ++ source.left ≡ new ++ source'.left)
-PieceRead false room old new source source' =
-    (source'.faults ≡ source.faults) × (new ≡ old) × (source.told ≡ true → (source.left ≡ []) × (source'.left ≡ []))
+-- A piece was read, with room for this many bytes: bytes were appended that were left before, or
+-- nothing was left.
+abbrev pub PieceRead : ℕ → List ℕ → List ℕ → SourceState → SourceState → Bool → Type 0
+PieceRead room before after old new true =
+    (new.is_told ≡ old.is_told) × (new.faults ≡ old.faults)
+    × (length before < length after) × (length after ≤ length before + room)
+    × (old.is_told ≡ true → before ++ old.left ≡ after ++ new.left)
+PieceRead room before after old new false =
+    (new.faults ≡ old.faults) × (after ≡ before)
+    × (old.is_told ≡ true → (old.left ≡ []) × (new.left ≡ []))
 
-abbrev pub PieceFails : ToolError → SourceState → SourceState → Type 0
-PieceFails ReadFault source source' = Rose source.faults source'.faults
-PieceFails OutOfMemory source source' = source'.faults ≡ source.faults
-PieceFails _ source source' = ⊥
+abbrev pub PieceFails : SourceState → SourceState → ToolError → Type 0
+PieceFails old new ReadFault = Rose old.faults new.faults
+PieceFails old new OutOfMemory = new.faults ≡ old.faults
+PieceFails old new _ = ⊥

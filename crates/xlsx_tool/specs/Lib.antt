@@ -6,3 +6,4 @@ pub mod Run
 pub mod Sink
 pub mod Source
 pub mod Status
+pub mod StdForms

@@ -1,6 +1,6 @@
 -- The lines that `cells` prints.
-use Rattle.cell_refs.specs.declared.TheConstants.{MAX_ROWS, MAX_COLUMNS}
-use Rattle.std.specs.Prelude.{◌≡◌, false, ℕ, ◌<◌, ◌==◌, ◌&&◌, not, List, [], ◌∷◌, ◌++◌, Bool, if◌then◌else◌, Option, Some, None, codes}
+use Rattle.std.specs.Prelude.{◌≡◌, false, ℕ, ◌<◌, ◌==◌, ◌&&◌, not, List, [], ◌∷◌, ◌++◌, Bool}
+use Rattle.std.specs.Prelude.{if◌then◌else◌, Option, Some, None, codes}
 use Rattle.std.specs.List.{flat_map}
 use Rattle.cell_refs.specs.Reference.{reference}
 use Rattle.xlsx_core.specs.PlainSheet.{PlainCell}
@@ -23,7 +23,10 @@ field mark (Some content) = mark ++ escaped content
 
 abbrev pub line : PlainCell → List ℕ
 line cell =
-    reference cell.position ++ (codes "\t" ++ (field (codes "s:") cell.text ++ (codes "\t" ++ (field (codes "=") cell.formula ++ codes "\t-\n"))))
+    let value = field (codes "s:") cell.text in
+    let formula = field (codes "=") cell.formula in
+    reference cell.position
+    ++ (codes "\t" ++ (value ++ (codes "\t" ++ (formula ++ codes "\t-\n"))))
 
 -- the line, where there is a text or a formula
 abbrev pub line_if : Option (List ℕ) → Option (List ℕ) → List ℕ → List ℕ
@@ -42,9 +45,9 @@ listing cells = flat_map line_of cells
 abbrev pub is_unescaped : ℕ → Bool
 is_unescaped byte = not (byte == 92) && not (byte == 9) && not (byte == 10) && not (byte == 13)
 
--- the cell lies inside a worksheet
-abbrev pub IsInside : PlainCell → Type 0
-IsInside cell = (cell.position.0 < MAX_ROWS) × (cell.position.1 < MAX_COLUMNS)
+-- the cell lies inside a worksheet, of 1,048,576 rows and 16,384 columns
+abbrev pub IsInWorksheet : PlainCell → Type 0
+IsInWorksheet cell = (cell.position.0 < 1048576) × (cell.position.1 < 16384)
 
 -- nothing, or a byte that isn't written as it is stands first
 abbrev pub StartsEscaped : List ℕ → Type 0

@@ -14,7 +14,7 @@ pub record HeldSource : Type 0 where
   pub faults : ℕ
 
 abbrev pub source_state : HeldSource → SourceState
-source_state held = record { told = true; left = held.left; faults = held.faults }
+source_state held = record { is_told = true; left = held.left; faults = held.faults }
 
 -- a call of `read` is counted, up to the last count, and the plan stays
 pub record CountsRead (old new : HeldSource) : Type 0 where
@@ -33,7 +33,7 @@ pub record HeldSink : Type 0 where
   pub faults : ℕ
 
 abbrev pub sink_state : HeldSink → SinkState
-sink_state held = record { told = true; written = held.written; faults = held.faults }
+sink_state held = record { is_told = true; written = held.written; faults = held.faults }
 
 -- a call of `write` is counted, up to the last count, and the plan stays
 pub record CountsWrite (old new : HeldSink) : Type 0 where
@@ -44,4 +44,6 @@ pub record CountsWrite (old new : HeldSink) : Type 0 where
 
 -- a write of this piece fails: the call is planned to, or there is no room for any of the piece
 abbrev pub FailsToWrite : HeldSink → List ℕ → Type 0
-FailsToWrite held piece = Contains held.fail_at held.calls ⊎ ((0 < length piece) × (held.room ≤ length held.written))
+FailsToWrite held piece =
+    Contains held.fail_at held.calls
+    ⊎ ((0 < length piece) × (held.room ≤ length held.written))

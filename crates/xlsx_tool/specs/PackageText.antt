@@ -1,5 +1,6 @@
 -- The package that a JSON value spells.
-use Rattle.std.specs.Prelude.{◌≡◌, ◌++◌, ℕ, ◌==◌, List, [], ◌∷◌, Bool, true, false, if◌then◌else◌, Option, Some, None, option_map, option_and_then, codes}
+use Rattle.std.specs.Prelude.{◌≡◌, ◌++◌, ℕ, ◌==◌, List, [], ◌∷◌, Bool, true, false, if◌then◌else◌}
+use Rattle.std.specs.Prelude.{Option, Some, None, option_map, option_and_then, codes}
 use Rattle.std.specs.Str.{bytes_eq, is_utf8}
 use Rattle.serde_json.specs.Data.{Data, Items, no_items, item}
 use Rattle.serde_json.specs.Find.{get, as_array, as_str, as_number, as_u64}
@@ -12,7 +13,8 @@ use Rattle.part_events.specs.Package.{Part}
 -- the texts of an array that holds nothing else
 abbrev pub texts_of : Items → Option (List (List ℕ))
 texts_of no_items = Some []
-texts_of (item value rest) = option_and_then (λ first. option_map (λ texts. first ∷ texts) (texts_of rest)) (as_str value)
+texts_of (item value rest) =
+    option_and_then (λ first. option_map (λ texts. first ∷ texts) (texts_of rest)) (as_str value)
 
 -- an event by its kind and texts
 abbrev pub event_of_texts : List (List ℕ) → Option Event
@@ -24,7 +26,8 @@ event_of_texts (kind ∷ content ∷ []) =
     else (if bytes_eq kind (codes "d") then Some (char_data content)
     else (if bytes_eq kind (codes "r") then Some (entity_ref content) else None)))
 event_of_texts (kind ∷ name ∷ attributes ∷ []) =
-    if bytes_eq kind (codes "s") then Some (start (record { name = name; attributes = attributes })) else None
+    if bytes_eq kind (codes "s")
+    then Some (start (record { name = name; attributes = attributes })) else None
 event_of_texts (kind ∷ first ∷ second ∷ third ∷ more) = None
 
 abbrev pub event_in : Data → Option Event
@@ -32,42 +35,50 @@ event_in value = option_and_then event_of_texts (option_and_then texts_of (as_ar
 
 abbrev pub events_in : Items → Option (List Event)
 events_in no_items = Some []
-events_in (item value rest) = option_and_then (λ event. option_map (λ events. event ∷ events) (events_in rest)) (event_in value)
+events_in (item value rest) =
+    option_and_then (λ event. option_map (λ events. event ∷ events) (events_in rest))
+    (event_in value)
 
 -- a part of this name, where its events are events
 abbrev pub named_part : List ℕ → Option (List Event) → Option Part
-named_part name events = option_map (λ found. let part : Part = record { name = name; events = found } in part) events
+named_part name events =
+    option_map (λ found. let part : Part = record { name = name; events = found } in part) events
 
 -- a part by its name and events
 abbrev pub part_in : Data → Option Part
 part_in value =
-    option_and_then (λ name. named_part name (option_and_then events_in (option_and_then as_array (get (codes "events") value))))
+    let found = option_and_then as_array (get (codes "events") value) in
+    let events = option_and_then events_in found in
+    option_and_then (λ name. named_part name events)
     (option_and_then as_str (get (codes "name") value))
 
 abbrev pub parts_in : Items → Option (List Part)
 parts_in no_items = Some []
-parts_in (item value rest) = option_and_then (λ part. option_map (λ parts. part ∷ parts) (parts_in rest)) (part_in value)
+parts_in (item value rest) =
+    option_and_then (λ part. option_map (λ parts. part ∷ parts) (parts_in rest)) (part_in value)
 
 -- the version is the number 1
 abbrev pub is_version_1 : Option ℕ → Bool
 is_version_1 None = false
 is_version_1 (Some version) = version == 1
 
--- The package that a value spells: no number in the value, at any depth, is other than an integer of 64 bits, its
--- version is 1, and its parts are parts. Other keys don't matter.
+-- The package that a value spells: no number in the value, at any depth, is other than an integer
+-- of 64 bits, its version is 1, and its parts are parts. Other keys don't matter.
 unfoldable pub package_of : Data → Option (List Part)
 package_of value =
+    let number = option_and_then as_number (get (codes "version") value) in
+    let version = option_and_then as_u64 number in
+    let parts = option_and_then parts_in (option_and_then as_array (get (codes "parts") value)) in
     if has_float value then None
-    else (if is_version_1 (option_and_then as_u64 (option_and_then as_number (get (codes "version") value)))
-    then option_and_then parts_in (option_and_then as_array (get (codes "parts") value)) else None)
+    else (if is_version_1 version then parts else None)
 
 -- the package that bytes spell, as JSON in UTF-8
 unfoldable pub package_in : List ℕ → Option (List Part)
 package_in bytes = if is_utf8 bytes then option_and_then package_of (read bytes) else None
 
 -- what adding a value to a package in memory as a part does, and when it is none
-abbrev pub AppendsPart : Bool → Option Part → Contents → Contents → Type 0
-AppendsPart true (Some part) old new = new ≡ closed (old.parts ++ part ∷ []) old.taken
-AppendsPart true None old new = ⊥
-AppendsPart false (Some part) old new = ⊥
-AppendsPart false None old new = Unit {0}
+abbrev pub AppendsPart : Option Part → Contents → Contents → Bool → Type 0
+AppendsPart (Some part) old new true = new ≡ closed (old.parts ++ part ∷ []) old.taken
+AppendsPart (Some part) old new false = ⊥
+AppendsPart None old new true = ⊥
+AppendsPart None old new false = Unit {0}

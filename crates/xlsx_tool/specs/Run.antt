@@ -1,5 +1,7 @@
 -- What a run of the program answers, and when.
-use Rattle.std.specs.Prelude.{◌≡◌, ◌≢◌, ◌↔◌, Result, Err, IsOk, ℕ, ◌≤◌, List, [], ◌∷◌, ◌++◌, length, true, if◌then◌else◌, Option, Some, None, codes, map, String, string_bytes}
+use Rattle.std.specs.Prelude.{◌≡◌, ◌≢◌, ◌↔◌, Result, Err, IsOk, ℕ, ◌≤◌, List, [], ◌∷◌, ◌++◌, length}
+use Rattle.std.specs.Prelude.{true, if◌then◌else◌, Option, Some, None, codes, map, String}
+use Rattle.std.specs.Prelude.{string_bytes}
 use Rattle.std.specs.Str.{bytes_eq}
 use Rattle.std.specs.declared.alloc.Global.{Global}
 use Rattle.part_events.specs.Memory.{Contents, closed}
@@ -8,14 +10,16 @@ use Rattle.xlsx_core.specs.PlainSheet.{PlainCell}
 use Rattle.xlsx_core.specs.ThinReading.{ReadsAs, IsReadable, ThinCause}
 use Rattle.cell_data.specs.declared.error.XlsxError.{XlsxError}
 use Rattle.cell_data.specs.declared.error.XlsxError.TheVariants as workbook
-use Rattle.xlsx_tool.specs.Input.{TookTooMany}
+use Rattle.xlsx_tool.specs.Input.{TookTooMany, longest_input}
 use Rattle.xlsx_tool.specs.Listing.{listing}
 use Rattle.xlsx_tool.specs.PackageText.{package_in}
 use Rattle.xlsx_tool.specs.Sink.{SinkState}
 use Rattle.xlsx_tool.specs.Source.{SourceState}
-use Rattle.xlsx_tool.specs.declared.input.TheConstants.{INPUT_LIMIT}
 use Rattle.xlsx_tool.specs.declared.error.ToolError.{ToolError}
-use Rattle.xlsx_tool.specs.declared.error.ToolError.TheVariants.{Usage, ReadFault, InputTooLarge, NotAPackage, NotBuilt, Workbook, WriteFault, OutOfMemory}
+use Rattle.xlsx_tool.specs.declared.error.ToolError.TheVariants.{Usage, ReadFault, InputTooLarge}
+use Rattle.xlsx_tool.specs.declared.error.ToolError.TheVariants.{NotAPackage}
+use Rattle.xlsx_tool.specs.declared.error.ToolError.TheVariants.{NotBuilt, Workbook, WriteFault}
+use Rattle.xlsx_tool.specs.declared.error.ToolError.TheVariants.{OutOfMemory}
 
 -- the words as texts
 abbrev pub texts : List (String Global) → List (List ℕ)
@@ -28,132 +32,149 @@ sheet_asked (word ∷ []) = None
 sheet_asked (word ∷ name ∷ []) = if bytes_eq word (codes "cells") then Some name else None
 sheet_asked (word ∷ name ∷ further ∷ words) = None
 
+-- the source and the sink of a run
+pub record Streams : Type 0 where
+  pub source : SourceState
+  pub sink : SinkState
+
 -- neither count of faults changed
-pub record NoFaults (source source' : SourceState) (sink sink' : SinkState) : Type 0 where
-  pub source_faults : source'.faults ≡ source.faults
-  pub sink_faults : sink'.faults ≡ sink.faults
+pub record NoFaults (old new : Streams) : Type 0 where
+  pub source_faults : new.source.faults ≡ old.source.faults
+  pub sink_faults : new.sink.faults ≡ old.sink.faults
 
 -- the input is a package of these parts
 pub record Spells (input : List ℕ) (parts : List Part) : Type 0 where
-  pub fits : length input ≤ INPUT_LIMIT
+  pub fits : length input ≤ longest_input
   pub spelled : package_in input ≡ Some parts
 
--- what stands behind Ok, for the sheet of this name
-pub record Reads (name : List ℕ) (source source' : SourceState) (sink sink' : SinkState) : Type 0 where
+-- the input is a package whose sheet of this name is read, and its lines are written
+pub record ListsSheet (name : List ℕ) (old new : Streams) : Type 0 where
   pub parts : List Part
   pub cells : List PlainCell
-  pub spells : Spells source.left parts
+  pub spells : Spells old.source.left parts
   pub reads : ReadsAs parts name cells
-  pub whole : source'.left ≡ []
-  pub written : sink.told ≡ true → sink'.written ≡ sink.written ++ listing cells
+  pub whole : new.source.left ≡ []
+  pub written : old.sink.is_told ≡ true → new.sink.written ≡ old.sink.written ++ listing cells
 
 -- a run that answers Ok
-pub record Succeeds (words : List (List ℕ)) (source source' : SourceState) (sink sink' : SinkState) : Type 0 where
+pub record Succeeds (words : List (List ℕ)) (old new : Streams) : Type 0 where
   pub name : List ℕ
   pub asked : sheet_asked words ≡ Some name
-  pub faults : NoFaults source source' sink sink'
-  pub reads : source.told ≡ true → Reads name source source' sink sink'
+  pub faults : NoFaults old new
+  pub reads : old.source.is_told ≡ true → ListsSheet name old new
 
 -- the input is no package
 pub record IsNoPackage (source : SourceState) : Type 0 where
-  pub fits : length source.left ≤ INPUT_LIMIT
+  pub fits : length source.left ≤ longest_input
   pub spelled : package_in source.left ≡ None
 
 -- the input is a package in which this refusal of the asked sheet has its cause
-pub record HasPackageCause (error : XlsxError) (name : List ℕ) (source : SourceState) : Type 0 where
+pub record HasPackageCause (name : List ℕ) (source : SourceState) (error : XlsxError) : Type 0 where
   pub parts : List Part
   pub cause : ThinCause parts name error
-  pub spells : source.told ≡ true → Spells source.left parts
+  pub spells : source.is_told ≡ true → Spells source.left parts
 
 -- the input is read, and what was written is a front of its lines
-pub record WroteFront (name : List ℕ) (source source' : SourceState) (sink sink' : SinkState) : Type 0 where
+pub record WroteFront (name : List ℕ) (old new : Streams) : Type 0 where
   pub parts : List Part
   pub cells : List PlainCell
-  pub spells : Spells source.left parts
+  pub spells : Spells old.source.left parts
   pub reads : ReadsAs parts name cells
-  pub whole : source'.left ≡ []
+  pub whole : new.source.left ≡ []
   pub front : List ℕ
   pub behind : List ℕ
   pub lines : listing cells ≡ front ++ behind
-  pub written : sink.told ≡ true → sink'.written ≡ sink.written ++ front
+  pub written : old.sink.is_told ≡ true → new.sink.written ≡ old.sink.written ++ front
 
 -- why a command's lines were not had
-abbrev pub ReadingFails : ToolError → List ℕ → SourceState → SourceState → Type 0
-ReadingFails ReadFault name source source' = Rose source.faults source'.faults
-ReadingFails InputTooLarge name source source' = (source'.faults ≡ source.faults) × (source.told ≡ true → TookTooMany source source')
-ReadingFails NotAPackage name source source' = (source'.faults ≡ source.faults) × (source.told ≡ true → IsNoPackage source)
-ReadingFails NotBuilt name source source' = (source'.faults ≡ source.faults) × HasPackageCause workbook.NotBuilt name source
-ReadingFails (Workbook error) name source source' = (source'.faults ≡ source.faults) × (error ≢ workbook.NotBuilt) × HasPackageCause error name source
-ReadingFails OutOfMemory name source source' = source'.faults ≡ source.faults
-ReadingFails _ name source source' = ⊥
+abbrev pub ReadingFails : List ℕ → SourceState → SourceState → ToolError → Type 0
+ReadingFails name old new ReadFault = Rose old.faults new.faults
+ReadingFails name old new InputTooLarge =
+    (new.faults ≡ old.faults) × (old.is_told ≡ true → TookTooMany old new)
+ReadingFails name old new NotAPackage =
+    (new.faults ≡ old.faults) × (old.is_told ≡ true → IsNoPackage old)
+ReadingFails name old new NotBuilt =
+    (new.faults ≡ old.faults) × HasPackageCause name old workbook.NotBuilt
+ReadingFails name old new (Workbook error) =
+    (new.faults ≡ old.faults) × (error ≢ workbook.NotBuilt) × HasPackageCause name old error
+ReadingFails name old new OutOfMemory = new.faults ≡ old.faults
+ReadingFails name old new _ = ⊥
 
 -- a command that was refused before anything was written
-pub record RefusesCommand (e : ToolError) (words : List (List ℕ)) (source source' : SourceState) (sink sink' : SinkState) : Type 0 where
+pub record RefusesCommand
+    (words : List (List ℕ)) (old new : Streams) (error : ToolError) : Type 0 where
   pub name : List ℕ
   pub asked : sheet_asked words ≡ Some name
-  pub sink_faults : sink'.faults ≡ sink.faults
-  pub cause : ReadingFails e name source source'
+  pub sink_faults : new.sink.faults ≡ old.sink.faults
+  pub cause : ReadingFails name old.source new.source error
 
 -- a command whose lines were not written whole
-pub record RefusesLines (words : List (List ℕ)) (source source' : SourceState) (sink sink' : SinkState) : Type 0 where
+pub record RefusesLines (words : List (List ℕ)) (old new : Streams) : Type 0 where
   pub name : List ℕ
   pub asked : sheet_asked words ≡ Some name
-  pub source_faults : source'.faults ≡ source.faults
-  pub cause : Rose sink.faults sink'.faults
-  pub front : source.told ≡ true → WroteFront name source source' sink sink'
+  pub source_faults : new.source.faults ≡ old.source.faults
+  pub cause : Rose old.sink.faults new.sink.faults
+  pub front : old.source.is_told ≡ true → WroteFront name old new
 
 -- when a run answers each refusal
-abbrev pub Refuses : ToolError → List (List ℕ) → SourceState → SourceState → SinkState → SinkState → Type 0
-Refuses Usage words source source' sink sink' = (sheet_asked words ≡ None) × NoFaults source source' sink sink'
-Refuses WriteFault words source source' sink sink' = RefusesLines words source source' sink sink'
-Refuses e words source source' sink sink' = RefusesCommand e words source source' sink sink'
+abbrev pub Refuses : List (List ℕ) → Streams → Streams → ToolError → Type 0
+Refuses words old new Usage = (sheet_asked words ≡ None) × NoFaults old new
+Refuses words old new WriteFault = RefusesLines words old new
+Refuses words old new error = RefusesCommand words old new error
 
--- Of a command on a package of these parts: it answers Ok exactly where the sheet of the asked name is readable, unless
--- memory, the source or the sink fails it.
-pub record AnswersExactly (result : Result (Unit {0}) ToolError) (words : List (List ℕ)) (source : SourceState) : Type 0 where
+-- Of a command on a package of these parts: it answers Ok exactly where the sheet of the asked name
+-- is readable, unless memory, the source or the sink fails it.
+pub record AnswersExactly
+    (words : List (List ℕ)) (source : SourceState) (result : Result (Unit {0}) ToolError)
+    : Type 0 where
   pub exactly :
-      (name : List ℕ) (parts : List Part) → sheet_asked words ≡ Some name → Spells source.left parts
-      → (result ≡ Err OutOfMemory → ⊥) → (result ≡ Err ReadFault → ⊥) → (result ≡ Err WriteFault → ⊥)
+      (name : List ℕ) (parts : List Part)
+      → sheet_asked words ≡ Some name → Spells source.left parts
+      → result ≢ Err OutOfMemory → result ≢ Err ReadFault → result ≢ Err WriteFault
       → IsOk result ↔ IsReadable parts name
 
 -- ---- the steps of a run
 
 -- a package in memory, fresh, of the parts that were spelled
-abbrev pub PackageRead : Contents → Option (List Part) → Type 0
-PackageRead held spelled = (spelled ≡ Some held.parts) × (held ≡ closed held.parts 0)
+abbrev pub PackageRead : Option (List Part) → Contents → Type 0
+PackageRead spelled held = (spelled ≡ Some held.parts) × (held ≡ closed held.parts 0)
 
-abbrev pub NoPackage : ToolError → Option (List Part) → Type 0
-NoPackage NotAPackage spelled = spelled ≡ None
-NoPackage OutOfMemory spelled = Unit {0}
-NoPackage _ spelled = ⊥
+abbrev pub NoPackage : Option (List Part) → ToolError → Type 0
+NoPackage spelled NotAPackage = spelled ≡ None
+NoPackage spelled OutOfMemory = Unit {0}
+NoPackage spelled _ = ⊥
 
-abbrev pub LinesFail : ToolError → List ℕ → List Part → Type 0
-LinesFail NotBuilt asked parts = ThinCause parts asked workbook.NotBuilt
-LinesFail (Workbook error) asked parts = (error ≢ workbook.NotBuilt) × ThinCause parts asked error
-LinesFail OutOfMemory asked parts = Unit {0}
-LinesFail _ asked parts = ⊥
-
--- the lines were had
-pub record LinesRead (lines : List ℕ) (name : List ℕ) (source source' : SourceState) : Type 0 where
-  pub faults : source'.faults ≡ source.faults
-  pub parts : List Part
+-- these are the lines of the sheet of this name
+pub record ListsLines (parts : List Part) (name lines : List ℕ) : Type 0 where
   pub cells : List PlainCell
   pub reads : ReadsAs parts name cells
   pub listed : lines ≡ listing cells
-  pub whole : source.told ≡ true → Spells source.left parts × (source'.left ≡ [])
+
+abbrev pub LinesFail : List Part → List ℕ → ToolError → Type 0
+LinesFail parts name NotBuilt = ThinCause parts name workbook.NotBuilt
+LinesFail parts name (Workbook error) = (error ≢ workbook.NotBuilt) × ThinCause parts name error
+LinesFail parts name OutOfMemory = Unit {0}
+LinesFail parts name _ = ⊥
+
+-- the lines were had
+pub record LinesRead (name lines : List ℕ) (old new : SourceState) : Type 0 where
+  pub faults : new.faults ≡ old.faults
+  pub parts : List Part
+  pub lists : ListsLines parts name lines
+  pub whole : old.is_told ≡ true → Spells old.left parts × (new.left ≡ [])
 
 -- the bytes were written
-pub record IsSent (bytes : List ℕ) (sink sink' : SinkState) : Type 0 where
-  pub faults : sink'.faults ≡ sink.faults
-  pub written : sink.told ≡ true → sink'.written ≡ sink.written ++ bytes
+pub record IsSent (bytes : List ℕ) (old new : SinkState) : Type 0 where
+  pub faults : new.faults ≡ old.faults
+  pub written : old.is_told ≡ true → new.written ≡ old.written ++ bytes
 
 -- a front of the bytes was written
-pub record FrontSent (bytes : List ℕ) (sink sink' : SinkState) : Type 0 where
+pub record FrontSent (bytes : List ℕ) (old new : SinkState) : Type 0 where
   pub front : List ℕ
   pub behind : List ℕ
   pub whole : bytes ≡ front ++ behind
-  pub written : sink.told ≡ true → sink'.written ≡ sink.written ++ front
+  pub written : old.is_told ≡ true → new.written ≡ old.written ++ front
 
-abbrev pub SendFails : ToolError → List ℕ → SinkState → SinkState → Type 0
-SendFails WriteFault bytes sink sink' = Rose sink.faults sink'.faults × FrontSent bytes sink sink'
-SendFails _ bytes sink sink' = ⊥
+abbrev pub SendFails : List ℕ → SinkState → SinkState → ToolError → Type 0
+SendFails bytes old new WriteFault = Rose old.faults new.faults × FrontSent bytes old new
+SendFails bytes old new _ = ⊥

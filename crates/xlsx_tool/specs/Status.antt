@@ -4,7 +4,9 @@ use Rattle.cell_data.specs.XlsxError.{text_of}
 use Rattle.cell_data.specs.declared.error.XlsxError.{XlsxError}
 use Rattle.cell_data.specs.declared.error.XlsxError.TheVariants as workbook
 use Rattle.xlsx_tool.specs.declared.error.ToolError.{ToolError}
-use Rattle.xlsx_tool.specs.declared.error.ToolError.TheVariants.{Usage, ReadFault, InputTooLarge, NotAPackage, NotBuilt, Workbook, WriteFault, OutOfMemory}
+use Rattle.xlsx_tool.specs.declared.error.ToolError.TheVariants.{Usage, ReadFault, InputTooLarge}
+use Rattle.xlsx_tool.specs.declared.error.ToolError.TheVariants.{NotAPackage, NotBuilt, Workbook}
+use Rattle.xlsx_tool.specs.declared.error.ToolError.TheVariants.{WriteFault, OutOfMemory}
 
 -- 0 is success, and 1 is kept for the system
 abbrev pub status_of : ToolError → ℕ

@@ -11,15 +11,18 @@ pub const INPUT_LIMIT: usize = 67_108_864;
 /// How many bytes are asked for at a time.
 const PIECE: usize = 65_536;
 
-/// Appends the next bytes, at most as many as the piece is long, and answers false at the source's end.
+/// Appends the next bytes, at most as many as the piece is long, and answers false at the source's
+/// end.
 fn read_piece<S: Source>(
     source: &mut S,
     bytes: &mut Vec<u8>,
     piece: &mut [u8],
 ) -> Result<bool, ToolError>
     requires { 0 < length piece.old }
-    ensures ok { IfOk result (λ more. PieceRead more (length piece.new) bytes.old.items bytes.new.items (S.state source.old) (S.state source.new)) }
-    ensures err { IfErr result (λ e. PieceFails e (S.state source.old) (S.state source.new)) }
+    ensures ok { let old = S.state source.old in
+        let new = S.state source.new in
+        IfOk result (PieceRead (length piece.new) bytes.old.items bytes.new.items old new) }
+    ensures err { IfErr result (PieceFails (S.state source.old) (S.state source.new)) }
 {
     let Ok(count) = source.read(piece) else {
         return Err(ToolError::ReadFault);
@@ -31,10 +34,13 @@ fn read_piece<S: Source>(
     Ok(true)
 }
 
-/// Reads the source to its end; more bytes than the limit, and a failure of the source, are refused.
+/// Reads the source to its end; more bytes than the limit, and a failure of the source, are
+/// refused.
 pub fn read_input<S: Source>(alloc: Global, source: &mut S) -> Result<Vec<u8>, ToolError>
-    ensures ok { IfOk result (λ bytes. InputRead bytes.items (S.state source.old) (S.state source.new)) }
-    ensures err { IfErr result (λ e. InputFails e (S.state source.old) (S.state source.new)) }
+    ensures ok { let old = S.state source.old in
+        let new = S.state source.new in
+        IfOk result (λ bytes. InputRead bytes.items old new) }
+    ensures err { IfErr result (InputFails (S.state source.old) (S.state source.new)) }
 {
     let mut bytes = Vec::new(alloc);
     let mut piece = vec![in alloc; 0u8; PIECE]?;

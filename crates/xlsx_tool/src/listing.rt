@@ -1,7 +1,9 @@
-ghost use Rattle.std.specs.Prelude.{◌≡◌, ◌<◌, ◌++◌, ◌==◌, ◌∷◌, [], length, false, option_map, string_bytes, slice_index, IfOk, OnOk, IsUtf8};
+ghost use Rattle.std.specs.Prelude.{◌≡◌, ◌<◌, ◌++◌, ◌==◌, ◌∷◌, [], length, false, option_map};
+ghost use Rattle.std.specs.Prelude.{string_bytes, slice_index, IfOk, OnOk, IsUtf8};
 ghost use Rattle.std.specs.List.{prefix_len, AllByRecursion};
 ghost use Rattle.xlsx_core.specs.ThinCell.{cell_of, cells_of};
-ghost use Rattle.xlsx_tool.specs.Listing.{escaped_byte, escaped, field, line, line_of, listing, is_unescaped, IsInside, StartsEscaped};
+ghost use Rattle.xlsx_tool.specs.Listing.{escaped_byte, escaped, field, line, line_of, listing};
+ghost use Rattle.xlsx_tool.specs.Listing.{is_unescaped, IsInWorksheet, StartsEscaped};
 
 use cell_refs::push_reference;
 use std::alloc::{AllocError, Global};
@@ -59,7 +61,8 @@ fn push_escaped(out: &mut String, text: &str) -> Result<(), AllocError>
 }
 
 fn push_field(out: &mut String, mark: &str, content: &Option<String>) -> Result<(), AllocError>
-    ensures { OnOk result (string_bytes out.new ≡ string_bytes out.old ++ field mark.now (option_map string_bytes content.now)) }
+    ensures { let printed = field mark.now (option_map string_bytes content.now) in
+        OnOk result (string_bytes out.new ≡ string_bytes out.old ++ printed) }
 {
     match content {
         Some(content) => {
@@ -72,8 +75,9 @@ fn push_field(out: &mut String, mark: &str, content: &Option<String>) -> Result<
 
 /// Appends the cell's line, where it has a text or a formula.
 fn push_line(out: &mut String, cell: &ThinCell) -> Result<(), AllocError>
-    requires { IsInside (cell_of cell.now) }
-    ensures { OnOk result (string_bytes out.new ≡ string_bytes out.old ++ line_of (cell_of cell.now)) }
+    requires { IsInWorksheet (cell_of cell.now) }
+    ensures { let printed = line_of (cell_of cell.now) in
+        OnOk result (string_bytes out.new ≡ string_bytes out.old ++ printed) }
 {
     if cell.text.is_none() && cell.formula.is_none() {
         return Ok(());
@@ -88,7 +92,7 @@ fn push_line(out: &mut String, cell: &ThinCell) -> Result<(), AllocError>
 
 /// The lines of the cells, in their order.
 pub fn listing_of(alloc: Global, cells: &[ThinCell]) -> Result<String, AllocError>
-    requires { AllByRecursion IsInside (cells_of cells.now) }
+    requires { AllByRecursion IsInWorksheet (cells_of cells.now) }
     ensures { IfOk result (λ out. string_bytes out ≡ listing (cells_of cells.now)) }
 {
     let mut out = String::new(alloc);

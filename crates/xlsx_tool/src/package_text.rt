@@ -1,9 +1,12 @@
-ghost use Rattle.std.specs.Prelude.{◌≡◌, ◌<◌, ◌++◌, ◌∷◌, [], length, Some, None, IfOk, IfSome, option_map, option_and_then, OnErr, OnOk};
+ghost use Rattle.std.specs.Prelude.{◌≡◌, ◌<◌, ◌++◌, ◌∷◌, [], length, Some, None, IfOk, IfSome};
+ghost use Rattle.std.specs.Prelude.{option_map, option_and_then, OnErr, OnOk};
 ghost use Rattle.serde_json.specs.View.{view, items_view, members_view};
 ghost use Rattle.serde_json.specs.Written.{has_float, items_have_float, members_have_float};
 ghost use Rattle.part_events.specs.Event.{event_of};
 ghost use Rattle.part_events.specs.Memory.{closed};
-ghost use Rattle.xlsx_tool.specs.PackageText.{texts_of, event_of_texts, event_in, events_in, part_in, parts_in, package_of, named_part, AppendsPart};
+ghost use Rattle.xlsx_tool.specs.PackageText.{texts_of, event_of_texts, event_in, events_in};
+ghost use Rattle.xlsx_tool.specs.PackageText.{part_in, parts_in, package_of, named_part};
+ghost use Rattle.xlsx_tool.specs.PackageText.{AppendsPart};
 
 use part_events::{MemoryPackage, PartEvent, StartTag};
 use serde_json::{Map, Value};
@@ -70,7 +73,8 @@ fn plain_event(kind: &str) -> Option<PartEvent<'_>>
 }
 
 fn text_event<'a>(kind: &str, content: &'a str) -> Option<PartEvent<'a>>
-    ensures { option_map (λ event. event_of event) result ≡ event_of_texts (kind.now ∷ content.now ∷ []) }
+    ensures { let texts = kind.now ∷ content.now ∷ [] in
+        option_map (λ event. event_of event) result ≡ event_of_texts texts }
 {
     match kind {
         "e" => Some(PartEvent::End(content)),
@@ -82,7 +86,8 @@ fn text_event<'a>(kind: &str, content: &'a str) -> Option<PartEvent<'a>>
 }
 
 fn start_event<'a>(kind: &str, name: &'a str, attributes: &'a str) -> Option<PartEvent<'a>>
-    ensures { option_map (λ event. event_of event) result ≡ event_of_texts (kind.now ∷ name.now ∷ attributes.now ∷ []) }
+    ensures { let texts = kind.now ∷ name.now ∷ attributes.now ∷ [] in
+        option_map (λ event. event_of event) result ≡ event_of_texts texts }
 {
     match kind {
         "s" => Some(PartEvent::Start(StartTag { name, attributes })),
@@ -96,7 +101,8 @@ fn push_part_of(
     name: &str,
     events: &[Value],
 ) -> Result<bool, AllocError>
-    ensures { IfOk result (λ is_part. AppendsPart is_part (named_part name.now (events_in (items_view events.now))) «package».old «package».new) }
+    ensures { let part = named_part name.now (events_in (items_view events.now)) in
+        IfOk result (AppendsPart part «package».old «package».new) }
 {
     package.add_part(name)?;
     for value in events {
@@ -110,7 +116,8 @@ fn push_part_of(
 
 /// Appends the part that the value spells. Answers false where it spells none.
 fn push_part(package: &mut MemoryPackage, value: &Value) -> Result<bool, AllocError>
-    ensures { IfOk result (λ is_part. AppendsPart is_part (part_in (view value.now)) «package».old «package».new) }
+    ensures { let part = part_in (view value.now) in
+        IfOk result (AppendsPart part «package».old «package».new) }
 {
     let Some(name) = value.get("name").and_then(Value::as_str) else {
         return Ok(false);
@@ -124,7 +131,8 @@ fn push_part(package: &mut MemoryPackage, value: &Value) -> Result<bool, AllocEr
 /// The package that a JSON value spells (docs/FORMAT.md), or None where it spells none.
 #[tactic(auto, unfolding(crate::specs::PackageText::package_of))]
 pub fn package_from_json(alloc: Global, value: &Value) -> Result<Option<MemoryPackage>, AllocError>
-    ensures value { IfOk result (λ found. option_map (λ held. held.parts) found ≡ package_of (view value.now)) }
+    ensures value { let spelled = package_of (view value.now) in
+        IfOk result (λ found. option_map (λ held. held.parts) found ≡ spelled) }
     ensures fresh { IfOk result (λ found. IfSome found (λ held. held ≡ closed held.parts 0)) }
 {
     if has_float(value) || value.get("version").and_then(Value::as_u64) != Some(1) {

@@ -1,7 +1,10 @@
-ghost use Rattle.std.specs.Prelude.{◌≡◌, ◌<◌, ◌≤◌, ◌↔◌, [], length, true, false, IsErr, IfOk, OnOk, OnErr};
+ghost use Rattle.std.specs.Prelude.{◌≡◌, ◌<◌, ◌≤◌, ◌↔◌, [], length, take, true, false, IsErr, IfOk};
+ghost use Rattle.std.specs.Prelude.{OnOk, OnErr};
+ghost use Rattle.std.specs.Io.KnownBytes.{Appends};
 ghost use Rattle.part_events.specs.Package.{Rose};
-ghost use Rattle.xlsx_tool.specs.Sink.{SinkState, KeepsSink, Writes, SinkFails};
+ghost use Rattle.xlsx_tool.specs.Sink.{SinkState, KeepsSink, TakesFront, SinkFails};
 ghost use Rattle.xlsx_tool.specs.MemoryForms.{sink_state, FailsToWrite, CountsWrite};
+ghost use Rattle.xlsx_tool.specs.StdForms.{untold_sink, HoldsFront};
 
 use std::alloc::{AllocError, Global};
 use std::io::Write;
@@ -15,13 +18,16 @@ pub struct SinkFailed;
 pub trait Sink {
     ghost state: { Self → SinkState };
 
-    /// Takes the first bytes of the piece, and answers how many: at least one of a piece that isn't empty.
+    /// Takes the first bytes of the piece, and answers how many: at least one of a piece that isn't
+    /// empty.
     fn write(&mut self, piece: &[u8]) -> Result<usize, SinkFailed>
         ensures count { IfOk result (λ n. n ≤ length piece.now) }
         ensures some { IfOk result (λ n. 0 < length piece.now → 0 < n) }
         ensures keeps { KeepsSink (state self.old) (state self.new) }
         ensures ok { OnOk result ((state self.new).faults ≡ (state self.old).faults) }
-        ensures bytes { (state self.old).told ≡ true → IfOk result (λ n. Writes n piece.now (state self.old) (state self.new)) }
+        ensures bytes { let old = state self.old in
+            let new = state self.new in
+            old.is_told ≡ true → IfOk result (λ n. TakesFront n piece.now old new) }
         ensures failed { OnErr result (SinkFails (state self.old) (state self.new)) };
 
     /// How often a call failed. The count never falls, and stops at its last value.
@@ -46,14 +52,23 @@ impl Model for MemorySink {
 
     ghost Value = { HeldSink };
 
-    ghost view = { λ a. record { written = a.written.items; room = a.room; piece = a.piece; fail_at = a.fail_at.items; calls = a.calls; faults = a.faults } };
+    ghost view = { λ a. record {
+      written = a.written.items;
+      room = a.room;
+      piece = a.piece;
+      fail_at = a.fail_at.items;
+      calls = a.calls;
+      faults = a.faults;
+    } };
 
-    ghost invariant = { λ a. (vec_len a.written ≤ a.room) × (a.room ≤ vec_capacity a.written) × (0 < a.piece) × (a.faults < 2 ^ 64) };
+    ghost invariant = { λ a. (vec_len a.written ≤ a.room) × (a.room ≤ vec_capacity a.written)
+        × (0 < a.piece) × (a.faults < 2 ^ 64) };
 }
 
 impl MemorySink {
-    /// A sink that takes at most `piece` bytes a call and at most `room` bytes in all, and whose calls of these
-    /// numbers, counted from 0, fail. Its room is taken from the allocator at once, so that no write takes memory.
+    /// A sink that takes at most `piece` bytes a call and at most `room` bytes in all, and whose
+    /// calls of these numbers, counted from 0, fail. Its room is taken from the allocator at once,
+    /// so that no write takes memory.
     pub fn new(
         alloc: Global,
         room: usize,
@@ -61,7 +76,14 @@ impl MemorySink {
         fail_at: Vec<u64>,
     ) -> Result<MemorySink, AllocError>
         requires { 0 < piece }
-        ensures { IfOk result (λ sink. sink ≡ record { written = []; room = room; piece = piece; fail_at = fail_at.items; calls = 0; faults = 0 }) }
+        ensures { IfOk result (λ sink. sink ≡ record {
+          written = [];
+          room = room;
+          piece = piece;
+          fail_at = fail_at.items;
+          calls = 0;
+          faults = 0;
+        }) }
     {
         Ok(MemorySink {
             written: Vec::with_capacity(alloc, room)?,
@@ -73,9 +95,10 @@ impl MemorySink {
         })
     }
 
-    /// The bytes that were taken.
+    /// The bytes that were taken, never more than the room.
     pub fn written(&self) -> &[u8]
-        ensures { result.now ≡ self.now.written }
+        ensures bytes { result.now ≡ self.now.written }
+        ensures fits { length result.now ≤ self.now.room }
     {
         self.written.as_slice()
     }
@@ -89,10 +112,13 @@ impl Sink for MemorySink {
         ensures some { IfOk result (λ n. 0 < length piece.now → 0 < n) }
         ensures keeps { KeepsSink (sink_state self.old) (sink_state self.new) }
         ensures ok { OnOk result (self.new.faults ≡ self.old.faults) }
-        ensures bytes { IfOk result (λ n. Writes n piece.now (sink_state self.old) (sink_state self.new)) }
+        ensures bytes { let old = sink_state self.old in
+            let new = sink_state self.new in
+            IfOk result (λ n. TakesFront n piece.now old new) }
         ensures failed { OnErr result (SinkFails (sink_state self.old) (sink_state self.new)) }
         ensures planned { IsErr result ↔ FailsToWrite self.old piece.now }
         ensures few { IfOk result (λ n. n ≤ self.old.piece) }
+        ensures fits { length self.new.written ≤ self.new.room }
         ensures counts { CountsWrite self.old self.new }
     {
         let call = self.calls;
@@ -114,7 +140,8 @@ impl Sink for MemorySink {
     }
 }
 
-/// A writer of the system as a sink, flushed behind every piece. It tells no bytes.
+/// A writer as a sink, flushed behind every piece. Of the bytes it tells, as `write`, what the
+/// writer tells; as a sink it tells none.
 #[derive(Debug, Drop)]
 pub struct StdSink<W: Write> {
     inner: W,
@@ -122,23 +149,24 @@ pub struct StdSink<W: Write> {
 }
 
 impl<W: Write> Model for StdSink<W> {
-    ghost use Rattle.std.specs.Prelude.{ℕ};
+    ghost use Rattle.xlsx_tool.specs.StdForms.{WriterState};
 
-    ghost Value = { ℕ };
+    ghost Value = { WriterState };
 
-    ghost view = { λ a. a.faults };
+    ghost view = { λ a. record { written = W.contents a.inner; faults = a.faults } };
 }
 
 impl<W: Write> StdSink<W> {
     pub fn new(inner: W) -> StdSink<W>
-        ensures { result ≡ 0 }
+        ensures { result ≡ record { written = W.contents inner; faults = 0 } }
     {
         StdSink { inner, faults: 0 }
     }
 
     fn fail(&mut self) -> SinkFailed
-        ensures cause { Rose self.old self.new }
-        ensures rises { self.old ≤ self.new }
+        ensures cause { Rose self.old.faults self.new.faults }
+        ensures rises { self.old.faults ≤ self.new.faults }
+        ensures keeps { self.new.written ≡ self.old.written }
     {
         self.faults = self.faults.saturating_add(1);
         SinkFailed
@@ -146,9 +174,18 @@ impl<W: Write> StdSink<W> {
 }
 
 impl<W: Write> Sink for StdSink<W> {
-    ghost state = { λ faults. record { told = false; written = []; faults = faults } };
+    ghost state = { untold_sink };
 
-    fn write(&mut self, piece: &[u8]) -> Result<usize, SinkFailed> {
+    fn write(&mut self, piece: &[u8]) -> Result<usize, SinkFailed>
+        ensures count { IfOk result (λ n. n ≤ length piece.now) }
+        ensures some { IfOk result (λ n. 0 < length piece.now → 0 < n) }
+        ensures keeps { KeepsSink (untold_sink self.old) (untold_sink self.new) }
+        ensures ok { OnOk result (self.new.faults ≡ self.old.faults) }
+        ensures bytes { let old = self.old.written in
+            IfOk result (λ n. Appends old self.new.written (take n piece.now)) }
+        ensures failed { OnErr result (SinkFails (untold_sink self.old) (untold_sink self.new)) }
+        ensures front { OnErr result (HoldsFront piece.now self.old self.new) }
+    {
         let count = match self.inner.write(piece) {
             Ok(count) => count,
             Err(_) => return Err(self.fail()),

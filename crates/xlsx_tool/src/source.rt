@@ -1,6 +1,10 @@
-ghost use Rattle.std.specs.Prelude.{◌≡◌, ◌<◌, ◌≤◌, ◌↔◌, [], length, true, false, Contains, IsErr, IfOk, OnOk, OnErr};
-ghost use Rattle.xlsx_tool.specs.Source.{SourceState, KeepsSource, Reads, SourceFails};
+ghost use Rattle.std.specs.Prelude.{◌≡◌, ◌<◌, ◌≤◌, ◌↔◌, [], length, true, false, Contains, IsErr};
+ghost use Rattle.std.specs.Prelude.{IfOk, OnOk, OnErr};
+ghost use Rattle.std.specs.Io.KnownBytes.{ReadConsumes};
+ghost use Rattle.xlsx_tool.specs.Source.{SourceState, KeepsSource, GivesFront, EndsAtZero};
+ghost use Rattle.xlsx_tool.specs.Source.{SourceFails};
 ghost use Rattle.xlsx_tool.specs.MemoryForms.{source_state, CountsRead};
+ghost use Rattle.xlsx_tool.specs.StdForms.{untold_source};
 
 use std::io::Read;
 use std::marker::Model;
@@ -9,18 +13,22 @@ use std::marker::Model;
 #[derive(Clone, Copy, Debug, PartialEq, Eq)]
 pub struct SourceFailed;
 
-/// Bytes that are read once, from the front. Whether a source tells proofs its bytes is its own choice.
+/// Bytes that are read once, from the front. Whether a source tells proofs its bytes is its own
+/// choice.
 pub trait Source {
     ghost state: { Self → SourceState };
 
-    /// Puts the next bytes into the front of the piece, and answers how many. Answers 0 for a piece with room only
-    /// at the end.
+    /// Puts the next bytes into the front of the piece, and answers how many. Answers 0 for a piece
+    /// with room only at the end.
     fn read(&mut self, into: &mut [u8]) -> Result<usize, SourceFailed>
         ensures count { IfOk result (λ n. n ≤ length into.new) }
         ensures keeps { KeepsSource (state self.old) (state self.new) }
         ensures ok { OnOk result ((state self.new).faults ≡ (state self.old).faults) }
-        ensures bytes { (state self.old).told ≡ true → IfOk result (λ n. Reads n into.new (state self.old) (state self.new)) }
-        ensures end { (state self.old).told ≡ true → IfOk result (λ n. n ≡ 0 → 0 < length into.new → (state self.old).left ≡ []) }
+        ensures bytes { let old = state self.old in
+            let new = state self.new in
+            old.is_told ≡ true → IfOk result (λ n. GivesFront n into.new old new) }
+        ensures end { let old = state self.old in
+            old.is_told ≡ true → IfOk result (λ n. EndsAtZero n into.new old) }
         ensures failed { OnErr result (SourceFails (state self.old) (state self.new)) };
 
     /// How often a call failed. The count never falls, and stops at its last value.
@@ -45,17 +53,29 @@ impl Model for MemorySource {
 
     ghost Value = { HeldSource };
 
-    ghost view = { λ a. record { left = drop a.at a.bytes.items; piece = a.piece; fail_at = a.fail_at.items; calls = a.calls; faults = a.faults } };
+    ghost view = { λ a. record {
+      left = drop a.at a.bytes.items;
+      piece = a.piece;
+      fail_at = a.fail_at.items;
+      calls = a.calls;
+      faults = a.faults;
+    } };
 
     ghost invariant = { λ a. (a.at ≤ vec_len a.bytes) × (0 < a.piece) × (a.faults < 2 ^ 64) };
 }
 
 impl MemorySource {
-    /// A source of these bytes that gives at most `piece` bytes a call, and whose calls of these numbers, counted
-    /// from 0, fail.
+    /// A source of these bytes that gives at most `piece` bytes a call, and whose calls of these
+    /// numbers, counted from 0, fail.
     pub fn new(bytes: Vec<u8>, piece: usize, fail_at: Vec<u64>) -> MemorySource
         requires { 0 < piece }
-        ensures { result ≡ record { left = bytes.items; piece = piece; fail_at = fail_at.items; calls = 0; faults = 0 } }
+        ensures { result ≡ record {
+          left = bytes.items;
+          piece = piece;
+          fail_at = fail_at.items;
+          calls = 0;
+          faults = 0;
+        } }
     {
         MemorySource {
             bytes,
@@ -75,9 +95,12 @@ impl Source for MemorySource {
         ensures count { IfOk result (λ n. n ≤ length into.new) }
         ensures keeps { KeepsSource (source_state self.old) (source_state self.new) }
         ensures ok { OnOk result (self.new.faults ≡ self.old.faults) }
-        ensures bytes { IfOk result (λ n. Reads n into.new (source_state self.old) (source_state self.new)) }
-        ensures end { IfOk result (λ n. n ≡ 0 → 0 < length into.new → self.old.left ≡ []) }
-        ensures failed { OnErr result (SourceFails (source_state self.old) (source_state self.new)) }
+        ensures bytes { let old = source_state self.old in
+            let new = source_state self.new in
+            IfOk result (λ n. GivesFront n into.new old new) }
+        ensures end { IfOk result (λ n. EndsAtZero n into.new (source_state self.old)) }
+        ensures failed { let old = source_state self.old in
+            OnErr result (SourceFails old (source_state self.new)) }
         ensures planned { IsErr result ↔ Contains self.old.fail_at self.old.calls }
         ensures few { IfOk result (λ n. n ≤ self.old.piece) }
         ensures counts { CountsRead self.old self.new }
@@ -99,7 +122,8 @@ impl Source for MemorySource {
     }
 }
 
-/// A reader of the system as a source. It tells no bytes.
+/// A reader as a source. Of the bytes it tells, as `read`, what the reader tells; as a source it
+/// tells none.
 #[derive(Debug, Drop)]
 pub struct StdSource<R: Read> {
     inner: R,
@@ -107,25 +131,32 @@ pub struct StdSource<R: Read> {
 }
 
 impl<R: Read> Model for StdSource<R> {
-    ghost use Rattle.std.specs.Prelude.{ℕ};
+    ghost use Rattle.xlsx_tool.specs.StdForms.{ReaderState};
 
-    ghost Value = { ℕ };
+    ghost Value = { ReaderState };
 
-    ghost view = { λ a. a.faults };
+    ghost view = { λ a. record { left = R.remaining a.inner; faults = a.faults } };
 }
 
 impl<R: Read> StdSource<R> {
     pub fn new(inner: R) -> StdSource<R>
-        ensures { result ≡ 0 }
+        ensures { result ≡ record { left = R.remaining inner; faults = 0 } }
     {
         StdSource { inner, faults: 0 }
     }
 }
 
 impl<R: Read> Source for StdSource<R> {
-    ghost state = { λ faults. record { told = false; left = []; faults = faults } };
+    ghost state = { untold_source };
 
-    fn read(&mut self, into: &mut [u8]) -> Result<usize, SourceFailed> {
+    fn read(&mut self, into: &mut [u8]) -> Result<usize, SourceFailed>
+        ensures count { IfOk result (λ n. n ≤ length into.new) }
+        ensures keeps { KeepsSource (untold_source self.old) (untold_source self.new) }
+        ensures ok { OnOk result (self.new.faults ≡ self.old.faults) }
+        ensures bytes { ReadConsumes self.old.left self.new.left result into.new }
+        ensures failed { let old = untold_source self.old in
+            OnErr result (SourceFails old (untold_source self.new)) }
+    {
         match self.inner.read(into) {
             Ok(count) => Ok(count),
             Err(_) => {

@@ -1,5 +1,5 @@
 use Rattle.std.proofs.Common.{◌≡◌, ◌-◌, length}
-use Rattle.xlsx_tool.proofs.Running.{IsReading}
+use Rattle.xlsx_tool.proofs.InputLemmas.{IsReading}
 use Rattle.xlsx_tool.proofs.input.read_input.Given as goal
 
 abbrev pub invariant-pieces : goal.invariant-pieces

@@ -4,7 +4,9 @@ use Rattle.xlsx_tool.specs.Listing.{escaped}
 use Rattle.xlsx_tool.proofs.listing.push_escaped.Given as goal
 
 abbrev pub invariant-pieces : goal.invariant-pieces
-invariant-pieces l = IsUtf8 l.rest × (string_bytes l.out ++ escaped l.rest ≡ string_bytes l.fn.out ++ escaped l.text)
+invariant-pieces l =
+    IsUtf8 l.rest
+    × (string_bytes l.out ++ escaped l.rest ≡ string_bytes l.fn.out ++ escaped l.text)
 
 abbrev pub decreases-pieces : goal.decreases-pieces
 decreases-pieces l = length l.rest

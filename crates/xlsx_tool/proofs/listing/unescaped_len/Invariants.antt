@@ -4,4 +4,5 @@ use Rattle.xlsx_tool.specs.Listing.{is_unescaped}
 use Rattle.xlsx_tool.proofs.listing.unescaped_len.Given as goal
 
 abbrev pub invariant-loop-place : goal.invariant-loop-place
-invariant-loop-place l = l.place + prefix_len is_unescaped (drop l.place l.bytes) ≡ prefix_len is_unescaped l.bytes
+invariant-loop-place l =
+    l.place + prefix_len is_unescaped (drop l.place l.bytes) ≡ prefix_len is_unescaped l.bytes

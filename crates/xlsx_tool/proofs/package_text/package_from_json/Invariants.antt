@@ -8,4 +8,5 @@ use Rattle.xlsx_tool.proofs.package_text.package_from_json.Given as goal
 abbrev pub invariant-loop-part : goal.invariant-loop-part
 invariant-loop-part l =
     (l.«package» ≡ closed l.«package».parts 0)
-    × (option_map (λ rest. l.«package».parts ++ rest) (parts_in (items_view (drop l.part-index l.part-items))) ≡ parts_in (items_view l.part-items))
+    × (let left = parts_in (items_view (drop l.part-index l.part-items)) in
+    option_map (λ rest. l.«package».parts ++ rest) left ≡ parts_in (items_view l.part-items))

@@ -9,5 +9,7 @@ use Rattle.xlsx_tool.proofs.package_text.push_part_of.Given as goal
 abbrev pub invariant-loop-value : goal.invariant-loop-value
 invariant-loop-value l =
     (done : List Event)
-    × (l.«package» ≡ closed (l.fn.«package».parts ++ record { name = l.name; events = done } ∷ []) l.fn.«package».taken)
-    × (option_map (λ rest. done ++ rest) (events_in (items_view (drop l.value-index l.events))) ≡ events_in (items_view l.events))
+    × (let old = l.fn.«package» in
+    l.«package» ≡ closed (old.parts ++ record { name = l.name; events = done } ∷ []) old.taken)
+    × (let left = events_in (items_view (drop l.value-index l.events)) in
+    option_map (λ rest. done ++ rest) left ≡ events_in (items_view l.events))

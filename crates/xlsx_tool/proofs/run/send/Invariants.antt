@@ -5,9 +5,10 @@ abbrev pub invariant-pieces : goal.invariant-pieces
 invariant-pieces g l =
     let first = g.K.Sink.state l.fn.sink in
     let now = g.K.Sink.state l.sink in
-    (now.told ≡ first.told)
+    (now.is_told ≡ first.is_told)
     × (now.faults ≡ first.faults)
-    × (front : List ℕ) × (l.bytes ≡ front ++ l.rest) × (first.told ≡ true → now.written ≡ first.written ++ front)
+    × (front : List ℕ) × (l.bytes ≡ front ++ l.rest)
+    × (first.is_told ≡ true → now.written ≡ first.written ++ front)
 
 abbrev pub decreases-pieces : goal.decreases-pieces
 decreases-pieces g l = length l.rest

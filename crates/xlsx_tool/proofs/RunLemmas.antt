@@ -1,0 +1,350 @@
+-- A run, from what its steps give.
+use Rattle.std.proofs.Common.{◌≡◌, ℕ, List, [], ◌∷◌, ◌++◌, length, take, drop, refl, sym, ◌∙◌, ap}
+use Rattle.std.proofs.Common.{subst, append_assoc}
+use Rattle.std.proofs.Common.{true≢false, true, arith, Option, Some, None}
+use Rattle.std.specs.Prelude.{◌≢◌, Result, Ok, Err, IfOk, IfErr, OnOk}
+use Rattle.std.specs.List.{AllByRecursion}
+use Rattle.std.proofs.lemmas.List.{take-append-drop, length-append}
+use Rattle.part_events.specs.Memory.{Contents, state_of}
+use Rattle.part_events.specs.Package.{Part}
+use Rattle.xlsx_core.specs.PlainSheet.{PlainCell, PlainRow, IsPlainCell, IsPlainRow, all_cells}
+use Rattle.xlsx_core.specs.ThinReading.{ReadsAs, ThinCause, ThinFails}
+use Rattle.cell_data.specs.declared.error.XlsxError.{XlsxError}
+use Rattle.cell_data.specs.declared.error.XlsxError.TheVariants as workbook
+use Rattle.xlsx_tool.specs.Input.{InputRead, InputFails}
+use Rattle.xlsx_tool.specs.Listing.{IsInWorksheet}
+use Rattle.xlsx_tool.specs.PackageText.{package_in}
+use Rattle.xlsx_tool.specs.Run.{Streams, sheet_asked, Spells, Succeeds, HasPackageCause}
+use Rattle.xlsx_tool.specs.Run.{ReadingFails, Refuses}
+use Rattle.xlsx_tool.specs.Run.{AnswersExactly, NoPackage, ListsLines, LinesFail, LinesRead, IsSent}
+use Rattle.xlsx_tool.specs.Run.{SendFails}
+use Rattle.xlsx_tool.specs.Sink.{SinkState}
+use Rattle.xlsx_tool.specs.Source.{SourceState}
+use Rattle.xlsx_tool.specs.Status.{of_workbook}
+use Rattle.xlsx_tool.specs.declared.error.ToolError.{ToolError}
+use Rattle.xlsx_tool.specs.declared.error.ToolError.TheVariants.{Usage, ReadFault, InputTooLarge}
+use Rattle.xlsx_tool.specs.declared.error.ToolError.TheVariants.{NotAPackage}
+use Rattle.xlsx_tool.specs.declared.error.ToolError.TheVariants.{NotBuilt, Workbook, WriteFault}
+use Rattle.xlsx_tool.specs.declared.error.ToolError.TheVariants.{OutOfMemory}
+
+-- what holds of the answer that was given
+pub ok_at :
+    {A E : Type 0} (result : Result A E) (x : A) (P : A → Type 0)
+    → result ≡ Ok x → IfOk result P → P x
+ok_at {A = A} {E = E} result x P is holds = subst (λ (r : Result A E). IfOk r P) is holds
+
+pub err_at :
+    {A E : Type 0} (result : Result A E) (e : E) (P : E → Type 0)
+    → result ≡ Err e → IfErr result P → P e
+err_at {A = A} {E = E} result e P is holds = subst (λ (r : Result A E). IfErr r P) is holds
+
+-- ---- the lines of a sheet
+
+inside-append :
+    (xs ys : List PlainCell)
+    → AllByRecursion IsInWorksheet xs → AllByRecursion IsInWorksheet ys
+    → AllByRecursion IsInWorksheet (xs ++ ys)
+inside-append [] ys first second = second
+inside-append (x ∷ xs) ys first second = (first.0, inside-append xs ys first.1 second)
+
+inside-cells :
+    (cells : List PlainCell) → AllByRecursion IsPlainCell cells → AllByRecursion IsInWorksheet cells
+inside-cells [] plain = tt
+inside-cells (cell ∷ cells) plain =
+    ((plain.0.in_rows, plain.0.in_columns), inside-cells cells plain.1)
+
+inside-rows :
+    (rows : List PlainRow)
+    → AllByRecursion IsPlainRow rows → AllByRecursion IsInWorksheet (all_cells rows)
+inside-rows [] plain = tt
+inside-rows (row ∷ rows) plain =
+    let first = inside-cells row.cells plain.0.cells in
+    inside-append row.cells (all_cells rows) first (inside-rows rows plain.1)
+
+-- the cells that were read lie inside their sheet
+pub read_inside :
+    (parts : List Part) (name : List ℕ) (cells : List PlainCell)
+    → ReadsAs parts name cells → AllByRecursion IsInWorksheet cells
+read_inside parts name cells reads =
+    let sheet = reads.plain in
+    rw sheet.same (inside-rows sheet.rows sheet.plain)
+
+-- why a sheet of a package in memory isn't read is why its lines aren't had
+pub workbook_fails :
+    (name : List ℕ) (old new : Contents) (error : XlsxError)
+    → ThinFails name (state_of old) (state_of new) error
+    → LinesFail old.parts name (of_workbook error)
+workbook_fails name old new workbook.Io fails = absurd (omega (arith, fails))
+workbook_fails name old new workbook.OutOfMemory fails = tt
+workbook_fails name old new workbook.NotBuilt fails = fails refl
+workbook_fails name old new (workbook.WorksheetNotFound asked) fails =
+    (λ is. absurd (cc), fails refl)
+workbook_fails name old new error fails = (λ is. absurd (cc), fails refl)
+
+-- ---- the lines of a source
+
+pub from_input :
+    (name : List ℕ) (old new : SourceState) (error : ToolError)
+    → InputFails old new error → ReadingFails name old new error
+from_input name old new ReadFault fails = fails
+from_input name old new InputTooLarge fails = fails
+from_input name old new OutOfMemory fails = fails
+from_input name old new _ fails = absurd fails
+
+pub from_package :
+    (name bytes : List ℕ) (old new : SourceState) (error : ToolError)
+    → InputRead bytes old new → NoPackage (package_in bytes) error
+    → ReadingFails name old new error
+from_package name bytes old new NotAPackage input fails = (
+  input.faults,
+  λ told. (
+      let same = (input.whole told).0 in
+      record { fits = rw same input.fits; spelled = ap package_in same ∙ fails }
+      ),
+)
+from_package name bytes old new OutOfMemory input fails = input.faults
+from_package name bytes old new _ input fails = absurd fails
+
+-- the source spells the package that was read
+pub spelled_by :
+    (bytes : List ℕ) (parts : List Part) (old new : SourceState)
+    → InputRead bytes old new → package_in bytes ≡ Some parts
+    → old.is_told ≡ true → Spells old.left parts
+spelled_by bytes parts old new input spelled told =
+    let same = (input.whole told).0 in
+    record { fits = rw same input.fits; spelled = ap package_in same ∙ spelled }
+
+pub from_lines :
+    (name bytes : List ℕ) (parts : List Part) (old new : SourceState) (error : ToolError)
+    → InputRead bytes old new → package_in bytes ≡ Some parts
+    → LinesFail parts name error → ReadingFails name old new error
+from_lines name bytes parts old new NotBuilt input spelled fails = (
+  input.faults,
+  record {
+    parts = parts;
+    cause = fails;
+    spells = spelled_by bytes parts old new input spelled;
+  },
+)
+from_lines name bytes parts old new (Workbook error) input spelled fails = (
+  input.faults,
+  fails.0,
+  record {
+    parts = parts;
+    cause = fails.1;
+    spells = spelled_by bytes parts old new input spelled;
+  },
+)
+from_lines name bytes parts old new OutOfMemory input spelled fails = input.faults
+from_lines name bytes parts old new _ input spelled fails = absurd fails
+
+pub lines_read :
+    (name lines bytes : List ℕ) (parts : List Part) (old new : SourceState)
+    → InputRead bytes old new → package_in bytes ≡ Some parts
+    → ListsLines parts name lines → LinesRead name lines old new
+lines_read name lines bytes parts old new input spelled lists = record {
+  faults = input.faults;
+  parts = parts;
+  lists = lists;
+  whole = λ told. (spelled_by bytes parts old new input spelled told, (input.whole told).1);
+}
+
+-- ---- the sink
+
+-- a piece more was written
+pub front_more :
+    (bytes front rest : List ℕ) (count : ℕ)
+    → bytes ≡ front ++ rest → bytes ≡ (front ++ take count rest) ++ drop count rest
+front_more bytes front rest count joined =
+    joined ∙ ap (λ (xs : List ℕ). front ++ xs) (sym (take-append-drop count rest))
+    ∙ sym (append_assoc front (take count rest) (drop count rest))
+
+pub written_more :
+    (before now after front piece : List ℕ)
+    → now ≡ before ++ front → after ≡ now ++ piece → after ≡ before ++ (front ++ piece)
+written_more before now after front piece first second =
+    second ∙ ap (λ (xs : List ℕ). xs ++ piece) first ∙ append_assoc before front piece
+
+-- only a sink that fails is left changed by a refusal
+pub send_fails_by_sink :
+    (bytes : List ℕ) (old new : SinkState) (error : ToolError)
+    → SendFails bytes old new error → error ≢ WriteFault → ⊥
+send_fails_by_sink bytes old new WriteFault fails other = other refl
+send_fails_by_sink bytes old new _ fails other = absurd fails
+
+-- ---- the run
+
+pub refused :
+    (words : List (List ℕ)) (name : List ℕ) (old new : SourceState) (sink : SinkState)
+    (error : ToolError)
+    → sheet_asked words ≡ Some name → ReadingFails name old new error
+    → (let before : Streams = record { source = old; sink = sink } in
+    let after : Streams = record { source = new; sink = sink } in
+    Refuses words before after error)
+refused words name old new sink Usage asked fails = absurd fails
+refused words name old new sink WriteFault asked fails = absurd fails
+refused words name old new sink error asked fails =
+    record { name = name; asked = asked; sink_faults = refl; cause = fails }
+
+pub not_written :
+    (words : List (List ℕ)) (name lines : List ℕ) (old new : Streams) (error : ToolError)
+    → sheet_asked words ≡ Some name → LinesRead name lines old.source new.source
+    → SendFails lines old.sink new.sink error → Refuses words old new error
+not_written words name lines old new WriteFault asked read fails = record {
+  name = name;
+  asked = asked;
+  source_faults = read.faults;
+  cause = fails.0;
+  front = λ told. record {
+    parts = read.parts;
+    cells = read.lists.cells;
+    spells = (read.whole told).0;
+    reads = read.lists.reads;
+    whole = (read.whole told).1;
+    front = fails.1.front;
+    behind = fails.1.behind;
+    lines = sym read.lists.listed ∙ fails.1.whole;
+    written = fails.1.written;
+  };
+}
+not_written words name lines old new _ asked read fails = absurd fails
+
+pub succeeded :
+    (words : List (List ℕ)) (name lines : List ℕ) (old new : Streams)
+    → sheet_asked words ≡ Some name → LinesRead name lines old.source new.source
+    → IsSent lines old.sink new.sink → Succeeds words old new
+succeeded words name lines old new asked read sent = record {
+  name = name;
+  asked = asked;
+  faults = record { source_faults = read.faults; sink_faults = sent.faults };
+  reads = λ told. record {
+    parts = read.parts;
+    cells = read.lists.cells;
+    spells = (read.whole told).0;
+    reads = read.lists.reads;
+    whole = (read.whole told).1;
+    written = λ sink_told. sent.written sink_told
+        ∙ ap (λ (xs : List ℕ). old.sink.written ++ xs) read.lists.listed;
+  };
+}
+
+-- ---- exactly when
+
+some_of : {A : Type 0} → A → Option A → A
+some_of fallback (Some x) = x
+some_of fallback None = fallback
+
+none_or : {A : Type 0} → Option A → Type 0
+none_or None = ⊥
+none_or (Some x) = Unit {0}
+
+not_some : {A : Type 0} (x : A) (found : Option A) → found ≡ Some x → found ≡ None → ⊥
+unfolding none_or
+not_some x found some none = subst none_or (sym some ∙ none) tt
+
+same_some : {A : Type 0} (x y : A) (found : Option A) → found ≡ Some x → found ≡ Some y → x ≡ y
+unfolding some_of
+same_some x y found first second = ap (some_of x) (sym first ∙ second)
+
+-- a sheet that is read isn't refused, as each is
+abbrev pub NeverBoth : Type 0
+NeverBoth =
+    (parts : List Part) (name : List ℕ) (cells : List PlainCell) (error : XlsxError)
+    → ReadsAs parts name cells → ThinCause parts name error → ⊥
+
+-- the words are a command on the package that the source spells
+record IsCommand
+    (words : List (List ℕ)) (source : SourceState) (name : List ℕ) (parts : List Part)
+    : Type 0 where
+  is_told : source.is_told ≡ true
+  asked : sheet_asked words ≡ Some name
+  spells : Spells source.left parts
+
+same_package :
+    (source : SourceState) (parts others : List Part)
+    → Spells source.left parts → Spells source.left others → parts ≡ others
+same_package source parts others first second =
+    same_some parts others (package_in source.left) first.spelled second.spelled
+
+-- a sheet that is read has no cause of a refusal in its package
+no_package_cause :
+    NeverBoth → (words : List (List ℕ)) (source : SourceState) (name asked : List ℕ)
+    (parts : List Part) (cells : List PlainCell) (error : XlsxError)
+    → IsCommand words source name parts → ReadsAs parts name cells
+    → sheet_asked words ≡ Some asked → HasPackageCause asked source error → ⊥
+no_package_cause never words source name asked parts cells error command reads same cause =
+    let name_is = same_some asked name (sheet_asked words) same command.asked in
+    let package_is =
+    same_package source cause.parts parts (cause.spells command.is_told) command.spells
+    in
+    let named = subst (λ (name : List ℕ). ThinCause cause.parts name error) name_is cause.cause in
+    never parts name cells error reads
+    (subst (λ (parts : List Part). ThinCause parts name error) package_is named)
+
+-- a package whose sheet is read was not refused for any cause of its own
+not_refused :
+    NeverBoth → (words : List (List ℕ)) (old new : Streams) (name : List ℕ)
+    (parts : List Part) (cells : List PlainCell) (error : ToolError)
+    → IsCommand words old.source name parts → ReadsAs parts name cells
+    → (error ≢ OutOfMemory) × (error ≢ ReadFault) × (error ≢ WriteFault)
+    → Refuses words old new error → ⊥
+not_refused never words old new name parts cells Usage command reads own refuses =
+    not_some name (sheet_asked words) command.asked refuses.0
+not_refused never words old new name parts cells ReadFault command reads own refuses =
+    own.1 refl
+not_refused never words old new name parts cells InputTooLarge command reads own refuses =
+    let took = refuses.cause.1 command.is_told in
+    let long = length-append took.taken new.source.left in
+    omega (arith, took.many, command.spells.fits, ap length took.from, long)
+not_refused never words old new name parts cells NotAPackage command reads own refuses =
+    let none = (refuses.cause.1 command.is_told).spelled in
+    not_some parts (package_in old.source.left) command.spells.spelled none
+not_refused never words old new name parts cells NotBuilt command reads own refuses =
+    no_package_cause never words old.source name refuses.name parts cells workbook.NotBuilt
+    command reads refuses.asked refuses.cause.1
+not_refused never words old new name parts cells (Workbook error) command reads own refuses =
+    no_package_cause never words old.source name refuses.name parts cells error
+    command reads refuses.asked refuses.cause.2
+not_refused never words old new name parts cells WriteFault command reads own refuses =
+    own.2 refl
+not_refused never words old new name parts cells OutOfMemory command reads own refuses =
+    own.0 refl
+
+-- a sheet whose lines were written is read
+is_readable :
+    (words : List (List ℕ)) (old new : Streams) (name : List ℕ) (parts : List Part)
+    → IsCommand words old.source name parts → Succeeds words old new
+    → (cells : List PlainCell) × ReadsAs parts name cells
+is_readable words old new name parts command succeeds =
+    let listed = succeeds.reads command.is_told in
+    let name_is = same_some succeeds.name name (sheet_asked words) succeeds.asked command.asked in
+    let package_is = same_package old.source listed.parts parts listed.spells command.spells in
+    let named = subst (λ name. ReadsAs listed.parts name listed.cells) name_is listed.reads in
+    (listed.cells, subst (λ parts. ReadsAs parts name listed.cells) package_is named)
+
+pub answers :
+    NeverBoth → (words : List (List ℕ)) (old new : Streams) (result : Result (Unit {0}) ToolError)
+    → old.source.is_told ≡ true
+    → OnOk result (Succeeds words old new) → IfErr result (Refuses words old new)
+    → AnswersExactly words old.source result
+answers never words old new (Ok x) told ok err = record {
+  exactly = λ name parts asked spells memory read write. (
+      let command : IsCommand words old.source name parts =
+      record { is_told = told; asked = asked; spells = spells }
+      in
+      (λ _. is_readable words old new name parts command ok, λ _. refl)
+      );
+}
+answers never words old new (Err error) told ok err = record {
+  exactly = λ name parts asked spells memory read write. (
+      let command : IsCommand words old.source name parts =
+      record { is_told = told; asked = asked; spells = spells }
+      in (
+        λ is_ok. absurd (true≢false (sym is_ok)),
+        λ readable. absurd (
+            not_refused never words old new name parts readable.0 error command readable.1
+            (λ is. memory (ap Err is), λ is. read (ap Err is), λ is. write (ap Err is)) err
+            ),
+      )
+      );
+}
