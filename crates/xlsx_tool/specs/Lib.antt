@@ -2,6 +2,7 @@ pub mod Input
 pub mod Listing
 pub mod MemoryForms
 pub mod PackageText
+pub mod Program
 pub mod Run
 pub mod Sink
 pub mod Source

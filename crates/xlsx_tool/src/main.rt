@@ -5,29 +5,23 @@ mod error;
 mod input;
 mod listing;
 mod package_text;
+mod program;
 mod run;
 mod sink;
 mod source;
 #[cfg(test)]
+mod std_forms_tests;
+#[cfg(test)]
 mod tests;
 
 use error::ToolError;
-use run::{run, send};
+use program::{answer, ending};
 use sink::StdSink;
 use source::StdSource;
 use std::alloc::Global;
 use std::env::{self, Env};
 use std::io::{self, Input};
 use std::process::ExitCode;
-
-const HELP: &str = "\
-Usage: xlsx_tool cells NAME < package.json
-
-Prints one line for each cell of worksheet NAME with a value or a formula:
-its position, value, formula and fill, with tabs between them.
-";
-
-const VERSION: &str = "xlsx_tool 0.1.0\n";
 
 /// The words behind the program's name.
 fn words_of(rt: &(impl Env + Alloc<A = Global>)) -> Result<Vec<String>, ToolError> {
@@ -47,36 +41,14 @@ fn words_of(rt: &(impl Env + Alloc<A = Global>)) -> Result<Vec<String>, ToolErro
     Ok(words)
 }
 
-/// What these words print by themselves, where they are no command.
-fn page_of(words: &[String]) -> Option<&'static str> {
-    match words {
-        [word] if word.as_str() == "--help" => Some(HELP),
-        [word] if word.as_str() == "--version" => Some(VERSION),
-        _ => None,
-    }
-}
-
-fn answer(rt: &(impl Env + Alloc<A = Global> + Print + Input)) -> Result<(), ToolError> {
+/// The answer to the words, over standard input and output.
+fn answer_on(rt: &(impl Env + Alloc<A = Global> + Print + Input)) -> Result<(), ToolError> {
     let words = words_of(rt)?;
+    let mut source = StdSource::new(rt.reader());
     let mut sink = StdSink::new(io::writer(rt));
-    match page_of(&words) {
-        Some(page) => send(&mut sink, page.as_bytes()),
-        None => run(
-            rt.alloc(),
-            &words,
-            &mut StdSource::new(rt.reader()),
-            &mut sink,
-        ),
-    }
+    answer(rt.alloc(), &words, &mut source, &mut sink)
 }
 
 fn main(rt: HostRuntime) -> ExitCode {
-    match answer(&rt) {
-        Ok(()) => ExitCode::SUCCESS,
-        Err(error) => {
-            // The status says it too, so a failure here is let go.
-            let _ = eprintln!(rt; "{error}");
-            ExitCode::from(error.status())
-        }
-    }
+    ending(&rt, &answer_on(&rt))
 }

@@ -3,40 +3,51 @@ ghost use Rattle.std.specs.Prelude.{◌<◌};
 use crate::error::ToolError;
 use crate::input::INPUT_LIMIT;
 use crate::package_text::package_from_json;
-use crate::run::run;
+use crate::program::{answer, ending};
 use crate::sink::MemorySink;
 use crate::source::MemorySource;
 use cell_data::XlsxError;
 use serde_json::Value;
 use std::alloc::Global;
+use std::process::ExitCode;
 use std::test::Fail;
+
+/// The front of the types of relationships.
+const TYPES: &str = "http://schemas.openxmlformats.org/officeDocument/2006/relationships";
 
 const FRONT: &str = r##"{"version":1,"parts":[
 {"name":"_rels/.rels","events":[["s","Relationships",""],
-["s","Relationship"," Id=\"rId1\" Type=\"http://schemas.openxmlformats.org/officeDocument/2006/relationships/officeDocument\" Target=\"xl/workbook.xml\""],
+["s","Relationship"," Target=\"xl/workbook.xml\" Id=\"rId1\" Type=\""##;
+
+const MIDDLE: &str = r##"\""],
 ["e","Relationship"],["e","Relationships"]]},
 {"name":"xl/_rels/workbook.xml.rels","events":[["s","Relationships",""],
-["s","Relationship"," Id=\"rId1\" Type=\"http://schemas.openxmlformats.org/officeDocument/2006/relationships/worksheet\" Target=\"worksheets/sheet1.xml\""],
+["s","Relationship"," Target=\"worksheets/sheet1.xml\" Id=\"rId1\" Type=\""##;
+
+const SHEET: &str = r##"\""],
 ["e","Relationship"],["e","Relationships"]]},
-{"name":"xl/workbook.xml","events":[["s","workbook",""],["s","sheets",""],["s","sheet"," name=\"S\" sheetId=\"1\" r:id=\"rId1\""],
+{"name":"xl/workbook.xml","events":[["s","workbook",""],["s","sheets",""],
+["s","sheet"," name=\"S\" sheetId=\"1\" r:id=\"rId1\""],
 ["e","sheet"],["e","sheets"],["e","workbook"]]},
 {"name":"xl/worksheets/sheet1.xml","events":[["s","worksheet",""],["s","sheetData",""]"##;
 
 const BACK: &str = r#",["e","sheetData"],["e","worksheet"]]}]}"#;
 
-const NUTS: &str = r#",["s","row"," r=\"1\""],
+pub const NUTS: &str = r#",["s","row"," r=\"1\""],
 ["s","c"," r=\"A1\" t=\"str\""],["s","v",""],["t","nut"],["e","v"],["e","c"],
-["s","c"," r=\"B1\" t=\"str\""],["s","f",""],["t","UPPER(A1)"],["e","f"],["s","v",""],["t","NUT"],["e","v"],["e","c"],["e","row"]"#;
+["s","c"," r=\"B1\" t=\"str\""],["s","f",""],["t","UPPER(A1)"],["e","f"],
+["s","v",""],["t","NUT"],["e","v"],["e","c"],["e","row"]"#;
 
 /// A cell without a type.
-const UNTYPED: &str =
-    r#",["s","row"," r=\"1\""],["s","c"," r=\"A1\""],["s","v",""],["t","nut"],["e","v"],["e","c"],["e","row"]"#;
+const UNTYPED: &str = r#",["s","row"," r=\"1\""],["s","c"," r=\"A1\""],
+["s","v",""],["t","nut"],["e","v"],["e","c"],["e","row"]"#;
 
-const NUTS_LINES: &str = "A1\ts:nut\t-\t-\nB1\ts:NUT\t=UPPER(A1)\t-\n";
+pub const NUTS_LINES: &str = "A1\ts:nut\t-\t-\nB1\ts:NUT\t=UPPER(A1)\t-\n";
 
 /// A package of one sheet `S` with these events inside its `sheetData`.
-fn package_of(alloc: Global, inside: &str) -> Result<String, Fail> {
-    Ok(format!(in alloc; "{FRONT}{inside}{BACK}")?)
+pub fn package_of(alloc: Global, inside: &str) -> Result<String, Fail> {
+    let opening = format!(in alloc; "{FRONT}{TYPES}/officeDocument{MIDDLE}{TYPES}/worksheet")?;
+    Ok(format!(in alloc; "{opening}{SHEET}{inside}{BACK}")?)
 }
 
 /// What a run answers, and what it has written.
@@ -86,7 +97,7 @@ fn run_on(alloc: Global, words: &[&str], input: &[u8], setting: Setting) -> Resu
     let mut source = MemorySource::new(bytes, setting.piece, calls(alloc, setting.failing_read)?);
     let failing = calls(alloc, setting.failing_write)?;
     let mut sink = MemorySink::new(alloc, setting.room, setting.piece, failing)?;
-    let result = run(alloc, &texts, &mut source, &mut sink);
+    let result = answer(alloc, &texts, &mut source, &mut sink);
     let written = String::from_str(alloc, std::str::from_utf8(sink.written())?)?;
     Ok(Answer { result, written })
 }
@@ -232,7 +243,8 @@ fn a_package_text_of_version_1_spells_its_parts(rt: HostRuntime) -> Result<(), F
     for (text, parts) in [
         (r#"{"parts":[],"version":1}"#, Some(0)),
         (
-            r#"{"version":1,"made by":["x",-3],"parts":[{"name":"a","events":[["o"],["r","amp"],["d","x"]],"more":null}]}"#,
+            r#"{"version":1,"made by":["x",-3],"parts":[
+{"name":"a","events":[["o"],["r","amp"],["d","x"]],"more":null}]}"#,
             Some(1),
         ),
         (
@@ -271,4 +283,36 @@ fn a_package_text_of_version_1_spells_its_parts(rt: HostRuntime) -> Result<(), F
         );
     }
     Ok(())
+}
+
+#[test]
+fn pages_are_printed_where_their_words_stand_alone(rt: HostRuntime) -> Result<(), Fail> {
+    let alloc = rt.alloc();
+    let pages: [(&[&str], &str, &str); 2] = [
+        (
+            &["--help"],
+            "Usage: xlsx_tool cells NAME < ",
+            "between them.\n",
+        ),
+        (&["--version"], "xlsx_tool 0.1.0", "\n"),
+    ];
+    for (words, front, end) in pages {
+        let told = run_on(alloc, words, b"", EASY)?;
+        assert_eq!(rt; told.result, Ok(()));
+        assert!(rt; told.written.as_str().starts_with(front), "of {front}");
+        assert!(rt; told.written.as_str().ends_with(end), "of {front}");
+    }
+    let others: [&[&str]; 3] = [&["--help", "x"], &["--Help"], &[]];
+    for words in others {
+        let told = run_on(alloc, words, b"", EASY)?;
+        assert_eq!(rt; told.result, Err(ToolError::Usage));
+        assert_eq!(rt; told.written.as_str(), "");
+    }
+    Ok(())
+}
+
+#[test]
+fn an_answer_has_an_ending(rt: HostRuntime) {
+    assert_eq!(rt; ending(&rt, &Ok(())), ExitCode::SUCCESS);
+    assert_eq!(rt; ending(&rt, &Err(ToolError::NotBuilt)), ExitCode::from(9));
 }

@@ -1,0 +1,40 @@
+-- What the program does with its words: it prints a page, or runs a command.
+use Rattle.std.specs.Prelude.{◌≡◌, ℕ, List, [], ◌∷◌, ◌++◌, Result, Ok, Err, Option, Some, None}
+use Rattle.std.specs.Prelude.{codes, if◌then◌else◌}
+use Rattle.std.specs.Str.{bytes_eq}
+use Rattle.xlsx_tool.specs.Run.{Streams, Succeeds, Refuses, IsSent, SendFails}
+use Rattle.xlsx_tool.specs.Status.{status_of}
+use Rattle.xlsx_tool.specs.declared.error.ToolError.{ToolError}
+
+abbrev pub help_text : List ℕ
+help_text =
+    codes "Usage: xlsx_tool cells NAME < package.json\n\n"
+    ++ (codes "Prints one line for each cell of worksheet NAME with a value or a formula:\n"
+    ++ codes "its position, value, formula and fill, with tabs between them.\n")
+
+abbrev pub version_text : List ℕ
+version_text = codes "xlsx_tool 0.1.0\n"
+
+-- the page that these words ask for; no other words ask for one
+abbrev pub page_asked : List (List ℕ) → Option (List ℕ)
+page_asked [] = None
+page_asked (word ∷ []) =
+    if bytes_eq word (codes "--help") then Some help_text
+    else (if bytes_eq word (codes "--version") then Some version_text else None)
+page_asked (word ∷ further ∷ words) = None
+
+-- the page that was asked for is written and nothing is read, or the command is run
+abbrev pub Prints : Option (List ℕ) → List (List ℕ) → Streams → Streams → Type 0
+Prints (Some page) words old new = (new.source ≡ old.source) × IsSent page old.sink new.sink
+Prints None words old new = Succeeds words old new
+
+-- why that was refused
+abbrev pub CannotPrint : Option (List ℕ) → List (List ℕ) → Streams → Streams → ToolError → Type 0
+CannotPrint (Some page) words old new error =
+    (new.source ≡ old.source) × SendFails page old.sink new.sink error
+CannotPrint None words old new error = Refuses words old new error
+
+-- the status that the program ends with
+abbrev pub ending_status : Result (Unit {0}) ToolError → ℕ
+ending_status (Ok done) = 0
+ending_status (Err error) = status_of error

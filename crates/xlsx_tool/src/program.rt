@@ -1,0 +1,72 @@
+ghost use Rattle.std.specs.Prelude.{◌≡◌, true, None, option_map, IfErr, OnOk};
+ghost use Rattle.std.specs.Process.{exit_status};
+ghost use Rattle.xlsx_tool.specs.Program.{page_asked, Prints, CannotPrint, ending_status};
+ghost use Rattle.xlsx_tool.specs.Run.{texts, Streams, AnswersExactly};
+
+use crate::error::ToolError;
+use crate::run::{run, send};
+use crate::sink::Sink;
+use crate::source::Source;
+use std::alloc::Global;
+use std::io::Eprint;
+use std::process::ExitCode;
+
+const HELP: &str = "\
+Usage: xlsx_tool cells NAME < package.json
+
+Prints one line for each cell of worksheet NAME with a value or a formula:
+its position, value, formula and fill, with tabs between them.
+";
+
+const VERSION: &str = "xlsx_tool 0.1.0\n";
+
+/// The page that these words ask for: `--help` or `--version`, alone.
+pub fn page_of(words: &[String]) -> Option<&'static str>
+    ensures { option_map (λ page. page.now) result ≡ page_asked (texts words.now) }
+{
+    match words {
+        [word] if word.as_str() == "--help" => Some(HELP),
+        [word] if word.as_str() == "--version" => Some(VERSION),
+        _ => None,
+    }
+}
+
+/// Writes the page that the words ask for, and reads nothing; runs them as a command where they ask
+/// for none (docs/FORMAT.md).
+pub fn answer<S: Source, K: Sink>(
+    alloc: Global,
+    words: &[String],
+    source: &mut S,
+    sink: &mut K,
+) -> Result<(), ToolError>
+    ensures ok { let words = texts words.now in
+        let old : Streams = record { source = S.state source.old; sink = K.state sink.old } in
+        let new : Streams = record { source = S.state source.new; sink = K.state sink.new } in
+        OnOk result (Prints (page_asked words) words old new) }
+    ensures err { let words = texts words.now in
+        let old : Streams = record { source = S.state source.old; sink = K.state sink.old } in
+        let new : Streams = record { source = S.state source.new; sink = K.state sink.new } in
+        IfErr result (CannotPrint (page_asked words) words old new) }
+    ensures exact { let old = S.state source.old in
+        page_asked (texts words.now) ≡ None → old.is_told ≡ true
+        → AnswersExactly (texts words.now) old result }
+{
+    match page_of(words) {
+        Some(page) => send(sink, page.as_bytes()),
+        None => run(alloc, words, source, sink),
+    }
+}
+
+/// The status that the program ends with. The text of a refusal goes to standard error before it.
+pub fn ending<E: Eprint>(errors: &E, answer: &Result<(), ToolError>) -> ExitCode
+    ensures { exit_status result ≡ ending_status answer.now }
+{
+    match answer {
+        Ok(()) => ExitCode::SUCCESS,
+        Err(error) => {
+            // The status says it too, so a failure here is let go.
+            let _ = eprintln!(errors; "{error}");
+            ExitCode::from(error.status())
+        }
+    }
+}
