@@ -1,5 +1,5 @@
 -- A sink of bytes, as its writer sees it.
-use Rattle.std.specs.Prelude.{◌≡◌, ℕ, ◌<◌, ◌≤◌, List, ◌++◌, length, take, Bool}
+use Rattle.std.specs.Prelude.{◌≡◌, ℕ, ◌≤◌, List, ◌++◌, take, Bool}
 use Rattle.part_events.specs.Package.{Rose}
 
 -- Where a sink doesn't tell its bytes, `written` means nothing.

@@ -1,5 +1,5 @@
 -- A source of bytes, as its reader sees it.
-use Rattle.std.specs.Prelude.{◌≡◌, ℕ, ◌<◌, ◌≤◌, List, [], ◌++◌, length, take, Bool, true, Option}
+use Rattle.std.specs.Prelude.{◌≡◌, ℕ, ◌<◌, ◌≤◌, List, [], ◌++◌, length, take, Bool}
 use Rattle.part_events.specs.Package.{Rose}
 
 -- Where a source doesn't tell its bytes, `left` means nothing.
