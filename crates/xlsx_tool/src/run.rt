@@ -104,6 +104,31 @@ pub fn send<K: Sink>(sink: &mut K, bytes: &[u8]) -> Result<(), ToolError>
     Ok(())
 }
 
+/// The command of these words, by what stands behind Ok and behind each refusal.
+fn run_command<S: Source, K: Sink>(
+    alloc: Global,
+    words: &[String],
+    source: &mut S,
+    sink: &mut K,
+) -> Result<(), ToolError>
+    ensures ok { let words = texts words.now in
+        let old : Streams = record { source = S.state source.old; sink = K.state sink.old } in
+        let new : Streams = record { source = S.state source.new; sink = K.state sink.new } in
+        OnOk result (Succeeds words old new) }
+    ensures err { let words = texts words.now in
+        let old : Streams = record { source = S.state source.old; sink = K.state sink.old } in
+        let new : Streams = record { source = S.state source.new; sink = K.state sink.new } in
+        IfErr result (Refuses words old new) }
+    ensures unread { result ≡ Err Usage → S.state source.new ≡ S.state source.old }
+    ensures unwritten { IfErr result (λ e. e ≢ WriteFault → K.state sink.new ≡ K.state sink.old) }
+{
+    let Some(name) = sheet_asked(words) else {
+        return Err(ToolError::Usage);
+    };
+    let lines = lines_from(alloc, source, name)?;
+    send(sink, lines.as_bytes())
+}
+
 /// Runs the command of these words (docs/FORMAT.md): `cells NAME` reads a package from the source,
 /// and writes the lines of its sheet NAME to the sink.
 ///
@@ -129,9 +154,5 @@ pub fn run<S: Source, K: Sink>(
         old.is_told ≡ true → AnswersExactly (texts words.now) old result }
 {
     readable_sheets_are_not_refused();
-    let Some(name) = sheet_asked(words) else {
-        return Err(ToolError::Usage);
-    };
-    let lines = lines_from(alloc, source, name)?;
-    send(sink, lines.as_bytes())
+    run_command(alloc, words, source, sink)
 }
