@@ -21,7 +21,8 @@ reads_nothing r is = record {
   stays = record { reading = is; faults = refl; left = refl; part = λ told. refl };
 }
 
-pub moves_further : {old mid new : Reading} → MovesForward old mid → MovesForward mid new → MovesForward old new
+pub moves_further : {old mid new : Reading} → MovesForward old mid → MovesForward mid new
+    → MovesForward old new
 moves_further first second = record {
   parts = record {
     is_told = second.parts.is_told ∙ first.parts.is_told;
@@ -47,8 +48,10 @@ reads_further first second = record {
 }
 
 -- a part that was read to its end is whole
-pub whole_at_end : {old new : Reading} → ReadsOn old new → IsAtEnd new → old.source.is_told ≡ true → whole (events_of old) ≡ events_of old
+pub whole_at_end : {old new : Reading} → ReadsOn old new → IsAtEnd new → old.source.is_told ≡ true
+    → whole (events_of old) ≡ events_of old
 whole_at_end {new = new} reads ended told =
     let tracked = reads.stays.reading.tracked (reads.moves.parts.is_told ∙ told) in
-    let here : whole (events_of new) ≡ events_of new = rw ended.rest (whole_split new.source.past [] tracked.whole) in
+    let here : whole (events_of new) ≡ events_of new =
+    rw ended.rest (whole_split new.source.past [] tracked.whole) in
     subst (λ (events : List Event). whole events ≡ events) (reads.stays.part told) here

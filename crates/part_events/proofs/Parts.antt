@@ -9,15 +9,21 @@ use Rattle.part_events.specs.Memory.{part_at, with_event}
 abbrev pub longer : Part → Event → Part
 longer part event = record { name = part.name; events = part.events ++ event ∷ [] }
 
-set_last : (parts : List Part) (event : Event) (last : ℕ) → suc last ≡ length parts → set parts last (longer (part_at parts last) event) ≡ with_event parts event
+set_last : (parts : List Part) (event : Event) (last : ℕ) → suc last ≡ length parts
+    → set parts last (longer (part_at parts last) event) ≡ with_event parts event
 set_last [] event last is = absurd (omega arith)
 set_last (part ∷ []) event last is = let first : last ≡ 0 = omega arith in rw first refl
 set_last (part ∷ next ∷ parts) event zero is = absurd (omega arith)
-set_last (part ∷ next ∷ parts) event (suc last) is = ap (λ (rest : List Part). part ∷ rest) (set_last (next ∷ parts) event last (omega arith))
+set_last (part ∷ next ∷ parts) event (suc last) is =
+    ap (λ (rest : List Part). part ∷ rest) (set_last (next ∷ parts) event last (omega arith))
 
 -- with an event at its end, as the code reads and writes the last part
-pub with_event-at : (parts : List Part) (event : Event) (last : ℕ) (part after : Part) → 0 < length parts → last ≡ length parts - 1 → part ≡ get_or parts last part → after ≡ longer part event → set parts last after ≡ with_event parts event
+pub with_event-at : (parts : List Part) (event : Event) (last : ℕ) (part after : Part)
+    → 0 < length parts → last ≡ length parts - 1 → part ≡ get_or parts last part → after
+    ≡ longer part event → set parts last after ≡ with_event parts event
 with_event-at parts event last part after some at read written =
     let here : last < length parts = omega arith in
-    let same : part ≡ part_at parts last = get_or_read parts last part here read (record { name = []; events = [] }) in
-    ap (λ (p : Part). set parts last p) (written ∙ ap (λ (p : Part). longer p event) same) ∙ set_last parts event last (omega arith)
+    let same : part ≡ part_at parts last =
+    get_or_read parts last part here read (record { name = []; events = [] }) in
+    ap (λ (p : Part). set parts last p) (written ∙ ap (λ (p : Part). longer p event) same)
+    ∙ set_last parts event last (omega arith)

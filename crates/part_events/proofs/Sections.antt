@@ -4,23 +4,32 @@ use Rattle.part_events.specs.Event.{Tag, Event, start, end, leaf}
 use Rattle.part_events.specs.Section.{content, is_closed, behind, starts_by, outermost_from, unclosed_from}
 
 -- an element is closed before the one that it lies in
-pub content-content : (inner within : ℕ) (events : List Event) → inner < within → content inner (content within events) ≡ content inner events
+pub content-content : (inner within : ℕ) (events : List Event) → inner < within
+    → content inner (content within events) ≡ content inner events
 content-content inner within [] less = refl
-content-content inner within (start tag ∷ events) less = ap (λ (rest : List Event). start tag ∷ rest) (content-content (suc inner) (suc within) events (omega arith))
+content-content inner within (start tag ∷ events) less =
+    ap (λ (rest : List Event). start tag ∷ rest)
+    (content-content (suc inner) (suc within) events (omega arith))
 content-content zero zero (end name ∷ events) less = absurd (omega arith)
 content-content (suc inner) zero (end name ∷ events) less = absurd (omega arith)
 content-content zero (suc within) (end name ∷ events) less = refl
-content-content (suc inner) (suc within) (end name ∷ events) less = ap (λ (rest : List Event). end name ∷ rest) (content-content inner within events (omega arith))
-content-content inner within (leaf kind ∷ events) less = ap (λ (rest : List Event). leaf kind ∷ rest) (content-content inner within events less)
+content-content (suc inner) (suc within) (end name ∷ events) less =
+    ap (λ (rest : List Event). end name ∷ rest) (content-content inner within events (omega arith))
+content-content inner within (leaf kind ∷ events) less =
+    ap (λ (rest : List Event). leaf kind ∷ rest) (content-content inner within events less)
 
-pub is_closed-content : (inner within : ℕ) (events : List Event) → inner < within → is_closed inner (content within events) ≡ is_closed inner events
+pub is_closed-content : (inner within : ℕ) (events : List Event) → inner < within
+    → is_closed inner (content within events) ≡ is_closed inner events
 is_closed-content inner within [] less = refl
-is_closed-content inner within (start tag ∷ events) less = is_closed-content (suc inner) (suc within) events (omega arith)
+is_closed-content inner within (start tag ∷ events) less =
+    is_closed-content (suc inner) (suc within) events (omega arith)
 is_closed-content zero zero (end name ∷ events) less = absurd (omega arith)
 is_closed-content (suc inner) zero (end name ∷ events) less = absurd (omega arith)
 is_closed-content zero (suc within) (end name ∷ events) less = refl
-is_closed-content (suc inner) (suc within) (end name ∷ events) less = is_closed-content inner within events (omega arith)
-is_closed-content inner within (leaf kind ∷ events) less = is_closed-content inner within events less
+is_closed-content (suc inner) (suc within) (end name ∷ events) less =
+    is_closed-content inner within events (omega arith)
+is_closed-content inner within (leaf kind ∷ events) less =
+    is_closed-content inner within events less
 
 -- how a section goes on behind an element that lies in it
 pub record GoesOnBehind (inner outer within : ℕ) (events : List Event) : Type 0 where
@@ -34,7 +43,8 @@ pub record GoesOnBehind (inner outer within : ℕ) (events : List Event) : Type 
       length (content within events)
       ≡ length (content inner events) + suc (length (content outer (behind inner events)))
   pub starts :
-      (wanted : Tag → Bool) → starts_by wanted others ≡ starts_by wanted (content outer (behind inner events))
+      (wanted : Tag → Bool) → starts_by wanted others
+      ≡ starts_by wanted (content outer (behind inner events))
   pub elements :
       (wanted : Tag → Bool) →
       outermost_from wanted (suc inner) (content within events)
@@ -44,7 +54,8 @@ pub record GoesOnBehind (inner outer within : ℕ) (events : List Event) : Type 
       unclosed_from wanted (suc inner) (content within events)
       ≡ unclosed_from wanted 0 (content outer (behind inner events))
 
-pub goes_on_behind : (inner outer within : ℕ) (events : List Event) → within ≡ inner + suc outer → GoesOnBehind inner outer within events
+pub goes_on_behind : (inner outer within : ℕ) (events : List Event) → within ≡ inner + suc outer
+    → GoesOnBehind inner outer within events
 goes_on_behind inner outer within [] is = record {
   others = [];
   parts = refl;

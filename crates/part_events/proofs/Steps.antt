@@ -12,14 +12,23 @@ use Rattle.part_events.specs.Reading.{Reading, IsReading, IsTracked, StaysReadab
 use Rattle.part_events.proofs.Nested.{reverse_on, broken, names_at_start, whole_split}
 
 -- an event was taken of the same part
-pub same_part : (old new : Reading) → Advances true old.source new.source → events_of new ≡ events_of old
+pub same_part : (old new : Reading) → Advances true old.source new.source → events_of new
+    ≡ events_of old
 same_part old new advances =
-    ap (λ (past : List Event). reverse past ++ new.source.rest) advances.1 ∙ reverse_on new.source.current old.source.past new.source.rest ∙ ap (λ (rest : List Event). reverse old.source.past ++ rest) (sym advances.0)
+    ap (λ (past : List Event). reverse past ++ new.source.rest) advances.1
+    ∙ reverse_on new.source.current old.source.past new.source.rest
+    ∙ ap (λ (rest : List Event). reverse old.source.past ++ rest) (sym advances.0)
 
-pub stays_at_start : (old new : Reading) (tag : Tag) (more : Bool) → more ≡ true → IsReading old → new.is_failed ≡ false → SameParts old.source new.source → AdvanceCounts more old.source new.source → (old.source.is_told ≡ true → Advances more old.source new.source) → start tag ≡ new.source.current → new.names ≡ tag.name ∷ old.names → new.at ≡ old.at + 1 → StaysReadable old new
+pub stays_at_start : (old new : Reading) (tag : Tag) (more : Bool) → more ≡ true → IsReading old
+    → new.is_failed ≡ false → SameParts old.source new.source
+    → AdvanceCounts more old.source new.source
+    → (old.source.is_told ≡ true → Advances more old.source new.source) → start tag
+    ≡ new.source.current → new.names ≡ tag.name ∷ old.names → new.at ≡ old.at + 1
+    → StaysReadable old new
 stays_at_start old new tag more is was going parts counted advanced current names at =
     let counts : AdvanceCounts true old.source new.source = rw is at counted in
-    let advances : old.source.is_told ≡ true → Advances true old.source new.source = λ told. rw is at (advanced told) in
+    let advances : old.source.is_told ≡ true → Advances true old.source new.source =
+    λ told. rw is at (advanced told) in
     record {
       reading = record {
         going = going;
@@ -28,7 +37,8 @@ stays_at_start old new tag more is was going parts counted advanced current name
         tracked = λ told.
             let told_before : old.source.is_told ≡ true = sym parts.is_told ∙ told in
             let before = was.tracked told_before in
-            let taken : new.source.past ≡ start tag ∷ old.source.past = (advances told_before).1 ∙ ap (λ (event : Event). event ∷ old.source.past) (sym current) in
+            let taken : new.source.past ≡ start tag ∷ old.source.past = (advances told_before).1
+            ∙ ap (λ (event : Event). event ∷ old.source.past) (sym current) in
             record {
               at = rw (at, taken) (omega (arith, before.at));
               whole = rw taken before.whole;
@@ -41,26 +51,44 @@ stays_at_start old new tag more is was going parts counted advanced current name
       part = λ told. same_part old new (advances told);
     }
 
-same_name : (name : List ℕ) (names : List (List ℕ)) → option_map_or (bytes_eq name) (slice_get names 0) false ≡ is_innermost name names
+same_name : (name : List ℕ) (names : List (List ℕ))
+    → option_map_or (bytes_eq name) (slice_get names 0) false ≡ is_innermost name names
 same_name name [] = refl
 same_name name (first ∷ names) = refl
 
-pub breaks_at_end : (old new : Reading) (name : List ℕ) (more : Bool) → more ≡ true → IsReading old → old.source.is_told ≡ true → Advances more old.source new.source → end name ≡ new.source.current → is_innermost name old.names ≡ false → BreaksNext old new old.at × (ahead old ≡ [])
+pub breaks_at_end : (old new : Reading) (name : List ℕ) (more : Bool) → more ≡ true → IsReading old
+    → old.source.is_told ≡ true → Advances more old.source new.source → end name
+    ≡ new.source.current → is_innermost name old.names ≡ false → BreaksNext old new old.at
+    × (ahead old ≡ [])
 breaks_at_end old new name more is was told advanced current other =
     let advances : Advances true old.source new.source = rw is at advanced in
     let before = was.tracked told in
     let same = same_part old new advances in
-    let comes : old.source.rest ≡ end name ∷ new.source.rest = advances.0 ∙ ap (λ (event : Event). event ∷ new.source.rest) (sym current) in
+    let comes : old.source.rest ≡ end name ∷ new.source.rest = advances.0
+    ∙ ap (λ (event : Event). event ∷ new.source.rest) (sym current) in
     let breaks : closes old.source.past name ≡ false =
-    ap (λ (first : Option (List ℕ)). option_map_or (bytes_eq name) first false) (before.names 0) ∙ same_name name old.names ∙ other
+    ap (λ (first : Option (List ℕ)). option_map_or (bytes_eq name) first false) (before.names 0)
+    ∙ same_name name old.names ∙ other
     in
     let none : ahead old ≡ [] =
-    ap (whole_rest old.source.past) comes ∙ ap (λ (b : Bool). if b then end name ∷ whole_rest (end name ∷ old.source.past) new.source.rest else []) breaks
-    in
-    ((same, rw (same, before.at, comes) (broken old.source.past new.source.rest name before.whole breaks)), none)
+    ap (whole_rest old.source.past) comes
+    ∙ ap (λ (b : Bool). if b then end name ∷ whole_rest (end name ∷ old.source.past)
+    new.source.rest else []) breaks
+    in (
+      (
+        same,
+        rw (
+          same,
+          before.at,
+          comes,
+        ) (broken old.source.past new.source.rest name before.whole breaks),
+      ),
+      none,
+    )
 
 -- the part has ended, and some element is open
-pub ends_open : (r : Reading) → IsTracked r → r.source.rest ≡ [] → 0 < length r.names → EndsOpen (events_of r) r.at
+pub ends_open : (r : Reading) → IsTracked r → r.source.rest ≡ [] → 0 < length r.names
+    → EndsOpen (events_of r) r.at
 ends_open r is none some =
     let past = r.source.past in
     rw none (record {

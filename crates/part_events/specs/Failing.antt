@@ -4,7 +4,8 @@ use Rattle.std.specs.List.{list_any}
 use Rattle.part_events.specs.Memory.{Contents, state_of}
 use Rattle.part_events.specs.Package.{PackageState}
 
--- the package, the numbers of the calls that fail, how many calls were made, and how many of them failed
+-- the package, the numbers of the calls that fail, how many calls were made, and how many of them
+-- failed
 pub record Planned : Type 0 where
   pub inner : Contents
   pub calls : List ℕ

@@ -1,4 +1,5 @@
--- The text of an element: that of its Text events and references, with character data where it is asked for.
+-- The text of an element: that of its Text events and references, with character data where it is
+-- asked for.
 use Rattle.std.specs.Prelude.{◌≡◌, ⊤, ℕ, suc, ◌+◌, List, [], ◌∷◌, ◌++◌, length, Bool, true, false, if◌then◌else◌, Option, None, Some, is_none, encode_utf8, slice_get, IsSomeAnd}
 use Rattle.attr_text.specs.Text.{entity_character, line_ends}
 use Rattle.attr_text.specs.declared.fault.TextFault.{TextFault}
@@ -37,22 +38,26 @@ is_unknown (leaf (char_data written)) = false
 is_unknown (leaf (entity_ref name)) = is_none (entity_character name)
 is_unknown (leaf other) = false
 
--- How many events stand behind the first reference without a character. Where there is one, the joined text is refused
+-- How many events stand behind the first reference without a character. Where there is one, the
+-- joined text is refused
 -- there.
 abbrev pub unknown_entity : List Event → Option ℕ
 unknown_entity [] = None
 unknown_entity (event ∷ events) =
     if is_unknown event then Some (length events) else unknown_entity events
 
--- what became of the buffer, from its old text to its new one: the text of a front of the events was put behind it
-pub record PutsFront (data_too : Bool) (events : List Event) (texts : List ℕ × List ℕ) : Type 0 where
+-- what became of the buffer, from its old text to its new one: the text of a front of the events
+-- was put behind it
+pub record PutsFront (data_too : Bool) (events : List Event) (texts : List ℕ
+    × List ℕ) : Type 0 where
   pub front : List Event
   pub more : List Event
   pub parts : events ≡ front ++ more
   pub text : texts.1 ≡ texts.0 ++ joined_text data_too front
 
 -- the text of the element was read, up to its match, or to the part's end
-pub record ReadsText (data_too is_whole : Bool) (texts : List ℕ × List ℕ) (old new : Reading) : Type 0 where
+pub record ReadsText (data_too is_whole : Bool) (texts : List ℕ
+    × List ℕ) (old new : Reading) : Type 0 where
   pub closed : is_closed 0 (ahead old) ≡ is_whole
   pub text : texts.1 ≡ texts.0 ++ joined_text data_too (content 0 (ahead old))
   pub known : unknown_entity (content 0 (ahead old)) ≡ None
@@ -63,7 +68,8 @@ pub record ReadsText (data_too is_whole : Bool) (texts : List ℕ × List ℕ) (
 abbrev pub IsUnknownAt : List Event → ℕ → Type 0
 IsUnknownAt events at = IsSomeAnd (slice_get events at) (λ event. is_unknown event ≡ true)
 
--- when a text can't be read; a break of the nesting is told only where no reference without a character comes before
+-- when a text can't be read; a break of the nesting is told only where no reference without a
+-- character comes before
 abbrev pub TextFails : Reading → Reading → StreamError → Type 0
 TextFails old new Io = HasCause old.source new.source
 TextFails old new (Xml (EndMismatch at)) =

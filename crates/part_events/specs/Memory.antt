@@ -20,7 +20,8 @@ abbrev pub has_event : Option Place → Bool
 has_event None = false
 has_event (Some place) = place.has_event
 
--- what a package in memory holds: its parts, where reading stands, and how many events were taken of any part
+-- what a package in memory holds: its parts, where reading stands, and how many events were taken
+-- of any part
 pub record Contents : Type 0 where
   pub parts : List Part
   pub place : Option Place
@@ -33,7 +34,8 @@ state_of held = record {
   parts = held.parts;
   past = reverse (take (taken_of held.place) (open_events held.parts held.place));
   rest = drop (taken_of held.place) (open_events held.parts held.place);
-  current = slice_index_or (open_events held.parts held.place) (taken_of held.place - 1) (leaf other);
+  current = slice_index_or (open_events held.parts held.place) (taken_of held.place - 1)
+      (leaf other);
   has_current = has_event held.place;
   left = length (open_events held.parts held.place) - taken_of held.place;
   taken = held.taken;
@@ -48,7 +50,8 @@ closed parts taken = record { parts = parts; place = None; taken = taken }
 abbrev pub IsPlace : List Part → Option Place → Type 0
 IsPlace parts None = Unit {0}
 IsPlace parts (Some place) =
-    (place.part < length parts) × (place.next ≤ length (part_at parts place.part).events) × (place.has_event ≡ true → 0 < place.next)
+    (place.part < length parts) × (place.next ≤ length (part_at parts place.part).events)
+    × (place.has_event ≡ true → 0 < place.next)
 
 -- the parts with the event at the end of the last
 abbrev pub with_event : List Part → Event → List Part

@@ -1,4 +1,5 @@
--- How the elements of a part nest. A place in a part is seen by what stands before it, the latest event first.
+-- How the elements of a part nest. A place in a part is seen by what stands before it, the latest
+-- event first.
 use Rattle.std.specs.Prelude.{◌≡◌, ℕ, zero, suc, ◌+◌, ◌-◌, List, [], ◌∷◌, Bool, true, false, if◌then◌else◌, Option, Some, None, option_map}
 use Rattle.std.specs.Option.{option_map_or}
 use Rattle.std.specs.Str.{bytes_eq}
@@ -25,7 +26,8 @@ pub record OpenStart : Type 0 where
   pub tag : Tag
   pub before : List Event
 
--- Looking back, the start of the element that is open `outside` levels further out than the innermost one: an end
+-- Looking back, the start of the element that is open `outside` levels further out than the
+-- innermost one: an end
 -- hides the start that comes before it.
 abbrev pub open_start : ℕ → List Event → Option OpenStart
 open_start outside [] = None
@@ -39,7 +41,8 @@ innermost_open past = open_start 0 past
 
 -- the name of that element
 abbrev pub open_name : ℕ → List Event → Option (List ℕ)
-open_name outside past = option_map (λ (opening : OpenStart). opening.tag.name) (open_start outside past)
+open_name outside past =
+    option_map (λ (opening : OpenStart). opening.tag.name) (open_start outside past)
 
 -- the innermost open element has this name
 abbrev pub closes : List Event → List ℕ → Bool
@@ -56,7 +59,8 @@ IsWhole (leaf kind ∷ past) = IsWhole past
 abbrev pub whole_rest : List Event → List Event → List Event
 whole_rest past [] = []
 whole_rest past (start tag ∷ rest) = start tag ∷ whole_rest (start tag ∷ past) rest
-whole_rest past (end name ∷ rest) = if closes past name then end name ∷ whole_rest (end name ∷ past) rest else []
+whole_rest past (end name ∷ rest) =
+    if closes past name then end name ∷ whole_rest (end name ∷ past) rest else []
 whole_rest past (leaf kind ∷ rest) = leaf kind ∷ whole_rest (leaf kind ∷ past) rest
 
 -- the longest front of a part that is whole

@@ -25,7 +25,8 @@ abbrev pub part_of : List Part → List ℕ → Option (List Event)
 part_of [] name = None
 part_of (part ∷ parts) name = if has_name name part then Some part.events else part_of parts name
 
--- What a package is to its reader. Where it doesn't tell its content, only the last five fields mean something.
+-- What a package is to its reader. Where it doesn't tell its content, only the last five fields
+-- mean something.
 pub record PackageState : Type 0 where
   pub is_told : Bool
   pub parts : List Part
@@ -106,11 +107,13 @@ pub record UsesPackage (most : ℕ) (old new : PackageState) : Type 0 where
   pub taken : old.is_told ≡ true → new.taken ≤ old.taken + most
 
 -- a refused call on a package: `fault` alone may come with a higher count of faults
-pub record LeavesPackage {E : Type 0} (most : ℕ) (fault : E) (old new : PackageState) (error : E) : Type 0 where
+pub record LeavesPackage {E : Type 0} (most : ℕ) (fault : E) (old new : PackageState)
+    (error : E) : Type 0 where
   pub parts : SameParts old new
   pub faults : KeepsFaults fault old new error
   pub taken : old.is_told ≡ true → new.taken ≤ old.taken + most
 
 -- what each call on a package keeps, by its answer
 abbrev pub Uses : {A E : Type 0} → ℕ → E → Result A E → PackageState → PackageState → Type 0
-Uses most fault result old new = MatchResult result (λ _. UsesPackage most old new) (LeavesPackage most fault old new)
+Uses most fault result old new =
+    MatchResult result (λ _. UsesPackage most old new) (LeavesPackage most fault old new)

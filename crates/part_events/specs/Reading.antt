@@ -10,7 +10,8 @@ use Rattle.part_events.specs.declared.fault.StreamError.{StreamError}
 use Rattle.part_events.specs.declared.fault.StreamError.TheVariants.{Io, Xml, OutOfMemory}
 use Rattle.part_events.specs.declared.fault.XmlFault.TheVariants.{EndMismatch, Unclosed, Entity}
 
--- what a reader is to its caller: its package, the names of the open elements, the innermost first, how many events of
+-- what a reader is to its caller: its package, the names of the open elements, the innermost first,
+-- how many events of
 -- the part it took, whether a call of it was refused, and its allocator
 pub record Reading : Type 0 where
   pub source : PackageState
@@ -49,7 +50,8 @@ events_of r = reverse r.source.past ++ r.source.rest
 abbrev pub ahead : Reading → List Event
 ahead r = whole_rest r.source.past r.source.rest
 
--- The reader stands where its package does: what was taken is whole, and the names are those of the open elements.
+-- The reader stands where its package does: what was taken is whole, and the names are those of the
+-- open elements.
 pub record IsTracked (r : Reading) : Type 0 where
   pub at : r.at ≡ length r.source.past
   pub whole : IsWhole r.source.past
@@ -83,13 +85,15 @@ pub record OpensReader (old : PackageState) (new : Reading) : Type 0 where
   pub at : new.at ≡ 0
   pub past : old.is_told ≡ true → new.source.past ≡ []
 
--- What every call keeps: the parts and the allocator are the same, the package's count of taken events rose by those
+-- What every call keeps: the parts and the allocator are the same, the package's count of taken
+-- events rose by those
 -- that were taken of the part, up to its last value, and no more were taken than were left.
 pub record MovesForward (old new : Reading) : Type 0 where
   pub parts : SameParts old.source new.source
   pub alloc : new.alloc ≡ old.alloc
   pub forward : old.at ≤ new.at
-  pub taken : min new.source.taken (2 ^ 64 - 1) ≡ min (old.source.taken + (new.at - old.at)) (2 ^ 64 - 1)
+  pub taken : min new.source.taken (2 ^ 64 - 1)
+      ≡ min (old.source.taken + (new.at - old.at)) (2 ^ 64 - 1)
   pub bounded : new.source.taken + new.source.left ≤ old.source.taken + old.source.left
   pub within :
       old.source.is_told ≡ true →
@@ -111,7 +115,8 @@ pub record ReadsOn (old new : Reading) : Type 0 where
   pub moves : MovesForward old new
   pub stays : StaysReadable old new
 
--- a refused call: the part can't be read on, and `fault` alone may come with a higher count of faults
+-- a refused call: the part can't be read on, and `fault` alone may come with a higher count of
+-- faults
 pub record StopsReading {E : Type 0} (fault : E) (old new : Reading) (error : E) : Type 0 where
   pub moves : MovesForward old new
   pub faults : KeepsFaults fault old.source new.source error
@@ -124,7 +129,8 @@ pub record LeavesPart {E : Type 0} (fault : E) (old new : Reading) (error : E) :
 
 -- what a call keeps that reads a part on, by its answer
 abbrev pub ReadsPart : {A E : Type 0} → E → Result A E → Reading → Reading → Type 0
-ReadsPart fault result old new = MatchResult result (λ _. ReadsOn old new) (LeavesPart fault old new)
+ReadsPart fault result old new =
+    MatchResult result (λ _. ReadsOn old new) (LeavesPart fault old new)
 
 -- what each call of a reader keeps, by its answer
 abbrev pub Reads : {A E : Type 0} → E → Result A E → Reading → Reading → Type 0
@@ -168,7 +174,8 @@ pub record IsAtEnd (r : Reading) : Type 0 where
 
 -- what a step does to what is ahead
 abbrev pub StepsAhead : Bool → Reading → Reading → Type 0
-StepsAhead true old new = (ahead old ≡ new.source.current ∷ ahead new) × (new.source.past ≡ new.source.current ∷ old.source.past)
+StepsAhead true old new = (ahead old ≡ new.source.current ∷ ahead new)
+    × (new.source.past ≡ new.source.current ∷ old.source.past)
 StepsAhead false old new = (ahead old ≡ []) × IsAtEnd new × (new.source.past ≡ old.source.past)
 
 -- event `at` of the part is the first end that breaks the nesting

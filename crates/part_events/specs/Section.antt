@@ -1,4 +1,5 @@
--- What stands inside an element, and which elements stand there. These read forward, with the number of elements that
+-- What stands inside an element, and which elements stand there. These read forward, with the
+-- number of elements that
 -- are open inside the element.
 use Rattle.std.specs.Prelude.{ℕ, zero, suc, List, [], ◌∷◌, length, Bool, true, false, if◌then◌else◌, Option, Some, None, option_map}
 use Rattle.std.specs.List.{list_any}
@@ -55,11 +56,13 @@ starts_by wanted (leaf kind ∷ events) = starts_by wanted events
 -- what stands behind the first start that passes a test
 abbrev pub behind_start : (Tag → Bool) → List Event → Option (List Event)
 behind_start wanted [] = None
-behind_start wanted (start tag ∷ events) = if wanted tag then Some events else behind_start wanted events
+behind_start wanted (start tag ∷ events) =
+    if wanted tag then Some events else behind_start wanted events
 behind_start wanted (end name ∷ events) = behind_start wanted events
 behind_start wanted (leaf kind ∷ events) = behind_start wanted events
 
--- an element: its start, what stands between it and its match, and how many events of its list stand behind its start
+-- an element: its start, what stands between it and its match, and how many events of its list
+-- stand behind its start
 pub record Element : Type 0 where
   pub tag : Tag
   pub inside : List Event
@@ -69,14 +72,16 @@ pub record Element : Type 0 where
 abbrev pub element_of : Tag → List Event → Element
 element_of tag events = record { tag = tag; inside = content 0 events; behind = length events }
 
--- The outermost elements whose starts pass a test, where `open` elements are open since the start of one of them.
+-- The outermost elements whose starts pass a test, where `open` elements are open since the start
+-- of one of them.
 abbrev pub outermost_from : (Tag → Bool) → ℕ → List Event → List Element
 outermost_from wanted within [] = []
 outermost_from wanted zero (start tag ∷ events) =
     if wanted tag
     then element_of tag events ∷ outermost_from wanted 1 events
     else outermost_from wanted 0 events
-outermost_from wanted (suc within) (start tag ∷ events) = outermost_from wanted (suc (suc within)) events
+outermost_from wanted (suc within) (start tag ∷ events) =
+    outermost_from wanted (suc (suc within)) events
 outermost_from wanted zero (end name ∷ events) = outermost_from wanted 0 events
 outermost_from wanted (suc within) (end name ∷ events) = outermost_from wanted within events
 outermost_from wanted within (leaf kind ∷ events) = outermost_from wanted within events
@@ -85,15 +90,18 @@ outermost_from wanted within (leaf kind ∷ events) = outermost_from wanted with
 abbrev pub outermost : (Tag → Bool) → List Event → List Element
 outermost wanted events = outermost_from wanted 0 events
 
--- The outermost element that passes a test and that no end closes, where `within` elements are open since the start of
+-- The outermost element that passes a test and that no end closes, where `within` elements are open
+-- since the start of
 -- one of those that pass.
 abbrev pub unclosed_from : (Tag → Bool) → ℕ → List Event → Option Element
 unclosed_from wanted within [] = None
 unclosed_from wanted zero (start tag ∷ events) =
     if wanted tag
-    then (if is_closed 0 events then unclosed_from wanted 1 events else Some (element_of tag events))
+    then (if is_closed 0 events then unclosed_from wanted 1 events else Some
+    (element_of tag events))
     else unclosed_from wanted 0 events
-unclosed_from wanted (suc within) (start tag ∷ events) = unclosed_from wanted (suc (suc within)) events
+unclosed_from wanted (suc within) (start tag ∷ events) =
+    unclosed_from wanted (suc (suc within)) events
 unclosed_from wanted zero (end name ∷ events) = unclosed_from wanted 0 events
 unclosed_from wanted (suc within) (end name ∷ events) = unclosed_from wanted within events
 unclosed_from wanted within (leaf kind ∷ events) = unclosed_from wanted within events

@@ -11,7 +11,8 @@ abbrev pub within : List ℕ → Span → List ℕ
 within bytes span = take (span.end - span.start) (drop span.start bytes)
 
 abbrev pub stored_event : List ℕ → StoredEvent → Event
-stored_event bytes (Start name attributes) = start (record { name = within bytes name; attributes = within bytes attributes })
+stored_event bytes (Start name attributes) =
+    start (record { name = within bytes name; attributes = within bytes attributes })
 stored_event bytes (End name) = end (within bytes name)
 stored_event bytes (Text content) = leaf (text (within bytes content))
 stored_event bytes (CharData content) = leaf (char_data (within bytes content))

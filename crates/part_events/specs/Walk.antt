@@ -1,4 +1,5 @@
--- How a walk over a section goes: from its start, whose element is number `base` of the open ones, to its end.
+-- How a walk over a section goes: from its start, whose element is number `base` of the open ones,
+-- to its end.
 use Rattle.std.specs.Prelude.{◌≡◌, ⊤, ℕ, suc, ◌+◌, ◌-◌, ◌<◌, ◌≤◌, List, [], ◌∷◌, length, map, Bool, true, false, if◌then◌else◌, Some, None, slice_get}
 use Rattle.part_events.specs.Event.{Tag, Event, start, IsStartAnd}
 use Rattle.part_events.specs.Package.{HasCause}
@@ -71,7 +72,8 @@ StepsInside base Found old new = TakesInside base old new
 StepsInside base Closed old new = TakesLastEnd base old new
 StepsInside base Ended old new = HasNoneInside base old new
 
--- when a step is refused: the event that comes next breaks the nesting, and the section isn't closed before
+-- when a step is refused: the event that comes next breaks the nesting, and the section isn't
+-- closed before
 abbrev pub InsideFails : ℕ → Reading → Reading → StreamError → Type 0
 InsideFails base old new Io = HasCause old.source new.source
 InsideFails base old new (Xml (EndMismatch at)) =
@@ -92,7 +94,8 @@ StandsAt wanted base Ended old new = base ≤ length new.names
 -- nothing was passed that is wanted: the same is left of the section
 pub record SameAhead (wanted : Tag → Bool) (base : ℕ) (old new : Reading) : Type 0 where
   pub starts : starts_by wanted (section_ahead base old) ≡ starts_by wanted (section_ahead base new)
-  pub elements : outermost wanted (section_ahead base old) ≡ outermost wanted (section_ahead base new)
+  pub elements : outermost wanted (section_ahead base old)
+      ≡ outermost wanted (section_ahead base new)
   pub unclosed : unclosed wanted (section_ahead base old) ≡ unclosed wanted (section_ahead base new)
   pub closed : is_closed_ahead base old ≡ is_closed_ahead base new
   pub behind : behind_section base old ≡ behind_section base new
@@ -100,7 +103,8 @@ pub record SameAhead (wanted : Tag → Bool) (base : ℕ) (old new : Reading) : 
   pub first : behind_start wanted (ahead old) ≡ behind_start wanted (ahead new)
 
 -- the next wanted start of the section
-pub record IsNextStart (wanted : Tag → Bool) (base : ℕ) (tag : Tag) (old new : Reading) : Type 0 where
+pub record IsNextStart (wanted : Tag
+    → Bool) (base : ℕ) (tag : Tag) (old new : Reading) : Type 0 where
   pub is_wanted : wanted tag ≡ true
   pub starts :
       starts_by wanted (section_ahead base old)
@@ -125,7 +129,8 @@ abbrev pub section_behind : ℕ → Reading → List Event
 section_behind base r = content (inside base r - 1) (behind 0 (ahead r))
 
 -- the next wanted element of the section, where `new` stands at its start
-pub record IsNextElement (wanted : Tag → Bool) (base : ℕ) (tag : Tag) (old new : Reading) : Type 0 where
+pub record IsNextElement (wanted : Tag
+    → Bool) (base : ℕ) (tag : Tag) (old new : Reading) : Type 0 where
   pub is_wanted : wanted tag ≡ true
   pub elements :
       outermost wanted (section_ahead base old)

@@ -12,11 +12,14 @@ front_of_append front whole rest joined = record {
   same = rw joined (take_at front rest (length front) refl);
 }
 
-pub append_of_front : (front whole : List ℕ) → IsFrontOf front whole → whole ≡ front ++ drop (length front) whole
+pub append_of_front : (front whole : List ℕ) → IsFrontOf front whole → whole
+    ≡ front ++ drop (length front) whole
 append_of_front front whole begins =
-    sym (take-append-drop (length front) whole) ∙ ap (λ (xs : List ℕ). xs ++ drop (length front) whole) begins.same
+    sym (take-append-drop (length front) whole)
+    ∙ ap (λ (xs : List ℕ). xs ++ drop (length front) whole) begins.same
 
-pub boundary_of_front : (front whole : List ℕ) → IsUtf8 front → IsUtf8 whole → IsFrontOf front whole → IsCharBoundary whole (length front)
+pub boundary_of_front : (front whole : List ℕ) → IsUtf8 front → IsUtf8 whole → IsFrontOf front whole
+    → IsCharBoundary whole (length front)
 boundary_of_front front whole front_text whole_text begins =
     IsCharBoundary-from_take whole (length front) whole_text begins.fits (rw begins.same front_text)
 
@@ -27,11 +30,14 @@ end_of_append end whole rest joined =
       same = rw joined (drop_at rest end (length (rest ++ end) - length end) (omega (arith, long)));
     }
 
-pub append_of_end : (end whole : List ℕ) → IsEndOf end whole → whole ≡ take (length whole - length end) whole ++ end
+pub append_of_end : (end whole : List ℕ) → IsEndOf end whole → whole
+    ≡ take (length whole - length end) whole ++ end
 append_of_end end whole ends =
-    sym (take-append-drop (length whole - length end) whole) ∙ ap (λ (xs : List ℕ). take (length whole - length end) whole ++ xs) ends.same
+    sym (take-append-drop (length whole - length end) whole)
+    ∙ ap (λ (xs : List ℕ). take (length whole - length end) whole ++ xs) ends.same
 
-pub boundary_of_end : (end whole : List ℕ) → IsUtf8 end → IsEndOf end whole → IsCharBoundary whole (length whole - length end)
+pub boundary_of_end : (end whole : List ℕ) → IsUtf8 end → IsEndOf end whole
+    → IsCharBoundary whole (length whole - length end)
 boundary_of_end end whole end_text ends =
     IsCharBoundary-from_drop whole (length whole - length end) (omega arith) (rw ends.same end_text)
 

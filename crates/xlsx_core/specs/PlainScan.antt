@@ -32,10 +32,12 @@ abbrev pub row_in : List ℕ → Option ℕ
 row_in attributes = spelled_between (codes " r=\"") (codes "\"") row_of row_reference attributes
 
 abbrev pub position_in : List ℕ → Option (ℕ × ℕ)
-position_in attributes = spelled_between (codes " r=\"") (codes "\" t=\"str\"") corner reference attributes
+position_in attributes =
+    spelled_between (codes " r=\"") (codes "\" t=\"str\"") corner reference attributes
 
 abbrev pub is_opening : List ℕ → List ℕ → Event → Bool
-is_opening name attributes (start tag) = bytes_eq tag.name name && bytes_eq tag.attributes attributes
+is_opening name attributes (start tag) =
+    bytes_eq tag.name name && bytes_eq tag.attributes attributes
 is_opening name attributes (end n) = false
 is_opening name attributes (leaf kind) = false
 
@@ -78,32 +80,44 @@ with_text cell content = record cell { text = Some content }
 -- a cell begins behind the last one
 abbrev pub begins_cell : Option (ℕ × ℕ) → ℕ × ℕ → Option Step
 begins_cell last position =
-    if comes_after last position then Some (goes_to (in_cell (record { position = position; text = None; formula = None })) (Some position)) else None
+    if comes_after last position then Some
+    (goes_to (in_cell (record { position = position; text = None; formula = None }))
+    (Some position)) else None
 
 abbrev pub on : Bool → Step → Option Step
 on true step = Some step
 on false step = None
 
 abbrev pub step_at : Place → Option (ℕ × ℕ) → Event → Option Step
-step_at at_worksheet last event = on (is_opening (codes "worksheet") [] event) (goes_to at_sheet_data last)
-step_at at_sheet_data last event = on (is_opening (codes "sheetData") [] event) (goes_to in_rows last)
+step_at at_worksheet last event =
+    on (is_opening (codes "worksheet") [] event) (goes_to at_sheet_data last)
+step_at at_sheet_data last event =
+    on (is_opening (codes "sheetData") [] event) (goes_to in_rows last)
 step_at in_rows last event =
     if is_end (codes "sheetData") event then Some (goes_to at_worksheet_end last)
-    else on (is_some (option_and_then row_in (attributes_of (codes "row") event))) (goes_to in_cells last)
+    else on (is_some (option_and_then row_in (attributes_of (codes "row") event)))
+    (goes_to in_cells last)
 step_at in_cells last event =
     if is_end (codes "row") event then Some (goes_to in_rows last)
-    else option_and_then (begins_cell last) (option_and_then position_in (attributes_of (codes "c") event))
+    else option_and_then (begins_cell last)
+    (option_and_then position_in (attributes_of (codes "c") event))
 step_at (in_cell cell) last event =
     if is_end (codes "c") event then Some (ends_cell cell last)
     else (if is_opening (codes "f") [] event then Some (goes_to (in_formula cell) last)
     else on (is_opening (codes "v") [] event) (goes_to (in_value cell) last))
-step_at (in_formula cell) last event = option_map (λ content. goes_to (behind_formula_text (with_formula cell content)) last) (plain_text_of event)
-step_at (behind_formula_text cell) last event = on (is_end (codes "f") event) (goes_to (behind_formula cell) last)
+step_at (in_formula cell) last event =
+    option_map (λ content. goes_to (behind_formula_text (with_formula cell content)) last)
+    (plain_text_of event)
+step_at (behind_formula_text cell) last event =
+    on (is_end (codes "f") event) (goes_to (behind_formula cell) last)
 step_at (behind_formula cell) last event =
     if is_end (codes "c") event then Some (ends_cell cell last)
     else on (is_opening (codes "v") [] event) (goes_to (in_value cell) last)
-step_at (in_value cell) last event = option_map (λ content. goes_to (behind_value_text (with_text cell content)) last) (plain_text_of event)
-step_at (behind_value_text cell) last event = on (is_end (codes "v") event) (goes_to (behind_value cell) last)
+step_at (in_value cell) last event =
+    option_map (λ content. goes_to (behind_value_text (with_text cell content)) last)
+    (plain_text_of event)
+step_at (behind_value_text cell) last event =
+    on (is_end (codes "v") event) (goes_to (behind_value cell) last)
 step_at (behind_value cell) last event = on (is_end (codes "c") event) (ends_cell cell last)
 step_at at_worksheet_end last event = on (is_end (codes "worksheet") event) (goes_to at_end last)
 step_at at_end last event = None
@@ -133,7 +147,9 @@ with_cell (Some cell) cells = cell ∷ cells
 -- the cells of what is left of a part
 abbrev pub cells_from : Scan → List Event → Option (List PlainCell)
 cells_from scan [] = if is_done scan.place then Some [] else None
-cells_from scan (event ∷ events) = option_and_then (λ next. option_map (with_cell next.cell) (cells_from next.scan events)) (step scan event)
+cells_from scan (event ∷ events) =
+    option_and_then (λ next. option_map (with_cell next.cell) (cells_from next.scan events))
+    (step scan event)
 
 abbrev pub beginning : Scan
 beginning = record { place = at_worksheet; last = None }

@@ -1,4 +1,5 @@
--- The plain form of a worksheet's part: rows and cells with their references written out, and in each cell at most a
+-- The plain form of a worksheet's part: rows and cells with their references written out, and in
+-- each cell at most a
 -- formula and a text, each of one piece.
 use Rattle.std.specs.Prelude.{◌≡◌, ℕ, ◌<◌, List, [], ◌∷◌, ◌++◌, length, Bool, true, false, ◌&&◌, ◌||◌, ◌==◌, not, nat_lt, Option, Some, None, IfSome, codes}
 use Rattle.std.specs.List.{flat_map, AllByRecursion, list_any}
@@ -35,16 +36,19 @@ child_events name (Some content) = opening name [] ∷ leaf (text content) ∷ e
 abbrev pub cell_events : PlainCell → List Event
 cell_events cell =
     opening (codes "c") (cell_attributes cell.position)
-    ∷ (child_events (codes "f") cell.formula ++ (child_events (codes "v") cell.text ++ end (codes "c") ∷ []))
+    ∷ (child_events (codes "f") cell.formula ++
+    (child_events (codes "v") cell.text ++ end (codes "c") ∷ []))
 
 abbrev pub row_events : PlainRow → List Event
-row_events row = opening (codes "row") (row_attributes row.row) ∷ (flat_map cell_events row.cells ++ end (codes "row") ∷ [])
+row_events row = opening (codes "row") (row_attributes row.row) ∷
+    (flat_map cell_events row.cells ++ end (codes "row") ∷ [])
 
 abbrev pub closing_events : List Event
 closing_events = end (codes "sheetData") ∷ end (codes "worksheet") ∷ []
 
 abbrev pub sheet_events : List PlainRow → List Event
-sheet_events rows = opening (codes "worksheet") [] ∷ opening (codes "sheetData") [] ∷ (flat_map row_events rows ++ closing_events)
+sheet_events rows = opening (codes "worksheet") [] ∷ opening (codes "sheetData") [] ∷
+    (flat_map row_events rows ++ closing_events)
 
 abbrev pub all_cells : List PlainRow → List PlainCell
 all_cells rows = flat_map (λ row. row.cells) rows
@@ -56,7 +60,8 @@ has_escape before (byte ∷ bytes) = (before == 95 && byte == 120) || has_escape
 
 -- a text that is what it says: it isn't empty, and has no carriage return and no `_x`
 abbrev pub is_plain_text : List ℕ → Bool
-is_plain_text content = nat_lt 0 (length content) && not (list_any (λ b. b == 13) content) && not (has_escape 0 content)
+is_plain_text content =
+    nat_lt 0 (length content) && not (list_any (λ b. b == 13) content) && not (has_escape 0 content)
 
 abbrev pub IsPlainText : List ℕ → Type 0
 IsPlainText content = is_plain_text content ≡ true
@@ -72,7 +77,8 @@ comes_after (Some last) position = is_before last position
 -- the positions rise strictly, from behind the last one
 abbrev pub is_rising : Option (ℕ × ℕ) → List PlainCell → Bool
 is_rising last [] = true
-is_rising last (cell ∷ cells) = comes_after last cell.position && is_rising (Some cell.position) cells
+is_rising last (cell ∷ cells) =
+    comes_after last cell.position && is_rising (Some cell.position) cells
 
 -- a cell inside a worksheet's limits with plain texts
 pub record IsPlainCell (cell : PlainCell) : Type 0 where

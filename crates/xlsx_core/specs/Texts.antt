@@ -12,13 +12,18 @@ pub record IsEndOf (end whole : List ℕ) : Type 0 where
 
 -- what stands between the front and the end of a text that is long enough
 abbrev pub middle_of : List ℕ → List ℕ → List ℕ → List ℕ
-middle_of front end whole = take (length whole - length front - length end) (drop (length front) whole)
+middle_of front end whole =
+    take (length whole - length front - length end) (drop (length front) whole)
 
 -- the value, where the text is its spelling between the front and the end
-abbrev pub if_spelled : {X E : Type 0} → List ℕ → List ℕ → (X → List ℕ) → List ℕ → Result X E → Option X
-if_spelled front end write whole (Ok value) = if bytes_eq whole (front ++ (write value ++ end)) then Some value else None
+abbrev pub if_spelled : {X E : Type 0} → List ℕ → List ℕ → (X → List ℕ) → List ℕ → Result X E
+    → Option X
+if_spelled front end write whole (Ok value) =
+    if bytes_eq whole (front ++ (write value ++ end)) then Some value else None
 if_spelled front end write whole (Err e) = None
 
 -- the value that is spelled between the front and the end, and nowhere else in the text
-abbrev pub spelled_between : {X E : Type 0} → List ℕ → List ℕ → (List ℕ → Result X E) → (X → List ℕ) → List ℕ → Option X
-spelled_between front end read write whole = if_spelled front end write whole (read (middle_of front end whole))
+abbrev pub spelled_between : {X E : Type 0} → List ℕ → List ℕ → (List ℕ → Result X E) → (X → List ℕ)
+    → List ℕ → Option X
+spelled_between front end read write whole =
+    if_spelled front end write whole (read (middle_of front end whole))

@@ -9,7 +9,12 @@ use Rattle.xlsx_core.specs.declared.scan.Place.{Place}
 use Rattle.xlsx_core.specs.declared.scan.Place.TheVariants.{AtWorksheet, AtSheetData, InRows, InCells, InCell, InFormula, BehindFormulaText, BehindFormula, InValue, BehindValueText, BehindValue, AtWorksheetEnd, AtEnd}
 
 abbrev pub cell_of : ThinCell → PlainCell
-cell_of cell = record { position = (cell.row, cell.col); text = option_map string_bytes cell.text; formula = option_map string_bytes cell.formula }
+cell_of cell = record {
+  position = (cell.row, cell.col);
+  text =
+      option_map string_bytes cell.text;
+  formula = option_map string_bytes cell.formula;
+}
 
 abbrev pub cells_of : List ThinCell → List PlainCell
 cells_of cells = map cell_of cells

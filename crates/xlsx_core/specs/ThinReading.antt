@@ -13,7 +13,8 @@ use Rattle.xlsx_open.specs.Sheets.{PlacedSheet}
 -- where the part of the first sheet of this name is
 abbrev pub path_named : List ℕ → List PlacedSheet → Option (List ℕ)
 path_named name [] = None
-path_named name (sheet ∷ sheets) = if bytes_eq sheet.name name then Some sheet.path else path_named name sheets
+path_named name (sheet ∷ sheets) =
+    if bytes_eq sheet.name name then Some sheet.path else path_named name sheets
 
 -- what stands in that part
 abbrev pub events_named : List ℕ → List PlacedSheet → List Part → Option (List Event)
@@ -52,10 +53,12 @@ ThinCause parts name NotBuilt = IsNotBuilt parts ⊎ HasOtherForm parts name
 ThinCause parts name (WorksheetNotFound asked) = (string_bytes asked ≡ name) × LacksSheet parts name
 ThinCause parts name error = OpeningCause parts error
 
--- When the reading of a sheet is refused: by the form of its part, since there is none, or as the workbook doesn't open.
+-- When the reading of a sheet is refused: by the form of its part, since there is none, or as the
+-- workbook doesn't open.
 abbrev pub ThinFails : List ℕ → PackageState → PackageState → XlsxError → Type 0
 ThinFails name old new NotBuilt = old.is_told ≡ true → ThinCause old.parts name NotBuilt
-ThinFails name old new (WorksheetNotFound asked) = old.is_told ≡ true → ThinCause old.parts name (WorksheetNotFound asked)
+ThinFails name old new (WorksheetNotFound asked) = old.is_told ≡ true
+    → ThinCause old.parts name (WorksheetNotFound asked)
 ThinFails name old new error = OpeningFails old new error
 
 -- the refusals that the reading of a sheet can have, whatever the package tells

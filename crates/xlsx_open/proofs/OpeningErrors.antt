@@ -10,14 +10,16 @@ use Rattle.xlsx_open.specs.Opening.{IsOpeningError}
 use Rattle.xlsx_open.specs.Relationships.{Related, some_text}
 use Rattle.xlsx_open.specs.Sheets.{named_sheet}
 
-pub relationships_step : (error : XlsxError) → IsStepError (codes "Relationships") error → IsOpeningError error
+pub relationships_step : (error : XlsxError) → IsStepError (codes "Relationships") error
+    → IsOpeningError error
 relationships_step OutOfMemory is = tt
 relationships_step Io is = tt
 relationships_step (Xml (EndMismatch at)) is = tt
 relationships_step (XmlEof element) is = inl is
 relationships_step _ is = absurd is
 
-pub workbook_step : (error : XlsxError) → IsStepError (codes "workbook") error → IsOpeningError error
+pub workbook_step : (error : XlsxError) → IsStepError (codes "workbook") error
+    → IsOpeningError error
 workbook_step OutOfMemory is = tt
 workbook_step Io is = tt
 workbook_step (Xml (EndMismatch at)) is = tt
@@ -30,11 +32,19 @@ decoding (Xml (Entity at)) is = tt
 decoding _ is = absurd is
 
 -- a text that doesn't decode is refused also where it is given as one that may be absent
-pub some_text_fails : (at behind : ℕ) (decoded : Result (List ℕ) Refusal) (error : XlsxError) → ElementFails decoded at behind error → ElementFails (some_text decoded) at behind error
+pub some_text_fails : (at behind : ℕ) (decoded : Result (List ℕ) Refusal) (error : XlsxError)
+    → ElementFails decoded at behind error → ElementFails (some_text decoded) at behind error
 some_text_fails at behind decoded error fails =
-    refused_at_weaker at behind (λ (refusal : Refusal). some_text decoded ≡ Err refusal) (λ (refusal : Refusal). decoded ≡ Err refusal) error (λ refusal is. ap some_text is) fails
+    refused_at_weaker at behind (λ (refusal : Refusal). some_text decoded
+    ≡ Err refusal) (λ (refusal : Refusal). decoded
+    ≡ Err refusal) error (λ refusal is. ap some_text is) fails
 
 -- a sheet whose name doesn't decode is refused
-pub named_sheet_fails : (folder : List ℕ) (related : List ℕ → Option Related) (id state : List ℕ) (at behind : ℕ) (decoded : Result (List ℕ) Refusal) (error : XlsxError) → ElementFails decoded at behind error → ElementFails (named_sheet folder related id state decoded) at behind error
+pub named_sheet_fails : (folder : List ℕ) (related : List ℕ
+    → Option Related) (id state : List ℕ) (at behind : ℕ) (decoded : Result (List ℕ) Refusal)
+    (error : XlsxError) → ElementFails decoded at behind error
+    → ElementFails (named_sheet folder related id state decoded) at behind error
 named_sheet_fails folder related id state at behind decoded error fails =
-    refused_at_weaker at behind (λ (refusal : Refusal). named_sheet folder related id state decoded ≡ Err refusal) (λ (refusal : Refusal). decoded ≡ Err refusal) error (λ refusal is. ap (named_sheet folder related id state) is) fails
+    refused_at_weaker at behind (λ (refusal : Refusal). named_sheet folder related id state decoded
+    ≡ Err refusal) (λ (refusal : Refusal). decoded
+    ≡ Err refusal) error (λ refusal is. ap (named_sheet folder related id state) is) fails

@@ -18,36 +18,56 @@ use Rattle.xlsx_open.specs.declared.sheet.SheetEntry.{SheetEntry}
 use Rattle.xlsx_open.specs.declared.workbook.WorkbookContents.{WorkbookContents}
 
 -- a call that takes no more than another may take
-pub uses_more : {few most : ℕ} {old new : PackageState} → few ≤ most → UsesPackage few old new → UsesPackage most old new
-uses_more less uses = record { parts = uses.parts; faults = uses.faults; taken = λ told. omega (arith, less, uses.taken told) }
+pub uses_more : {few most : ℕ} {old new : PackageState} → few ≤ most → UsesPackage few old new
+    → UsesPackage most old new
+uses_more less uses =
+    record {
+      parts = uses.parts;
+      faults = uses.faults;
+      taken =
+          λ told. omega (arith, less, uses.taken told);
+    }
 
-pub leaves_more : {E : Type 0} {fault error : E} {few most : ℕ} {old new : PackageState} → few ≤ most → LeavesPackage few fault old new error → LeavesPackage most fault old new error
-leaves_more less leaves = record { parts = leaves.parts; faults = leaves.faults; taken = λ told. omega (arith, less, leaves.taken told) }
+pub leaves_more : {E : Type 0} {fault error : E} {few most : ℕ} {old new : PackageState}
+    → few ≤ most → LeavesPackage few fault old new error → LeavesPackage most fault old new error
+leaves_more less leaves =
+    record {
+      parts = leaves.parts;
+      faults = leaves.faults;
+      taken =
+          λ told. omega (arith, less, leaves.taken told);
+    }
 
 -- one call behind another
-same_further : {old mid new : PackageState} → SameParts old mid → SameParts mid new → SameParts old new
+same_further : {old mid new : PackageState} → SameParts old mid → SameParts mid new
+    → SameParts old new
 same_further first second = record {
   is_told = second.is_told ∙ first.is_told;
   parts = second.parts ∙ first.parts;
   faults = omega (arith, first.faults, second.faults);
 }
 
-pub uses_then : {few more most : ℕ} {old mid new : PackageState} → few + more ≤ most → UsesPackage few old mid → UsesPackage more mid new → UsesPackage most old new
+pub uses_then : {few more most : ℕ} {old mid new : PackageState} → few + more ≤ most
+    → UsesPackage few old mid → UsesPackage more mid new → UsesPackage most old new
 uses_then less first second = record {
   parts = same_further first.parts second.parts;
   faults = second.faults ∙ first.faults;
   taken = λ told. omega (arith, less, first.taken told, second.taken (first.parts.is_told ∙ told));
 }
 
-pub leaves_then : {E : Type 0} {fault error : E} {few more most : ℕ} {old mid new : PackageState} → few + more ≤ most → UsesPackage few old mid → LeavesPackage more fault mid new error → LeavesPackage most fault old new error
+pub leaves_then : {E : Type 0} {fault error : E} {few more most : ℕ} {old mid new : PackageState}
+    → few + more ≤ most → UsesPackage few old mid → LeavesPackage more fault mid new error
+    → LeavesPackage most fault old new error
 leaves_then less first second = record {
   parts = same_further first.parts second.parts;
   faults = λ other. second.faults other ∙ first.faults;
   taken = λ told. omega (arith, less, first.taken told, second.taken (first.parts.is_told ∙ told));
 }
 
-pub leaves_behind : {E : Type 0} {most : ℕ} {old new : PackageState} (fault error : E) → UsesPackage most old new → LeavesPackage most fault old new error
-leaves_behind fault error uses = record { parts = uses.parts; faults = λ _. uses.faults; taken = uses.taken }
+pub leaves_behind : {E : Type 0} {most : ℕ} {old new : PackageState} (fault error : E)
+    → UsesPackage most old new → LeavesPackage most fault old new error
+leaves_behind fault error uses =
+    record { parts = uses.parts; faults = λ _. uses.faults; taken = uses.taken }
 
 pub uses_nothing : (most : ℕ) (state : PackageState) → UsesPackage most state state
 uses_nothing most state = record {
@@ -57,19 +77,27 @@ uses_nothing most state = record {
 }
 
 -- the sheets of entries, and the paths of their parts
-pub sheets_listed : (entries : List SheetEntry) → map listed_sheet (map (λ (entry : SheetEntry). entry.sheet) entries) ≡ map without_path (map sheet_of_entry entries)
+pub sheets_listed : (entries : List SheetEntry)
+    → map listed_sheet (map (λ (entry : SheetEntry). entry.sheet) entries)
+    ≡ map without_path (map sheet_of_entry entries)
 sheets_listed [] = refl
-sheets_listed (entry ∷ entries) = ap (λ (others : List ListedSheet). listed_sheet entry.sheet ∷ others) (sheets_listed entries)
+sheets_listed (entry ∷ entries) =
+    ap (λ (others : List ListedSheet). listed_sheet entry.sheet ∷ others) (sheets_listed entries)
 
-pub paths_listed : (entries : List SheetEntry) → map string_bytes (map (λ (entry : SheetEntry). entry.path) entries) ≡ map (λ (sheet : PlacedSheet). sheet.path) (map sheet_of_entry entries)
+pub paths_listed : (entries : List SheetEntry)
+    → map string_bytes (map (λ (entry : SheetEntry). entry.path) entries)
+    ≡ map (λ (sheet : PlacedSheet). sheet.path) (map sheet_of_entry entries)
 paths_listed [] = refl
-paths_listed (entry ∷ entries) = ap (λ (others : List (List ℕ)). string_bytes entry.path ∷ others) (paths_listed entries)
+paths_listed (entry ∷ entries) =
+    ap (λ (others : List (List ℕ)). string_bytes entry.path ∷ others) (paths_listed entries)
 
-some_weaker : {A : Type 0} (o : Option A) (P Q : A → Type 0) → ((x : A) → P x → Q x) → IsSomeAnd o P → IsSomeAnd o Q
+some_weaker : {A : Type 0} (o : Option A) (P Q : A → Type 0) → ((x : A) → P x → Q x) → IsSomeAnd o P
+    → IsSomeAnd o Q
 some_weaker None P Q weaker is = is
 some_weaker (Some x) P Q weaker is = weaker x is
 
-matched : {A B : Type 0} (o : Option A) (f : A → Option B) (Q : Type 0) (P : B → Type 0) → IsSomeAnd (option_and_then f o) P → MatchOption o Q (λ _. IsSomeAnd (option_and_then f o) P)
+matched : {A B : Type 0} (o : Option A) (f : A → Option B) (Q : Type 0) (P : B → Type 0)
+    → IsSomeAnd (option_and_then f o) P → MatchOption o Q (λ _. IsSomeAnd (option_and_then f o) P)
 matched None f Q P is = absurd is
 matched (Some x) f Q P is = is
 
@@ -81,7 +109,12 @@ opening_of found = record {
   is_1904 = unwrap_or found.epoch false;
 }
 
-pub holds_contents : (found : WorkbookContents) (metadata : Metadata) (paths : List (String Global)) (is_1904 : Bool) → metadata.sheets.items ≡ map (λ (entry : SheetEntry). entry.sheet) found.entries.items → paths ≡ map (λ (entry : SheetEntry). entry.path) found.entries.items → metadata.names.items ≡ found.names.items → is_1904 ≡ unwrap_or found.epoch false → HoldsOpening metadata paths is_1904 (opening_of found)
+pub holds_contents : (found : WorkbookContents) (metadata : Metadata) (paths : List (String Global))
+    (is_1904 : Bool) → metadata.sheets.items
+    ≡ map (λ (entry : SheetEntry). entry.sheet) found.entries.items → paths
+    ≡ map (λ (entry : SheetEntry). entry.path) found.entries.items → metadata.names.items
+    ≡ found.names.items → is_1904 ≡ unwrap_or found.epoch false
+    → HoldsOpening metadata paths is_1904 (opening_of found)
 holds_contents found metadata paths is_1904 sheets places names epoch = record {
   sheets = ap (map listed_sheet) sheets ∙ sheets_listed found.entries.items;
   paths = ap (map string_bytes) places ∙ paths_listed found.entries.items;
@@ -89,50 +122,91 @@ holds_contents found metadata paths is_1904 sheets places names epoch = record {
   epoch = epoch;
 }
 
-pub has_contents : (parts : List Part) (path : List ℕ) (related : List ℕ → Option Related) (found : WorkbookContents) → IsSomeAnd (closed_section_of (codes "workbook") (workbook_part path) parts) (λ inside. IsContents (folder_of path) related inside found) → HasWorkbook parts path related (opening_of found)
+pub has_contents : (parts : List Part) (path : List ℕ) (related : List ℕ
+    → Option Related) (found : WorkbookContents)
+    → IsSomeAnd (closed_section_of (codes "workbook") (workbook_part path) parts)
+    (λ inside. IsContents (folder_of path) related inside found)
+    → HasWorkbook parts path related (opening_of found)
 has_contents parts path related found is =
-    matched (part_of parts (workbook_part path)) (closed_section (codes "workbook")) (HasNothing (opening_of found)) (λ inside. IsOpening (folder_of path) related inside (opening_of found))
-    (some_weaker (closed_section_of (codes "workbook") (workbook_part path) parts) (λ inside. IsContents (folder_of path) related inside found) (λ inside. IsOpening (folder_of path) related inside (opening_of found))
-    (λ inside holds. record { sheets = holds.sheets; names = holds.names; epoch = ap epoch_or_1900 holds.epoch }) is)
+    matched (part_of parts (workbook_part path)) (closed_section (codes "workbook"))
+    (HasNothing (opening_of found))
+    (λ inside. IsOpening (folder_of path) related inside (opening_of found))
+    (some_weaker (closed_section_of (codes "workbook") (workbook_part path) parts)
+    (λ inside. IsContents (folder_of path) related inside found)
+    (λ inside. IsOpening (folder_of path) related inside (opening_of found))
+    (λ inside holds. record {
+      sheets = holds.sheets;
+      names = holds.names;
+      epoch =
+          ap epoch_or_1900 holds.epoch;
+    }) is)
 
-pub has_nothing : (parts : List Part) (path : List ℕ) (related : List ℕ → Option Related) → part_of parts (workbook_part path) ≡ None → HasWorkbook parts path related (record { sheets = []; names = []; is_1904 = false })
-has_nothing parts path related absent = rw absent (record { sheets = refl; names = refl; epoch = refl })
+pub has_nothing : (parts : List Part) (path : List ℕ) (related : List ℕ → Option Related)
+    → part_of parts (workbook_part path) ≡ None
+    → HasWorkbook parts path related (record { sheets = []; names = []; is_1904 = false })
+has_nothing parts path related absent =
+    rw absent (record { sheets = refl; names = refl; epoch = refl })
 
-start_not_built : (name : List ℕ) (ending : List Event → Option (List ℕ)) (refused : PartSection → Refusal → Type 0) (events : List Event) (found : Option PartSection) → MatchOption found (StartCause name events NotBuilt) (λ s. SectionCause ending refused s NotBuilt) → ⊥
+start_not_built : (name : List ℕ) (ending : List Event → Option (List ℕ)) (refused : PartSection
+    → Refusal → Type 0) (events : List Event) (found : Option PartSection)
+    → MatchOption found (StartCause name events NotBuilt)
+    (λ s. SectionCause ending refused s NotBuilt) → ⊥
 start_not_built name ending refused events None cause = cause
 start_not_built name ending refused events (Some s) cause = cause
 
-part_not_built : (name : List ℕ) (ending : List Event → Option (List ℕ)) (refused : PartSection → Refusal → Type 0) (part : Option (List Event)) → OptionalPartCause name ending refused part NotBuilt → ⊥
+part_not_built : (name : List ℕ) (ending : List Event → Option (List ℕ)) (refused : PartSection
+    → Refusal → Type 0) (part : Option (List Event))
+    → OptionalPartCause name ending refused part NotBuilt → ⊥
 part_not_built name ending refused None cause = cause
-part_not_built name ending refused (Some events) cause = start_not_built name ending refused events (section_in name events) cause
+part_not_built name ending refused (Some events) cause =
+    start_not_built name ending refused events (section_in name events) cause
 
 -- the package's relationships are refused
-pub root_fails : (old new : PackageState) (error : XlsxError) → PartFails (codes "Relationships") (always (codes "Relationships")) IsPathRefused (codes "_rels/.rels") old new error → OpeningFails old new error
+pub root_fails : (old new : PackageState) (error : XlsxError)
+    → PartFails (codes "Relationships") (always (codes "Relationships")) IsPathRefused
+    (codes "_rels/.rels") old new error → OpeningFails old new error
 root_fails old new Io fails = fails
 root_fails old new OutOfMemory fails = tt
-root_fails old new NotBuilt fails = λ told. absurd (part_not_built (codes "Relationships") (always (codes "Relationships")) IsPathRefused (part_of old.parts (codes "_rels/.rels")) (fails told))
+root_fails old new NotBuilt fails =
+    λ told. absurd (part_not_built (codes "Relationships") (always (codes "Relationships"))
+    IsPathRefused (part_of old.parts (codes "_rels/.rels")) (fails told))
 root_fails old new error fails = λ told. inl (fails told)
 
 workbook_not_built : (parts : List Part) (path : List ℕ) → WorkbookCause parts path NotBuilt → ⊥
-workbook_not_built parts path (inl cause) = part_not_built (codes "Relationships") (always (codes "Relationships")) AreRelationshipsRefused (part_of parts (relationships_part path)) cause
-workbook_not_built parts path (inr (related, has, cause)) = part_not_built (codes "workbook") (always (codes "workbook")) (AreContentsRefused (folder_of path) related) (part_of parts (workbook_part path)) cause
+workbook_not_built parts path (inl cause) =
+    part_not_built (codes "Relationships") (always (codes "Relationships")) AreRelationshipsRefused
+    (part_of parts (relationships_part path)) cause
+workbook_not_built parts path (inr (related, has, cause)) =
+    part_not_built (codes "workbook") (always (codes "workbook"))
+    (AreContentsRefused (folder_of path) related) (part_of parts (workbook_part path)) cause
 
 -- the workbook is refused
-pub workbook_fails : (old mid new : PackageState) (path : List ℕ) (error : XlsxError) → SameParts old mid → mid.faults ≡ old.faults → (old.is_told ≡ true → HasPath old.parts path) → WorkbookFails path mid new error → OpeningFails old new error
+pub workbook_fails : (old mid new : PackageState) (path : List ℕ) (error : XlsxError)
+    → SameParts old mid → mid.faults ≡ old.faults → (old.is_told ≡ true → HasPath old.parts path)
+    → WorkbookFails path mid new error → OpeningFails old new error
 workbook_fails old mid new path Io same faults found fails = omega (arith, faults, fails)
 workbook_fails old mid new path OutOfMemory same faults found fails = tt
-workbook_fails old mid new path NotBuilt same faults found fails = λ told. absurd (workbook_not_built mid.parts path (fails (same.is_told ∙ told)))
+workbook_fails old mid new path NotBuilt same faults found fails =
+    λ told. absurd (workbook_not_built mid.parts path (fails (same.is_told ∙ told)))
 workbook_fails old mid new path error same faults found fails = λ told.
-    inr (path, found told, subst (λ (parts : List Part). WorkbookCause parts path error) same.parts (fails (same.is_told ∙ told)))
+    inr (
+      path,
+      found told,
+      subst (λ (parts : List Part). WorkbookCause parts path error) same.parts
+          (fails (same.is_told ∙ told)),
+    )
 
 -- the workbook was opened
-pub opens_as : (old mid : PackageState) (path : List ℕ) (opening : Opening) → SameParts old mid → HasPath old.parts path → WorkbookOpens mid.parts path opening → OpensAs old.parts opening
+pub opens_as : (old mid : PackageState) (path : List ℕ) (opening : Opening) → SameParts old mid
+    → HasPath old.parts path → WorkbookOpens mid.parts path opening → OpensAs old.parts opening
 opens_as old mid path opening same found opens = record {
   path = path;
   related = opens.0;
   found = found;
-  relationships = subst (λ (parts : List Part). HasRelationships parts path opens.0) same.parts opens.1;
-  workbook = subst (λ (parts : List Part). HasWorkbook parts path opens.0 opening) same.parts opens.2;
+  relationships = subst (λ (parts : List Part). HasRelationships parts path opens.0) same.parts
+      opens.1;
+  workbook = subst (λ (parts : List Part). HasWorkbook parts path opens.0 opening) same.parts
+      opens.2;
 }
 
 -- what is known anyway is known of an answer
@@ -141,24 +215,52 @@ on_ok (Ok value) fact = fact
 on_ok (Err error) fact = tt
 
 -- what opening takes, where its first call was refused, and where it went on
-pub root_left : {error : XlsxError} {old new : PackageState} → LeavesPackage (events_in old.parts (codes "_rels/.rels")) Io old new error → FailsToOpen Io old new error
-root_left leaves = record { parts = leaves.parts; faults = leaves.faults; taken = λ told. inl (leaves.taken told) }
+pub root_left : {error : XlsxError} {old new : PackageState}
+    → LeavesPackage (events_in old.parts (codes "_rels/.rels")) Io old new error
+    → FailsToOpen Io old new error
+root_left leaves = record {
+  parts = leaves.parts;
+  faults = leaves.faults;
+  taken =
+      λ told. inl (leaves.taken told);
+}
 
-pub root_then_left : {error : XlsxError} {more : ℕ} {old mid new : PackageState} → UsesPackage (events_in old.parts (codes "_rels/.rels")) old mid → more ≡ 0 → LeavesPackage more Io mid new error → FailsToOpen Io old new error
+pub root_then_left : {error : XlsxError} {more : ℕ} {old mid new : PackageState}
+    → UsesPackage (events_in old.parts (codes "_rels/.rels")) old mid → more ≡ 0
+    → LeavesPackage more Io mid new error → FailsToOpen Io old new error
 root_then_left first none second = root_left (leaves_then (omega (arith, none)) first second)
 
-pub opens_package : {A : Type 0} (result : Result A XlsxError) (old mid new : PackageState) (path : List ℕ) → UsesPackage (events_in old.parts (codes "_rels/.rels")) old mid → (old.is_told ≡ true → HasPath old.parts path) → Uses (workbook_events mid.parts path) Io result mid new → OpensPackage Io result old new
+pub opens_package : {A : Type 0} (result : Result A XlsxError) (old mid new : PackageState)
+    (path : List ℕ) → UsesPackage (events_in old.parts (codes "_rels/.rels")) old mid
+    → (old.is_told ≡ true → HasPath old.parts path)
+    → Uses (workbook_events mid.parts path) Io result mid new → OpensPackage Io result old new
 opens_package (Ok value) old mid new path first found second =
-    let both : UsesPackage (events_in old.parts (codes "_rels/.rels") + workbook_events mid.parts path) old new = uses_then (omega arith) first second in
+    let both : UsesPackage
+    (events_in old.parts (codes "_rels/.rels") + workbook_events mid.parts path) old new =
+    uses_then (omega arith) first second in
     record {
       parts = both.parts;
       faults = both.faults;
-      taken = λ told. inr (path, found told, subst (λ (parts : List Part). new.taken ≤ old.taken + (events_in old.parts (codes "_rels/.rels") + workbook_events parts path)) first.parts.parts (both.taken told));
+      taken = λ told. inr (
+        path,
+        found told,
+        subst (λ (parts : List Part). new.taken ≤ old.taken +
+            (events_in old.parts (codes "_rels/.rels") + workbook_events parts path))
+            first.parts.parts (both.taken told),
+      );
     }
 opens_package (Err error) old mid new path first found second =
-    let both : LeavesPackage (events_in old.parts (codes "_rels/.rels") + workbook_events mid.parts path) Io old new error = leaves_then (omega arith) first second in
+    let both : LeavesPackage
+    (events_in old.parts (codes "_rels/.rels") + workbook_events mid.parts path) Io old new
+    error = leaves_then (omega arith) first second in
     record {
       parts = both.parts;
       faults = both.faults;
-      taken = λ told. inr (path, found told, subst (λ (parts : List Part). new.taken ≤ old.taken + (events_in old.parts (codes "_rels/.rels") + workbook_events parts path)) first.parts.parts (both.taken told));
+      taken = λ told. inr (
+        path,
+        found told,
+        subst (λ (parts : List Part). new.taken ≤ old.taken +
+            (events_in old.parts (codes "_rels/.rels") + workbook_events parts path))
+            first.parts.parts (both.taken told),
+      );
     }

@@ -19,7 +19,8 @@ use Rattle.xlsx_open.specs.declared.sheet.Metadata.{Metadata}
 use Rattle.xlsx_open.specs.declared.sheet.SheetType.{SheetType}
 use Rattle.xlsx_open.specs.declared.sheet.SheetVisible.{SheetVisible}
 
--- what a workbook opens as: its sheets with the paths of their parts, its defined names with their texts, and whether
+-- what a workbook opens as: its sheets with the paths of their parts, its defined names with their
+-- texts, and whether
 -- its dates count from 1904
 pub record Opening : Type 0 where
   pub sheets : List PlacedSheet
@@ -44,7 +45,8 @@ listed_sheet sheet = record {
 
 -- these lists and the first year are those of an opening
 pub record HoldsOpening
-    (metadata : Metadata) (part_paths : List (String Global)) (is_1904 : Bool) (opening : Opening) : Type 0 where
+    (metadata : Metadata) (part_paths : List (String Global)) (is_1904 : Bool)
+    (opening : Opening) : Type 0 where
   pub sheets : map listed_sheet metadata.sheets.items ≡ map without_path opening.sheets
   pub paths : map string_bytes part_paths ≡ map (λ (sheet : PlacedSheet). sheet.path) opening.sheets
   pub names : map pair_of metadata.names.items ≡ opening.names
@@ -68,7 +70,8 @@ epoch_or_1900 (Err refusal) = Err refusal
 
 -- what the workbook's section says
 pub record IsOpening
-    (folder : List ℕ) (related : List ℕ → Option Related) (inside : List Event) (opening : Opening) : Type 0 where
+    (folder : List ℕ) (related : List ℕ
+    → Option Related) (inside : List Event) (opening : Opening) : Type 0 where
   pub sheets : sheets_in folder related inside ≡ Ok opening.sheets
   pub names : names_in inside ≡ Ok opening.names
   pub epoch : epoch_or_1900 (epoch_in inside) ≡ Ok opening.is_1904
@@ -115,7 +118,8 @@ ContentsCause parts path related error =
     OptionalPartCause (codes "workbook") (always (codes "workbook"))
     (AreContentsRefused (folder_of path) related) (part_of parts (workbook_part path)) error
 
--- why a workbook can't be opened: by the package's relationships, by the workbook's, or by its own part
+-- why a workbook can't be opened: by the package's relationships, by the workbook's, or by its own
+-- part
 abbrev pub WorkbookCause : List Part → List ℕ → XlsxError → Type 0
 WorkbookCause parts path error =
     RelationshipsCause parts path error
@@ -179,7 +183,8 @@ abbrev pub workbook_events : List Part → List ℕ → ℕ
 workbook_events parts path =
     events_in parts (relationships_part path) + events_in parts (workbook_part path)
 
--- How many events an opening may take: those of the package's relationships, and where these lead to a workbook, those of
+-- How many events an opening may take: those of the package's relationships, and where these lead
+-- to a workbook, those of
 -- its relationships and its own part.
 abbrev pub TakesOpening : List Part → ℕ → ℕ → Type 0
 TakesOpening parts before after =

@@ -72,7 +72,8 @@ related_in inside id = last_answer (related_of id) (relationship_starts inside)
 unfoldable pub IsTargetRefused : PartSection → Refusal → Type 0
 IsTargetRefused s refusal = path_in (inside_of s) ≡ Err refusal
 
--- Why a section gives no path: a relationship is refused, or the section is closed and none leads to an office document.
+-- Why a section gives no path: a relationship is refused, or the section is closed and none leads
+-- to an office document.
 unfoldable pub IsPathRefused : PartSection → Refusal → Type 0
 IsPathRefused s refusal =
     IsTargetRefused s refusal

@@ -21,11 +21,13 @@ sheets_of found = map sheet_of_entry found.entries.items
 abbrev pub names_of : WorkbookContents → List (List ℕ × List ℕ)
 names_of found = map pair_of found.names.items
 
--- What is kept at last of sheets and dates, with what the events say that are left, is what was kept at first, with what
+-- What is kept at last of sheets and dates, with what the events say that are left, is what was
+-- kept at first, with what
 -- the events said that were left then.
 pub record KeepsSheets
     (folder : List ℕ) (related : List ℕ → Option Related)
-    (first : WorkbookContents) (events : List Event) (last : WorkbookContents) (left : List Event) : Type 0 where
+    (first : WorkbookContents) (events : List Event) (last : WorkbookContents)
+    (left : List Event) : Type 0 where
   pub sheets :
       prepended (sheets_of last) (sheets_in folder related left)
       ≡ prepended (sheets_of first) (sheets_in folder related events)
@@ -50,9 +52,11 @@ abbrev pub KeepsName :
     Option (List ℕ) → List Event → ℕ → List (List ℕ × List ℕ) → List (List ℕ × List ℕ) → Type 0
 KeepsName name inside behind first last =
     (others : Result (List (List ℕ × List ℕ)) Refusal) →
-    prepended last others ≡ prepended first (and_others_if (with_text inside behind (Ok name)) others)
+    prepended last others
+    ≡ prepended first (and_others_if (with_text inside behind (Ok name)) others)
 
--- Why the element of a name is refused, at whose start reading stands: by a sheet or the dates, in the element or behind
+-- Why the element of a name is refused, at whose start reading stands: by a sheet or the dates, in
+-- the element or behind
 -- it, or by its text.
 abbrev pub IsNameRefused :
     List ℕ → (List ℕ → Option Related) → WorkbookContents → Option (List ℕ) →

@@ -13,97 +13,179 @@ use Rattle.xlsx_sections.specs.PartSection.{PartSection, KeepsSection, inside_of
 use Rattle.xlsx_sections.specs.Refusal.{Refusal, RefusedAs, RefusedAt}
 
 -- what is refused in one section is refused in another, whose end has the number `last`
-pub refused_weaker : (inner last : ℕ) (before after : Refusal → Type 0) (error : XlsxError) → ((refusal : Refusal) → after refusal → before refusal) → inner ≡ last → RefusedAs inner after error → RefusedAs last before error
-refused_weaker inner last before after (Xml (Entity at)) weaker same (behind, place, refuses) = (behind, place ∙ same, weaker _ refuses)
+pub refused_weaker : (inner last : ℕ) (before after : Refusal → Type 0) (error : XlsxError)
+    → ((refusal : Refusal) → after refusal → before refusal) → inner ≡ last
+    → RefusedAs inner after error → RefusedAs last before error
+refused_weaker inner last before after (Xml (Entity at)) weaker same (behind, place, refuses) =
+    (behind, place ∙ same, weaker _ refuses)
 refused_weaker inner last before after (XmlAttr fault) weaker same refuses = weaker _ refuses
 refused_weaker inner last before after RelationshipNotFound weaker same refuses = weaker _ refuses
-refused_weaker inner last before after (Unrecognized typ val) weaker same (inl found) = inl (found.0, weaker _ found.1)
-refused_weaker inner last before after (Unrecognized typ val) weaker same (inr found) = inr (found.0, weaker _ found.1)
+refused_weaker inner last before after (Unrecognized typ val) weaker same (inl found) = inl
+    (found.0, weaker _ found.1)
+refused_weaker inner last before after (Unrecognized typ val) weaker same (inr found) = inr
+    (found.0, weaker _ found.1)
 refused_weaker inner last before after _ weaker same refuses = absurd refuses
 
-pub refused_at_weaker : (at behind : ℕ) (before after : Refusal → Type 0) (error : XlsxError) → ((refusal : Refusal) → after refusal → before refusal) → RefusedAt after at behind error → RefusedAt before at behind error
+pub refused_at_weaker : (at behind : ℕ) (before after : Refusal → Type 0) (error : XlsxError)
+    → ((refusal : Refusal) → after refusal → before refusal) → RefusedAt after at behind error
+    → RefusedAt before at behind error
 refused_at_weaker at behind before after OutOfMemory weaker refuses = tt
-refused_at_weaker at behind before after error weaker refuses = refused_weaker (at + suc behind) (at + suc behind) before after error weaker refl refuses
+refused_at_weaker at behind before after error weaker refuses =
+    refused_weaker (at + suc behind) (at + suc behind) before after error weaker refl refuses
 
 -- a section is refused behind what was read of it
-pub refused_later : (base : ℕ) (first mid : Reading) (ending : List Event → Option (List ℕ)) (after before : PartSection → Refusal → Type 0) (new : Reading) (error : XlsxError) → KeepsSection base first mid → (first.source.is_told ≡ true → ending (inside_of (section_left base mid)) ≡ ending (inside_of (section_left base first))) → (first.source.is_told ≡ true → (refusal : Refusal) → after (section_left base mid) refusal → before (section_left base first) refusal) → SectionFails ending after base mid new error → SectionFails ending before base first new error
-refused_later base first mid ending after before new Io read ends weaker fails = omega (arith, read.reads.stays.faults, fails)
+pub refused_later : (base : ℕ) (first mid : Reading) (ending : List Event
+    → Option (List ℕ)) (after before : PartSection → Refusal
+    → Type 0) (new : Reading) (error : XlsxError) → KeepsSection base first mid
+    → (first.source.is_told ≡ true → ending (inside_of (section_left base mid))
+    ≡ ending (inside_of (section_left base first)))
+    → (first.source.is_told ≡ true → (refusal : Refusal) → after (section_left base mid) refusal
+    → before (section_left base first) refusal) → SectionFails ending after base mid new error
+    → SectionFails ending before base first new error
+refused_later base first mid ending after before new Io read ends weaker fails =
+    omega (arith, read.reads.stays.faults, fails)
 refused_later base first mid ending after before new OutOfMemory read ends weaker fails = tt
-refused_later base first mid ending after before new (Xml (EndMismatch at)) read ends weaker fails = λ told.
-    let cause = fails (read.reads.moves.parts.is_told ∙ told) in
-    (subst (λ (events : List Event). BreaksAt events at) (read.reads.stays.part told) cause.0, sym (read.closed told) ∙ cause.1)
-refused_later base first mid ending after before new (Xml (Unclosed at)) read ends weaker fails = λ told.
+refused_later base first mid ending after before new (Xml (EndMismatch at)) read ends weaker fails =
+    λ told.
+    let cause = fails (read.reads.moves.parts.is_told ∙ told) in (
+      subst (λ (events : List Event). BreaksAt events at) (read.reads.stays.part told) cause.0,
+      sym (read.closed told) ∙ cause.1,
+    )
+refused_later base first mid ending after before new (Xml (Unclosed at)) read ends weaker fails =
+    λ told.
     let cause = fails (read.reads.moves.parts.is_told ∙ told) in
     let same = read.reads.stays.part told in (
-      (subst (λ (events : List Event). whole events ≡ events) same cause.0.0, sym (read.closed told) ∙ cause.0.1),
+      (
+        subst (λ (events : List Event). whole events ≡ events) same cause.0.0,
+        sym (read.closed told)
+            ∙ cause.0.1,
+      ),
       sym (ends told) ∙ cause.1,
       subst (λ (events : List Event). at ≡ length events) same cause.2,
     )
-refused_later base first mid ending after before new (XmlEof element) read ends weaker fails = λ told.
+refused_later base first mid ending after before new (XmlEof element) read ends weaker fails =
+    λ told.
     let cause = fails (read.reads.moves.parts.is_told ∙ told) in
     let same = read.reads.stays.part told in (
-      (subst (λ (events : List Event). whole events ≡ events) same cause.0.0, sym (read.closed told) ∙ cause.0.1),
+      (
+        subst (λ (events : List Event). whole events ≡ events) same cause.0.0,
+        sym (read.closed told)
+            ∙ cause.0.1,
+      ),
       sym (ends told) ∙ cause.1,
     )
 refused_later base first mid ending after before new error read ends weaker fails = λ told.
-    refused_weaker (last_of (section_left base mid)) (last_of (section_left base first)) (before (section_left base first)) (after (section_left base mid)) error (weaker told) (read.last told) (fails (read.reads.moves.parts.is_told ∙ told))
+    refused_weaker (last_of (section_left base mid)) (last_of (section_left base first))
+    (before (section_left base first)) (after (section_left base mid)) error (weaker told)
+    (read.last told) (fails (read.reads.moves.parts.is_told ∙ told))
 
-pub refused_as : (base : ℕ) (old : Reading) (ending : List Event → Option (List ℕ)) (after before : PartSection → Refusal → Type 0) (new : Reading) (error : XlsxError) → IsReading old → base ≤ length old.names → ((refusal : Refusal) → after (section_left base old) refusal → before (section_left base old) refusal) → SectionFails ending after base old new error → SectionFails ending before base old new error
+pub refused_as : (base : ℕ) (old : Reading) (ending : List Event
+    → Option (List ℕ)) (after before : PartSection → Refusal
+    → Type 0) (new : Reading) (error : XlsxError) → IsReading old → base ≤ length old.names
+    → ((refusal : Refusal) → after (section_left base old) refusal
+    → before (section_left base old) refusal) → SectionFails ending after base old new error
+    → SectionFails ending before base old new error
 refused_as base old ending after before new error is within weaker fails =
-    let here : KeepsSection base old old = record { reads = reads_nothing old is; within = within; closed = λ _. refl; last = λ _. refl } in
+    let here : KeepsSection base old old =
+    record {
+      reads = reads_nothing old is;
+      within = within;
+      closed = λ _. refl;
+      last =
+          λ _. refl;
+    } in
     refused_later base old old ending after before new error here (λ _. refl) (λ _. weaker) fails
 
 -- a step in an element that lies in a section is refused, and so is the section
-pub refused_outside : (inner base : ℕ) (mid : Reading) (name : List ℕ) (refused : PartSection → Refusal → Type 0) (new : Reading) (error : XlsxError) → (mid.source.is_told ≡ true → has_end (section_left inner mid) ≡ false → has_end (section_left base mid) ≡ false) → SectionFails (always name) Never inner mid new error → SectionFails (always name) refused base mid new error
+pub refused_outside : (inner base : ℕ) (mid : Reading) (name : List ℕ) (refused : PartSection
+    → Refusal → Type 0) (new : Reading) (error : XlsxError)
+    → (mid.source.is_told ≡ true → has_end (section_left inner mid) ≡ false
+    → has_end (section_left base mid) ≡ false)
+    → SectionFails (always name) Never inner mid new error
+    → SectionFails (always name) refused base mid new error
 refused_outside inner base mid name refused new Io open_too fails = fails
 refused_outside inner base mid name refused new OutOfMemory open_too fails = tt
-refused_outside inner base mid name refused new (Xml (EndMismatch at)) open_too fails = λ told. ((fails told).0, open_too told (fails told).1)
-refused_outside inner base mid name refused new (Xml (Unclosed at)) open_too fails = λ told. (((fails told).0.0, open_too told (fails told).0.1), (fails told).1, (fails told).2)
-refused_outside inner base mid name refused new (XmlEof element) open_too fails = λ told. (((fails told).0.0, open_too told (fails told).0.1), (fails told).1)
-refused_outside inner base mid name refused new (Xml (Entity at)) open_too fails = λ told. absurd ((fails told).2)
-refused_outside inner base mid name refused new (XmlAttr fault) open_too fails = λ told. absurd (fails told)
-refused_outside inner base mid name refused new RelationshipNotFound open_too fails = λ told. absurd (fails told)
-refused_outside inner base mid name refused new (Unrecognized typ val) open_too fails = λ told. elim (fails told) [ inl found ↦ absurd found.1 | inr found ↦ absurd found.1 ]
+refused_outside inner base mid name refused new (Xml (EndMismatch at)) open_too fails =
+    λ told. ((fails told).0, open_too told (fails told).1)
+refused_outside inner base mid name refused new (Xml (Unclosed at)) open_too fails =
+    λ told. (((fails told).0.0, open_too told (fails told).0.1), (fails told).1, (fails told).2)
+refused_outside inner base mid name refused new (XmlEof element) open_too fails =
+    λ told. (((fails told).0.0, open_too told (fails told).0.1), (fails told).1)
+refused_outside inner base mid name refused new (Xml (Entity at)) open_too fails =
+    λ told. absurd ((fails told).2)
+refused_outside inner base mid name refused new (XmlAttr fault) open_too fails =
+    λ told. absurd (fails told)
+refused_outside inner base mid name refused new RelationshipNotFound open_too fails =
+    λ told. absurd (fails told)
+refused_outside inner base mid name refused new (Unrecognized typ val) open_too fails =
+    λ told. elim (fails told) [ inl found ↦ absurd found.1 | inr found ↦ absurd found.1 ]
 refused_outside inner base mid name refused new _ open_too fails = λ told. absurd (fails told)
 
 -- an event of a section is refused
-pub event_refused : (base at behind : ℕ) (first : Reading) (ending : List Event → Option (List ℕ)) (own : Refusal → Type 0) (refused : PartSection → Refusal → Type 0) (new : Reading) (error : XlsxError) → (first.source.is_told ≡ true → at + suc behind ≡ last_of (section_left base first)) → (first.source.is_told ≡ true → (refusal : Refusal) → own refusal → refused (section_left base first) refusal) → RefusedAt own at behind error → SectionFails ending refused base first new error
+pub event_refused : (base at behind : ℕ) (first : Reading) (ending : List Event
+    → Option (List ℕ)) (own : Refusal → Type 0) (refused : PartSection → Refusal
+    → Type 0) (new : Reading) (error : XlsxError)
+    → (first.source.is_told ≡ true → at + suc behind ≡ last_of (section_left base first))
+    → (first.source.is_told ≡ true → (refusal : Refusal) → own refusal
+    → refused (section_left base first) refusal) → RefusedAt own at behind error
+    → SectionFails ending refused base first new error
 event_refused base at behind first ending own refused new Io there weaker fails = absurd fails
 event_refused base at behind first ending own refused new OutOfMemory there weaker fails = tt
-event_refused base at behind first ending own refused new (Xml (EndMismatch place)) there weaker fails = absurd fails
-event_refused base at behind first ending own refused new (Xml (Unclosed place)) there weaker fails = absurd fails
-event_refused base at behind first ending own refused new (XmlEof element) there weaker fails = absurd fails
+event_refused base at behind first ending own refused new (Xml (EndMismatch place)) there weaker
+    fails = absurd fails
+event_refused base at behind first ending own refused new (Xml (Unclosed place)) there weaker
+    fails = absurd fails
+event_refused base at behind first ending own refused new (XmlEof element) there weaker fails =
+    absurd fails
 event_refused base at behind first ending own refused new error there weaker fails = λ told.
-    refused_weaker (at + suc behind) (last_of (section_left base first)) (refused (section_left base first)) own error (weaker told) (there told) fails
+    refused_weaker (at + suc behind) (last_of (section_left base first))
+    (refused (section_left base first)) own error (weaker told) (there told) fails
 
 -- the first section of a part is refused behind its start
-pub part_refused : {name path : List ℕ} {old : PackageState} {mid : Reading} (ending : List Event → Option (List ℕ)) (refused : PartSection → Refusal → Type 0) (new : Reading) (error : XlsxError) → EntersSection name path old mid → SectionFails ending refused (length mid.names) mid new error → OptionalPartFails name ending refused path old new.source error
+pub part_refused : {name path : List ℕ} {old : PackageState} {mid : Reading} (ending : List Event
+    → Option (List ℕ)) (refused : PartSection → Refusal
+    → Type 0) (new : Reading) (error : XlsxError) → EntersSection name path old mid
+    → SectionFails ending refused (length mid.names) mid new error
+    → OptionalPartFails name ending refused path old new.source error
 part_refused ending refused new Io enters fails = omega (arith, enters.faults, fails)
 part_refused ending refused new OutOfMemory enters fails = tt
 part_refused ending refused new error enters fails = λ told.
     rw (enters.part told, enters.section told) (fails (enters.parts.is_told ∙ told))
 
-lacks_section : (name : List ℕ) (ending : List Event → Option (List ℕ)) (refused : PartSection → Refusal → Type 0) (part : Option (List Event)) (error : XlsxError) → LacksSection name part error → OptionalPartCause name ending refused part error
+lacks_section : (name : List ℕ) (ending : List Event → Option (List ℕ)) (refused : PartSection
+    → Refusal → Type 0) (part : Option (List Event)) (error : XlsxError)
+    → LacksSection name part error → OptionalPartCause name ending refused part error
 lacks_section name ending refused None error lacks = lacks
 lacks_section name ending refused (Some events) error (absent, cause) = rw absent cause
 
 -- the section isn't there
-pub enter_refused : (name path : List ℕ) (old new : PackageState) (ending : List Event → Option (List ℕ)) (refused : PartSection → Refusal → Type 0) (error : XlsxError) → EnterFails name path old new error → OptionalPartFails name ending refused path old new error
+pub enter_refused : (name path : List ℕ) (old new : PackageState) (ending : List Event
+    → Option (List ℕ)) (refused : PartSection → Refusal → Type 0) (error : XlsxError)
+    → EnterFails name path old new error → OptionalPartFails name ending refused path old new error
 enter_refused name path old new ending refused Io fails = fails
 enter_refused name path old new ending refused OutOfMemory fails = tt
 enter_refused name path old new ending refused error fails = λ told.
     lacks_section name ending refused (part_of old.parts path) error (fails told)
 
-no_file : (name : List ℕ) (ending : List Event → Option (List ℕ)) (refused : PartSection → Refusal → Type 0) (events : List Event) (found : Option PartSection) (wanted : String Global) → MatchOption found (StartCause name events (FileNotFound wanted)) (λ s. SectionCause ending refused s (FileNotFound wanted)) → ⊥
+no_file : (name : List ℕ) (ending : List Event → Option (List ℕ)) (refused : PartSection → Refusal
+    → Type 0) (events : List Event) (found : Option PartSection) (wanted : String Global)
+    → MatchOption found (StartCause name events (FileNotFound wanted))
+    (λ s. SectionCause ending refused s (FileNotFound wanted)) → ⊥
 no_file name ending refused events None wanted cause = cause
 no_file name ending refused events (Some s) wanted cause = cause
 
-no_file_there : (name : List ℕ) (ending : List Event → Option (List ℕ)) (refused : PartSection → Refusal → Type 0) (part : Option (List Event)) (wanted : String Global) → OptionalPartCause name ending refused part (FileNotFound wanted) → ⊥
+no_file_there : (name : List ℕ) (ending : List Event → Option (List ℕ)) (refused : PartSection
+    → Refusal → Type 0) (part : Option (List Event)) (wanted : String Global)
+    → OptionalPartCause name ending refused part (FileNotFound wanted) → ⊥
 no_file_there name ending refused None wanted cause = cause
-no_file_there name ending refused (Some events) wanted cause = no_file name ending refused events (section_in name events) wanted cause
+no_file_there name ending refused (Some events) wanted cause =
+    no_file name ending refused events (section_in name events) wanted cause
 
 -- so is a part that has to be there
-pub required_part_refused : (name path : List ℕ) (old new : PackageState) (ending : List Event → Option (List ℕ)) (refused : PartSection → Refusal → Type 0) (error : XlsxError) → OptionalPartFails name ending refused path old new error → PartFails name ending refused path old new error
+pub required_part_refused : (name path : List ℕ) (old new : PackageState) (ending : List Event
+    → Option (List ℕ)) (refused : PartSection → Refusal → Type 0) (error : XlsxError)
+    → OptionalPartFails name ending refused path old new error
+    → PartFails name ending refused path old new error
 required_part_refused name path old new ending refused Io fails = fails
 required_part_refused name path old new ending refused OutOfMemory fails = tt
 required_part_refused name path old new ending refused (FileNotFound wanted) fails = λ told.

@@ -14,7 +14,11 @@ use Rattle.part_events.proofs.Onward.{reads_further}
 use Rattle.part_events.proofs.Walking.{takes_inside}
 use Rattle.xlsx_sections.specs.PartSection.{PartSection, KeepsSection, EntersSection, section_left, section_behind, section_in, last_of, has_end, inside_of, if_closed, closed_section, closed_section_of, StandsAtEvent, FindsEvent, StandsAtStart, FindsStartIn}
 
-pub section_further : {base : ℕ} {first old new : Reading} → KeepsSection base first old → ReadsOn old new → base ≤ length new.names → (old.source.is_told ≡ true → (is_closed_ahead base new ≡ is_closed_ahead base old) × (last_of (section_left base new) ≡ last_of (section_left base old))) → KeepsSection base first new
+pub section_further : {base : ℕ} {first old new : Reading} → KeepsSection base first old
+    → ReadsOn old new → base ≤ length new.names
+    → (old.source.is_told ≡ true → (is_closed_ahead base new ≡ is_closed_ahead base old)
+    × (last_of (section_left base new) ≡ last_of (section_left base old)))
+    → KeepsSection base first new
 section_further before reads within same = record {
   reads = reads_further before.reads reads;
   within = within;
@@ -22,37 +26,51 @@ section_further before reads within same = record {
   last = λ told. (same (before.reads.moves.parts.is_told ∙ told)).1 ∙ before.last told;
 }
 
-pub keeps_further : {base : ℕ} {first mid last : Reading} → KeepsSection base first mid → KeepsSection base mid last → KeepsSection base first last
-keeps_further before after = section_further before after.reads after.within (λ told. (after.closed told, after.last told))
+pub keeps_further : {base : ℕ} {first mid last : Reading} → KeepsSection base first mid
+    → KeepsSection base mid last → KeepsSection base first last
+keeps_further before after =
+    section_further before after.reads after.within (λ told. (after.closed told, after.last told))
 
 -- so it was behind an event that lies in it
-pub section_taken : {base : ℕ} {first old new : Reading} → KeepsSection base first old → ReadsOn old new → TakesEvent old new → base ≤ length new.names → (old.source.is_told ≡ true → StepsAhead true old new) → KeepsSection base first new
+pub section_taken : {base : ℕ} {first old new : Reading} → KeepsSection base first old
+    → ReadsOn old new → TakesEvent old new → base ≤ length new.names
+    → (old.source.is_told ≡ true → StepsAhead true old new) → KeepsSection base first new
 section_taken {base = base} {old = old} {new = new} before reads takes is steps =
     section_further before reads is
-    (λ told. let taken = takes_inside base old new takes (steps told) before.within is in (sym taken.closed, sym taken.ends))
+    (λ told. let taken = takes_inside base old new takes (steps told) before.within is in
+    (sym taken.closed, sym taken.ends))
 
 -- an event of a section was taken, which is number `place` of its part
-pub record IsEventInside (base : ℕ) (event : Event) (place : ℕ) (first old new : Reading) : Type 0 where
-  pub read : KeepsSection base first new
-  pub current : event ≡ new.source.current
-  pub was : base ≤ length old.names
-  pub takes : TakesEvent old new
-  pub steps : first.source.is_told ≡ true → StepsAhead true old new
-  pub left : first.source.is_told ≡ true → section_ahead base old ≡ event ∷ section_ahead base new
-  pub behind : first.source.is_told ≡ true → behind_section base old ≡ behind_section base new
-  pub ends : first.source.is_told ≡ true → section_end base old ≡ section_end base new
-  pub there :
-      first.source.is_told ≡ true →
-      place + suc (length (section_ahead base new)) ≡ last_of (section_left base first)
+pub record IsEventInside (base : ℕ) (event : Event) (place : ℕ) (first old new : Reading) : Type 0
+  where
+    pub read : KeepsSection base first new
+    pub current : event ≡ new.source.current
+    pub was : base ≤ length old.names
+    pub takes : TakesEvent old new
+    pub steps : first.source.is_told ≡ true → StepsAhead true old new
+    pub left : first.source.is_told ≡ true → section_ahead base old ≡ event ∷ section_ahead base new
+    pub behind : first.source.is_told ≡ true → behind_section base old ≡ behind_section base new
+    pub ends : first.source.is_told ≡ true → section_end base old ≡ section_end base new
+    pub there :
+        first.source.is_told ≡ true →
+        place + suc (length (section_ahead base new)) ≡ last_of (section_left base first)
 
-pub event_inside : {base place : ℕ} {event : Event} {first old new : Reading} → event ≡ new.source.current → KeepsSection base first old → ReadsOn old new → StandsAtEvent base (Some place) old new → (old.source.is_told ≡ true → FindsEvent base (Some place) old new) → IsEventInside base event place first old new
-event_inside {base = base} {place = place} {event = event} {first = first} {old = old} {new = new} current before reads stands finds =
-    let still : first.source.is_told ≡ true → old.source.is_told ≡ true = λ told. before.reads.moves.parts.is_told ∙ told in
-    let events : first.source.is_told ≡ true → section_ahead base old ≡ event ∷ section_ahead base new = λ told.
+pub event_inside : {base place : ℕ} {event : Event} {first old new : Reading} → event
+    ≡ new.source.current → KeepsSection base first old → ReadsOn old new
+    → StandsAtEvent base (Some place) old new
+    → (old.source.is_told ≡ true → FindsEvent base (Some place) old new)
+    → IsEventInside base event place first old new
+event_inside {base = base} {place = place} {event = event} {first = first} {old = old} {new =
+    new} current before reads stands finds =
+    let still : first.source.is_told ≡ true → old.source.is_told ≡ true =
+    λ told. before.reads.moves.parts.is_told ∙ told in
+    let events : first.source.is_told ≡ true → section_ahead base old
+    ≡ event ∷ section_ahead base new = λ told.
     (finds (still told)).events ∙ ap (λ (next : Event). next ∷ section_ahead base new) (sym current)
     in
     let here : KeepsSection base first new = section_further before reads stands.1
-    (λ told. let taken : TakesInside base old new = finds told in (sym taken.closed, omega (arith, ap length taken.events, stands.0.at)))
+    (λ told. let taken : TakesInside base old new = finds told in
+    (sym taken.closed, omega (arith, ap length taken.events, stands.0.at)))
     in
     record {
       read = here;
@@ -67,7 +85,8 @@ event_inside {base = base} {place = place} {event = event} {first = first} {old 
     }
 
 -- a wanted start of a section was found, which is event number `place` of its part
-pub record IsStartFound (wanted : Tag → Bool) (base : ℕ) (tag : Tag) (place : ℕ) (first old new : Reading) : Type 0 where
+pub record IsStartFound (wanted : Tag
+    → Bool) (base : ℕ) (tag : Tag) (place : ℕ) (first old new : Reading) : Type 0 where
   pub read : KeepsSection base first new
   pub starts :
       first.source.is_told ≡ true →
@@ -78,12 +97,19 @@ pub record IsStartFound (wanted : Tag → Bool) (base : ℕ) (tag : Tag) (place 
       first.source.is_told ≡ true →
       place + suc (length (section_ahead base new)) ≡ last_of (section_left base first)
 
-pub start_found : {base place : ℕ} {tag : Tag} {first old new : Reading} (wanted : Tag → Bool) → start tag ≡ new.source.current → KeepsSection base first old → ReadsOn old new → StandsAtStart wanted base (Some place) old new → (old.source.is_told ≡ true → FindsStartIn wanted base (Some place) old new) → IsStartFound wanted base tag place first old new
-start_found {base = base} {place = place} {tag = tag} {first = first} {old = old} {new = new} wanted current before reads stands finds =
+pub start_found : {base place : ℕ} {tag : Tag} {first old new : Reading} (wanted : Tag → Bool)
+    → start tag ≡ new.source.current → KeepsSection base first old → ReadsOn old new
+    → StandsAtStart wanted base (Some place) old new
+    → (old.source.is_told ≡ true → FindsStartIn wanted base (Some place) old new)
+    → IsStartFound wanted base tag place first old new
+start_found {base = base} {place = place} {tag = tag} {first = first} {old = old} {new =
+    new} wanted current before reads stands finds =
     let next : old.source.is_told ≡ true → IsNextStart wanted base tag old new = λ told.
-    subst (λ (event : Event). IsStartAnd event (λ own. IsNextStart wanted base own old new)) (sym current) (finds told)
+    subst (λ (event : Event). IsStartAnd event (λ own. IsNextStart wanted base own old new))
+    (sym current) (finds told)
     in
-    let still : first.source.is_told ≡ true → old.source.is_told ≡ true = λ told. before.reads.moves.parts.is_told ∙ told in
+    let still : first.source.is_told ≡ true → old.source.is_told ≡ true =
+    λ told. before.reads.moves.parts.is_told ∙ told in
     let here : KeepsSection base first new = section_further before reads (omega (arith, stands.1))
     (λ told. (sym (next told).closed, sym (next told).ends))
     in
@@ -94,32 +120,54 @@ start_found {base = base} {place = place} {tag = tag} {first = first} {old = old
     }
 
 -- what is left behind the start of the first section of a name is that section
-pub first_section_left : (name : List ℕ) (opened entered : Reading) → opened.source.past ≡ [] → IsTracked entered → events_of entered ≡ events_of opened → behind_start (is_named (name ∷ [])) (ahead opened) ≡ Some (ahead entered) → section_in name (events_of entered) ≡ Some (section_left (length entered.names) entered)
+pub first_section_left : (name : List ℕ) (opened entered : Reading) → opened.source.past ≡ []
+    → IsTracked entered → events_of entered ≡ events_of opened
+    → behind_start (is_named (name ∷ [])) (ahead opened) ≡ Some (ahead entered)
+    → section_in name (events_of entered) ≡ Some (section_left (length entered.names) entered)
 first_section_left name opened entered fresh tracked same found =
     let past = entered.source.past in
-    let longest : whole (events_of entered) ≡ reverse past ++ ahead entered = whole_split past entered.source.rest tracked.whole in
+    let longest : whole (events_of entered) ≡ reverse past ++ ahead entered =
+    whole_split past entered.source.rest tracked.whole in
     let at_first : whole (events_of entered) ≡ ahead opened =
     ap whole same ∙ ap (λ (before : List Event). whole (reverse before ++ opened.source.rest)) fresh
     ∙ ap (λ (before : List Event). whole_rest before opened.source.rest) (sym fresh)
     in
     let place : length (whole (events_of entered)) - length (ahead entered) ≡ entered.at =
-    omega (arith, ap length longest, length-append (reverse past) (ahead entered), length-reverse past, tracked.at)
+    omega (
+      arith,
+      ap length longest,
+      length-append (reverse past) (ahead entered),
+      length-reverse past,
+      tracked.at,
+    )
     in
     let none : inside (length entered.names) entered ≡ 0 = omega arith in
-    let there : section_behind (events_of entered) (ahead entered) ≡ section_left (length entered.names) entered =
-    rw none (ap (λ (n : ℕ). let s : PartSection = record { events = events_of entered; first = n; within = 0; ahead = ahead entered } in s) place)
+    let there : section_behind (events_of entered) (ahead entered)
+    ≡ section_left (length entered.names) entered =
+    rw none (ap (λ (n : ℕ). let s : PartSection =
+    record { events = events_of entered; first = n; within = 0; ahead = ahead entered } in
+    s) place)
     in
-    ap (λ (all : List Event). option_map (section_behind (events_of entered)) (behind_start (is_named (name ∷ [])) all)) at_first
+    ap (λ (all : List Event). option_map (section_behind (events_of entered))
+    (behind_start (is_named (name ∷ [])) all)) at_first
     ∙ ap (option_map (section_behind (events_of entered))) found
     ∙ ap (λ (s : PartSection). Some s) there
 
 -- the part was opened, and read on behind the start of its first section of this name
-pub section_entered : {name path : List ℕ} {found : Bool} {old : PackageState} {opened entered : Reading} → found ≡ true → SameParts old opened.source → OpenCounts found old opened.source → (old.is_told ≡ true → Opens path found old opened.source) → ReadsOn opened entered → IsAtElement entered → (opened.source.is_told ≡ true → behind_start (is_named (name ∷ [])) (ahead opened) ≡ Some (ahead entered)) → EntersSection name path old entered
-section_entered {name = name} {path = path} {old = old} {opened = opened} {entered = entered} is same counted opens reads element behind =
+pub section_entered : {name path : List ℕ} {found : Bool} {old : PackageState}
+    {opened entered : Reading} → found ≡ true → SameParts old opened.source
+    → OpenCounts found old opened.source → (old.is_told ≡ true → Opens path found old opened.source)
+    → ReadsOn opened entered → IsAtElement entered
+    → (opened.source.is_told ≡ true → behind_start (is_named (name ∷ [])) (ahead opened)
+    ≡ Some (ahead entered)) → EntersSection name path old entered
+section_entered {name = name} {path = path} {old = old} {opened = opened} {entered =
+    entered} is same counted opens reads element behind =
     let counts : OpenCounts true old opened.source = rw is at counted in
-    let opening : old.is_told ≡ true → Opens path true old opened.source = λ told. rw is at (opens told) in
+    let opening : old.is_told ≡ true → Opens path true old opened.source =
+    λ told. rw is at (opens told) in
     let there : old.is_told ≡ true → part_of old.parts path ≡ Some (events_of opened) = λ told.
-    (opening told).part ∙ ap (λ (past : List Event). Some (reverse past ++ opened.source.rest)) (sym (opening told).past)
+    (opening told).part ∙ ap (λ (past : List Event). Some (reverse past ++ opened.source.rest))
+    (sym (opening told).past)
     in
     record {
       reading = reads.stays.reading;
@@ -131,15 +179,23 @@ section_entered {name = name} {path = path} {old = old} {opened = opened} {enter
       };
       faults = reads.stays.faults ∙ counts.faults;
       taken = λ told.
-          let size : events_in old.parts path ≡ length opened.source.rest = ap (λ (part : Option (List Event)). option_map_or length part 0) (opening told).part in
+          let size : events_in old.parts path ≡ length opened.source.rest =
+          ap (λ (part : Option (List Event)). option_map_or length part 0)
+          (opening told).part in
           omega (arith, reads.moves.within (same.is_told ∙ told), counts.taken, size);
-      part = λ told. there told ∙ ap (λ (events : List Event). Some events) (sym (reads.stays.part (same.is_told ∙ told)));
+      part = λ told. there told
+          ∙ ap (λ (events : List Event). Some events)
+          (sym (reads.stays.part (same.is_told ∙ told)));
       section = λ told.
           let told_there = same.is_told ∙ told in
-          first_section_left name opened entered (opening told).past (reads.stays.reading.tracked (reads.moves.parts.is_told ∙ told_there)) (reads.stays.part told_there) (behind told_there);
+          first_section_left name opened entered (opening told).past
+          (reads.stays.reading.tracked (reads.moves.parts.is_told ∙ told_there))
+          (reads.stays.part told_there) (behind told_there);
     }
 
-closed_in : (name : List ℕ) (events : List Event) (found : Option (List Event)) (s : PartSection) → option_map (section_behind events) found ≡ Some s → has_end s ≡ true → option_and_then if_closed found ≡ Some (inside_of s)
+closed_in : (name : List ℕ) (events : List Event) (found : Option (List Event)) (s : PartSection)
+    → option_map (section_behind events) found ≡ Some s → has_end s ≡ true
+    → option_and_then if_closed found ≡ Some (inside_of s)
 closed_in name events None s is closed = absurd (cc)
 closed_in name events (Some ahead) s is closed =
     let same : section_behind events ahead ≡ s = cc in
@@ -147,7 +203,10 @@ closed_in name events (Some ahead) s is closed =
     rw here (ap (λ (own : PartSection). Some (inside_of own)) same)
 
 -- what stands in a section that was entered, and that is closed
-pub closed_entered : {name path : List ℕ} {old : PackageState} {mid : Reading} → EntersSection name path old mid → old.is_told ≡ true → is_closed_ahead (length mid.names) mid ≡ true → closed_section_of name path old.parts ≡ Some (section_ahead (length mid.names) mid)
+pub closed_entered : {name path : List ℕ} {old : PackageState} {mid : Reading}
+    → EntersSection name path old mid → old.is_told ≡ true → is_closed_ahead (length mid.names) mid
+    ≡ true → closed_section_of name path old.parts ≡ Some (section_ahead (length mid.names) mid)
 closed_entered {name = name} {mid = mid} enters told closed =
     ap (option_and_then (closed_section name)) (enters.part told)
-    ∙ closed_in name (events_of mid) (behind_start (is_named (name ∷ [])) (whole (events_of mid))) (section_left (length mid.names) mid) (enters.section told) closed
+    ∙ closed_in name (events_of mid) (behind_start (is_named (name ∷ [])) (whole (events_of mid)))
+    (section_left (length mid.names) mid) (enters.section told) closed

@@ -12,7 +12,8 @@ use Rattle.xlsx_sections.specs.PartSection.{PartSection, inside_of, has_end, las
 use Rattle.xlsx_sections.specs.Refusal.{Refusal, RefusedAs}
 
 -- a part whose first section of a name is closed, with what holds of what stands in it
-pub record IsSoundPart (name path : List ℕ) (parts : List Part) (good : List Event → Type 0) : Type 0 where
+pub record IsSoundPart (name path : List ℕ) (parts : List Part) (good : List Event
+    → Type 0) : Type 0 where
   pub events : List Event
   pub section : PartSection
   pub there : part_of parts path ≡ Some events
@@ -20,25 +21,44 @@ pub record IsSoundPart (name path : List ℕ) (parts : List Part) (good : List E
   pub closed : has_end section ≡ true
   pub holds : good (inside_of section)
 
-in_part : (part : Option (List Event)) (f : List Event → Option (List Event)) (good : List Event → Type 0) → IsSomeAnd (option_and_then f part) good → (events : List Event) × (part ≡ Some events) × IsSomeAnd (f events) good
+in_part : (part : Option (List Event)) (f : List Event → Option (List Event)) (good : List Event
+    → Type 0) → IsSomeAnd (option_and_then f part) good → (events : List Event)
+    × (part ≡ Some events) × IsSomeAnd (f events) good
 in_part None f good is = absurd is
 in_part (Some events) f good is = (events, refl, is)
 
-if_true : (closed : Bool) (inside : List Event) (good : List Event → Type 0) → IsSomeAnd (if closed then Some inside else None) good → (closed ≡ true) × good inside
+if_true : (closed : Bool) (inside : List Event) (good : List Event → Type 0)
+    → IsSomeAnd (if closed then Some inside else None) good → (closed ≡ true) × good inside
 if_true true inside good is = (refl, is)
 if_true false inside good is = absurd is
 
-in_section : (events : List Event) (found : Option (List Event)) (good : List Event → Type 0) → IsSomeAnd (option_and_then if_closed found) good → (section : PartSection) × (option_map (section_behind events) found ≡ Some section) × (has_end section ≡ true) × good (inside_of section)
+in_section : (events : List Event) (found : Option (List Event)) (good : List Event → Type 0)
+    → IsSomeAnd (option_and_then if_closed found) good → (section : PartSection)
+    × (option_map (section_behind events) found ≡ Some section) × (has_end section ≡ true)
+    × good (inside_of section)
 in_section events None good is = absurd is
-in_section events (Some ahead) good is = let both = if_true (is_closed 0 ahead) (content 0 ahead) good is in (section_behind events ahead, refl, both.0, both.1)
+in_section events (Some ahead) good is = let both =
+    if_true (is_closed 0 ahead) (content 0 ahead) good is in
+    (section_behind events ahead, refl, both.0, both.1)
 
-pub is_sound_part : (name path : List ℕ) (parts : List Part) (good : List Event → Type 0) → IsSomeAnd (closed_section_of name path parts) good → IsSoundPart name path parts good
+pub is_sound_part : (name path : List ℕ) (parts : List Part) (good : List Event → Type 0)
+    → IsSomeAnd (closed_section_of name path parts) good → IsSoundPart name path parts good
 is_sound_part name path parts good is =
     let first = in_part (part_of parts path) (closed_section name) good is in
-    let second = in_section first.0 (behind_start (is_named (name ∷ [])) (whole first.0)) good first.2 in
-    record { events = first.0; section = second.0; there = first.1; found = second.1; closed = second.2; holds = second.3 }
+    let second = in_section first.0 (behind_start (is_named (name ∷ [])) (whole first.0)) good
+    first.2 in
+    record {
+      events = first.0;
+      section = second.0;
+      there = first.1;
+      found = second.1;
+      closed =
+          second.2;
+      holds = second.3;
+    }
 
-refused_never : (last : ℕ) (refused : Refusal → Type 0) (error : XlsxError) → ((refusal : Refusal) → refused refusal → ⊥) → RefusedAs last refused error → ⊥
+refused_never : (last : ℕ) (refused : Refusal → Type 0) (error : XlsxError)
+    → ((refusal : Refusal) → refused refusal → ⊥) → RefusedAs last refused error → ⊥
 refused_never last refused (Xml (Entity at)) never cause = never _ cause.2
 refused_never last refused (XmlAttr fault) never cause = never _ cause
 refused_never last refused RelationshipNotFound never cause = never _ cause
@@ -49,21 +69,40 @@ refused_never last refused _ never cause = cause
 both_ends : (s : PartSection) → has_end s ≡ true → has_end s ≡ false → ⊥
 both_ends s closed is_open = cc
 
-no_section_cause : (ending : List Event → Option (List ℕ)) (refused : PartSection → Refusal → Type 0) (s : PartSection) (error : XlsxError) → has_end s ≡ true → ((refusal : Refusal) → refused s refusal → ⊥) → SectionCause ending refused s error → ⊥
-no_section_cause ending refused s (Xml (EndMismatch at)) closed never cause = both_ends s closed cause.1
-no_section_cause ending refused s (Xml (Unclosed at)) closed never cause = both_ends s closed cause.0.1
+no_section_cause : (ending : List Event → Option (List ℕ)) (refused : PartSection → Refusal
+    → Type 0) (s : PartSection) (error : XlsxError) → has_end s ≡ true
+    → ((refusal : Refusal) → refused s refusal → ⊥) → SectionCause ending refused s error → ⊥
+no_section_cause ending refused s (Xml (EndMismatch at)) closed never cause =
+    both_ends s closed cause.1
+no_section_cause ending refused s (Xml (Unclosed at)) closed never cause =
+    both_ends s closed cause.0.1
 no_section_cause ending refused s (XmlEof element) closed never cause = both_ends s closed cause.0.1
-no_section_cause ending refused s error closed never cause = refused_never (last_of s) (refused s) error never cause
+no_section_cause ending refused s error closed never cause =
+    refused_never (last_of s) (refused s) error never cause
 
-pub no_optional_cause : (name path : List ℕ) (parts : List Part) (good : List Event → Type 0) (ending : List Event → Option (List ℕ)) (refused : PartSection → Refusal → Type 0) (error : XlsxError) (is : IsSoundPart name path parts good) → ((refusal : Refusal) → refused is.section refusal → ⊥) → OptionalPartCause name ending refused (part_of parts path) error → ⊥
+pub no_optional_cause : (name path : List ℕ) (parts : List Part) (good : List Event
+    → Type 0) (ending : List Event → Option (List ℕ)) (refused : PartSection → Refusal
+    → Type 0) (error : XlsxError) (is : IsSoundPart name path parts good)
+    → ((refusal : Refusal) → refused is.section refusal → ⊥)
+    → OptionalPartCause name ending refused (part_of parts path) error → ⊥
 no_optional_cause name path parts good ending refused error is never cause =
-    let here : MatchOption (section_in name is.events) (StartCause name is.events error) (λ s. SectionCause ending refused s error) = subst (λ (part : Option (List Event)). OptionalPartCause name ending refused part error) is.there cause in
-    let there : SectionCause ending refused is.section error = subst (λ (found : Option PartSection). MatchOption found (StartCause name is.events error) (λ s. SectionCause ending refused s error)) is.found here in
+    let here : MatchOption (section_in name is.events) (StartCause name is.events error)
+    (λ s. SectionCause ending refused s error) =
+    subst (λ (part : Option (List Event)). OptionalPartCause name ending refused part error)
+    is.there cause in
+    let there : SectionCause ending refused is.section error =
+    subst (λ (found : Option PartSection). MatchOption found (StartCause name is.events error)
+    (λ s. SectionCause ending refused s error)) is.found here in
     no_section_cause ending refused is.section error is.closed never there
 
-pub no_part_cause : (name path : List ℕ) (parts : List Part) (good : List Event → Type 0) (ending : List Event → Option (List ℕ)) (refused : PartSection → Refusal → Type 0) (error : XlsxError) (is : IsSoundPart name path parts good) → ((refusal : Refusal) → refused is.section refusal → ⊥) → PartCause name ending refused parts path error → ⊥
+pub no_part_cause : (name path : List ℕ) (parts : List Part) (good : List Event
+    → Type 0) (ending : List Event → Option (List ℕ)) (refused : PartSection → Refusal
+    → Type 0) (error : XlsxError) (is : IsSoundPart name path parts good)
+    → ((refusal : Refusal) → refused is.section refusal → ⊥)
+    → PartCause name ending refused parts path error → ⊥
 no_part_cause name path parts good ending refused (FileNotFound wanted) is never cause =
     let none = cause.1 in
     let some = is.there in
     absurd (cc)
-no_part_cause name path parts good ending refused error is never cause = no_optional_cause name path parts good ending refused error is never cause
+no_part_cause name path parts good ending refused error is never cause =
+    no_optional_cause name path parts good ending refused error is never cause

@@ -6,7 +6,8 @@ abbrev pub with_first : {A : Type 0} → A → Result (List A) Refusal → Resul
 with_first first (Ok others) = Ok (first ∷ others)
 with_first first (Err refusal) = Err refusal
 
-abbrev pub and_others : {A : Type 0} → Result A Refusal → Result (List A) Refusal → Result (List A) Refusal
+abbrev pub and_others : {A : Type 0} → Result A Refusal → Result (List A) Refusal
+    → Result (List A) Refusal
 and_others (Ok first) others = with_first first others
 and_others (Err refusal) others = Err refusal
 
@@ -15,27 +16,32 @@ abbrev pub all_answers : {X A : Type 0} → (X → Result A Refusal) → List X 
 all_answers answer [] = Ok []
 all_answers answer (x ∷ xs) = and_others (answer x) (all_answers answer xs)
 
-abbrev pub and_others_if : {A : Type 0} → Result (Option A) Refusal → Result (List A) Refusal → Result (List A) Refusal
+abbrev pub and_others_if : {A : Type 0} → Result (Option A) Refusal → Result (List A) Refusal
+    → Result (List A) Refusal
 and_others_if (Ok (Some first)) others = with_first first others
 and_others_if (Ok None) others = others
 and_others_if (Err refusal) others = Err refusal
 
 -- what each gives that gives something, or the first refusal
-abbrev pub some_answers : {X A : Type 0} → (X → Result (Option A) Refusal) → List X → Result (List A) Refusal
+abbrev pub some_answers : {X A : Type 0} → (X → Result (Option A) Refusal) → List X
+    → Result (List A) Refusal
 some_answers answer [] = Ok []
 some_answers answer (x ∷ xs) = and_others_if (answer x) (some_answers answer xs)
 
-abbrev pub or_earlier : {A : Type 0} → Option A → Result (Option A) Refusal → Result (Option A) Refusal
+abbrev pub or_earlier : {A : Type 0} → Option A → Result (Option A) Refusal
+    → Result (Option A) Refusal
 or_earlier earlier (Ok (Some later)) = Ok (Some later)
 or_earlier earlier (Ok None) = Ok earlier
 or_earlier earlier (Err refusal) = Err refusal
 
-abbrev pub or_later : {A : Type 0} → Result (Option A) Refusal → Result (Option A) Refusal → Result (Option A) Refusal
+abbrev pub or_later : {A : Type 0} → Result (Option A) Refusal → Result (Option A) Refusal
+    → Result (Option A) Refusal
 or_later (Ok earlier) later = or_earlier earlier later
 or_later (Err refusal) later = Err refusal
 
 -- what the last gives that gives something, or the first refusal
-abbrev pub last_answer : {X A : Type 0} → (X → Result (Option A) Refusal) → List X → Result (Option A) Refusal
+abbrev pub last_answer : {X A : Type 0} → (X → Result (Option A) Refusal) → List X
+    → Result (Option A) Refusal
 last_answer answer [] = Ok None
 last_answer answer (x ∷ xs) = or_later (answer x) (last_answer answer xs)
 
@@ -45,7 +51,8 @@ prepended kept (Ok others) = Ok (kept ++ others)
 prepended kept (Err refusal) = Err refusal
 
 -- the two or three values of a lookup
-abbrev pub with_two : {A : Type 0} → (Option (List ℕ) → Option (List ℕ) → A) → A → List (Option (List ℕ)) → A
+abbrev pub with_two : {A : Type 0} → (Option (List ℕ) → Option (List ℕ) → A) → A
+    → List (Option (List ℕ)) → A
 with_two f other [] = other
 with_two f other (a ∷ []) = other
 with_two f other (a ∷ b ∷ []) = f a b

@@ -11,7 +11,8 @@ use Rattle.cell_data.specs.declared.error.XlsxError.{XlsxError}
 use Rattle.cell_data.specs.declared.error.XlsxError.TheVariants.{OutOfMemory, Io, Xml, XmlEof, FileNotFound}
 use Rattle.xlsx_sections.specs.Refusal.{Refusal, RefusedAs}
 
--- What is left of a section: all events of its part, the number of the first event that is left, how many elements are open
+-- What is left of a section: all events of its part, the number of the first event that is left,
+-- how many elements are open
 -- in the section, and what is ahead, up to the first end that breaks the nesting.
 pub record PartSection : Type 0 where
   pub events : List Event
@@ -64,10 +65,13 @@ pub record KeepsSection (base : ℕ) (first now : Reading) : Type 0 where
 abbrev pub EndsOpenIn : PartSection → Type 0
 EndsOpenIn s = (whole s.events ≡ s.events) × (has_end s ≡ false)
 
--- Why a section can't be taken: the nesting breaks or the part ends before its end, or one of its elements is refused.
--- `ending` is the text by which the end of the part is told, by what stands in the section; None where an element is skipped.
+-- Why a section can't be taken: the nesting breaks or the part ends before its end, or one of its
+-- elements is refused.
+-- `ending` is the text by which the end of the part is told, by what stands in the section; None
+-- where an element is skipped.
 abbrev pub SectionCause :
-    (List Event → Option (List ℕ)) → (PartSection → Refusal → Type 0) → PartSection → XlsxError → Type 0
+    (List Event → Option (List ℕ)) → (PartSection → Refusal → Type 0) → PartSection → XlsxError
+    → Type 0
 SectionCause ending refused s (Xml (EndMismatch at)) = BreaksAt s.events at × (has_end s ≡ false)
 SectionCause ending refused s (Xml (Unclosed at)) =
     EndsOpenIn s × (ending (inside_of s) ≡ None) × (at ≡ length s.events)
@@ -106,7 +110,8 @@ StartFails name old new error =
     old.source.is_told ≡ true →
     (behind_start (is_named (name ∷ [])) (ahead old) ≡ None) × StartCause name (events_of old) error
 
--- the part at this path was opened, and is read on behind the start of its first section of this name
+-- the part at this path was opened, and is read on behind the start of its first section of this
+-- name
 pub record EntersSection (name path : List ℕ) (old : PackageState) (new : Reading) : Type 0 where
   pub reading : IsReading new
   pub element : 0 < length new.names
@@ -187,7 +192,8 @@ closed_section name events =
 abbrev pub closed_section_of : List ℕ → List ℕ → List Part → Option (List Event)
 closed_section_of name part parts = option_and_then (closed_section name) (part_of parts part)
 
--- Where a step in a section comes to: the next event is taken, and its number given, or the section's end.
+-- Where a step in a section comes to: the next event is taken, and its number given, or the
+-- section's end.
 abbrev pub StandsAtEvent : ℕ → Option ℕ → Reading → Reading → Type 0
 StandsAtEvent base None old new = TakesEvent old new × (suc (length new.names) ≡ base)
 StandsAtEvent base (Some at) old new =

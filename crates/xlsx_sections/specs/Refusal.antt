@@ -1,4 +1,5 @@
--- Why an element of a section can't be taken, and which error tells of it. A new section adds its refusals to both.
+-- Why an element of a section can't be taken, and which error tells of it. A new section adds its
+-- refusals to both.
 use Rattle.std.specs.Prelude.{◌≡◌, ◌⊎◌, ⊤, ℕ, suc, ◌+◌, List, codes, string_bytes, Result, Ok, Err}
 use Rattle.attr_text.specs.Text.{decoded}
 use Rattle.attr_text.specs.declared.fault.AttrFault.{AttrFault}
@@ -11,7 +12,8 @@ use Rattle.cell_data.specs.declared.error.XlsxError.TheVariants.{OutOfMemory, Xm
 pub data Refusal : Type 0 where
   -- a lookup of its attributes is refused
   lookup_fault : AttrFault → Refusal
-  -- a reference in one of its texts has no character; so many events of the section stand behind the event with the text
+  -- a reference in one of its texts has no character; so many events of the section stand behind
+  -- the event with the text
   no_character : ℕ → Refusal
   -- a sheet has this state, which is none
   unknown_state : List ℕ → Refusal
@@ -20,7 +22,8 @@ pub data Refusal : Type 0 where
   -- the sheet of this path has a type which is none
   unknown_type : List ℕ → Refusal
 
--- An error tells of a refusal, in a section whose end is event number `last` of its part, or would be.
+-- An error tells of a refusal, in a section whose end is event number `last` of its part, or would
+-- be.
 abbrev pub RefusedAs : ℕ → (Refusal → Type 0) → XlsxError → Type 0
 RefusedAs last refused (Xml (Entity at)) =
     (behind : ℕ) × (at + suc behind ≡ last) × refused (no_character behind)
@@ -31,7 +34,8 @@ RefusedAs last refused (Unrecognized typ val) =
     ⊎ ((typ.now ≡ codes "sheet:type") × refused (unknown_type (string_bytes val)))
 RefusedAs last refused _ = ⊥
 
--- An error tells of a refusal at event number `at` of its part, behind which `behind` events of the section stand. Want of
+-- An error tells of a refusal at event number `at` of its part, behind which `behind` events of the
+-- section stand. Want of
 -- memory may come at any event.
 abbrev pub RefusedAt : (Refusal → Type 0) → ℕ → ℕ → XlsxError → Type 0
 RefusedAt refused at behind OutOfMemory = ⊤

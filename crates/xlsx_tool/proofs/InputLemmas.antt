@@ -3,7 +3,7 @@ use Rattle.std.proofs.Common.{◌≡◌, ℕ, ◌+◌, ◌<◌, ◌≤◌, List,
 use Rattle.std.proofs.Common.{ap, subst}
 use Rattle.std.proofs.Common.{Bool, true, false, arith}
 use Rattle.std.proofs.lemmas.List.{append-nil, length-append, length-drop, length-take-le}
-use Rattle.part_events.specs.Package.{Rose}
+use Rattle.part_events.specs.Package.{RisesByOne}
 use Rattle.xlsx_tool.specs.Source.{SourceState}
 use Rattle.xlsx_tool.specs.Input.{InputRead, InputFails, PieceRead, PieceFails, TookTooMany}
 use Rattle.xlsx_tool.specs.declared.error.ToolError.{ToolError}
@@ -59,7 +59,7 @@ pub piece_fails :
     (first now next : SourceState) (error : ToolError)
     → now.faults ≡ first.faults → PieceFails now next error → InputFails first next error
 piece_fails first now next ReadFault same fails =
-    subst (λ (faults : ℕ). Rose faults next.faults) same fails
+    subst (λ (faults : ℕ). RisesByOne faults next.faults) same fails
 piece_fails first now next OutOfMemory same fails = fails ∙ same
 piece_fails first now next _ same fails = absurd fails
 

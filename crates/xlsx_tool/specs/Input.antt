@@ -1,6 +1,6 @@
 -- Reading a source to its end.
 use Rattle.std.specs.Prelude.{◌≡◌, ℕ, ◌+◌, ◌<◌, ◌≤◌, List, [], ◌++◌, length, Bool, true, false}
-use Rattle.part_events.specs.Package.{Rose}
+use Rattle.part_events.specs.Package.{RisesByOne}
 use Rattle.xlsx_tool.specs.Source.{SourceState}
 use Rattle.xlsx_tool.specs.declared.error.ToolError.{ToolError}
 use Rattle.xlsx_tool.specs.declared.error.ToolError.TheVariants.{ReadFault, InputTooLarge}
@@ -24,7 +24,7 @@ pub record TookTooMany (old new : SourceState) : Type 0 where
 
 -- why the input was not read
 abbrev pub InputFails : SourceState → SourceState → ToolError → Type 0
-InputFails old new ReadFault = Rose old.faults new.faults
+InputFails old new ReadFault = RisesByOne old.faults new.faults
 InputFails old new InputTooLarge =
     (new.faults ≡ old.faults) × (old.is_told ≡ true → TookTooMany old new)
 InputFails old new OutOfMemory = new.faults ≡ old.faults
@@ -42,6 +42,6 @@ PieceRead room before after old new false =
     × (old.is_told ≡ true → (old.left ≡ []) × (new.left ≡ []))
 
 abbrev pub PieceFails : SourceState → SourceState → ToolError → Type 0
-PieceFails old new ReadFault = Rose old.faults new.faults
+PieceFails old new ReadFault = RisesByOne old.faults new.faults
 PieceFails old new OutOfMemory = new.faults ≡ old.faults
 PieceFails old new _ = ⊥

@@ -5,7 +5,7 @@ use Rattle.std.specs.Prelude.{string_bytes}
 use Rattle.std.specs.Str.{bytes_eq}
 use Rattle.std.specs.declared.alloc.Global.{Global}
 use Rattle.part_events.specs.Memory.{Contents, closed}
-use Rattle.part_events.specs.Package.{Part, Rose}
+use Rattle.part_events.specs.Package.{Part, RisesByOne}
 use Rattle.xlsx_core.specs.PlainSheet.{PlainCell}
 use Rattle.xlsx_core.specs.ThinReading.{ReadsAs, IsReadable, ThinCause}
 use Rattle.cell_data.specs.declared.error.XlsxError.{XlsxError}
@@ -88,7 +88,7 @@ pub record WroteFront (name : List ℕ) (old new : Streams) : Type 0 where
 
 -- why a command's lines were not had
 abbrev pub ReadingFails : List ℕ → SourceState → SourceState → ToolError → Type 0
-ReadingFails name old new ReadFault = Rose old.faults new.faults
+ReadingFails name old new ReadFault = RisesByOne old.faults new.faults
 ReadingFails name old new InputTooLarge =
     (new.faults ≡ old.faults) × (old.is_told ≡ true → TookTooMany old new)
 ReadingFails name old new NotAPackage =
@@ -113,7 +113,7 @@ pub record RefusesLines (words : List (List ℕ)) (old new : Streams) : Type 0 w
   pub name : List ℕ
   pub asked : sheet_asked words ≡ Some name
   pub source_faults : new.source.faults ≡ old.source.faults
-  pub cause : Rose old.sink.faults new.sink.faults
+  pub cause : RisesByOne old.sink.faults new.sink.faults
   pub front : old.source.is_told ≡ true → WroteFront name old new
 
 -- when a run answers each refusal
@@ -176,5 +176,5 @@ pub record FrontSent (bytes : List ℕ) (old new : SinkState) : Type 0 where
   pub written : old.is_told ≡ true → new.written ≡ old.written ++ front
 
 abbrev pub SendFails : List ℕ → SinkState → SinkState → ToolError → Type 0
-SendFails bytes old new WriteFault = Rose old.faults new.faults × FrontSent bytes old new
+SendFails bytes old new WriteFault = RisesByOne old.faults new.faults × FrontSent bytes old new
 SendFails bytes old new _ = ⊥

@@ -1,7 +1,7 @@
 ghost use Rattle.std.specs.Prelude.{◌≡◌, ◌<◌, ◌≤◌, ◌↔◌, [], length, take, true, false, IsErr, IfOk};
 ghost use Rattle.std.specs.Prelude.{OnOk, OnErr};
 ghost use Rattle.std.specs.Io.KnownBytes.{Appends};
-ghost use Rattle.part_events.specs.Package.{Rose};
+ghost use Rattle.part_events.specs.Package.{RisesByOne};
 ghost use Rattle.xlsx_tool.specs.Sink.{SinkState, KeepsSink, TakesFront, SinkFails};
 ghost use Rattle.xlsx_tool.specs.MemoryForms.{sink_state, FailsToWrite, CountsWrite};
 ghost use Rattle.xlsx_tool.specs.StdForms.{untold_sink, HoldsFront};
@@ -164,7 +164,7 @@ impl<W: Write> StdSink<W> {
     }
 
     fn fail(&mut self) -> SinkFailed
-        ensures cause { Rose self.old.faults self.new.faults }
+        ensures cause { RisesByOne self.old.faults self.new.faults }
         ensures rises { self.old.faults ≤ self.new.faults }
         ensures keeps { self.new.written ≡ self.old.written }
     {

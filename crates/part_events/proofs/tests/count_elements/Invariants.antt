@@ -5,7 +5,11 @@ use Rattle.part_events.proofs.tests.count_elements.Given as goal
 
 abbrev pub invariant-elements : goal.invariant-elements
 invariant-elements g l =
-    record { reading : IsReading (reading_by g.P.Package.state l.reader); within : l.base ≤ length l.reader.cursor.names }
+    record {
+      reading : IsReading (reading_by g.P.Package.state l.reader);
+      within : l.base ≤ length
+          l.reader.cursor.names;
+    }
 
 abbrev pub decreases-elements : goal.decreases-elements
 decreases-elements g l = (reading_by g.P.Package.state l.reader).source.left

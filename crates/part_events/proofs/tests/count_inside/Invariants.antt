@@ -5,7 +5,11 @@ use Rattle.part_events.proofs.tests.count_inside.Given as goal
 
 abbrev pub invariant-inside : goal.invariant-inside
 invariant-inside g l =
-    record { reading : IsReading (reading_by g.P.Package.state l.reader); within : l.base ≤ length l.reader.cursor.names }
+    record {
+      reading : IsReading (reading_by g.P.Package.state l.reader);
+      within : l.base ≤ length
+          l.reader.cursor.names;
+    }
 
 abbrev pub decreases-inside : goal.decreases-inside
 decreases-inside g l = (reading_by g.P.Package.state l.reader).source.left

@@ -4,4 +4,6 @@ use Rattle.std.specs.Str.{bytes_eq}
 use Rattle.part_events.proofs.walk.is_one_of.Given as goal
 
 abbrev pub invariant-loop-name : goal.invariant-loop-name
-invariant-loop-name l = list_any (bytes_eq l.local_name) (map (λ name. name.now) (drop l.name-index l.names)) ≡ list_any (bytes_eq l.local_name) (map (λ name. name.now) l.names)
+invariant-loop-name l =
+    list_any (bytes_eq l.local_name) (map (λ name. name.now) (drop l.name-index l.names))
+    ≡ list_any (bytes_eq l.local_name) (map (λ name. name.now) l.names)

@@ -11,7 +11,9 @@ invariant-events g l =
     let first = g.P.Package.state l.fn.«package» in
     SameParts first now
     × (now.faults ≡ first.faults)
-    × (first.is_told ≡ true → option_map (λ cells. cells_of l.cells.items ++ cells) (cells_from l.scan now.rest) ≡ cells_from beginning first.rest)
+    × (first.is_told ≡ true
+    → option_map (λ cells. cells_of l.cells.items ++ cells) (cells_from l.scan now.rest)
+    ≡ cells_from beginning first.rest)
 
 abbrev pub decreases-events : goal.decreases-events
 decreases-events g l = (g.P.Package.state l.«package»).left

@@ -16,8 +16,10 @@ returns-in-Ok-clause-cells g c = λ told.
     let path = path_listed name xlsx.metadata.sheets.items xlsx.paths.items in
     let opened = c.in-Ok.ensures.opens told in
     let same = c.in-Ok.ensures.uses.parts in
-    IfOk-weaker c.thin_cells-result.result (λ cells. HasCells path mid.parts (cells_of cells.items)) (λ cells. ReadsAs old.parts name (cells_of cells.items))
-    (λ cells has. reads_as name path old mid (cells_of cells.items) same (lists_path name opened.0 opened.1 opened.2) (c.in-Ok.ensures.built told) has)
+    IfOk-weaker c.thin_cells-result.result (λ cells. HasCells path mid.parts (cells_of cells.items))
+    (λ cells. ReadsAs old.parts name (cells_of cells.items))
+    (λ cells has. reads_as name path old mid (cells_of cells.items) same
+    (lists_path name opened.0 opened.1 opened.2) (c.in-Ok.ensures.built told) has)
     (c.thin_cells-result.ensures.cells (same.is_told ∙ told))
 
 pub returns-in-Ok-clause-err : goal.returns-in-Ok-clause-err
@@ -28,8 +30,12 @@ returns-in-Ok-clause-err g c =
     let new = g.P.Package.state c.into_package.result in
     let name = c.args.name.now in
     let path = path_listed name xlsx.metadata.sheets.items xlsx.paths.items in
-    IfErr-weaker c.thin_cells-result.result (SheetFails name path mid (g.P.Package.state c.thin_cells-result.new.self.package)) (ThinFails name old new)
-    (λ e fails. thin_fails name path old mid new e c.in-Ok.ensures.uses.parts c.in-Ok.ensures.uses.faults
+    IfErr-weaker c.thin_cells-result.result
+    (SheetFails name path mid (g.P.Package.state c.thin_cells-result.new.self.package))
+    (ThinFails name old new)
+    (λ e fails. thin_fails name path old mid new e c.in-Ok.ensures.uses.parts
+    c.in-Ok.ensures.uses.faults
     (λ told. let opened = c.in-Ok.ensures.opens told in lists_path name opened.0 opened.1 opened.2)
-    (subst (λ there. SheetFails name path mid (g.P.Package.state there) e) (sym c.into_package.ensures) fails))
+    (subst (λ there. SheetFails name path mid (g.P.Package.state there) e)
+    (sym c.into_package.ensures) fails))
     c.thin_cells-result.ensures.err

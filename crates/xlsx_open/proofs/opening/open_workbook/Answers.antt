@@ -21,17 +21,32 @@ returns-in-Some-clause-opened g c = λ told.
     let made = c.in_ok-from_contents-in-Some.ensures in
     let same = c.in_ok-relationships.ensures.uses.parts in
     let has : HasRelationships old.parts path related =
-    subst (λ (part : List ℕ). IsSomeAnd (closed_section_of (codes "Relationships") part old.parts) (λ inside. (id : List ℕ) → related_in inside id ≡ Ok (related id))) (c.as_str.ensures.value ∙ c.in_ok-part.ensures) (c.in_ok-relationships.ensures.related told)
+    subst (λ (part : List ℕ). IsSomeAnd (closed_section_of (codes "Relationships") part old.parts)
+    (λ inside. (id : List ℕ) → related_in inside id ≡ Ok (related id))) (c.as_str.ensures.value
+    ∙ c.in_ok-part.ensures) (c.in_ok-relationships.ensures.related told)
     in
-    let contents : IsSomeAnd (closed_section_of (codes "workbook") c.as_str-2.result.now mid.parts) (λ inside. IsContents c.folder_of.result.now related inside found) =
+    let contents : IsSomeAnd (closed_section_of (codes "workbook") c.as_str-2.result.now mid.parts)
+    (λ inside. IsContents c.folder_of.result.now related inside found) =
     rw c.in-Some.is at (c.in_ok-contents.ensures.contents (same.is_told ∙ told))
     in
-    let contents_here : IsSomeAnd (closed_section_of (codes "workbook") (workbook_part path) old.parts) (λ inside. IsContents (folder_of path) related inside found) =
-    subst (λ (parts : List Part). IsSomeAnd (closed_section_of (codes "workbook") (workbook_part path) parts) (λ inside. IsContents (folder_of path) related inside found)) same.parts
-    (subst (λ (folder : List ℕ). IsSomeAnd (closed_section_of (codes "workbook") (workbook_part path) mid.parts) (λ inside. IsContents folder related inside found)) c.folder_of.ensures
-    (subst (λ (part : List ℕ). IsSomeAnd (closed_section_of (codes "workbook") part mid.parts) (λ inside. IsContents c.folder_of.result.now related inside found)) (c.as_str-2.ensures.value ∙ c.in_ok-part-2.ensures) contents))
-    in
-    (opening_of found, holds_contents found o.metadata o.paths.items o.is_1904 made.sheets made.paths made.names made.epoch, (related, has, has_contents old.parts path related found contents_here))
+    let contents_here : IsSomeAnd
+    (closed_section_of (codes "workbook") (workbook_part path) old.parts)
+    (λ inside. IsContents (folder_of path) related inside found) =
+    subst (λ (parts : List Part). IsSomeAnd
+    (closed_section_of (codes "workbook") (workbook_part path) parts)
+    (λ inside. IsContents (folder_of path) related inside found)) same.parts
+    (subst (λ (folder : List ℕ). IsSomeAnd
+    (closed_section_of (codes "workbook") (workbook_part path) mid.parts)
+    (λ inside. IsContents folder related inside found)) c.folder_of.ensures
+    (subst (λ (part : List ℕ). IsSomeAnd (closed_section_of (codes "workbook") part mid.parts)
+    (λ inside. IsContents c.folder_of.result.now related inside found))
+    (c.as_str-2.ensures.value ∙ c.in_ok-part-2.ensures) contents))
+    in (
+      opening_of found,
+      holds_contents found o.metadata o.paths.items o.is_1904 made.sheets
+          made.paths made.names made.epoch,
+      (related, has, has_contents old.parts path related found contents_here),
+    )
 
 pub returns-clause-opened : goal.returns-clause-opened
 returns-clause-opened g c = λ told.
@@ -41,10 +56,18 @@ returns-clause-opened g c = λ told.
     let related = related_by_id c.in_ok-relationships.relationships in
     let same = c.in_ok-relationships.ensures.uses.parts in
     let has : HasRelationships old.parts path related =
-    subst (λ (part : List ℕ). IsSomeAnd (closed_section_of (codes "Relationships") part old.parts) (λ inside. (id : List ℕ) → related_in inside id ≡ Ok (related id))) (c.as_str.ensures.value ∙ c.in_ok-part.ensures) (c.in_ok-relationships.ensures.related told)
+    subst (λ (part : List ℕ). IsSomeAnd (closed_section_of (codes "Relationships") part old.parts)
+    (λ inside. (id : List ℕ) → related_in inside id ≡ Ok (related id))) (c.as_str.ensures.value
+    ∙ c.in_ok-part.ensures) (c.in_ok-relationships.ensures.related told)
     in
-    let absent : part_of mid.parts c.as_str-2.result.now ≡ None = rw c.in-None.is at (c.in_ok-contents.ensures.contents (same.is_told ∙ told)) in
+    let absent : part_of mid.parts c.as_str-2.result.now ≡ None =
+    rw c.in-None.is at (c.in_ok-contents.ensures.contents (same.is_told ∙ told)) in
     let absent_here : part_of old.parts (workbook_part path) ≡ None =
-    ap (λ (parts : List Part). part_of parts (workbook_part path)) (sym same.parts) ∙ ap (λ (part : List ℕ). part_of mid.parts part) (sym (c.as_str-2.ensures.value ∙ c.in_ok-part-2.ensures)) ∙ absent
-    in
-    (record { sheets = []; names = []; is_1904 = false }, c.nothing_opened.ensures, (related, has, has_nothing old.parts path related absent_here))
+    ap (λ (parts : List Part). part_of parts (workbook_part path)) (sym same.parts)
+    ∙ ap (λ (part : List ℕ). part_of mid.parts part)
+    (sym (c.as_str-2.ensures.value ∙ c.in_ok-part-2.ensures)) ∙ absent
+    in (
+      record { sheets = []; names = []; is_1904 = false },
+      c.nothing_opened.ensures,
+      (related, has, has_nothing old.parts path related absent_here),
+    )

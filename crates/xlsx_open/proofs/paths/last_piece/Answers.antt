@@ -11,4 +11,5 @@ returns-in-Some c =
 
 pub returns-in-None : goal.returns-in-None
 returns-in-None c =
-    last_piece-none c.args.path.now (rfind_char 47 c.args.path.now None c.in-None.ensures.cases (omega arith))
+    last_piece-none c.args.path.now
+    (rfind_char 47 c.args.path.now None c.in-None.ensures.cases (omega arith))

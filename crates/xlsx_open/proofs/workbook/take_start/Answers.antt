@@ -15,9 +15,14 @@ returns-then-eq-clause-err c =
     let related = related_by_id c.args.places.relationships.now in
     let tag = tag_of c.args.tag in
     let sheet : is_sheet tag ≡ true = search rules in
-    IfErr-weaker c.push_sheet.result (λ e. (behind : ℕ) → ElementFails (sheet_of folder related (placed_at tag behind)) c.args.at behind e)
-    (λ e. (others : List Event) → RefusedAt (AreSheetsRefused folder related c.args.found.now (start tag ∷ others)) c.args.at (length others) e)
-    (λ e fails others. refused_at_weaker c.args.at (length others) _ _ e (λ refusal is. sheet_refused folder related tag refusal c.args.found.now others sheet is) (fails (length others)))
+    IfErr-weaker c.push_sheet.result (λ e. (behind : ℕ)
+    → ElementFails (sheet_of folder related (placed_at tag behind)) c.args.at behind e)
+    (λ e. (others : List Event)
+    → RefusedAt (AreSheetsRefused folder related c.args.found.now (start tag ∷ others))
+    c.args.at (length others) e)
+    (λ e fails others. refused_at_weaker c.args.at (length others) _ _ e
+    (λ refusal is. sheet_refused folder related tag refusal c.args.found.now others sheet is)
+    (fails (length others)))
     c.push_sheet.ensures.err
 
 pub returns-in_err-keep_epoch-clause-err : goal.returns-in_err-keep_epoch-clause-err
@@ -25,7 +30,9 @@ returns-in_err-keep_epoch-clause-err c =
     let tag = tag_of c.args.tag in
     let properties : is_properties tag ≡ true = search rules in
     let p = err_from_is_err_and c.from_residual.result c.from_residual.ensures.1 in
-    rw (p.1, p.2) (λ others. epoch_refused c.args.places.folder.now (related_by_id c.args.places.relationships.now) tag _ c.args.found.now others properties (c.in_err-keep_epoch.ensures.err (length others)))
+    rw (p.1, p.2) (λ others. epoch_refused c.args.places.folder.now
+    (related_by_id c.args.places.relationships.now) tag _ c.args.found.now others properties
+    (c.in_err-keep_epoch.ensures.err (length others)))
 
 pub returns-in_ok-keep_epoch-clause-ok : goal.returns-in_ok-keep_epoch-clause-ok
 returns-in_ok-keep_epoch-clause-ok c = λ others.

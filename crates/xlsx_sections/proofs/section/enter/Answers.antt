@@ -4,4 +4,5 @@ use Rattle.xlsx_sections.proofs.section.enter.Goals as goal
 
 pub returns-in-Ended-clause-err : goal.returns-in-Ended-clause-err
 returns-in-Ended-clause-err g c = λ told.
-    let ends = rw c.in-Ended.is at (c.in_ok-next_start.ensures.found told) in (ends.first, (refl, whole_at_end c.in_ok-next_start.ensures.reads ends.at_end told))
+    let ends = rw c.in-Ended.is at (c.in_ok-next_start.ensures.found told) in
+    (ends.first, (refl, whole_at_end c.in_ok-next_start.ensures.reads ends.at_end told))

@@ -12,14 +12,18 @@ returns-in-Err-clause-err g c =
     let old = reading (g.P.Package.state c.args.package.now) c.args.self.now in
     let mid = reading (g.P.Package.state c.events.package) c.events.self in
     let new = reading (g.P.Package.state c.next_inside.new.package) c.next_inside.new.self in
-    let told_there : old.source.is_told ≡ true → mid.source.is_told ≡ true = λ told. c.events.invariant.reads.moves.parts.is_told ∙ told in
-    let stands : StandsInside c.depth-base.result Found mid new = rw c.in-Found.is at c.in_ok-next_inside.ensures.stands in
+    let told_there : old.source.is_told ≡ true → mid.source.is_told ≡ true =
+    λ told. c.events.invariant.reads.moves.parts.is_told ∙ told in
+    let stands : StandsInside c.depth-base.result Found mid new =
+    rw c.in-Found.is at c.in_ok-next_inside.ensures.stands in
     rw (c.text_error.ensures.fails, c.text_error.ensures.error)
-    (event_fails c.args.char_data c.depth-base.result old mid new _ _ c.in-Err.fault c.events.invariant.read
+    (event_fails c.args.char_data c.depth-base.result old mid new _ _ c.in-Err.fault
+    c.events.invariant.read
     (λ told. c.events.invariant.reads.stays.reading.tracked (told_there told))
     (λ told. rw c.in-Found.is at (c.in_ok-next_inside.ensures.inside (told_there told)))
     stands.0.at
-    (λ told. c.in_ok-next_inside.ensures.reads.stays.part (told_there told) ∙ c.events.invariant.reads.stays.part told)
+    (λ told. c.in_ok-next_inside.ensures.reads.stays.part (told_there told)
+    ∙ c.events.invariant.reads.stays.part told)
     (rw (← c.event.ensures) c.in-Err.ensures.err))
 
 pub events-preserved : goal.events-preserved
@@ -32,10 +36,16 @@ events-preserved g c =
       within = search rules;
       base = search rules;
       read = λ told.
-          let told_there : mid.source.is_told ≡ true = c.events.invariant.reads.moves.parts.is_told ∙ told in
-          let stands : StandsInside c.depth-base.result Found mid new = rw c.in-Found.is at c.in_ok-next_inside.ensures.stands in
-          let takes : TakesInside c.depth-base.result mid new = rw c.in-Found.is at (c.in_ok-next_inside.ensures.inside told_there) in
-          has_read_more c.args.char_data c.depth-base.result old mid new _ _ _ (c.events.invariant.read told) takes stands.0.at
-          (c.in-Ok.ensures.ok ∙ ap (λ (event : Event). string_bytes c.events.out ++ event_text c.args.char_data event) c.event.ensures)
+          let told_there : mid.source.is_told ≡ true = c.events.invariant.reads.moves.parts.is_told
+          ∙ told in
+          let stands : StandsInside c.depth-base.result Found mid new =
+          rw c.in-Found.is at c.in_ok-next_inside.ensures.stands in
+          let takes : TakesInside c.depth-base.result mid new =
+          rw c.in-Found.is at (c.in_ok-next_inside.ensures.inside told_there) in
+          has_read_more c.args.char_data c.depth-base.result old mid new _ _ _
+          (c.events.invariant.read told) takes stands.0.at
+          (c.in-Ok.ensures.ok ∙ ap
+          (λ (event : Event). string_bytes c.events.out ++ event_text c.args.char_data event)
+          c.event.ensures)
           (ap is_unknown (sym c.event.ensures) ∙ c.in-Ok.ensures.known);
     }

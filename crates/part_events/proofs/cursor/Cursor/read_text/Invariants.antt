@@ -11,7 +11,8 @@ invariant-events g l =
       reads : ReadsOn old now;
       within : l.base ≤ length l.self.names;
       base : l.base ≡ length l.fn.self.names;
-      read : old.source.is_told ≡ true → HasRead l.char_data l.base old now (string_bytes l.fn.out, string_bytes l.out);
+      read : old.source.is_told ≡ true
+          → HasRead l.char_data l.base old now (string_bytes l.fn.out, string_bytes l.out);
     }
 
 abbrev pub decreases-events : goal.decreases-events

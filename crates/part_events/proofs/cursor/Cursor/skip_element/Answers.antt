@@ -10,11 +10,20 @@ returns-in-Ended-clause-err g c =
     let old = reading (g.P.Package.state c.args.package.now) c.args.self.now in
     let new = reading (g.P.Package.state c.walk.new.package) c.walk.new.self in
     rw (c.leave_open.ensures.fails, c.leave_open.ensures.error) (λ told.
-    let ends : EndsInSection (is_named []) c.depth-depth.result old new = rw c.in-Ended.is at (c.in_ok-walk.ensures.starts told) in
-    let still_told : new.source.is_told ≡ true = c.in_ok-walk.ensures.reads.moves.parts.is_told ∙ told in
-    let some : 0 < length new.names = omega (arith, c.requires.reading.element c.requires.element, c.depth-depth.ensures, rw c.in-Ended.is at c.in_ok-walk.ensures.stands) in
+    let ends : EndsInSection (is_named []) c.depth-depth.result old new =
+    rw c.in-Ended.is at (c.in_ok-walk.ensures.starts told) in
+    let still_told : new.source.is_told ≡ true = c.in_ok-walk.ensures.reads.moves.parts.is_told
+    ∙ told in
+    let some : 0 < length new.names =
+    omega (
+      arith,
+      c.requires.reading.element c.requires.element,
+      c.depth-depth.ensures,
+      rw c.in-Ended.is at c.in_ok-walk.ensures.stands,
+    ) in
     let none : inside c.depth-depth.result old ≡ 0 = omega (arith, c.depth-depth.ensures) in (
       c.in_ok-walk.ensures.reads.stays.part told,
-      ends_open new (c.in_ok-walk.ensures.reads.stays.reading.tracked still_told) ends.at_end.rest some,
+      ends_open new (c.in_ok-walk.ensures.reads.stays.reading.tracked still_told) ends.at_end.rest
+          some,
       ap (λ (n : ℕ). is_closed n (ahead old)) (sym none) ∙ ends.closed,
     ))

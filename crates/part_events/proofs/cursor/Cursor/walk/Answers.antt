@@ -12,9 +12,14 @@ returns-then-accepts-clause-elements g c = λ told.
     let mid = reading (g.P.Package.state c.events.package) c.events.self in
     let new = reading (g.P.Package.state c.next_inside.new.package) c.next_inside.new.self in
     let tag = tag_of c.in-Start.tag in
-    let told_there : mid.source.is_told ≡ true = c.events.invariant.reads.moves.parts.is_told ∙ told in
-    let stands : StandsInside c.args.base Found mid new = rw c.in-Found.is at c.in_ok-next_inside.ensures.stands in
-    let steps : StepsInside c.args.base Found mid new = rw c.in-Found.is at (c.in_ok-next_inside.ensures.inside told_there) in
+    let told_there : mid.source.is_told ≡ true = c.events.invariant.reads.moves.parts.is_told
+    ∙ told in
+    let stands : StandsInside c.args.base Found mid new =
+    rw c.in-Found.is at c.in_ok-next_inside.ensures.stands in
+    let steps : StepsInside c.args.base Found mid new =
+    rw c.in-Found.is at (c.in_ok-next_inside.ensures.inside told_there) in
     rw (← c.in-Start.ensures)
     (element_later (wants c.args.wanted) c.args.base tag old mid new (c.events.invariant.ahead told)
-    (next_element (wants c.args.wanted) c.args.base tag mid new stands.0 steps.steps c.in-Start.ensures c.events.invariant.within steps.ends (sym c.accepts.ensures ∙ c.if-accepts.true)))
+    (next_element (wants c.args.wanted) c.args.base tag mid new stands.0 steps.steps
+    c.in-Start.ensures c.events.invariant.within steps.ends (sym c.accepts.ensures
+    ∙ c.if-accepts.true)))

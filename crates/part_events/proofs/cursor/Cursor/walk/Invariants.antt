@@ -10,7 +10,8 @@ invariant-events g l =
     record {
       reads : ReadsOn old now;
       within : l.base ≤ length l.self.names;
-      ahead : (g.P.Package.state l.fn.package).is_told ≡ true → SameAhead (wants l.wanted) l.base old now;
+      ahead : (g.P.Package.state l.fn.package).is_told ≡ true
+          → SameAhead (wants l.wanted) l.base old now;
     }
 
 abbrev pub decreases-events : goal.decreases-events

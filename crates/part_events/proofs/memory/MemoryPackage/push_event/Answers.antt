@@ -9,7 +9,10 @@ pub returns-clause-ok : goal.returns-clause-ok
 returns-clause-ok c =
     let parts = c.self.inside.parts.items in
     let some : 0 < length parts = rw (← c.self.view_is) at c.requires in
-    let at : c.len-last.result - 1 ≡ length parts - 1 = omega (arith, c.len-last.ensures, c.self.inside.parts.ok.0) in
+    let at : c.len-last.result - 1 ≡ length parts - 1 =
+    omega (arith, c.len-last.ensures, c.self.inside.parts.ok.0) in
     rw (← c.self.view_is)
-    (ap (λ (seen : List Part). let held : Contents = record { parts = seen; place = None; taken = c.self.inside.taken } in held)
-    (with_event-at parts (event_of c.args.event) (c.len-last.result - 1) c.index_mut.result.now c.push.new.self some at c.index_mut.ensures.value c.in_ok-push.ensures.ok))
+    (ap (λ (seen : List Part). let held : Contents =
+    record { parts = seen; place = None; taken = c.self.inside.taken } in held)
+    (with_event-at parts (event_of c.args.event) (c.len-last.result - 1) c.index_mut.result.now
+    c.push.new.self some at c.index_mut.ensures.value c.in_ok-push.ensures.ok))
