@@ -6,7 +6,7 @@ use Rattle.serde_json.specs.Data.{Data, Items, no_items, item}
 use Rattle.serde_json.specs.Find.{get, as_array, as_str, as_number, as_u64}
 use Rattle.serde_json.specs.Read.{read}
 use Rattle.serde_json.specs.Written.{has_float}
-use Rattle.part_events.specs.Event.{Event, start, end, text, char_data, entity_ref, other}
+use Rattle.part_events.specs.Event.{Event, start, end, leaf, text, char_data, entity_ref, other}
 use Rattle.part_events.specs.Memory.{Contents, closed}
 use Rattle.part_events.specs.Package.{Part}
 
@@ -19,12 +19,12 @@ texts_of (item value rest) =
 -- an event by its kind and texts
 abbrev pub event_of_texts : List (List ℕ) → Option Event
 event_of_texts [] = None
-event_of_texts (kind ∷ []) = if bytes_eq kind (codes "o") then Some other else None
+event_of_texts (kind ∷ []) = if bytes_eq kind (codes "o") then Some (leaf other) else None
 event_of_texts (kind ∷ content ∷ []) =
     if bytes_eq kind (codes "e") then Some (end content)
-    else (if bytes_eq kind (codes "t") then Some (text content)
-    else (if bytes_eq kind (codes "d") then Some (char_data content)
-    else (if bytes_eq kind (codes "r") then Some (entity_ref content) else None)))
+    else (if bytes_eq kind (codes "t") then Some (leaf (text content))
+    else (if bytes_eq kind (codes "d") then Some (leaf (char_data content))
+    else (if bytes_eq kind (codes "r") then Some (leaf (entity_ref content)) else None)))
 event_of_texts (kind ∷ name ∷ attributes ∷ []) =
     if bytes_eq kind (codes "s")
     then Some (start (record { name = name; attributes = attributes })) else None
