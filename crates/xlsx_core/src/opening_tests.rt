@@ -180,6 +180,43 @@ fn sections_are_read_to_their_ends(rt: HostRuntime) -> Result<(), Fail> {
     Ok(())
 }
 
+/// A part of a workbook, and how it is refused: by the start, the reference or the end that is at fault, and by no other
+/// of its kind.
+const PLACES: [((&str, &str), &str); 4] = [
+    (
+        (
+            WORKBOOK_NAME,
+            r#"<workbook><!x><definedName name="n"><!x></definedName></workbook>"#,
+        ),
+        "Xml error: unknown entity at 3",
+    ),
+    (
+        (
+            WORKBOOK_NAME,
+            r#"<sheet name="&x;"/><workbook><sheet name="&x;" r:id="rId1"/></workbook>"#,
+        ),
+        "Xml error: unknown entity at 3",
+    ),
+    (
+        (ROOT_NAME, "<Relationships>"),
+        "Unexpected end of xml, expecting '</Relationships>'",
+    ),
+    (
+        (ROOT_NAME, "<Relationships></x>"),
+        "Xml error: end tag mismatch at 1",
+    ),
+];
+
+#[test]
+fn faults_are_told_at_their_places(rt: HostRuntime) -> Result<(), Fail> {
+    let alloc = rt.alloc();
+    for (part, want) in PLACES {
+        let package = package_of(alloc, &[part, ROOT, RELATIONSHIPS, WORKBOOK])?;
+        assert_eq!(rt; told(alloc, package)?.as_str(), want);
+    }
+    Ok(())
+}
+
 /// The parts of a workbook, how many tags its section takes, and how its cut part is refused.
 const CUT: [((&str, &str), usize, &str); 3] = [
     (
