@@ -1,14 +1,14 @@
 -- Places of an area, and the area of cells.
-use Rattle.std.proofs.Common.{◌≡◌, ℕ, ◌+◌, ◌-◌, ◌*◌, ◌/◌, ◌%◌, ◌<◌, ◌≤◌, min, max, List, [], ◌∷◌, length, Option, Some, None, ◌++◌, All, IfSome, refl, ap, subst, sym, ◌∙◌, arith, zero, suc}
+use Rattle.std.proofs.Common.{◌≡◌, ℕ, ◌+◌, ◌-◌, ◌*◌, ◌<◌, ◌≤◌, min, max, List, [], ◌∷◌, Option, Some, None, ◌++◌, All, IfSome, refl, ap, ◌∙◌, arith}
 use Rattle.std.proofs.Math.Nat.{mul-le-mul_right}
 use Rattle.std.proofs.lemmas.List.Elements.{All-head, All-tail}
-use Rattle.cell_refs.specs.Dimensions.{span, cell_count, IsInside}
-use Rattle.cell_refs.specs.declared.TheConstants.{MAX_ROWS, MAX_COLUMNS}
+use Rattle.cell_refs.specs.Dimensions.{cell_count, IsInside}
 use Rattle.cell_refs.specs.declared.dimensions.Dimensions.{Dimensions}
 use Rattle.cell_styles.specs.StyleMap.{StyledCell, IsOnSheet, IsArea, widened, bounds_of, place_in, width_of, height_of}
 
 -- a row and a column below the numbers of both
-below_both : (row column rows width : ℕ) → row < rows → column < width → row * width + column < rows * width
+below_both : (row column rows width : ℕ) → row < rows → column < width
+    → row * width + column < rows * width
 below_both row column rows width h i =
     let grows : (row + 1) * width ≤ rows * width = mul-le-mul_right width (omega arith) in
     let one : (row + 1) * width ≡ row * width + width =
@@ -26,10 +26,15 @@ place_within area row column whole inside =
 widened_area : (area : Option Dimensions) (cell : StyledCell) → IsOnSheet cell → IfSome area IsArea
     → IsArea (widened area cell)
 widened_area None cell on whole = (omega arith, omega arith, on.0, on.1)
-widened_area (Some area) cell on whole =
-    (omega (arith, whole.0), omega (arith, whole.1), omega (arith, on.0, whole.2), omega (arith, on.1, whole.3))
+widened_area (Some area) cell on whole = (
+  omega (arith, whole.0),
+  omega (arith, whole.1),
+  omega (arith, on.0, whole.2),
+  omega (arith, on.1, whole.3),
+)
 
-pub bounds_are_area : (cells : List StyledCell) → All IsOnSheet cells → IfSome (bounds_of cells) IsArea
+pub bounds_are_area : (cells : List StyledCell) → All IsOnSheet cells
+    → IfSome (bounds_of cells) IsArea
 bounds_are_area [] all = tt
 bounds_are_area (cell ∷ cells) all =
     widened_area (bounds_of cells) cell (All-head IsOnSheet cell cells all)

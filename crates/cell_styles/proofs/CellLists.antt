@@ -1,5 +1,5 @@
 -- The cells of an area, by their ids.
-use Rattle.std.proofs.Common.{◌≡◌, ℕ, ◌+◌, ◌-◌, ◌*◌, ◌/◌, ◌%◌, ◌<◌, ◌≤◌, ◌&&◌, nat_lt, List, [], ◌∷◌, ◌++◌, length, replicate, get_or, map, slice_get, slice_index, Bool, true, false, Option, Some, None, All, refl, ap, subst, sym, ◌∙◌, arith, rules, zero, suc, length-append}
+use Rattle.std.proofs.Common.{◌≡◌, ℕ, ◌+◌, ◌-◌, ◌/◌, ◌%◌, ◌<◌, ◌&&◌, nat_lt, List, [], ◌∷◌, ◌++◌, length, replicate, get_or, map, slice_get, true, Some, All, refl, ap, subst, sym, ◌∙◌, arith, suc, length-append}
 use Rattle.std.specs.List.{list_all, range_with_len}
 use Rattle.std.proofs.Math.Nat.{div-lt_iff_lt-mul, mod-lt}
 use Rattle.std.proofs.lemmas.Bool.Decides.{nat_tests}
@@ -9,8 +9,8 @@ use Rattle.cell_refs.specs.declared.dimensions.Dimensions.{Dimensions}
 use Rattle.cell_styles.specs.declared.style.Style.{Style}
 use Rattle.cell_styles.specs.declared.style_runs.StyleRun.{StyleRun}
 use Rattle.cell_styles.specs.StyleItems.{CellStyle, cells_along, cells_in, cells_of, LieAhead}
-use Rattle.cell_styles.specs.StyleMap.{StyleMap, IsArea, IsSound, position_in, places, place_in, style_at, width_of, height_of}
-use Rattle.cell_styles.specs.StyleRuns.{numbers_along, IsCanonical, end_along}
+use Rattle.cell_styles.specs.StyleMap.{StyleMap, IsArea, IsSound, position_in, style_at, width_of, height_of}
+use Rattle.cell_styles.specs.StyleRuns.{numbers_along, IsCanonical}
 use Rattle.cell_styles.proofs.Lookups.{style_found}
 use Rattle.cell_styles.proofs.Meaning.{place_of_position}
 use Rattle.cell_styles.proofs.RunLists.{end_is}
@@ -25,29 +25,41 @@ position_inside area place whole within =
     let right : place % width < width = mod-lt place some in
     (omega arith, omega (arith, down, whole.0), omega arith, omega (arith, right, whole.1))
 
-style_of_place : (styles : StyleMap) (area : Dimensions) (place : ℕ) → styles.bounds ≡ Some area → IsArea area
+style_of_place : (styles : StyleMap) (area : Dimensions) (place : ℕ) → styles.bounds ≡ Some area
+    → IsArea area
     → place < cell_count area
-    → slice_get styles.palette (get_or styles.ids place 0) ≡ style_at styles (position_in area place)
+    → slice_get styles.palette (get_or styles.ids place 0)
+    ≡ style_at styles (position_in area place)
 style_of_place styles area place is whole within =
     style_found styles area (position_in area place) (get_or styles.ids place 0) is
-    (position_inside area place whole within) (ap (λ n. get_or styles.ids n 0) (sym (place_of_position area place)))
+    (position_inside area place whole within)
+    (ap (λ n. get_or styles.ids n 0) (sym (place_of_position area place)))
 
 -- the cell of a place
 abbrev cell_at : StyleMap → Dimensions → ℕ → CellStyle
-cell_at styles area place =
-    ((position_in area place).0, (position_in area place).1, style_at styles (position_in area place))
+cell_at styles area place = (
+  (position_in area place).0,
+  (position_in area place).1,
+  style_at styles (position_in area place),
+)
 
-listed : (styles : StyleMap) (area : Dimensions) (place : ℕ) (ids : List ℕ) → styles.bounds ≡ Some area
+listed : (styles : StyleMap) (area : Dimensions) (place : ℕ) (ids : List ℕ) → styles.bounds
+    ≡ Some area
     → IsArea area → place + length ids ≡ cell_count area
     → ((k : ℕ) → k < length ids → get_or ids k 0 ≡ get_or styles.ids (place + k) 0)
-    → cells_along area styles.palette place ids ≡ map (cell_at styles area) (range_with_len place (length ids))
+    → cells_along area styles.palette place ids
+    ≡ map (cell_at styles area) (range_with_len place (length ids))
 listed styles area place [] is whole ends same = refl
 listed styles area place (id ∷ ids) is whole ends same =
     let here : id ≡ get_or styles.ids place 0 =
-    same 0 (omega arith) ∙ ap (λ n. get_or styles.ids n 0) (let e : place + 0 ≡ place = omega arith in e) in
-    let style = ap (slice_get styles.palette) here ∙ style_of_place styles area place is whole (omega arith) in
+    same 0 (omega arith)
+    ∙ ap (λ n. get_or styles.ids n 0) (let e : place + 0 ≡ place = omega arith in e) in
+    let style = ap (slice_get styles.palette) here
+    ∙ style_of_place styles area place is whole (omega arith) in
     let rest = listed styles area (place + 1) ids is whole (omega arith)
-    (λ k h. same (suc k) (omega arith) ∙ ap (λ n. get_or styles.ids n 0) (let e : place + suc k ≡ place + 1 + k = omega arith in e)) in
+    (λ k h. same (suc k) (omega arith)
+    ∙ ap (λ n. get_or styles.ids n 0) (let e : place + suc k ≡ place + 1 + k = omega arith in
+    e)) in
     λ i. ((position_in area place).0, (position_in area place).1, style i) ∷ rest i
 
 pub cells_are : (styles : StyleMap) (area : Dimensions) → styles.bounds ≡ Some area → IsArea area
@@ -61,7 +73,8 @@ cells_are styles area is whole all =
 
 -- every run has its number among the numbers
 pub ids_below : (count start : ℕ) (runs : List StyleRun) → IsCanonical start runs
-    → All (λ id. id < count) (numbers_along start runs) → list_all (λ run. nat_lt run.id count) runs ≡ true
+    → All (λ id. id < count) (numbers_along start runs) → list_all (λ run. nat_lt run.id count) runs
+    ≡ true
 ids_below count start [] whole all = refl
 ids_below count start (run ∷ runs) whole all =
     let below : start < run.end = whole.0 in
@@ -81,7 +94,8 @@ ids_below count start (run ∷ runs) whole all =
     λ i. test i && others i
 
 -- the runs of a sound range lie ahead
-pub all_ahead : (area : Dimensions) (count : ℕ) (ids : List ℕ) (runs : List StyleRun) → IsSound (Some area) count ids
+pub all_ahead : (area : Dimensions) (count : ℕ) (ids : List ℕ) (runs : List StyleRun)
+    → IsSound (Some area) count ids
     → numbers_along 0 runs ≡ ids → IsCanonical 0 runs → LieAhead area count 0 runs
 all_ahead area count ids runs sound view canonical =
     let ends = end_is 0 runs canonical in
@@ -102,10 +116,14 @@ none_ahead = record {
   below = refl;
 }
 
-pub cells_of_area : (styles : StyleMap) (area : Dimensions) (palette : List Style) (ids : List ℕ) (runs : List StyleRun)
-    → styles ≡ record { bounds = Some area; palette = palette; ids = ids } → IsSound (Some area) (length palette) ids
-    → numbers_along 0 runs ≡ ids → cells_along area palette 0 (numbers_along 0 runs) ≡ cells_of styles
+pub cells_of_area : (styles : StyleMap) (area : Dimensions) (palette : List Style) (ids : List ℕ)
+    (runs : List StyleRun)
+    → styles ≡ record { bounds = Some area; palette = palette; ids = ids }
+    → IsSound (Some area) (length palette) ids
+    → numbers_along 0 runs ≡ ids → cells_along area palette 0 (numbers_along 0 runs)
+    ≡ cells_of styles
 cells_of_area styles area palette ids runs is sound view =
     ap (cells_along area palette 0) view
-    ∙ (cells_are (record { bounds = Some area; palette = palette; ids = ids }) area refl sound.0 sound.1
+    ∙ (cells_are (record { bounds = Some area; palette = palette; ids = ids }) area refl sound.0
+    sound.1
     ∙ ap cells_of (sym is))

@@ -1,5 +1,5 @@
 -- Comparisons hold exactly of equal values, part by part.
-use Rattle.std.proofs.Common.{◌≡◌, ◌↔◌, Bool, true, false, ◌&&◌, Option, Some, None, ℕ, List, nat_eq, refl, ap, subst, sym, ◌∙◌, rules}
+use Rattle.std.proofs.Common.{◌≡◌, Bool, true, false, ◌&&◌, Some, None, nat_eq, refl, ap, subst, sym, ◌∙◌, rules}
 use Rattle.std.proofs.Props.{props}
 use Rattle.std.specs.Bool.{beq}
 use Rattle.std.specs.Prelude.{ℤ, pos}
@@ -55,10 +55,13 @@ of_pairs {X} {Y} {eq} {eq'} first second a b =
     back = λ i. (first a.0 a.0).1 refl i && (second a.1 a.1).1 refl i
 
 -- a comparison of what a value is made from
-of_image : {X Y : Type 0} {eq : Y → Y → Bool} (f : X → Y) (back : Y → X) → ((x : X) → back (f x) ≡ x)
+of_image : {X Y : Type 0} {eq : Y → Y → Bool} (f : X → Y) (back : Y → X)
+    → ((x : X) → back (f x) ≡ x)
     → IsEquality eq → IsEquality (λ (a b : X). eq (f a) (f b))
-of_image f back same whole a b =
-    (λ h. sym (same a) ∙ (ap back ((whole (f a) (f b)).0 h) ∙ same b), λ h. (whole (f a) (f b)).1 (ap f h))
+of_image f back same whole a b = (
+  λ h. sym (same a) ∙ (ap back ((whole (f a) (f b)).0 h) ∙ same b),
+  λ h. (whole (f a) (f b)).1 (ap f h),
+)
 
 -- a comparison of options
 pub of_options : {X : Type 0} {eq : X → X → Bool} → IsEquality eq → IsEquality (option_eq eq)
@@ -118,7 +121,10 @@ of_number a b = search rules
 
 pub of_alignment : IsEquality alignment.ghosts.eq
 of_alignment = of_image
-    (λ (x : Alignment). (x.horizontal, (x.vertical, (x.text_rotation, (x.wrap_text, (x.indent, x.shrink_to_fit))))))
+    (λ (x : Alignment). (
+      x.horizontal,
+      (x.vertical, (x.text_rotation, (x.wrap_text, (x.indent, x.shrink_to_fit)))),
+    ))
     (λ p. record {
       horizontal = p.0;
       vertical = p.1.0;
@@ -138,7 +144,8 @@ abbrev IsDecimal : ℤ × ℤ → Type 0
 IsDecimal parts = (parts.0 ≡ pos 0 → parts.1 ≡ pos 0) × IsTrimmed parts.0
 
 abbrev decimal_of : (parts : ℤ × ℤ) → IsDecimal parts → Decimal
-decimal_of parts facts = record { mantissa = parts.0; exponent = parts.1; zero = facts.0; trimmed = facts.1 }
+decimal_of parts facts =
+    record { mantissa = parts.0; exponent = parts.1; zero = facts.0; trimmed = facts.1 }
 
 abbrev parts_of : Decimal → ℤ × ℤ
 parts_of number = (number.mantissa, number.exponent)
@@ -147,7 +154,10 @@ same_decimal : (a b : Decimal) → parts_of a ≡ parts_of b → a ≡ b
 same_decimal a b e =
     let whole : (parts : ℤ × ℤ) → IsProp (IsDecimal parts) = hlevel props in
     subst (λ parts. (facts : IsDecimal parts) → a ≡ decimal_of parts facts) e
-    (λ facts. ap (decimal_of (parts_of a)) (whole (parts_of a) (a.zero, a.trimmed) facts)) (b.zero, b.trimmed)
+    (λ facts. ap (decimal_of (parts_of a)) (whole (parts_of a) (a.zero, a.trimmed) facts)) (
+      b.zero,
+      b.trimmed,
+    )
 
 of_whole : IsEquality int_eq
 of_whole a b = search rules
@@ -168,7 +178,10 @@ of_underline a b = search rules
 
 pub of_font : IsEquality font.ghosts.eq
 of_font = of_image
-    (λ (x : FontFields). (x.name, (x.size, (x.weight, (x.style, (x.underline, (x.strikethrough, (x.color, x.family))))))))
+    (λ (x : FontFields). (
+      x.name,
+      (x.size, (x.weight, (x.style, (x.underline, (x.strikethrough, (x.color, x.family)))))),
+    ))
     (λ p. record {
       name = p.0;
       size = p.1.0;

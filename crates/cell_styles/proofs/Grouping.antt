@@ -1,5 +1,5 @@
 -- How many groups of equal neighbours a list can have.
-use Rattle.std.proofs.Common.{◌≡◌, ℕ, ◌+◌, ◌*◌, ◌<◌, ◌≤◌, ◌==◌, if◌then◌else◌, List, [], ◌∷◌, Bool, true, false, nat_lt, count_by, refl, rules, arith, zero, suc}
+use Rattle.std.proofs.Common.{◌≡◌, ℕ, ◌+◌, ◌*◌, ◌≤◌, ◌==◌, if◌then◌else◌, List, [], ◌∷◌, Bool, true, false, nat_lt, count_by, rules, arith, zero, suc}
 use Rattle.std.proofs.lemmas.List.Sums.{sum_by-cons}
 use Rattle.cell_styles.specs.Groups.{group_count}
 
@@ -9,7 +9,8 @@ is_above_zero id = nat_lt 0 id
 abbrev above_zero : List ℕ → ℕ
 above_zero ids = count_by is_above_zero ids
 
-above_zero-cons : (x : ℕ) (xs : List ℕ) → above_zero (x ∷ xs) ≡ (if is_above_zero x then 1 else 0) + above_zero xs
+above_zero-cons : (x : ℕ) (xs : List ℕ) → above_zero (x ∷ xs)
+    ≡ (if is_above_zero x then 1 else 0) + above_zero xs
 above_zero-cons x xs = sum_by-cons (λ id. if is_above_zero id then 1 else 0) x xs
 
 above_zero-suc : (x : ℕ) (xs : List ℕ) → above_zero (suc x ∷ xs) ≡ 1 + above_zero xs

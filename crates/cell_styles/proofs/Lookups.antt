@@ -1,10 +1,9 @@
 -- The style of a position of the area.
-use Rattle.std.proofs.Common.{◌≡◌, ℕ, ◌+◌, ◌-◌, ◌*◌, ◌<◌, ◌≤◌, ◌&&◌, nat_le, if◌then◌else◌, List, [], ◌∷◌, length, get_or, slice_get, slice_index, Bool, true, false, Option, Some, None, All, refl, ap, subst, sym, ◌∙◌, arith, rules}
+use Rattle.std.proofs.Common.{◌≡◌, ℕ, ◌<◌, List, length, slice_get, slice_index, true, Option, Some, ap, subst, sym, arith}
 use Rattle.std.proofs.lemmas.Bool.Decides.{nat_tests}
-use Rattle.cell_refs.specs.Dimensions.{cell_count, IsInside}
+use Rattle.cell_refs.specs.Dimensions.{IsInside}
 use Rattle.cell_refs.specs.declared.dimensions.Dimensions.{Dimensions}
-use Rattle.cell_styles.specs.declared.style.Style.{Style}
-use Rattle.cell_styles.specs.StyleMap.{StyleMap, IsArea, IsSound, place_in, is_inside, style_in, style_at}
+use Rattle.cell_styles.specs.StyleMap.{StyleMap, IsSound, place_in, is_inside, style_in, style_at}
 use Rattle.cell_styles.proofs.Areas.{place_within}
 
 -- what is known where there is an area
@@ -20,14 +19,18 @@ has_id area count ids pos place sound inside is =
     let within = place_within area pos.0 pos.1 sound.0 inside in
     omega (arith, within, is, sound.1)
 
-pub id_below : (area : Dimensions) (count : ℕ) (ids : List ℕ) (place id : ℕ) → IsSound (Some area) count ids
+pub id_below : (area : Dimensions) (count : ℕ) (ids : List ℕ) (place id : ℕ)
+    → IsSound (Some area) count ids
     → place < length ids → id ≡ slice_index ids place → id < count
-id_below area count ids place id sound within is = subst (λ n. n < count) (sym is) (sound.2 place 0 within)
+id_below area count ids place id sound within is =
+    subst (λ n. n < count) (sym is) (sound.2 place 0 within)
 
-inside_test : (area : Dimensions) (pos : ℕ × ℕ) → IsInside area pos.0 pos.1 → is_inside area pos ≡ true
+inside_test : (area : Dimensions) (pos : ℕ × ℕ) → IsInside area pos.0 pos.1 → is_inside area pos
+    ≡ true
 inside_test area pos inside = grind (arith, nat_tests)
 
-pub style_found : (styles : StyleMap) (area : Dimensions) (pos : ℕ × ℕ) (id : ℕ) → styles.bounds ≡ Some area
+pub style_found : (styles : StyleMap) (area : Dimensions) (pos : ℕ × ℕ) (id : ℕ) → styles.bounds
+    ≡ Some area
     → IsInside area pos.0 pos.1 → id ≡ slice_index styles.ids (place_in area pos)
     → slice_get styles.palette id ≡ style_at styles pos
 style_found styles area pos id is inside e =

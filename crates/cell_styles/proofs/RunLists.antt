@@ -1,6 +1,5 @@
 -- Runs and the numbers that they keep.
-use Rattle.std.proofs.Common.{◌≡◌, ◌≢◌, ◌↔◌, ℕ, ◌+◌, ◌-◌, ◌*◌, ◌<◌, ◌≤◌, ◌==◌, if◌then◌else◌, Bool, true, false, List, [], ◌∷◌, ◌++◌, length, replicate, slice_get, slice_set, Option, Some, None, refl, ap, subst, sym, ◌∙◌, rules, arith, zero, suc, length-append, append_assoc, append-nil, zero-add, inl, inr}
-use Rattle.std.proofs.lemmas.Grind.{common_steps}
+use Rattle.std.proofs.Common.{◌≡◌, ◌≢◌, ℕ, ◌+◌, ◌-◌, ◌<◌, ◌≤◌, ◌==◌, true, false, List, [], ◌∷◌, ◌++◌, length, replicate, slice_get, slice_set, Some, refl, ap, subst, arith, zero, suc, length-append, append_assoc, append-nil, zero-add, inl, inr}
 use Rattle.std.proofs.lemmas.Bool.{eqb-true, eqb-false, eq-eqb}
 use Rattle.std.proofs.lemmas.Bool.Decides.{eqb_tells}
 use Rattle.std.proofs.lemmas.List.{length-replicate, replicate-append-replicate}
@@ -46,7 +45,8 @@ pushed_numbers start (first ∷ runs) run =
     let rest = pushed_numbers first.end runs run in rw rest (simp append_assoc)
 
 pub pushed_canonical : (start : ℕ) (runs : List StyleRun) (run : StyleRun) → IsCanonical start runs
-    → end_along start runs < run.end → last_is run.id runs ≡ false → IsCanonical start (runs ++ run ∷ [])
+    → end_along start runs < run.end → last_is run.id runs ≡ false
+    → IsCanonical start (runs ++ run ∷ [])
 pushed_canonical start [] run whole below other = (below, tt, tt)
 pushed_canonical start (first ∷ []) run whole below other =
     (whole.0, eqb-false _ _ other, (below, tt, tt))
@@ -71,7 +71,8 @@ lengthened_numbers start (suc k) (first ∷ next ∷ runs) run h whole below sam
     let rest = lengthened_numbers first.end k (next ∷ runs) run short whole.2 below same in
     rw rest (simp append_assoc)
 
-pub lengthened_canonical : (start k : ℕ) (runs : List StyleRun) (run : StyleRun) → k + 1 ≡ length runs
+pub lengthened_canonical : (start k : ℕ) (runs : List StyleRun) (run : StyleRun) → k + 1
+    ≡ length runs
     → IsCanonical start runs → end_along start runs ≤ run.end → last_is run.id runs ≡ true
     → IsCanonical start (slice_set runs k run)
 lengthened_canonical start k [] run h whole below same = absurd (omega arith)
@@ -85,7 +86,8 @@ lengthened_canonical start (suc zero) (first ∷ next ∷ []) run h whole below 
       subst (λ x. first.id ≢ x) id whole.1,
       lengthened_canonical first.end zero (next ∷ []) run refl whole.2 below same,
     )
-lengthened_canonical start (suc zero) (first ∷ next ∷ third ∷ runs) run h whole below same = absurd (omega arith)
+lengthened_canonical start (suc zero) (first ∷ next ∷ third ∷ runs) run h whole below same =
+    absurd (omega arith)
 lengthened_canonical start (suc (suc k)) (first ∷ next ∷ runs) run h whole below same = (
   whole.0,
   whole.1,
@@ -107,7 +109,8 @@ pushed runs end id whole room more other =
     record {
       canonical = pushed_canonical 0 runs (record { end = end; id = id }) whole below other;
       numbers = subst (λ n. numbers_along 0 (runs ++ record { end = end; id = id } ∷ [])
-          ≡ numbers_along 0 runs ++ replicate (end - n) id) e (pushed_numbers 0 runs (record { end = end; id = id }));
+          ≡ numbers_along 0 runs ++ replicate (end - n) id) e
+          (pushed_numbers 0 runs (record { end = end; id = id }));
     }
 
 pub lengthened : (runs : List StyleRun) (end id k : ℕ) → k + 1 ≡ length runs → IsCanonical 0 runs
@@ -126,7 +129,8 @@ lengthened runs end id k h whole room same =
 -- no more of a number
 pub none_more : (numbers : List ℕ) (end id : ℕ) → length numbers ≡ end
     → numbers ≡ numbers ++ replicate (end - length numbers) id
-none_more numbers end id h = let none : end - length numbers ≡ 0 = omega arith in rw (none, append-nil)
+none_more numbers end id h = let none : end - length numbers ≡ 0 = omega arith in
+    rw (none, append-nil)
 
 -- a list with a last number isn't empty
 pub last_is_there : (id : ℕ) (runs : List StyleRun) → last_is id runs ≡ true → 0 < length runs
@@ -155,9 +159,11 @@ one_group : (n id : ℕ) (rest : List ℕ) → OtherFirst id rest
 one_group zero id [] other = refl
 one_group zero id (x ∷ xs) other = let differ : (id == x) ≡ false = differs id x other in rw differ
 one_group (suc n) id rest other =
-    let same : (id == id) ≡ true = eq-eqb id id refl in rw (same, zero-add) (one_group n id rest other)
+    let same : (id == id) ≡ true = eq-eqb id id refl in
+    rw (same, zero-add) (one_group n id rest other)
 
-other_first : (start id : ℕ) (runs : List StyleRun) → IsCanonical start runs → BeginsOtherwise id runs
+other_first : (start id : ℕ) (runs : List StyleRun) → IsCanonical start runs
+    → BeginsOtherwise id runs
     → OtherFirst id (numbers_along start runs)
 other_first start id [] whole other = tt
 other_first start id (run ∷ runs) whole other =
@@ -173,5 +179,6 @@ groups_are_runs start (run ∷ runs) whole =
     let below : start < run.end = whole.0 in
     let some : run.end - start ≡ suc (run.end - start - 1) = omega arith in
     let rest = groups_are_runs run.end runs whole.2 in
-    let one = one_group (run.end - start - 1) run.id (numbers_along run.end runs) (other_first run.end run.id runs whole.2 whole.1) in
+    let one = one_group (run.end - start - 1) run.id (numbers_along run.end runs)
+    (other_first run.end run.id runs whole.2 whole.1) in
     rw some (omega (arith, one, rest))

@@ -1,18 +1,21 @@
 -- Runs passed place by place.
-use Rattle.std.proofs.Common.{◌≡◌, ℕ, ◌+◌, ◌-◌, ◌*◌, ◌/◌, ◌%◌, ◌<◌, ◌≤◌, ◌&&◌, List, [], ◌∷◌, ◌++◌, length, replicate, Bool, true, false, slice_index_or, slice_get, Some, refl, ap, subst, sym, ◌∙◌, arith, rules, zero, suc}
+use Rattle.std.proofs.Common.{◌≡◌, ℕ, ◌+◌, ◌-◌, ◌<◌, ◌≤◌, List, [], ◌∷◌, ◌++◌, replicate, Bool, true, slice_get, Some, refl, ap, subst, sym, ◌∙◌, arith, rules, suc}
 use Rattle.std.specs.List.{list_all}
 use Rattle.cell_styles.specs.declared.style_runs.StyleRun.{StyleRun}
-use Rattle.cell_styles.specs.StyleRuns.{numbers_along, BeginsOtherwise, IsCanonical, end_along, PassesOne}
+use Rattle.cell_styles.specs.StyleRuns.{numbers_along, IsCanonical, end_along, PassesOne}
 use Rattle.cell_styles.proofs.RunLists.{end_is}
 
-tail_all : (P : StyleRun → Bool) (run : StyleRun) (runs : List StyleRun) → list_all P (run ∷ runs) ≡ true → list_all P runs ≡ true
+tail_all : (P : StyleRun → Bool) (run : StyleRun) (runs : List StyleRun) → list_all P (run ∷ runs)
+    ≡ true → list_all P runs ≡ true
 tail_all P run runs h = search rules
 
-ends_later : (place : ℕ) (runs : List StyleRun) → IsCanonical place runs → place ≤ end_along place runs
+ends_later : (place : ℕ) (runs : List StyleRun) → IsCanonical place runs
+    → place ≤ end_along place runs
 ends_later place runs whole = omega (arith, end_is place runs whole)
 
 -- the first run ends here
-pub run_ends : (place : ℕ) (run : StyleRun) (others : List StyleRun) → IsCanonical place (run ∷ others)
+pub run_ends : (place : ℕ) (run : StyleRun) (others : List StyleRun)
+    → IsCanonical place (run ∷ others)
     → run.end ≡ place + 1 → PassesOne place (run ∷ others) others
 run_ends place run others whole last =
     let one : run.end - place ≡ suc 0 = omega arith in
@@ -27,7 +30,8 @@ run_ends place run others whole last =
     }
 
 -- the first run goes on
-pub run_goes_on : (place : ℕ) (run : StyleRun) (others : List StyleRun) → IsCanonical place (run ∷ others)
+pub run_goes_on : (place : ℕ) (run : StyleRun) (others : List StyleRun)
+    → IsCanonical place (run ∷ others)
     → (run.end ≡ place + 1 → ⊥) → PassesOne place (run ∷ others) (run ∷ others)
 run_goes_on place run others whole more =
     let begins : place < run.end = whole.0 in
@@ -43,7 +47,8 @@ run_goes_on place run others whole more =
     }
 
 -- runs that are left end behind their place
-pub begins_before_end : (place : ℕ) (runs : List StyleRun) (first : StyleRun) → IsCanonical place runs
+pub begins_before_end : (place : ℕ) (runs : List StyleRun) (first : StyleRun)
+    → IsCanonical place runs
     → Some first ≡ slice_get runs 0 → place < end_along place runs
 begins_before_end place [] first whole there = absurd (cc)
 begins_before_end place (run ∷ runs) first whole there =

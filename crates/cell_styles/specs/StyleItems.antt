@@ -1,5 +1,5 @@
 -- The positions of an area with their styles or ids, row by row.
-use Rattle.std.specs.Prelude.{◌≡◌, ◌≢◌, ℕ, ◌+◌, ◌<◌, ◌≤◌, ◌==◌, if◌then◌else◌, List, [], ◌∷◌, map, filter, nat_lt, Option, Some, None, true, length, slice_get, slice_index}
+use Rattle.std.specs.Prelude.{◌≡◌, ◌≢◌, ℕ, ◌+◌, ◌≤◌, ◌==◌, if◌then◌else◌, List, [], ◌∷◌, map, filter, nat_lt, Option, Some, None, true, slice_get, slice_index}
 use Rattle.std.specs.List.{list_all}
 use Rattle.cell_refs.specs.Dimensions.{cell_count}
 use Rattle.cell_refs.specs.declared.dimensions.Dimensions.{Dimensions}
@@ -23,7 +23,11 @@ cells_along area palette place (id ∷ ids) =
 abbrev pub cells_in : Option Dimensions → StyleMap → List CellStyle
 cells_in None styles = []
 cells_in (Some area) styles =
-    map (λ place. ((position_in area place).0, (position_in area place).1, style_at styles (position_in area place)))
+    map (λ place. (
+      (position_in area place).0,
+      (position_in area place).1,
+      style_at styles (position_in area place),
+    ))
     (places area)
 
 abbrev pub cells_of : StyleMap → List CellStyle
@@ -42,14 +46,19 @@ styled_along area place [] = []
 styled_along area place (id ∷ ids) =
     if id == 0
     then styled_along area (place + 1) ids
-    else ((position_in area place).0, (position_in area place).1, id) ∷ styled_along area (place + 1) ids
+    else (
+      (position_in area place).0,
+      (position_in area place).1,
+      id,
+    ) ∷ styled_along area (place + 1) ids
 
 -- each position of the area with an id above 0, and that id
 abbrev pub styled_in : Option Dimensions → List ℕ → List StyledCell
 styled_in None ids = []
 styled_in (Some area) ids =
     filter (λ cell. nat_lt 0 cell.2)
-    (map (λ place. ((position_in area place).0, (position_in area place).1, slice_index ids place)) (places area))
+    (map (λ place. ((position_in area place).0, (position_in area place).1, slice_index ids place))
+    (places area))
 
 abbrev pub styled_of : StyleMap → List StyledCell
 styled_of styles = styled_in styles.bounds styles.ids
@@ -66,9 +75,11 @@ BeginsStyled [] = Unit {0}
 BeginsStyled (run ∷ runs) = run.id ≢ 0
 
 -- what is left behind a run without style
-pub record PassesBlank (place : ℕ) (runs : List StyleRun) (later : ℕ) (left : List StyleRun) : Type 0 where
+pub record PassesBlank (place : ℕ) (runs : List StyleRun) (later : ℕ) (left : List StyleRun) : Type
+    0 where
   pub canonical : IsCanonical later left
   pub ends : end_along later left ≡ end_along place runs
   pub begins : BeginsStyled left
   pub styled : (area : Dimensions)
-      → styled_along area place (numbers_along place runs) ≡ styled_along area later (numbers_along later left)
+      → styled_along area place (numbers_along place runs)
+      ≡ styled_along area later (numbers_along later left)

@@ -49,14 +49,16 @@ impl Color {
 
     /// Whether red, green and blue are all 0, whatever alpha is.
     pub fn is_black(&self) -> bool
-        ensures { IsTrue result ↔ ((self.now.red ≡ 0) × (self.now.green ≡ 0) × (self.now.blue ≡ 0)) }
+        ensures { let color = self.now in
+            IsTrue result ↔ ((color.red ≡ 0) × (color.green ≡ 0) × (color.blue ≡ 0)) }
     {
         self.red == 0 && self.green == 0 && self.blue == 0
     }
 
     /// Whether red, green and blue are all 255, whatever alpha is.
     pub fn is_white(&self) -> bool
-        ensures { IsTrue result ↔ ((self.now.red ≡ 255) × (self.now.green ≡ 255) × (self.now.blue ≡ 255)) }
+        ensures { let color = self.now in
+            IsTrue result ↔ ((color.red ≡ 255) × (color.green ≡ 255) × (color.blue ≡ 255)) }
     {
         self.red == 255 && self.green == 255 && self.blue == 255
     }

@@ -43,8 +43,8 @@ pub struct Font {
     pub underline: UnderlineStyle,
     pub strikethrough: bool,
     pub color: Option<Color>,
-    /// The number of the font's family (ECMA-376, 18.8.18): 1 is Roman, 2 Swiss, 3 Modern, 4 Script,
-    /// 5 Decorative.
+    /// The number of the font's family (ECMA-376, 18.8.18): 1 is Roman, 2 Swiss, 3 Modern,
+    /// 4 Script, 5 Decorative.
     pub family: Option<u8>,
 }
 

@@ -31,8 +31,8 @@ pub fn equality_is_by_all_fields()
     ensures style { IsEquality ⟦<Style as PartialEq>⟧.eq }
 {}
 
-/// The default of each type: zeros for a color, the variants None, Normal, General and Bottom, false,
-/// and None for what is optional.
+/// The default of each type: zeros for a color, the variants None, Normal, General and Bottom,
+/// false, and None for what is optional.
 pub fn defaults_are_these()
     ensures color { IsOnly ⟦<Color as Default>⟧.is_default default_color }
     ensures border_style { IsOnly ⟦<BorderStyle as Default>⟧.is_default BorderStyle.None }
@@ -42,7 +42,8 @@ pub fn defaults_are_these()
     ensures font_style { IsOnly ⟦<FontStyle as Default>⟧.is_default FontStyle.Normal }
     ensures underline_style { IsOnly ⟦<UnderlineStyle as Default>⟧.is_default UnderlineStyle.None }
     ensures font { IsOnly ⟦<Font as Default>⟧.is_default default_font }
-    ensures horizontal { IsOnly ⟦<HorizontalAlignment as Default>⟧.is_default HorizontalAlignment.General }
+    ensures horizontal { IsOnly ⟦<HorizontalAlignment as Default>⟧.is_default
+        HorizontalAlignment.General }
     ensures vertical { IsOnly ⟦<VerticalAlignment as Default>⟧.is_default VerticalAlignment.Bottom }
     ensures text_rotation { IsOnly ⟦<TextRotation as Default>⟧.is_default TextRotation.None }
     ensures alignment { IsOnly ⟦<Alignment as Default>⟧.is_default default_alignment }

@@ -25,7 +25,10 @@ impl Model for NumberFormat {
 impl NumberFormat {
     /// The format `General` without an id. It stands for a default, which can't take memory.
     pub fn general(alloc: Global) -> Result<NumberFormat, AllocError>
-        ensures { IfOk result (λ format. format ≡ record { format_code = codes "General"; format_id = None }) }
+        ensures { IfOk result (λ format. format ≡ record {
+          format_code = codes "General";
+          format_id = None;
+        }) }
     {
         Ok(NumberFormat {
             format_code: String::from_str(alloc, "General")?,
@@ -52,7 +55,8 @@ impl PartialEq for NumberFormat {
     ghost use Rattle.std.specs.Cmp.Rules.{comparing};
     ghost use Rattle.std.proofs.Common.{rules};
 
-    ghost eq = { eq_of_both (on (λ format. format.format_code) (pointwise nat_eq)) (on (λ format. format.format_id) (option_eq nat_eq)) };
+    ghost eq = { eq_of_both (on (λ format. format.format_code) (pointwise nat_eq))
+        (on (λ format. format.format_id) (option_eq nat_eq)) };
 
     ghost laws = { Prim.search (comparing, rules) };
 

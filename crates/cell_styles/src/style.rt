@@ -32,8 +32,8 @@ impl Style {
             && self.protection.is_none()
     }
 
-    /// Whether the style can be seen at an empty or filled cell: a font that is bold, italic or has a
-    /// color, a fill with a pattern, a border with a line, or an alignment other than the default one.
+    /// Whether anything of the style can be seen: a font that is bold, italic or has a color, a
+    /// fill with a pattern, a border with a line, or an alignment other than the default one.
     pub fn has_visible_properties(&self) -> bool
         ensures { IsTrue result ↔ IsSeen self.now }
     {

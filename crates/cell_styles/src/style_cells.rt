@@ -24,7 +24,8 @@ impl<'a> Model for StyleRangeCells<'a> {
     ghost Value = { List CellStyle };
 
     ghost view = { λ cells.
-        cells_along cells.area cells.palette.now cells.place (numbers_along cells.place cells.runs.now) };
+        cells_along cells.area cells.palette.now cells.place
+        (numbers_along cells.place cells.runs.now) };
 
     ghost invariant = { λ cells.
         LieAhead cells.area (length cells.palette.now) cells.place cells.runs.now };

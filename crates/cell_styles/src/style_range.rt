@@ -15,8 +15,8 @@ use std::sync::ledger::{Blank, Ledger};
 /// Which style each position of a worksheet has, in memory that grows with the number of styled
 /// cells.
 ///
-/// Positions are a row and a column, counted from 0 in the worksheet. A position of the area that has
-/// no style of its own has entry 0 of the palette.
+/// Positions are a row and a column, counted from 0 in the worksheet. A position of the area that
+/// has no style of its own has entry 0 of the palette.
 #[derive(Debug, Drop)]
 pub struct StyleRange {
     bounds: Option<Dimensions>,
@@ -53,9 +53,9 @@ impl StyleRange {
 
     /// The styles of the entries, each a row, a column and an index into the palette.
     ///
-    /// An entry whose index is 0, or at or past the palette's length, is left out. Of several entries
-    /// of one position the first stands. The area spans the entries that are left; without one the
-    /// range is empty. Only want of memory is refused.
+    /// An entry whose index is 0, or at or past the palette's length, is left out. Of several
+    /// entries of one position the first stands. The area spans the entries that are left; without
+    /// one the range is empty. Only want of memory is refused.
     pub fn from_style_ids(
         alloc: Global,
         cells: Vec<(u32, u32, usize)>,
@@ -147,8 +147,8 @@ impl StyleRange {
         self.get_uncounted::<Brand>(pos, Blank::new(1))
     }
 
-    /// The answer of `get`, found in as many steps as the number of runs has binary digits. A step is a
-    /// comparison with the end of a run.
+    /// The answer of `get`, found in as many steps as the number of runs has binary digits. A step
+    /// is a comparison with the end of a run.
     pub fn get_counted<L: Ledger>(&self, pos: (u32, u32), steps: &mut Steps<L>) -> Option<&Style>
         ensures value { option_copied result ≡ style_at self.now pos }
         ensures inside { IsSome result ↔ IsInBounds self.now.bounds pos }

@@ -16,7 +16,8 @@ pub struct StyleRun {
 }
 
 impl StyleRun {
-    // Whether the place lies behind the run. It is the only comparison with a run's end, and a step.
+    // Whether the place lies behind the run. It is the only comparison with a run's end, and a
+    // step.
     fn ends_by<L: Ledger>(&self, place: usize, steps: &mut Steps<L>) -> bool
         ensures answer { IsTrue result ↔ (self.now.end ≤ place) }
         ensures step { steps.new ≡ steps.old + 1 }

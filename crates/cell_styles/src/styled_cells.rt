@@ -8,8 +8,8 @@ use crate::style_runs::{StyleRun, behind_first};
 use cell_refs::Dimensions;
 use std::marker::Model;
 
-/// The positions of an area that have an id above 0, with that id, row by row. A contract sees what is
-/// left of them.
+/// The positions of an area that have an id above 0, with that id, row by row. A contract sees what
+/// is left of them.
 #[derive(Drop)]
 pub struct StyledCells<'a> {
     area: Dimensions,

@@ -25,9 +25,11 @@ below_full tinted room swing sum twice full less high =
 
 -- a number of few places, in parts of ten to the twentieth
 powers : (places : ℕ) → places ≤ 20 → 10 ^ places * 10 ^ (20 - places) ≡ 10 ^ 20
-powers places few = sym (pow-add 10 places (20 - places)) ∙ ap (λ n. 10 ^ n) (let e : places + (20 - places) ≡ 20 = omega arith in e)
+powers places few = sym (pow-add 10 places (20 - places))
+    ∙ ap (λ n. 10 ^ n) (let e : places + (20 - places) ≡ 20 = omega arith in e)
 
-quotient : (size places : ℕ) → places ≤ 20 → size * 10 ^ 20 / 10 ^ places ≡ size * 10 ^ (20 - places)
+quotient : (size places : ℕ) → places ≤ 20 → size * 10 ^ 20 / 10 ^ places
+    ≡ size * 10 ^ (20 - places)
 quotient size places few =
     let some : 0 < 10 ^ places = one-le-pow places 10 (omega arith) in
     let regroup : size * 10 ^ 20 ≡ size * 10 ^ (20 - places) * 10 ^ places =
@@ -41,25 +43,29 @@ pub few_below : (size places : ℕ) → places ≤ 20 → size < 10 ^ places
 few_below size places few below =
     let less : size ≤ 10 ^ places = omega arith in
     let most : size * 10 ^ (20 - places) ≤ 10 ^ 20 =
-    subst (λ n. size * 10 ^ (20 - places) ≤ n) (powers places few) (mul-le-mul_right (10 ^ (20 - places)) less) in
+    subst (λ n. size * 10 ^ (20 - places) ≤ n) (powers places few)
+        (mul-le-mul_right (10 ^ (20 - places)) less) in
     (most, rw (quotient size places few) (omega arith))
 
 pub few_above : (size places : ℕ) → places ≤ 20 → 10 ^ places ≤ size
     → 10 ^ 20 ≡ min (size * 10 ^ 20 / 10 ^ places) (10 ^ 20)
 few_above size places few above =
     let least : 10 ^ 20 ≤ size * 10 ^ (20 - places) =
-    subst (λ n. n ≤ size * 10 ^ (20 - places)) (powers places few) (mul-le-mul_right (10 ^ (20 - places)) above) in
+    subst (λ n. n ≤ size * 10 ^ (20 - places)) (powers places few)
+        (mul-le-mul_right (10 ^ (20 - places)) above) in
     rw (quotient size places few) (omega arith)
 
 -- a number of many places
-pub many : (size places : ℕ) → 20 < places → size * 10 ^ 20 / 10 ^ places ≡ size / 10 ^ (places - 20)
+pub many : (size places : ℕ) → 20 < places → size * 10 ^ 20 / 10 ^ places
+    ≡ size / 10 ^ (places - 20)
 many size places more =
     let whole : 20 + (places - 20) ≡ places = omega arith in
     let split : 10 ^ places ≡ 10 ^ 20 * 10 ^ (places - 20) =
     ap (λ n. 10 ^ n) (sym whole) ∙ pow-add 10 20 (places - 20) in
     ap (λ n. size * 10 ^ 20 / n) split
     ∙ (sym (div-div-eq-div-mul (size * 10 ^ 20) (10 ^ 20) (10 ^ (places - 20)))
-    ∙ ap (λ n. n / 10 ^ (places - 20)) (mul-div_cancel size (let some : 0 < 10 ^ 20 = omega arith in some)))
+    ∙ ap (λ n. n / 10 ^ (places - 20))
+        (mul-div_cancel size (let some : 0 < 10 ^ 20 = omega arith in some)))
 
 pub nothing_left : (size places : ℕ) → size < 2 ^ 128 → 58 < places
     → 0 ≡ min (size * 10 ^ 20 / 10 ^ places) (10 ^ 20)
@@ -83,7 +89,8 @@ pub power_some : (power : ℕ) → 0 < 10 ^ power
 power_some power = one-le-pow power 10 (omega arith)
 
 -- a number of no places that isn't 0
-pub whole_size : (size : ℕ) (power : ℤ) → le_z (pos 0) power ≡ true → (size ≡ 0 → ⊥) → unit ≡ min (parts_of size power) unit
+pub whole_size : (size : ℕ) (power : ℤ) → le_z (pos 0) power ≡ true → (size ≡ 0 → ⊥) → unit
+    ≡ min (parts_of size power) unit
 whole_size size (pos power) whole some =
     let one : 1 ≤ 10 ^ power = power_some power in
     let here : 1 ≤ size = omega arith in

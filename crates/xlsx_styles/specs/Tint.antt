@@ -39,7 +39,8 @@ pub record Fraction : Type 0 where
   pub numerator : ℕ
   pub divisor : ℕ
 
--- a channel of the tinted color, by the sum before and after, where the hue and the saturation stay;
+-- a channel of the tinted color, by the sum before and after, where the hue and the saturation
+-- stay;
 -- a gray, black or white is the sum's half
 abbrev pub shade : ℕ → ℕ → ℕ → ℕ → Fraction
 shade sum tinted zero channel = record { numerator = tinted; divisor = 2 * unit }
@@ -58,4 +59,5 @@ tint_fraction color tint channel =
 -- the whole number nearest to a fraction, halves upward: 2n - 1 ≤ 2x < 2n + 1 for the fraction x
 pub record IsNearest (n : ℕ) (fraction : Fraction) : Type 0 where
   pub low : n * (2 * fraction.divisor) ≤ 2 * fraction.numerator + fraction.divisor
-  pub high : 2 * fraction.numerator + fraction.divisor < n * (2 * fraction.divisor) + 2 * fraction.divisor
+  pub high : 2 * fraction.numerator + fraction.divisor < n * (2 * fraction.divisor) + 2 *
+      fraction.divisor

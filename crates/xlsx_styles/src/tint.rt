@@ -6,8 +6,8 @@ use cell_styles::Color;
 
 const UNIT: u128 = 100_000_000_000_000_000_000;
 
-/// The color, made darker by a negative tint and lighter by a positive one, from -1 for black to 1 for
-/// white. Its hue and saturation stay, and so does its alpha.
+/// The color, made darker by a negative tint and lighter by a positive one, from -1 for black to 1
+/// for white. Its hue and saturation stay, and so does its alpha.
 ///
 /// The tint is cut toward zero after 20 decimals and limited to -1 and 1. Each channel is the whole
 /// number nearest to its exact value, halves upward (ECMA-376, 18.8.3).

@@ -15,17 +15,21 @@ pub loop-low-preserved : goal.loop-low-preserved
 loop-low-preserved g c =
     let runs = c.args.runs.now in
     let middle = middle_of c.loop-low.low c.loop-low.high in
-    let beyond : c.args.place < end_at runs middle = elim (cases_lt c.args.place (end_at runs middle)) [
+    let beyond : c.args.place < end_at runs middle =
+    elim (cases_lt c.args.place (end_at runs middle)) [
       | inl below ↦ below
-      | inr passed ↦ let yes : true ≡ false = sym (c.ends_by.ensures.answer.1 passed) ∙ c.if-ends_by.false in absurd (cc)
+      | inr passed ↦ let yes : true ≡ false = sym (c.ends_by.ensures.answer.1 passed)
+          ∙ c.if-ends_by.false in absurd (cc)
     ] in
     to_left _ _ _ _ _ _ _ c.requires.canonical c.loop-low.invariant c.loop-low-test.true beyond
     c.ends_by.ensures.step
 
 pub bounds-runs-low : goal.bounds-runs-low
 bounds-runs-low g c =
-    (is_found _ _ _ _ _ _ c.requires.canonical c.loop-low.invariant c.loop-low-test.false c.requires.there).0
+    (is_found _ _ _ _ _ _ c.requires.canonical c.loop-low.invariant c.loop-low-test.false
+    c.requires.there).0
 
 pub returns-clause-id : goal.returns-clause-id
 returns-clause-id g c =
-    (is_found _ _ _ _ _ _ c.requires.canonical c.loop-low.invariant c.loop-low-test.false c.requires.there).1
+    (is_found _ _ _ _ _ _ c.requires.canonical c.loop-low.invariant c.loop-low-test.false
+    c.requires.there).1

@@ -4,7 +4,8 @@ use Rattle.xlsx_styles.proofs.Shades.{many, nothing_left, power_fits, power_some
 use Rattle.xlsx_styles.proofs.tint.many_places.Goals as goal
 
 pub returns-then-places-gt58 : goal.returns-then-places-gt58
-returns-then-places-gt58 c = nothing_left c.args.size c.args.places c.ranges.size.fits c.if-places-gt58.true
+returns-then-places-gt58 c =
+    nothing_left c.args.size c.args.places c.ranges.size.fits c.if-places-gt58.true
 
 pub pow-requires : goal.pow-requires
 pow-requires c = power_fits c.args.places c.if-places-gt58.false

@@ -1,10 +1,8 @@
-use Rattle.std.proofs.Common.{◌<◌, [], fold, ◌≡◌, ◌∙◌, sym, ap, subst, Some, List, length, filter, All, rules, arith}
-use Rattle.std.specs.List.Sorted.{IsPermutation, IsNonDecreasingBy, IsStableByKey}
-use Rattle.std.specs.Ordering.{nat_cmp}
+use Rattle.std.proofs.Common.{◌<◌, [], fold, ◌≡◌, ◌∙◌, sym, ap, subst, Some, length, filter, All}
 use Rattle.std.proofs.lemmas.List.Elements.{All-filter}
 use Rattle.cell_refs.specs.Dimensions.{cell_count}
 use Rattle.cell_styles.specs.Filling.{place_of, filled_to, put_in}
-use Rattle.cell_styles.specs.StyleMap.{StyledCell, IsOnSheet, IsArea, is_explicit, bounds_of}
+use Rattle.cell_styles.specs.StyleMap.{IsOnSheet, is_explicit, bounds_of}
 use Rattle.cell_styles.proofs.Meaning.{map_of, sorted_within, map_is_sound, map_is_styles}
 use Rattle.cell_styles.proofs.style_range.StyleRange.from_style_ids.Goals as goal
 
@@ -12,7 +10,8 @@ pub bounds_of-requires : goal.bounds_of-requires
 bounds_of-requires c =
     let here : c.deref.result.now ≡ filter (is_explicit c.len.result) c.args.cells.items =
     c.deref.ensures.value ∙ c.explicit-cells.ensures in
-    subst (All IsOnSheet) (sym here) (All-filter (is_explicit c.len.result) IsOnSheet c.args.cells.items c.requires)
+    subst (All IsOnSheet) (sym here)
+    (All-filter (is_explicit c.len.result) IsOnSheet c.args.cells.items c.requires)
 
 pub filled-requires-clause-places : goal.filled-requires-clause-places
 filled-requires-clause-places c =
@@ -20,39 +19,49 @@ filled-requires-clause-places c =
     let bounds : bounds_of c.explicit-cells.result.items ≡ Some area =
     sym (c.bounds_of.ensures.value ∙ ap bounds_of c.deref.ensures.value) ∙ c.in-Some.is in
     subst (All (λ cell. place_of area cell < cell_count area)) (sym c.deref-in-Some.ensures.value)
-    (sorted_within c.explicit-cells.result.items c.in_ok-cells-in-Some.cells.items area bounds c.in-Some.ensures.area
+    (sorted_within c.explicit-cells.result.items c.in_ok-cells-in-Some.cells.items area bounds
+    c.in-Some.ensures.area
     c.in_ok-cells-in-Some.ensures.permutation)
 
 pub invariant_of-result : goal.invariant_of-result
 invariant_of-result c =
     let area = c.in-Some.bounds in
     let count : c.len.result ≡ length c.args.palette.items = c.len.ensures ∙ c.args.palette.ok.0 in
-    let kept : c.explicit-cells.result.items ≡ filter (is_explicit (length c.args.palette.items)) c.args.cells.items =
+    let kept : c.explicit-cells.result.items
+    ≡ filter (is_explicit (length c.args.palette.items)) c.args.cells.items =
     c.explicit-cells.ensures ∙ ap (λ n. filter (is_explicit n) c.args.cells.items) count in
     let bounds : bounds_of c.explicit-cells.result.items ≡ Some area =
     sym (c.bounds_of.ensures.value ∙ ap bounds_of c.deref.ensures.value) ∙ c.in-Some.is in
-    let filled : c.in_ok-ids-in-Some.ids ≡ filled_to (cell_count area) (fold (put_in area) [] c.in_ok-cells-in-Some.cells.items) =
+    let filled : c.in_ok-ids-in-Some.ids
+    ≡ filled_to (cell_count area) (fold (put_in area) [] c.in_ok-cells-in-Some.cells.items) =
     c.in_ok-ids-in-Some.ensures
-    ∙ ap (λ xs. filled_to (cell_count area) (fold (put_in area) [] xs)) c.deref-in-Some.ensures.value in
+    ∙ ap (λ xs. filled_to (cell_count area) (fold (put_in area) [] xs))
+    c.deref-in-Some.ensures.value in
     let sorted = c.in_ok-cells-in-Some.ensures in
     let made = map_of (length c.args.palette.items) c.args.cells.items c.explicit-cells.result.items
-    c.in_ok-cells-in-Some.cells.items area c.in_ok-ids-in-Some.ids kept bounds c.in-Some.ensures.area
+    c.in_ok-cells-in-Some.cells.items area c.in_ok-ids-in-Some.ids kept bounds
+    c.in-Some.ensures.area
     sorted.stable sorted.permutation sorted.sorted filled in
-    map_is_sound (length c.args.palette.items) c.args.cells.items area c.in_ok-ids-in-Some.ids c.in-Some.ensures.area made
+    map_is_sound (length c.args.palette.items) c.args.cells.items area c.in_ok-ids-in-Some.ids
+    c.in-Some.ensures.area made
 
 pub returns-in_ok-ids-in-Some : goal.returns-in_ok-ids-in-Some
 returns-in_ok-ids-in-Some c =
     let area = c.in-Some.bounds in
     let count : c.len.result ≡ length c.args.palette.items = c.len.ensures ∙ c.args.palette.ok.0 in
-    let kept : c.explicit-cells.result.items ≡ filter (is_explicit (length c.args.palette.items)) c.args.cells.items =
+    let kept : c.explicit-cells.result.items
+    ≡ filter (is_explicit (length c.args.palette.items)) c.args.cells.items =
     c.explicit-cells.ensures ∙ ap (λ n. filter (is_explicit n) c.args.cells.items) count in
     let bounds : bounds_of c.explicit-cells.result.items ≡ Some area =
     sym (c.bounds_of.ensures.value ∙ ap bounds_of c.deref.ensures.value) ∙ c.in-Some.is in
-    let filled : c.in_ok-ids-in-Some.ids ≡ filled_to (cell_count area) (fold (put_in area) [] c.in_ok-cells-in-Some.cells.items) =
+    let filled : c.in_ok-ids-in-Some.ids
+    ≡ filled_to (cell_count area) (fold (put_in area) [] c.in_ok-cells-in-Some.cells.items) =
     c.in_ok-ids-in-Some.ensures
-    ∙ ap (λ xs. filled_to (cell_count area) (fold (put_in area) [] xs)) c.deref-in-Some.ensures.value in
+    ∙ ap (λ xs. filled_to (cell_count area) (fold (put_in area) [] xs))
+    c.deref-in-Some.ensures.value in
     let sorted = c.in_ok-cells-in-Some.ensures in
     let made = map_of (length c.args.palette.items) c.args.cells.items c.explicit-cells.result.items
-    c.in_ok-cells-in-Some.cells.items area c.in_ok-ids-in-Some.ids kept bounds c.in-Some.ensures.area
+    c.in_ok-cells-in-Some.cells.items area c.in_ok-ids-in-Some.ids kept bounds
+    c.in-Some.ensures.area
     sorted.stable sorted.permutation sorted.sorted filled in
     sym (map_is_styles c.args.palette.items c.args.cells.items area c.in_ok-ids-in-Some.ids made)

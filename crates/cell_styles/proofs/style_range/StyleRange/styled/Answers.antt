@@ -6,12 +6,14 @@ use Rattle.cell_styles.proofs.style_range.StyleRange.styled.Goals as goal
 pub new-requires : goal.new-requires
 new-requires c =
     let sound = of_area _ _ _ c.in-Some.area c.self.invariant c.in-Some.is in
-    all_within c.in-Some.area _ _ c.as_slice.result.now sound c.as_slice.ensures.ids c.as_slice.ensures.canonical
+    all_within c.in-Some.area _ _ c.as_slice.result.now sound c.as_slice.ensures.ids
+    c.as_slice.ensures.canonical
 
 pub returns-in-Some : goal.returns-in-Some
 returns-in-Some c =
     let sound = of_area _ _ _ c.in-Some.area c.self.invariant c.in-Some.is in
-    let bounds : c.args.self.now.bounds ≡ Some c.in-Some.area = sym (ap (λ s. s.bounds) c.self.view_is) ∙ c.in-Some.is in
+    let bounds : c.args.self.now.bounds ≡ Some c.in-Some.area =
+    sym (ap (λ s. s.bounds) c.self.view_is) ∙ c.in-Some.is in
     c.new.ensures
     ∙ styled_of_area c.args.self.now c.in-Some.area c.self.inside.ids c.as_slice.result.now bounds
     (sym (ap (λ s. s.ids) c.self.view_is)) sound.1 c.as_slice.ensures.ids

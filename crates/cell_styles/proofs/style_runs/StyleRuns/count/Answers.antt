@@ -8,5 +8,6 @@ pub returns : goal.returns
 returns c =
     let runs = c.self.inside.runs.items in
     let view : numbers_along 0 runs ≡ c.args.self.now = c.self.view_is in
-    let groups : group_count (numbers_along 0 runs) ≡ length runs = groups_are_runs 0 runs c.self.invariant in
+    let groups : group_count (numbers_along 0 runs) ≡ length runs =
+    groups_are_runs 0 runs c.self.invariant in
     omega (arith, ap group_count view, groups, c.len.ensures)

@@ -8,6 +8,7 @@ pub returns-clause-cost : goal.returns-clause-cost
 returns-clause-cost g c =
     let runs = c.self.inside.runs.items in
     let view : numbers_along 0 runs ≡ c.args.self.now = c.self.view_is in
-    let groups : group_count (numbers_along 0 runs) ≡ length runs = groups_are_runs 0 runs c.self.invariant in
+    let groups : group_count (numbers_along 0 runs) ≡ length runs =
+    groups_are_runs 0 runs c.self.invariant in
     let all : length c.deref.result.now ≡ length runs = ap length c.deref.ensures.value in
     omega (arith, ap group_count view, groups, all, c.found_id.ensures.cost)
