@@ -1,5 +1,5 @@
 -- Fractions of channels: none is below 0 or above 255.
-use Rattle.std.proofs.Common.{◌≡◌, ℕ, ◌+◌, ◌-◌, ◌*◌, ◌/◌, ◌^◌, ◌<◌, ◌≤◌, min, refl, ap, subst, sym, ◌∙◌, arith}
+use Rattle.std.proofs.Common.{◌≡◌, ℕ, ◌+◌, ◌-◌, ◌*◌, ◌/◌, ◌^◌, ◌<◌, ◌≤◌, min, ap, subst, sym, ◌∙◌, arith}
 use Rattle.std.specs.Prelude.{ℤ, pos, negsuc, true}
 use Rattle.std.specs.Int.Signed.{le_z}
 use Rattle.xlsx_styles.specs.Tint.{unit, parts_of}
@@ -44,7 +44,7 @@ few_below size places few below =
     let less : size ≤ 10 ^ places = omega arith in
     let most : size * 10 ^ (20 - places) ≤ 10 ^ 20 =
     subst (λ n. size * 10 ^ (20 - places) ≤ n) (powers places few)
-        (mul-le-mul_right (10 ^ (20 - places)) less) in
+    (mul-le-mul_right (10 ^ (20 - places)) less) in
     (most, rw (quotient size places few) (omega arith))
 
 pub few_above : (size places : ℕ) → places ≤ 20 → 10 ^ places ≤ size
@@ -52,7 +52,7 @@ pub few_above : (size places : ℕ) → places ≤ 20 → 10 ^ places ≤ size
 few_above size places few above =
     let least : 10 ^ 20 ≤ size * 10 ^ (20 - places) =
     subst (λ n. n ≤ size * 10 ^ (20 - places)) (powers places few)
-        (mul-le-mul_right (10 ^ (20 - places)) above) in
+    (mul-le-mul_right (10 ^ (20 - places)) above) in
     rw (quotient size places few) (omega arith)
 
 -- a number of many places
@@ -65,7 +65,7 @@ many size places more =
     ap (λ n. size * 10 ^ 20 / n) split
     ∙ (sym (div-div-eq-div-mul (size * 10 ^ 20) (10 ^ 20) (10 ^ (places - 20)))
     ∙ ap (λ n. n / 10 ^ (places - 20))
-        (mul-div_cancel size (let some : 0 < 10 ^ 20 = omega arith in some)))
+    (mul-div_cancel size (let some : 0 < 10 ^ 20 = omega arith in some)))
 
 pub nothing_left : (size places : ℕ) → size < 2 ^ 128 → 58 < places
     → 0 ≡ min (size * 10 ^ 20 / 10 ^ places) (10 ^ 20)

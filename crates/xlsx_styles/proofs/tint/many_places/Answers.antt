@@ -1,4 +1,4 @@
-use Rattle.std.proofs.Common.{◌≡◌, ◌*◌, ◌/◌, ◌^◌, ◌-◌, ◌<◌, min, ap, subst, ◌∙◌, sym, arith}
+use Rattle.std.proofs.Common.{◌≡◌, ◌*◌, ◌/◌, ◌^◌, ◌-◌, min, ap, ◌∙◌, sym}
 use Rattle.xlsx_styles.specs.Tint.{unit}
 use Rattle.xlsx_styles.proofs.Shades.{many, nothing_left, power_fits, power_some}
 use Rattle.xlsx_styles.proofs.tint.many_places.Goals as goal

@@ -1,4 +1,4 @@
-use Rattle.std.proofs.Common.{rules, arith}
+use Rattle.std.proofs.Common.{rules}
 use Rattle.xlsx_styles.proofs.Shades.{whole_size}
 use Rattle.xlsx_styles.proofs.tint.size_of.Goals as goal
 

@@ -1,0 +1,12 @@
+ghost use Rattle.std.specs.Prelude.{◌≡◌, ℕ, ◌+◌, ◌*◌, ◌<◌, ◌≤◌, pos};
+ghost use Rattle.cell_data.specs.declared.decimal.Decimal.{Decimal};
+ghost use Rattle.cell_styles.specs.declared.color.Color.{Color};
+ghost use Rattle.xlsx_styles.specs.Tint.{IsNearest, tint_fraction, channel_sum, room_of};
+
+/// No two channels of a color change their order by a tint.
+#[tactic(auto, using(crate::proofs::Orders::order_kept))]
+pub fn tints_keep_the_order()
+    ensures { (color : Color) (tint : Decimal) (x y m n : ℕ) → x ≤ y
+        → IsNearest m (tint_fraction color tint x) → IsNearest n (tint_fraction color tint y)
+        → m ≤ n }
+{}
