@@ -10,3 +10,12 @@ pub fn tints_keep_the_order()
         → IsNearest m (tint_fraction color tint x) → IsNearest n (tint_fraction color tint y)
         → m ≤ n }
 {}
+
+/// A tint of zero changes no channel.
+#[tactic(auto, using(crate::proofs::Orders::zero_keeps))]
+pub fn tints_of_zero_change_nothing()
+    ensures { (color : Color) (tint : Decimal) (x n : ℕ) → tint.mantissa ≡ pos 0
+        → channel_sum color ≤ 510 → channel_sum color ≤ 2 * x + room_of (channel_sum color)
+        → 2 * x ≤ channel_sum color + room_of (channel_sum color)
+        → IsNearest n (tint_fraction color tint x) → n ≡ x }
+{}

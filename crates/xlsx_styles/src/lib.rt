@@ -5,7 +5,7 @@ mod laws;
 mod theme;
 mod tint;
 
-pub use laws::tints_keep_the_order;
+pub use laws::{tints_keep_the_order, tints_of_zero_change_nothing};
 pub use theme::default_theme_colors;
 pub use tint::apply_tint;
 
