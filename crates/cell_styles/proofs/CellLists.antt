@@ -8,7 +8,7 @@ use Rattle.cell_refs.specs.Dimensions.{cell_count, IsInside}
 use Rattle.cell_refs.specs.declared.dimensions.Dimensions.{Dimensions}
 use Rattle.cell_styles.specs.declared.style.Style.{Style}
 use Rattle.cell_styles.specs.declared.style_runs.StyleRun.{StyleRun}
-use Rattle.cell_styles.specs.StyleItems.{CellStyle, cells_along, cells_in, cells_of, LieAhead}
+use Rattle.cell_styles.specs.StyleItems.{CellStyle, cells_along, cells_in, position_styles, LieAhead}
 use Rattle.cell_styles.specs.StyleMap.{StyleMap, IsArea, IsSound, position_in, style_at, width_of, height_of}
 use Rattle.cell_styles.specs.StyleRuns.{numbers_along, IsCanonical}
 use Rattle.cell_styles.proofs.Lookups.{style_found}
@@ -121,9 +121,9 @@ pub cells_of_area : (styles : StyleMap) (area : Dimensions) (palette : List Styl
     → styles ≡ record { bounds = Some area; palette = palette; ids = ids }
     → IsSound (Some area) (length palette) ids
     → numbers_along 0 runs ≡ ids → cells_along area palette 0 (numbers_along 0 runs)
-    ≡ cells_of styles
+    ≡ position_styles styles
 cells_of_area styles area palette ids runs is sound view =
     ap (cells_along area palette 0) view
     ∙ (cells_are (record { bounds = Some area; palette = palette; ids = ids }) area refl sound.0
     sound.1
-    ∙ ap cells_of (sym is))
+    ∙ ap position_styles (sym is))

@@ -30,8 +30,8 @@ cells_in (Some area) styles =
     ))
     (places area)
 
-abbrev pub cells_of : StyleMap → List CellStyle
-cells_of styles = cells_in styles.bounds styles
+abbrev pub position_styles : StyleMap → List CellStyle
+position_styles styles = cells_in styles.bounds styles
 
 -- runs that begin at a place of an area, with ids of a palette
 pub record LieAhead (area : Dimensions) (count place : ℕ) (runs : List StyleRun) : Type 0 where

@@ -1,7 +1,7 @@
 ghost use Rattle.std.specs.Prelude.{◌≡◌, ◌+◌, ◌-◌, ◌*◌, ◌^◌, ◌<◌, ◌≤◌, ◌↔◌, None, IfOk, IsTrue, IsSome, All, nat_lt, count_by};
 ghost use Rattle.std.specs.Option.{option_map, option_map_or, option_copied};
 ghost use Rattle.cell_styles.specs.Groups.{group_count};
-ghost use Rattle.cell_styles.specs.StyleItems.{cells_of, styled_of};
+ghost use Rattle.cell_styles.specs.StyleItems.{position_styles, styled_of};
 ghost use Rattle.cell_styles.specs.StyleMap.{IsOnSheet, IsInBounds, no_styles, place_in, styles_of, style_at, width_of, height_of};
 
 use crate::filling::{bounds_of, explicit, filled, height, in_order, place_in, width};
@@ -165,7 +165,7 @@ impl StyleRange {
 
     /// The positions of the area with their styles, row by row.
     pub fn cells(&self) -> StyleRangeCells<'_>
-        ensures { result ≡ cells_of self.now }
+        ensures { result ≡ position_styles self.now }
     {
         match self.bounds {
             Some(area) => StyleRangeCells::new(area, &self.palette, self.ids.as_slice()),

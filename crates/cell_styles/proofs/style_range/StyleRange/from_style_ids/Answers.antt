@@ -1,7 +1,7 @@
 use Rattle.std.proofs.Common.{◌<◌, [], fold, ◌≡◌, ◌∙◌, sym, ap, subst, Some, length, filter, All}
 use Rattle.std.proofs.lemmas.List.Elements.{All-filter}
 use Rattle.cell_refs.specs.Dimensions.{cell_count}
-use Rattle.cell_styles.specs.Filling.{place_of, filled_to, put_in}
+use Rattle.cell_styles.specs.Filling.{cell_place, filled_to, put_in}
 use Rattle.cell_styles.specs.StyleMap.{IsOnSheet, is_explicit, bounds_of}
 use Rattle.cell_styles.proofs.Meaning.{map_of, sorted_within, map_is_sound, map_is_styles}
 use Rattle.cell_styles.proofs.style_range.StyleRange.from_style_ids.Goals as goal
@@ -18,7 +18,7 @@ filled-requires-clause-places c =
     let area = c.in-Some.bounds in
     let bounds : bounds_of c.explicit-cells.result.items ≡ Some area =
     sym (c.bounds_of.ensures.value ∙ ap bounds_of c.deref.ensures.value) ∙ c.in-Some.is in
-    subst (All (λ cell. place_of area cell < cell_count area)) (sym c.deref-in-Some.ensures.value)
+    subst (All (λ cell. cell_place area cell < cell_count area)) (sym c.deref-in-Some.ensures.value)
     (sorted_within c.explicit-cells.result.items c.in_ok-cells-in-Some.cells.items area bounds
     c.in-Some.ensures.area
     c.in_ok-cells-in-Some.ensures.permutation)
