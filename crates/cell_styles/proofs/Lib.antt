@@ -8,4 +8,5 @@ pub mod Meaning
 pub mod RunLists
 pub mod RunSearch
 pub mod RunSteps
+pub mod SameRanges
 pub mod StyledLists

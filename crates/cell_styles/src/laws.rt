@@ -1,8 +1,10 @@
-ghost use Rattle.std.specs.Prelude.{◌≡◌, ℕ, ◌^◌, ◌<◌};
+ghost use Rattle.std.specs.Prelude.{◌≡◌, ℕ, ◌^◌, ◌<◌, List, length};
 ghost use Rattle.cell_styles.specs.Color.{argb_of, color_of_argb};
 ghost use Rattle.cell_styles.specs.Default.{IsOnly, default_color, default_border, default_borders, default_font, default_alignment, default_fill, default_protection, default_style};
 ghost use Rattle.cell_styles.specs.Equality.{IsEquality};
+ghost use Rattle.cell_styles.specs.StyleMap.{StyledCell, first_id_at, styles_of};
 ghost use Rattle.cell_styles.specs.declared.color.Color.{Color};
+ghost use Rattle.cell_styles.specs.declared.style.Style.{Style};
 
 use crate::{
     Alignment, Border, BorderStyle, Borders, Color, Fill, FillPattern, Font, FontStyle, FontWeight,
@@ -58,4 +60,14 @@ pub fn colors_read_back()
     ensures number { (argb : ℕ) → argb < 2 ^ 32 → argb_of (color_of_argb argb) ≡ argb }
     ensures color { (color : Color) → color.alpha < 256 → color.red < 256 → color.green < 256
         → color.blue < 256 → color_of_argb (argb_of color) ≡ color }
+{}
+
+/// Entries with the same first explicit id at each position give the same range, whatever their
+/// order and whatever else they hold.
+#[tactic(auto, using(crate::proofs::SameRanges::same_range))]
+pub fn ranges_go_by_first_ids()
+    ensures { (palette : List Style) (one two : List StyledCell)
+        → ((position : ℕ × ℕ) → first_id_at (length palette) one position
+        ≡ first_id_at (length palette) two position)
+        → styles_of palette one ≡ styles_of palette two }
 {}
