@@ -2,7 +2,7 @@
 use Rattle.std.proofs.Common.{◌≡◌, ℕ, ◌+◌, ◌-◌, ◌*◌, ◌<◌, ◌≤◌, min, max, List, [], ◌∷◌, Option, Some, None, ◌++◌, All, IfSome, refl, ap, ◌∙◌, arith}
 use Rattle.std.proofs.Math.Nat.{mul-le-mul_right}
 use Rattle.std.proofs.lemmas.List.Elements.{All-head, All-tail}
-use Rattle.cell_refs.specs.Dimensions.{cell_count, IsInside}
+use Rattle.cell_refs.specs.Dimensions.{cell_count, IsInArea}
 use Rattle.cell_refs.specs.declared.dimensions.Dimensions.{Dimensions}
 use Rattle.cell_styles.specs.StyleMap.{StyledCell, IsOnSheet, IsArea, widened, bounds_of, place_in, width_of, height_of}
 
@@ -16,7 +16,7 @@ below_both row column rows width h i =
     omega arith
 
 -- the place of a position of the area
-pub place_within : (area : Dimensions) (row column : ℕ) → IsArea area → IsInside area row column
+pub place_within : (area : Dimensions) (row column : ℕ) → IsArea area → IsInArea area row column
     → place_in area (row, column) < cell_count area
 place_within area row column whole inside =
     below_both (row - area.start.0) (column - area.start.1) (height_of area) (width_of area)

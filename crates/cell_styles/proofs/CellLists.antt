@@ -4,7 +4,7 @@ use Rattle.std.specs.List.{list_all, range_with_len}
 use Rattle.std.proofs.Math.Nat.{div-lt_iff_lt-mul, mod-lt}
 use Rattle.std.proofs.lemmas.Bool.Decides.{nat_tests}
 use Rattle.std.proofs.lemmas.List.{length-replicate, get_or-append-add, get_or_append_left, get_or-replicate}
-use Rattle.cell_refs.specs.Dimensions.{cell_count, IsInside}
+use Rattle.cell_refs.specs.Dimensions.{cell_count, IsInArea}
 use Rattle.cell_refs.specs.declared.dimensions.Dimensions.{Dimensions}
 use Rattle.cell_styles.specs.declared.style.Style.{Style}
 use Rattle.cell_styles.specs.declared.style_runs.StyleRun.{StyleRun}
@@ -17,7 +17,7 @@ use Rattle.cell_styles.proofs.RunLists.{end_is}
 
 -- the position of a place of the area lies in it
 position_inside : (area : Dimensions) (place : ℕ) → IsArea area → place < cell_count area
-    → IsInside area (position_in area place).0 (position_in area place).1
+    → IsInArea area (position_in area place).0 (position_in area place).1
 position_inside area place whole within =
     let width = width_of area in
     let some : 0 < width = omega (arith, whole.1) in

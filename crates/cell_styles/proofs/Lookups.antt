@@ -1,7 +1,7 @@
 -- The style of a position of the area.
 use Rattle.std.proofs.Common.{◌≡◌, ℕ, ◌<◌, List, length, slice_get, slice_index, true, Option, Some, ap, subst, sym, arith}
 use Rattle.std.proofs.lemmas.Bool.Decides.{nat_tests}
-use Rattle.cell_refs.specs.Dimensions.{IsInside}
+use Rattle.cell_refs.specs.Dimensions.{IsInArea}
 use Rattle.cell_refs.specs.declared.dimensions.Dimensions.{Dimensions}
 use Rattle.cell_styles.specs.StyleMap.{StyleMap, IsSound, place_in, is_inside, style_in, style_at}
 use Rattle.cell_styles.proofs.Areas.{place_within}
@@ -13,7 +13,7 @@ of_area bounds count ids area sound is = subst (λ b. IsSound b count ids) is so
 
 -- the place of a position is that of an id
 pub has_id : (area : Dimensions) (count : ℕ) (ids : List ℕ) (pos : ℕ × ℕ) (place : ℕ)
-    → IsSound (Some area) count ids → IsInside area pos.0 pos.1 → place ≡ place_in area pos
+    → IsSound (Some area) count ids → IsInArea area pos.0 pos.1 → place ≡ place_in area pos
     → place < length ids
 has_id area count ids pos place sound inside is =
     let within = place_within area pos.0 pos.1 sound.0 inside in
@@ -25,13 +25,13 @@ pub id_below : (area : Dimensions) (count : ℕ) (ids : List ℕ) (place id : �
 id_below area count ids place id sound within is =
     subst (λ n. n < count) (sym is) (sound.2 place 0 within)
 
-inside_test : (area : Dimensions) (pos : ℕ × ℕ) → IsInside area pos.0 pos.1 → is_inside area pos
+inside_test : (area : Dimensions) (pos : ℕ × ℕ) → IsInArea area pos.0 pos.1 → is_inside area pos
     ≡ true
 inside_test area pos inside = grind (arith, nat_tests)
 
 pub style_found : (styles : StyleMap) (area : Dimensions) (pos : ℕ × ℕ) (id : ℕ) → styles.bounds
     ≡ Some area
-    → IsInside area pos.0 pos.1 → id ≡ slice_index styles.ids (place_in area pos)
+    → IsInArea area pos.0 pos.1 → id ≡ slice_index styles.ids (place_in area pos)
     → slice_get styles.palette id ≡ style_at styles pos
 style_found styles area pos id is inside e =
     let test = inside_test area pos inside in

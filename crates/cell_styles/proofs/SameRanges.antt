@@ -3,7 +3,7 @@ use Rattle.std.proofs.Common.{◌≡◌, ℕ, ◌<◌, ◌≤◌, ◌==◌, ◌&
 use Rattle.std.proofs.lemmas.Bool.{eqb-true, eq-eqb}
 use Rattle.std.proofs.lemmas.Bool.Decides.{nat_tests}
 use Rattle.std.proofs.lemmas.List.Elements.{All-head, All-tail, All-cons}
-use Rattle.cell_refs.specs.Dimensions.{IsInside}
+use Rattle.cell_refs.specs.Dimensions.{IsInArea}
 use Rattle.cell_refs.specs.declared.dimensions.Dimensions.{Dimensions}
 use Rattle.cell_styles.specs.declared.style.Style.{Style}
 use Rattle.cell_styles.specs.StyleMap.{StyledCell, is_explicit, is_at, first_id_at, widened, bounds_of, position_in, places, styles_in, styles_of, IsInBounds}
@@ -77,7 +77,7 @@ go_inside count cell cells position true true e a rest h =
     eqb-true _ _ (both_true (cell.0 == position.0) (cell.1 == position.1) a).1 in
     let area = widened (bounds_of (explicit count cells)) cell in
     subst (λ es. IsInBounds (bounds_of es) position) (sym (kept (is_explicit count) cell cells e))
-    (subst (λ r. IsInside area r position.1) row (subst (λ k. IsInside area cell.0 k) column
+    (subst (λ r. IsInArea area r position.1) row (subst (λ k. IsInArea area cell.0 k) column
     (widened_has (bounds_of (explicit count cells)) cell)))
 go_inside count cell cells position true false e a rest h =
     let here : 0 < first_id_at count cells position = subst (λ n. 0 < n) (rw (e, a) refl) h in
@@ -104,7 +104,7 @@ Within a b =
     (b.start.0 ≤ a.start.0) × (b.start.1 ≤ a.start.1) × (a.end.0 ≤ b.end.0) × (a.end.1 ≤ b.end.1)
 
 go_least : (area : Option Dimensions) (cell : StyledCell) (b : Dimensions)
-    → IsInside b cell.0 cell.1
+    → IsInArea b cell.0 cell.1
     → IfSome area (λ a. Within a b) → Within (widened area cell) b
 go_least None cell b here rest = (here.0, here.2, here.1, here.3)
 go_least (Some a) cell b here rest = (
@@ -114,12 +114,12 @@ go_least (Some a) cell b here rest = (
   omega (arith, here, rest),
 )
 
-least : (cells : List StyledCell) (b : Dimensions) → All (λ c. IsInside b c.0 c.1) cells
+least : (cells : List StyledCell) (b : Dimensions) → All (λ c. IsInArea b c.0 c.1) cells
     → IfSome (bounds_of cells) (λ a. Within a b)
 least [] b all = tt
 least (cell ∷ cells) b all =
-    go_least (bounds_of cells) cell b (All-head (λ c. IsInside b c.0 c.1) cell cells all)
-    (least cells b (All-tail (λ c. IsInside b c.0 c.1) cell cells all))
+    go_least (bounds_of cells) cell b (All-head (λ c. IsInArea b c.0 c.1) cell cells all)
+    (least cells b (All-tail (λ c. IsInArea b c.0 c.1) cell cells all))
 
 -- two areas, each of which holds all cells of the other
 equal_areas : (xs ys : List StyledCell)

@@ -2,7 +2,7 @@
 -- positions, row by row.
 use Rattle.std.specs.Prelude.{◌≡◌, ℕ, ◌+◌, ◌-◌, ◌*◌, ◌/◌, ◌%◌, ◌<◌, ◌≤◌, min, max, ◌==◌, ◌&&◌, nat_lt, nat_le, if◌then◌else◌, List, [], ◌∷◌, map, filter, length, slice_get, slice_index, Bool, Option, Some, None, All}
 use Rattle.std.specs.List.{range_with_len}
-use Rattle.cell_refs.specs.Dimensions.{span, cell_count, IsInside}
+use Rattle.cell_refs.specs.Dimensions.{span, cell_count, IsInArea}
 use Rattle.cell_refs.specs.declared.TheConstants.{MAX_ROWS, MAX_COLUMNS}
 use Rattle.cell_refs.specs.declared.dimensions.Dimensions.{Dimensions}
 use Rattle.cell_styles.specs.declared.style.Style.{Style}
@@ -99,7 +99,7 @@ IsSound (Some area) count ids =
 -- there is an area, and the position lies in it
 abbrev pub IsInBounds : Option Dimensions → ℕ × ℕ → Type 0
 IsInBounds None position = ⊥
-IsInBounds (Some area) position = IsInside area position.0 position.1
+IsInBounds (Some area) position = IsInArea area position.0 position.1
 
 -- the position lies in the area
 abbrev pub is_inside : Dimensions → ℕ × ℕ → Bool

@@ -1,6 +1,6 @@
 use Rattle.std.proofs.Common.{◌≡◌, ◌∙◌, sym, ap, Some, slice_index, slice_get, refl, arith}
 use Rattle.std.proofs.lemmas.Option.{slice_get_read}
-use Rattle.cell_refs.specs.Dimensions.{IsInside}
+use Rattle.cell_refs.specs.Dimensions.{IsInArea}
 use Rattle.cell_styles.specs.StyleMap.{place_in}
 use Rattle.cell_styles.proofs.Lookups.{of_area, has_id, id_below, style_found}
 use Rattle.cell_styles.proofs.style_range.StyleRange.get_counted.Goals as goal
@@ -27,7 +27,7 @@ returns-clause-value g c =
     (c.contains.ensures.0 c.if-not-contains.false) c.place_in.ensures in
     let below = id_below c.in_ok-bounds.bounds _ _ c.place_in.result c.id_at-id.result sound place
     c.id_at-id.ensures.id in
-    let inside : IsInside c.in_ok-bounds.bounds c.args.pos.0 c.args.pos.1 =
+    let inside : IsInArea c.in_ok-bounds.bounds c.args.pos.0 c.args.pos.1 =
     c.contains.ensures.0 c.if-not-contains.false in
     let bounds : c.args.self.now.bounds ≡ Some c.in_ok-bounds.bounds =
     sym (ap (λ s. s.bounds) c.self.view_is) ∙ c.in_ok-bounds.was in
