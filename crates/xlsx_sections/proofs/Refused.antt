@@ -1,5 +1,5 @@
 -- How a refusal passes from a call to the section and the part that it reads.
-use Rattle.std.proofs.Common.{◌≡◌, ℕ, suc, ◌+◌, ◌≤◌, List, true, false, Option, Some, None, refl, ◌∙◌, sym, subst, inl, inr, arith, codes, length, Result, Err, String, Global, string_bytes}
+use Rattle.std.proofs.Common.{◌≡◌, ℕ, suc, ◌+◌, ◌≤◌, List, true, false, Option, Some, None, refl, ◌∙◌, sym, subst, inl, inr, arith, codes, length, Result, Err, String, Global, string_bytes, ap}
 use Rattle.std.specs.Prelude.{MatchOption}
 use Rattle.part_events.specs.Event.{Event}
 use Rattle.part_events.specs.Nesting.{whole}
@@ -8,23 +8,97 @@ use Rattle.part_events.specs.Reading.{Reading, IsReading, BreaksAt}
 use Rattle.part_events.specs.declared.fault.XmlFault.TheVariants.{EndMismatch, Unclosed, Entity}
 use Rattle.part_events.proofs.Onward.{reads_nothing}
 use Rattle.cell_data.specs.declared.error.XlsxError.{XlsxError}
-use Rattle.cell_data.specs.declared.error.XlsxError.TheVariants.{OutOfMemory, Io, Xml, XmlAttr, XmlEof, FileNotFound, RelationshipNotFound, Unrecognized}
+use Rattle.cell_data.specs.declared.error.XlsxError.TheVariants.{OutOfMemory, Io, Xml, XmlAttr, XmlEof}
+use Rattle.cell_data.specs.declared.error.XlsxError.TheVariants.{FileNotFound}
+use Rattle.cell_data.specs.declared.error.XlsxError.TheVariants.{RelationshipNotFound, Unrecognized}
+use Rattle.cell_data.specs.declared.error.XlsxError.TheVariants.{Alphanumeric, DimensionCount}
+use Rattle.cell_data.specs.declared.error.XlsxError.TheVariants.{RangeWithoutRowComponent}
+use Rattle.cell_data.specs.declared.error.XlsxError.TheVariants.{RangeWithoutColumnComponent}
+use Rattle.cell_data.specs.declared.error.XlsxError.TheVariants.{ColumnNumberOverflow}
+use Rattle.cell_data.specs.declared.error.XlsxError.TheVariants.{RowNumberOverflow, UnexpectedNode}
+use Rattle.cell_data.specs.declared.error.XlsxError.TheVariants.{Unexpected, CellTAttribute}
+use Rattle.cell_data.specs.declared.error.XlsxError.TheVariants.{CellError, ParseFloat}
 use Rattle.xlsx_sections.specs.PartSection.{PartSection, KeepsSection, inside_of, has_end, last_of, section_left, section_in, EndsOpenIn, SectionCause, SectionFails, StartCause, EntersSection, OptionalPartCause, OptionalPartFails, PartFails, EnterFails, LacksSection, always, Never}
-use Rattle.xlsx_sections.specs.Refusal.{Refusal, RefusedAs, RefusedAt}
+use Rattle.xlsx_sections.specs.Refusal.{Refusal, RefusedAs, RefusedAt, further, lookup_fault}
+use Rattle.xlsx_sections.specs.Refusal.{no_character, unknown_state, unrelated, unknown_type}
+use Rattle.xlsx_sections.specs.Refusal.{misplaced, lacks_area, stray_child, lacks_index}
+use Rattle.xlsx_sections.specs.Refusal.{wrong_index, lacks_string, wrong_truth, wrong_error}
+use Rattle.xlsx_sections.specs.Refusal.{wrong_number, wrong_type}
 
--- what is refused in one section is refused in another, whose end has the number `last`
+-- what is refused in a list of events is refused in a longer one, `more` events of which stand behind
+-- the shorter one, and whose end has the number `last`
+pub refused_further : (inner more last : ℕ) (before after : Refusal → Type 0) (error : XlsxError)
+    → ((refusal : Refusal) → after refusal → before (further more refusal)) → inner + more ≡ last
+    → RefusedAs inner after error → RefusedAs last before error
+refused_further inner more last before after (Xml (Entity at)) weaker same
+    (behind, place, refuses) = (behind + more, omega (arith, place, same), weaker _ refuses)
+refused_further inner more last before after (XmlAttr fault) weaker same refuses =
+    weaker _ refuses
+refused_further inner more last before after RelationshipNotFound weaker same refuses =
+    weaker _ refuses
+refused_further inner more last before after (Unrecognized typ val) weaker same (inl is) =
+    inl (is.0, weaker _ is.1)
+refused_further inner more last before after (Unrecognized typ val) weaker same (inr (inl is)) =
+    inr (inl (is.0, weaker _ is.1))
+refused_further inner more last before after (Unrecognized typ val) weaker same (inr (inr is)) =
+    inr (inr (is.0, weaker _ is.1))
+refused_further inner more last before after (Alphanumeric byte) weaker same refuses =
+    weaker _ refuses
+refused_further inner more last before after RangeWithoutRowComponent weaker same refuses =
+    weaker _ refuses
+refused_further inner more last before after RangeWithoutColumnComponent weaker same refuses =
+    weaker _ refuses
+refused_further inner more last before after ColumnNumberOverflow weaker same refuses =
+    weaker _ refuses
+refused_further inner more last before after RowNumberOverflow weaker same refuses =
+    weaker _ refuses
+refused_further inner more last before after (DimensionCount count) weaker same refuses =
+    weaker _ refuses
+refused_further inner more last before after (UnexpectedNode node) weaker same (inl is) =
+    inl (is.0, weaker _ is.1)
+refused_further inner more last before after (UnexpectedNode node) weaker same (inr is) =
+    inr (is.0, weaker _ is.1)
+refused_further inner more last before after (Unexpected text) weaker same (inl is) =
+    inl (is.0, weaker _ is.1)
+refused_further inner more last before after (Unexpected text) weaker same (inr (inl is)) =
+    inr (inl (is.0, weaker _ is.1))
+refused_further inner more last before after (Unexpected text) weaker same (inr (inr is)) =
+    inr (inr (is.0, weaker _ is.1))
+refused_further inner more last before after (CellTAttribute typ) weaker same refuses =
+    weaker _ refuses
+refused_further inner more last before after (CellError written) weaker same refuses =
+    weaker _ refuses
+refused_further inner more last before after (ParseFloat written) weaker same refuses =
+    weaker _ refuses
+refused_further inner more last before after _ weaker same refuses = absurd refuses
+
+no_further : (refusal : Refusal) → further 0 refusal ≡ refusal
+no_further (lookup_fault fault) = refl
+no_further (no_character behind) =
+    let same : behind + 0 ≡ behind = omega arith in
+    ap no_character same
+no_further (unknown_state state) = refl
+no_further unrelated = refl
+no_further (unknown_type path) = refl
+no_further (misplaced fault) = refl
+no_further lacks_area = refl
+no_further stray_child = refl
+no_further lacks_index = refl
+no_further wrong_index = refl
+no_further lacks_string = refl
+no_further (wrong_truth text) = refl
+no_further (wrong_error text) = refl
+no_further (wrong_number text) = refl
+no_further (wrong_type typ) = refl
+
+-- and in another list of the same length
 pub refused_weaker : (inner last : ℕ) (before after : Refusal → Type 0) (error : XlsxError)
     → ((refusal : Refusal) → after refusal → before refusal) → inner ≡ last
     → RefusedAs inner after error → RefusedAs last before error
-refused_weaker inner last before after (Xml (Entity at)) weaker same (behind, place, refuses) =
-    (behind, place ∙ same, weaker _ refuses)
-refused_weaker inner last before after (XmlAttr fault) weaker same refuses = weaker _ refuses
-refused_weaker inner last before after RelationshipNotFound weaker same refuses = weaker _ refuses
-refused_weaker inner last before after (Unrecognized typ val) weaker same (inl found) = inl
-    (found.0, weaker _ found.1)
-refused_weaker inner last before after (Unrecognized typ val) weaker same (inr found) = inr
-    (found.0, weaker _ found.1)
-refused_weaker inner last before after _ weaker same refuses = absurd refuses
+refused_weaker inner last before after error weaker same refuses =
+    refused_further inner 0 last before after error
+    (λ refusal is. subst before (sym (no_further refusal)) (weaker refusal is))
+    (omega (arith, same)) refuses
 
 pub refused_at_weaker : (at behind : ℕ) (before after : Refusal → Type 0) (error : XlsxError)
     → ((refusal : Refusal) → after refusal → before refusal) → RefusedAt after at behind error
@@ -96,6 +170,31 @@ refused_as base old ending after before new error is within weaker fails =
     } in
     refused_later base old old ending after before new error here (λ _. refl) (λ _. weaker) fails
 
+-- where no element is refused, no error tells of one
+pub never_refused : (last : ℕ) (refused : Refusal → Type 0) (error : XlsxError)
+    → ((refusal : Refusal) → refused refusal → ⊥) → RefusedAs last refused error → ⊥
+never_refused last refused (Xml (Entity at)) never cause = never _ cause.2
+never_refused last refused (XmlAttr fault) never cause = never _ cause
+never_refused last refused RelationshipNotFound never cause = never _ cause
+never_refused last refused (Unrecognized typ val) never (inl cause) = never _ cause.1
+never_refused last refused (Unrecognized typ val) never (inr (inl cause)) = never _ cause.1
+never_refused last refused (Unrecognized typ val) never (inr (inr cause)) = never _ cause.1
+never_refused last refused (Alphanumeric byte) never cause = never _ cause
+never_refused last refused RangeWithoutRowComponent never cause = never _ cause
+never_refused last refused RangeWithoutColumnComponent never cause = never _ cause
+never_refused last refused ColumnNumberOverflow never cause = never _ cause
+never_refused last refused RowNumberOverflow never cause = never _ cause
+never_refused last refused (DimensionCount count) never cause = never _ cause
+never_refused last refused (UnexpectedNode node) never (inl cause) = never _ cause.1
+never_refused last refused (UnexpectedNode node) never (inr cause) = never _ cause.1
+never_refused last refused (Unexpected text) never (inl cause) = never _ cause.1
+never_refused last refused (Unexpected text) never (inr (inl cause)) = never _ cause.1
+never_refused last refused (Unexpected text) never (inr (inr cause)) = never _ cause.1
+never_refused last refused (CellTAttribute typ) never cause = never _ cause
+never_refused last refused (CellError written) never cause = never _ cause
+never_refused last refused (ParseFloat written) never cause = never _ cause
+never_refused last refused _ never cause = cause
+
 -- a step in an element that lies in a section is refused, and so is the section
 pub refused_outside : (inner base : ℕ) (mid : Reading) (name : List ℕ) (refused : PartSection
     → Refusal → Type 0) (new : Reading) (error : XlsxError)
@@ -111,15 +210,9 @@ refused_outside inner base mid name refused new (Xml (Unclosed at)) open_too fai
     λ told. (((fails told).0.0, open_too told (fails told).0.1), (fails told).1, (fails told).2)
 refused_outside inner base mid name refused new (XmlEof element) open_too fails =
     λ told. (((fails told).0.0, open_too told (fails told).0.1), (fails told).1)
-refused_outside inner base mid name refused new (Xml (Entity at)) open_too fails =
-    λ told. absurd ((fails told).2)
-refused_outside inner base mid name refused new (XmlAttr fault) open_too fails =
-    λ told. absurd (fails told)
-refused_outside inner base mid name refused new RelationshipNotFound open_too fails =
-    λ told. absurd (fails told)
-refused_outside inner base mid name refused new (Unrecognized typ val) open_too fails =
-    λ told. elim (fails told) [ inl found ↦ absurd found.1 | inr found ↦ absurd found.1 ]
-refused_outside inner base mid name refused new _ open_too fails = λ told. absurd (fails told)
+refused_outside inner base mid name refused new error open_too fails = λ told.
+    absurd (never_refused (last_of (section_left inner mid)) (Never (section_left inner mid)) error
+    (λ refusal never. never) (fails told))
 
 -- an event of a section is refused
 pub event_refused : (base at behind : ℕ) (first : Reading) (ending : List Event

@@ -9,7 +9,8 @@ use Rattle.part_events.specs.declared.fault.XmlFault.TheVariants.{EndMismatch, U
 use Rattle.cell_data.specs.declared.error.XlsxError.{XlsxError}
 use Rattle.cell_data.specs.declared.error.XlsxError.TheVariants.{Xml, XmlAttr, XmlEof, FileNotFound, RelationshipNotFound, Unrecognized}
 use Rattle.xlsx_sections.specs.PartSection.{PartSection, inside_of, has_end, last_of, section_behind, section_in, if_closed, closed_section, closed_section_of, StartCause, SectionCause, OptionalPartCause, PartCause}
-use Rattle.xlsx_sections.specs.Refusal.{Refusal, RefusedAs}
+use Rattle.xlsx_sections.specs.Refusal.{Refusal}
+use Rattle.xlsx_sections.proofs.Refused.{never_refused}
 
 -- a part whose first section of a name is closed, with what holds of what stands in it
 pub record IsSoundPart (name path : List ℕ) (parts : List Part) (good : List Event
@@ -57,15 +58,6 @@ is_sound_part name path parts good is =
       holds = second.3;
     }
 
-refused_never : (last : ℕ) (refused : Refusal → Type 0) (error : XlsxError)
-    → ((refusal : Refusal) → refused refusal → ⊥) → RefusedAs last refused error → ⊥
-refused_never last refused (Xml (Entity at)) never cause = never _ cause.2
-refused_never last refused (XmlAttr fault) never cause = never _ cause
-refused_never last refused RelationshipNotFound never cause = never _ cause
-refused_never last refused (Unrecognized typ val) never (inl cause) = never _ cause.1
-refused_never last refused (Unrecognized typ val) never (inr cause) = never _ cause.1
-refused_never last refused _ never cause = cause
-
 both_ends : (s : PartSection) → has_end s ≡ true → has_end s ≡ false → ⊥
 both_ends s closed is_open = cc
 
@@ -78,7 +70,7 @@ no_section_cause ending refused s (Xml (Unclosed at)) closed never cause =
     both_ends s closed cause.0.1
 no_section_cause ending refused s (XmlEof element) closed never cause = both_ends s closed cause.0.1
 no_section_cause ending refused s error closed never cause =
-    refused_never (last_of s) (refused s) error never cause
+    never_refused (last_of s) (refused s) error never cause
 
 pub no_optional_cause : (name path : List ℕ) (parts : List Part) (good : List Event
     → Type 0) (ending : List Event → Option (List ℕ)) (refused : PartSection → Refusal

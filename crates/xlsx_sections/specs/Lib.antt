@@ -1,3 +1,5 @@
 pub mod Answers
+pub mod ElementText
+pub mod Elements
 pub mod PartSection
 pub mod Refusal

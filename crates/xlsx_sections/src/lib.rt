@@ -2,7 +2,9 @@
 #![tactic(auto)]
 
 mod decode;
+mod elements;
 mod section;
 
 pub use decode::decode_at;
+pub use elements::{next_child_in, next_element_in, read_element_text, skip_element_in};
 pub use section::{enter, enter_part, next_event_in, next_start_in, start_tag};

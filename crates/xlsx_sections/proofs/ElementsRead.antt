@@ -1,0 +1,319 @@
+-- How the elements of a section are read, and how one that is refused makes the section refused.
+use Rattle.std.proofs.Common.{◌≡◌, ℕ, zero, suc, ◌+◌, ◌-◌, ◌≤◌, ◌<◌, List, [], ◌∷◌, ◌++◌, length, Bool, true, false, Some, None, Option, refl, sym, ◌∙◌, ap, subst, arith}
+use Rattle.std.proofs.lemmas.List.{length-append, length-reverse}
+use Rattle.std.specs.Prelude.{reverse, if◌then◌else◌}
+use Rattle.part_events.specs.Event.{Tag, Event, start, end, leaf, IsStartAnd}
+use Rattle.part_events.specs.Nesting.{whole}
+use Rattle.part_events.specs.Reading.{Reading, IsReading, ReadsOn, Skips, IsAtEnd, BreaksAt, ahead, events_of}
+use Rattle.part_events.specs.Section.{Element, content, is_closed, behind, outermost, unclosed}
+use Rattle.part_events.specs.Walk.{inside, element_at, section_ahead, section_behind, is_closed_ahead, behind_section, section_end, IsNextElement, ClosesSection}
+use Rattle.part_events.specs.declared.fault.XmlFault.TheVariants.{EndMismatch, Unclosed}
+use Rattle.part_events.proofs.Nested.{whole_split}
+use Rattle.part_events.proofs.Onward.{reads_nothing}
+use Rattle.part_events.proofs.Sections.{GoesOnBehind, goes_on_behind}
+use Rattle.cell_data.specs.declared.error.XlsxError.{XlsxError}
+use Rattle.cell_data.specs.declared.error.XlsxError.TheVariants.{OutOfMemory, Io, Xml, XmlEof}
+use Rattle.xlsx_sections.specs.Elements.{KeepsElements, ReachesEnd, FindsElementIn, end_outside, end_among}
+use Rattle.xlsx_sections.specs.PartSection.{PartSection, KeepsSection, SectionFails, StandsAtStart, section_left, last_of, has_end, inside_of}
+use Rattle.xlsx_sections.specs.Refusal.{Refusal, RefusedAs, further, events_behind}
+use Rattle.xlsx_sections.proofs.Refused.{refused_further}
+use Rattle.xlsx_sections.proofs.SectionsRead.{section_further}
+
+-- an element that is closed takes its events, its end, and leaves what stands behind
+pub length_closed : (within : ℕ) (events : List Event) → is_closed within events ≡ true
+    → length events ≡ length (content within events) + suc (length (behind within events))
+length_closed within [] closed = absurd (cc)
+length_closed within (start tag ∷ events) closed =
+    let rest = length_closed (suc within) events closed in omega arith
+length_closed zero (end name ∷ events) closed = omega arith
+length_closed (suc within) (end name ∷ events) closed =
+    let rest = length_closed within events closed in omega arith
+length_closed within (leaf kind ∷ events) closed =
+    let rest = length_closed within events closed in omega arith
+
+-- the element at whose start a reader stands, as the section that it is
+pub own_inside : (new : Reading) → inside_of (section_left (length new.names) new)
+    ≡ content 0 (ahead new)
+own_inside new = ap (λ (n : ℕ). content n (ahead new)) (omega arith)
+
+pub own_end : (new : Reading) → has_end (section_left (length new.names) new)
+    ≡ is_closed 0 (ahead new)
+own_end new = ap (λ (n : ℕ). is_closed n (ahead new)) (omega arith)
+
+-- a reader that stands behind an element took as many events as the element has
+pub skips_element : {old new : Reading} → IsReading old → ReadsOn old new
+    → old.source.is_told ≡ true → is_closed 0 (ahead old) ≡ true → ahead new ≡ behind 0 (ahead old)
+    → Skips old new
+skips_element {old = old} {new = new} is reads told closed left =
+    let before = is.tracked told in
+    let after = reads.stays.reading.tracked (reads.moves.parts.is_told ∙ told) in
+    let first : whole (events_of old) ≡ reverse old.source.past ++ ahead old =
+    whole_split old.source.past old.source.rest before.whole in
+    let second : whole (events_of new) ≡ reverse new.source.past ++ ahead new =
+    whole_split new.source.past new.source.rest after.whole in
+    let same : whole (events_of new) ≡ whole (events_of old) = ap whole (reads.stays.part told) in
+    record {
+      closed = closed;
+      size = omega (
+        arith,
+        ap length first,
+        ap length second,
+        ap length same,
+        length-append (reverse old.source.past) (ahead old),
+        length-append (reverse new.source.past) (ahead new),
+        length-reverse old.source.past,
+        length-reverse new.source.past,
+        before.at,
+        after.at,
+        ap length left,
+        length_closed 0 (ahead old) closed,
+      );
+      ahead = left;
+    }
+
+-- a reader at its part's end took all events of the part
+pub at_end : {old new : Reading} → ReadsOn old new → IsAtEnd new → old.source.is_told ≡ true
+    → new.at ≡ length (events_of old)
+at_end {old = old} {new = new} reads ended told =
+    let tracked = reads.stays.reading.tracked (reads.moves.parts.is_told ∙ told) in
+    omega (
+      arith,
+      tracked.at,
+      ap length (reads.stays.part told),
+      ap length ended.rest,
+      length-append (reverse new.source.past) new.source.rest,
+      length-reverse new.source.past,
+    )
+
+pub keeps_none : (wanted : Tag → Bool) (base : ℕ) (first : Reading) → IsReading first
+    → base ≤ length first.names → KeepsElements wanted base first first
+keeps_none wanted base first is within = record {
+  section = record {
+    reads = reads_nothing first is;
+    within = within;
+    closed = λ _. refl;
+    last = λ _. refl;
+  };
+  unclosed = λ _. refl;
+  behind = λ _. refl;
+}
+
+-- the end of the element was taken at whose start a reader stood
+pub reaches_skips : {base : ℕ} {old new : Reading} → base ≡ length old.names
+    → ReachesEnd base old new → Skips old new
+reaches_skips {base = base} {old = old} whole_it reaches =
+    let none : inside base old ≡ 0 = omega (arith, whole_it) in
+    record {
+      closed = sym (ap (λ (n : ℕ). is_closed n (ahead old)) none) ∙ reaches.closed;
+      size = omega (
+        arith,
+        reaches.ends,
+        ap (λ (n : ℕ). length (content n (ahead old))) none,
+      );
+      ahead = sym reaches.behind ∙ ap (λ (n : ℕ). behind n (ahead old)) none;
+    }
+
+-- a wanted element of a section was found, whose start is event number `place` of its part
+pub record IsElementFound
+    (wanted : Tag → Bool) (base : ℕ) (tag : Tag) (place : ℕ) (first old new : Reading) : Type 0
+  where
+    pub before : KeepsElements wanted base first old
+    pub read : KeepsSection base first new
+    pub next : first.source.is_told ≡ true → IsNextElement wanted base tag old new
+    pub deep : base < length new.names
+    pub there :
+        first.source.is_told ≡ true →
+        place + suc (length (section_ahead base new)) ≡ last_of (section_left base first)
+
+-- how the section goes on behind the element at whose start a reader stands
+goes_on : (base : ℕ) (new : Reading) → base < length new.names
+    → GoesOnBehind 0 (inside base new - 1) (inside base new) (ahead new)
+goes_on base new deep =
+    goes_on_behind 0 (inside base new - 1) (inside base new) (ahead new) (omega (arith, deep))
+
+pub element_found : {base place : ℕ} {tag : Tag} {first old new : Reading} (wanted : Tag → Bool)
+    → start tag ≡ new.source.current → KeepsElements wanted base first old → ReadsOn old new
+    → StandsAtStart wanted base (Some place) old new
+    → (old.source.is_told ≡ true → FindsElementIn wanted base (Some place) old new)
+    → IsElementFound wanted base tag place first old new
+element_found {base = base} {place = place} {tag = tag} {first = first} {old = old} {new =
+    new} wanted current before reads stands finds =
+    let next : old.source.is_told ≡ true → IsNextElement wanted base tag old new = λ told.
+    subst (λ (event : Event). IsStartAnd event (λ own. IsNextElement wanted base own old new))
+    (sym current) (finds told)
+    in
+    let still : first.source.is_told ≡ true → old.source.is_told ≡ true =
+    λ told. before.section.reads.moves.parts.is_told ∙ told in
+    let here : KeepsSection base first new =
+    section_further before.section reads (omega (arith, stands.1))
+    (λ told. ((goes_on base new stands.1).closed ∙ sym (next told).closed, sym (next told).ends))
+    in
+    record {
+      before = before;
+      read = here;
+      next = λ told. next (still told);
+      deep = stands.1;
+      there = λ told. omega (arith, stands.3, here.last told);
+    }
+
+-- and was read to its end
+pub record IsElementPassed
+    (wanted : Tag → Bool) (base : ℕ) (tag : Tag) (first old new after : Reading) : Type 0 where
+  pub keeps : KeepsElements wanted base first after
+  pub elements :
+      first.source.is_told ≡ true →
+      outermost wanted (section_ahead base old)
+      ≡ element_at base tag new ∷ outermost wanted (section_ahead base after)
+
+pub element_passed : {base place : ℕ} {tag : Tag} {first old new after : Reading}
+    {wanted : Tag → Bool} → IsElementFound wanted base tag place first old new → ReadsOn new after
+    → length new.names ≡ suc (length after.names) → (new.source.is_told ≡ true → Skips new after)
+    → IsElementPassed wanted base tag first old new after
+element_passed {base = base} {tag = tag} {first = first} {old = old} {new = new} {after =
+    after} {wanted = wanted} found reads names skips =
+    let still : first.source.is_told ≡ true → new.source.is_told ≡ true =
+    λ told. found.read.reads.moves.parts.is_told ∙ told in
+    let way = goes_on base new found.deep in
+    let left : new.source.is_told ≡ true → section_ahead base after ≡ section_behind base new =
+    λ told. ap (λ (n : ℕ). content n (ahead after)) (omega (arith, names))
+        ∙ ap (content (inside base new - 1)) (skips told).ahead in
+    let closed : new.source.is_told ≡ true → is_closed_ahead base after ≡ is_closed_ahead base new =
+    λ told. ap (λ (n : ℕ). is_closed n (ahead after)) (omega (arith, names))
+        ∙ ap (is_closed (inside base new - 1)) (skips told).ahead ∙ sym way.closed in
+    let behind_it : new.source.is_told ≡ true → behind_section base after
+    ≡ behind_section base new =
+    λ told. ap (λ (n : ℕ). behind n (ahead after)) (omega (arith, names))
+        ∙ ap (behind (inside base new - 1)) (skips told).ahead ∙ sym way.left in
+    record {
+      keeps = record {
+        section = section_further found.read reads (omega (arith, names, found.deep))
+            (λ told. (closed told, omega (
+              arith,
+              way.size (skips told).closed,
+              (skips told).size,
+              ap length (left told),
+            )));
+        unclosed = λ told.
+            let next = found.next told in
+            ap (unclosed wanted) (left (still told))
+            ∙ sym (ap (λ (b : Bool). if b then unclosed wanted (section_behind base new) else Some
+            (element_at base tag new)) (skips (still told)).closed)
+            ∙ sym next.unclosed ∙ found.before.unclosed told;
+        behind = λ told.
+            behind_it (still told) ∙ way.left ∙ sym (found.next told).behind
+            ∙ found.before.behind told;
+      };
+      elements = λ told.
+          (found.next told).elements
+          ∙ ap (λ (events : List Event). element_at base tag new ∷ outermost wanted events)
+          (sym (left (still told)));
+    }
+
+-- the section's end was taken, and with it the element that the section is
+pub elements_closed : {base : ℕ} {first old new : Reading} {wanted : Tag → Bool} → IsReading first
+    → KeepsElements wanted base first old → ReadsOn old new → base ≡ length first.names
+    → first.source.is_told ≡ true → ClosesSection wanted base old new → Skips first new
+elements_closed {base = base} {first = first} {old = old} {new = new} is keeps reads whole_it told
+    closes =
+    let none : inside base first ≡ 0 = omega (arith, whole_it) in
+    record {
+      closed =
+          sym (ap (λ (n : ℕ). is_closed n (ahead first)) none)
+          ∙ sym (keeps.section.closed told) ∙ closes.closed;
+      size = omega (
+        arith,
+        closes.ends,
+        keeps.section.last told,
+        ap (λ (n : ℕ). length (content n (ahead first))) none,
+      );
+      ahead =
+          sym closes.behind ∙ keeps.behind told
+          ∙ ap (λ (n : ℕ). behind n (ahead first)) none;
+    }
+
+-- a section is open where an element is that lies in it
+is_open : {base place : ℕ} {tag : Tag} {first old new : Reading} {wanted : Tag → Bool}
+    → first.source.is_told ≡ true → IsElementFound wanted base tag place first old new
+    → has_end (section_left (length new.names) new) ≡ false
+    → has_end (section_left base first) ≡ false
+is_open {base = base} {new = new} told found ends =
+    sym (found.read.closed told)
+    ∙ (goes_on base new found.deep).open_too (sym (own_end new) ∙ ends)
+
+unclosed_there : {base place : ℕ} {tag : Tag} {first old new : Reading} {wanted : Tag → Bool}
+    → first.source.is_told ≡ true → IsElementFound wanted base tag place first old new
+    → has_end (section_left (length new.names) new) ≡ false
+    → unclosed wanted (section_ahead base first) ≡ Some (element_at base tag new)
+unclosed_there {base = base} {tag = tag} {new = new} {wanted = wanted} told found ends =
+    sym (found.before.unclosed told) ∙ (found.next told).unclosed
+    ∙ ap (λ (b : Bool). if b then unclosed wanted (section_behind base new) else Some
+    (element_at base tag new)) (sym (own_end new) ∙ ends)
+
+-- an element that was found is refused, and so is the section
+pub element_refused : {base place : ℕ} {tag : Tag} {first old new : Reading} {wanted : Tag → Bool}
+    (name : List ℕ) (inner : Element → Option (List ℕ)) (ending : List Event → Option (List ℕ))
+    (after before : PartSection → Refusal → Type 0) (last : Reading) (error : XlsxError)
+    → IsElementFound wanted base tag place first old new
+    → (first.source.is_told ≡ true
+    → inner (element_at base tag new) ≡ ending (content 0 (ahead new)))
+    → (first.source.is_told ≡ true → (refusal : Refusal)
+    → after (section_left (length new.names) new) refusal
+    → before (section_left base first)
+    (further (events_behind (element_at base tag new)) refusal))
+    → SectionFails ending after (length new.names) new last error
+    → SectionFails (end_among wanted name inner) before base first last error
+element_refused name inner ending after before last Io found ends weaker fails =
+    omega (arith, found.read.reads.stays.faults, fails)
+element_refused name inner ending after before last OutOfMemory found ends weaker fails = tt
+element_refused {base = base} {tag = tag} {first = first} {old = old} {new = new} {wanted =
+    wanted} name inner ending after before last (Xml (EndMismatch at)) found ends weaker fails =
+    λ told.
+    let cause = fails (found.read.reads.moves.parts.is_told ∙ told) in
+    (
+      subst (λ (events : List Event). BreaksAt events at) (found.read.reads.stays.part told)
+      cause.0,
+      is_open told found cause.1,
+    )
+element_refused {base = base} {tag = tag} {first = first} {old = old} {new = new} {wanted =
+    wanted} name inner ending after before last (Xml (Unclosed at)) found ends weaker fails =
+    λ told.
+    let cause = fails (found.read.reads.moves.parts.is_told ∙ told) in
+    let same = found.read.reads.stays.part told in
+    (
+      (
+        subst (λ (events : List Event). whole events ≡ events) same cause.0.0,
+        is_open told found cause.0.1,
+      ),
+      ap (end_outside name inner) (unclosed_there told found cause.0.1) ∙ ends told
+          ∙ sym (ap ending (own_inside new)) ∙ cause.1,
+      subst (λ (events : List Event). at ≡ length events) same cause.2,
+    )
+element_refused {base = base} {tag = tag} {first = first} {old = old} {new = new} {wanted =
+    wanted} name inner ending after before last (XmlEof element) found ends weaker fails =
+    λ told.
+    let cause = fails (found.read.reads.moves.parts.is_told ∙ told) in
+    let same = found.read.reads.stays.part told in
+    (
+      (
+        subst (λ (events : List Event). whole events ≡ events) same cause.0.0,
+        is_open told found cause.0.1,
+      ),
+      ap (end_outside name inner) (unclosed_there told found cause.0.1) ∙ ends told
+          ∙ sym (ap ending (own_inside new)) ∙ cause.1,
+    )
+element_refused {base = base} {tag = tag} {first = first} {old = old} {new = new} {wanted =
+    wanted} name inner ending after before last error found ends weaker fails =
+    λ told.
+    let way = goes_on base new found.deep in
+    refused_further (last_of (section_left (length new.names) new))
+    (events_behind (element_at base tag new)) (last_of (section_left base first))
+    (before (section_left base first)) (after (section_left (length new.names) new)) error
+    (weaker told)
+    (omega (
+      arith,
+      found.read.last told,
+      ap length (own_inside new),
+      ap length way.parts,
+      length-append (content 0 (ahead new)) way.others,
+    ))
+    (fails (found.read.reads.moves.parts.is_told ∙ told))

@@ -1,0 +1,57 @@
+-- How a text that can't be read makes its element refused.
+use Rattle.std.proofs.Common.{◌≡◌, ℕ, suc, ◌+◌, List, length, Bool, true, Some, None, Option, sym, ◌∙◌, ap, subst, refl, arith}
+use Rattle.std.specs.Prelude.{Ok, Err, IsSomeAnd}
+use Rattle.part_events.specs.Event.{Event}
+use Rattle.part_events.specs.JoinedText.{TextFails, joined_text, unknown_entity}
+use Rattle.part_events.specs.Reading.{Reading, BreaksAt, ahead}
+use Rattle.part_events.specs.Section.{content}
+use Rattle.part_events.specs.declared.fault.StreamError.{StreamError}
+use Rattle.part_events.specs.declared.fault.StreamError.TheVariants as stream
+use Rattle.part_events.specs.declared.fault.XmlFault.TheVariants.{EndMismatch, Unclosed, Entity}
+use Rattle.cell_data.specs.XlsxError.{of_stream}
+use Rattle.xlsx_sections.specs.Elements.{ElementReadFails, IsTextError}
+use Rattle.xlsx_sections.specs.ElementText.{element_text, known_text}
+use Rattle.xlsx_sections.specs.PartSection.{always, last_of, section_left}
+use Rattle.xlsx_sections.specs.Refusal.{Refusal, no_character}
+use Rattle.xlsx_sections.proofs.ElementsRead.{own_inside, own_end}
+
+unknown_there : (at end : ℕ) (written : List ℕ) (unknown : Option ℕ)
+    → IsSomeAnd unknown (λ behind. at + suc behind ≡ end)
+    → (behind : ℕ) × (at + suc behind ≡ end)
+    × (known_text written unknown ≡ Err (no_character behind))
+unknown_there at end written None is = absurd is
+unknown_there at end written (Some behind) is = (behind, is, refl)
+
+pub text_refused : (name : List ℕ) (data_too : Bool) (old new : Reading) (error : StreamError)
+    → TextFails old new error
+    → ElementReadFails (always name) (element_text data_too) old new (of_stream error)
+text_refused name data_too old new stream.Io fails = fails
+text_refused name data_too old new stream.OutOfMemory fails = tt
+text_refused name data_too old new (stream.Xml (EndMismatch at)) fails = λ told.
+    let cause = fails told in
+    (
+      subst (λ (events : List Event). BreaksAt events at) cause.0.0 cause.0.1,
+      own_end old ∙ cause.1,
+    )
+text_refused name data_too old new (stream.Xml (Unclosed at)) fails = absurd fails
+text_refused name data_too old new (stream.Xml (Entity at)) fails = λ told.
+    let inside = content 0 (ahead old) in
+    let found = unknown_there at (old.at + length inside) (joined_text data_too inside)
+    (unknown_entity inside) (fails told).2 in
+    (
+      found.0,
+      found.1 ∙ ap (λ (events : List Event). old.at + length events) (sym (own_inside old)),
+      ap (element_text data_too) (own_inside old) ∙ found.2,
+    )
+
+pub text_kind : (name : List ℕ) (old new : Reading) (error : StreamError) → TextFails old new error
+    → IsTextError name (of_stream error)
+text_kind name old new stream.Io fails = tt
+text_kind name old new stream.OutOfMemory fails = tt
+text_kind name old new (stream.Xml (EndMismatch at)) fails = tt
+text_kind name old new (stream.Xml (Unclosed at)) fails = absurd fails
+text_kind name old new (stream.Xml (Entity at)) fails = tt
+
+pub text_known : (data_too : Bool) (inside : List Event) → unknown_entity inside ≡ None
+    → element_text data_too inside ≡ Ok (joined_text data_too inside)
+text_known data_too inside known = ap (known_text (joined_text data_too inside)) known

@@ -1,0 +1,36 @@
+use Rattle.std.proofs.Common.{◌≡◌, refl, ◌∙◌, ap, true, false}
+use Rattle.std.proofs.lemmas.Result.{err_from_is_err_and}
+use Rattle.part_events.proofs.Onward.{whole_at_end}
+use Rattle.part_events.specs.JoinedText.{ReadsText}
+use Rattle.part_events.specs.Reading.{reading}
+use Rattle.xlsx_sections.proofs.ElementsRead.{own_end, skips_element}
+use Rattle.xlsx_sections.proofs.TextsRead.{text_refused}
+use Rattle.xlsx_sections.proofs.elements.read_element_text.Goals as goal
+
+pub returns-in_err-read_text-clause-err : goal.returns-in_err-read_text-clause-err
+returns-in_err-read_text-clause-err g c =
+    let old = reading (g.P.Package.state c.args.package.now) c.args.cursor.now in
+    let new = reading (g.P.Package.state c.read_text.new.package) c.read_text.new.self in
+    let p = err_from_is_err_and c.from_residual.result c.from_residual.ensures.1 in
+    rw (p.1, p.2)
+    (text_refused c.args.name.now c.args.char_data old new c.in_err-read_text.field-0.0
+    c.in_err-read_text.ensures.err)
+
+pub returns-then-not-branch-clause-err : goal.returns-then-not-branch-clause-err
+returns-then-not-branch-clause-err g c = λ told.
+    let old = reading (g.P.Package.state c.args.package.now) c.args.cursor.now in
+    let text = c.in_ok-read_text.ensures.text told in
+    let open_still = c.if-not-branch.true in
+    (
+      (
+        whole_at_end c.in_ok-read_text.ensures.reads (text.at_end open_still) told,
+        own_end old ∙ text.closed ∙ open_still,
+      ),
+      refl,
+    )
+
+pub returns-clause-skips : goal.returns-clause-skips
+returns-clause-skips g c = λ told.
+    let text = c.in_ok-read_text.ensures.text told in
+    skips_element c.requires.reading c.in_ok-read_text.ensures.reads told
+    (text.closed ∙ c.if-not-branch.false) text.ahead

@@ -1,0 +1,77 @@
+-- How the elements of a section are read one by one, and where its part ends.
+use Rattle.std.specs.Prelude.{◌≡◌, ⊤, ℕ, suc, List, [], ◌∷◌, length, Bool, true, Option, Some, None, Result, Ok, Err}
+use Rattle.part_events.specs.Event.{Tag, Event, IsStartAnd}
+use Rattle.part_events.specs.Reading.{Reading, ahead}
+use Rattle.part_events.specs.Section.{Element, content, unclosed}
+use Rattle.part_events.specs.Walk.{IsNextElement, ClosesSection, section_ahead, is_closed_ahead, behind_section, section_end}
+use Rattle.part_events.specs.declared.fault.XmlFault.TheVariants.{EndMismatch, Unclosed, Entity}
+use Rattle.cell_data.specs.declared.error.XlsxError.{XlsxError}
+use Rattle.cell_data.specs.declared.error.XlsxError.TheVariants.{OutOfMemory, Io, Xml, XmlEof}
+use Rattle.xlsx_sections.specs.PartSection.{PartSection, KeepsSection, SectionFails, inside_of}
+use Rattle.xlsx_sections.specs.Refusal.{Refusal}
+
+-- the end of the part in this element is told by `inner`, and outside all of them by this name
+abbrev pub end_outside : List ℕ → (Element → Option (List ℕ)) → Option Element → Option (List ℕ)
+end_outside name inner None = Some name
+end_outside name inner (Some element) = inner element
+
+-- how the end of the part is told in a section of this name, some of whose elements are read
+abbrev pub end_among :
+    (Tag → Bool) → List ℕ → (Element → Option (List ℕ)) → List Event → Option (List ℕ)
+end_among wanted name inner inside = end_outside name inner (unclosed wanted inside)
+
+-- the end of the part is told by this name, and without one by the number of the part's events
+abbrev pub named_end : Option (List ℕ) → List Event → Option (List ℕ)
+named_end name events = name
+
+-- an element is refused, by what stands in it
+abbrev pub IsInsideRefused :
+    {A : Type 0} → (List Event → Result A Refusal) → PartSection → Refusal → Type 0
+IsInsideRefused meaning s refusal = meaning (inside_of s) ≡ Err refusal
+
+-- when the element at whose start a reader stands can't be read
+abbrev pub ElementReadFails :
+    {A : Type 0} → (List Event → Option (List ℕ)) → (List Event → Result A Refusal) →
+    Reading → Reading → XlsxError → Type 0
+ElementReadFails ending meaning old new error =
+    SectionFails ending (IsInsideRefused meaning) (length old.names) old new error
+
+-- the next wanted element is found, or the section's end
+abbrev pub FindsElementIn : (Tag → Bool) → ℕ → Option ℕ → Reading → Reading → Type 0
+FindsElementIn wanted base None old new = ClosesSection wanted base old new
+FindsElementIn wanted base (Some at) old new =
+    IsStartAnd new.source.current (λ tag. IsNextElement wanted base tag old new)
+
+-- the elements of a section were read up to here, each to its end
+pub record KeepsElements (wanted : Tag → Bool) (base : ℕ) (first now : Reading) : Type 0 where
+  pub section : KeepsSection base first now
+  pub unclosed :
+      first.source.is_told ≡ true →
+      unclosed wanted (section_ahead base now) ≡ unclosed wanted (section_ahead base first)
+  pub behind :
+      first.source.is_told ≡ true → behind_section base now ≡ behind_section base first
+
+-- the refusals that reading the text of an element of this name can have, whatever the package
+-- tells
+abbrev pub IsTextError : List ℕ → XlsxError → Type 0
+IsTextError name Io = ⊤
+IsTextError name OutOfMemory = ⊤
+IsTextError name (Xml (EndMismatch at)) = ⊤
+IsTextError name (Xml (Entity at)) = ⊤
+IsTextError name (XmlEof element) = element.now ≡ name
+IsTextError name _ = ⊥
+
+-- and those of reading on to the end of one
+abbrev pub IsEndError : Option (List ℕ) → XlsxError → Type 0
+IsEndError name Io = ⊤
+IsEndError name OutOfMemory = ⊤
+IsEndError name (Xml (EndMismatch at)) = ⊤
+IsEndError None (Xml (Unclosed at)) = ⊤
+IsEndError (Some name) (XmlEof element) = element.now ≡ name
+IsEndError name _ = ⊥
+
+-- the end of the element that is number `base` of the open ones was taken
+pub record ReachesEnd (base : ℕ) (old new : Reading) : Type 0 where
+  pub closed : is_closed_ahead base old ≡ true
+  pub behind : behind_section base old ≡ ahead new
+  pub ends : new.at ≡ suc (section_end base old)
