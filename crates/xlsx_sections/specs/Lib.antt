@@ -1,5 +1,6 @@
 pub mod Answers
 pub mod ElementText
 pub mod Elements
+pub mod NumberText
 pub mod PartSection
 pub mod Refusal

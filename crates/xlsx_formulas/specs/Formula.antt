@@ -1,0 +1,134 @@
+-- The formulas of a sheet's cells. A formula element is seen by those that stand before it in the
+-- sheet, the latest first.
+use Rattle.std.specs.Prelude.{ℕ, ◌==◌, List, [], ◌∷◌, false, if◌then◌else◌}
+use Rattle.std.specs.Prelude.{codes, Option, Some, None, Result, Ok, Err}
+use Rattle.std.specs.Str.{bytes_eq}
+use Rattle.attr_text.specs.Attributes.{lookup}
+use Rattle.attr_text.specs.declared.fault.AttrFault.{AttrFault}
+use Rattle.cell_refs.specs.A1.{area}
+use Rattle.cell_refs.specs.declared.dimensions.Dimensions.{Dimensions}
+use Rattle.cell_refs.specs.declared.error.RefError.{RefError}
+use Rattle.formula_shift.specs.Relocation.{moved, offset_between}
+use Rattle.part_events.specs.Event.{Tag, Event}
+use Rattle.part_events.specs.Section.{Element, children, is_named}
+use Rattle.xlsx_sections.specs.Answers.{some_answers, with_three}
+use Rattle.xlsx_sections.specs.ElementText.{element_text}
+use Rattle.xlsx_sections.specs.NumberText.{number_text}
+use Rattle.xlsx_sections.specs.Refusal.{Refusal, lookup_fault, misplaced, stray_child, lacks_index}
+use Rattle.xlsx_sections.specs.Refusal.{wrong_index, in_element}
+
+-- whose formula an element writes: its cell's alone, that of a group of this index and area, or one
+-- of a group's
+pub data Sharing : Type 0 where
+  own : Sharing
+  master : ℕ → Dimensions → Sharing
+  derived : ℕ → Sharing
+
+pub record FormulaText : Type 0 where
+  pub sharing : Sharing
+  pub text : List ℕ
+
+abbrev pub shared_in : ℕ → Result Dimensions RefError → Result Sharing Refusal
+shared_in index (Ok range) = Ok (master index range)
+shared_in index (Err fault) = Err (misplaced fault)
+
+abbrev pub shared_over : ℕ → Option (List ℕ) → Result Sharing Refusal
+shared_over index None = Ok (derived index)
+shared_over index (Some range) = shared_in index (area range)
+
+abbrev pub shared_numbered : Option ℕ → Option (List ℕ) → Result Sharing Refusal
+shared_numbered None range = Err wrong_index
+shared_numbered (Some index) range = shared_over index range
+
+abbrev pub shared_by : Option (List ℕ) → Option (List ℕ) → Result Sharing Refusal
+shared_by None range = Err lacks_index
+shared_by (Some index) range = shared_numbered (number_text index) range
+
+abbrev pub sharing_typed :
+    Option (List ℕ) → Option (List ℕ) → Option (List ℕ) → Result Sharing Refusal
+sharing_typed None index range = Ok own
+sharing_typed (Some typ) index range =
+    if bytes_eq typ (codes "shared") then shared_by index range else Ok own
+
+abbrev pub sharing_from : Result (List (Option (List ℕ))) AttrFault → Result Sharing Refusal
+sharing_from (Ok values) = with_three sharing_typed (Err lacks_index) values
+sharing_from (Err fault) = Err (lookup_fault fault)
+
+-- what the start of an `f` says
+abbrev pub sharing_of : Tag → Result Sharing Refusal
+sharing_of tag =
+    sharing_from (lookup (codes "t" ∷ codes "si" ∷ codes "ref" ∷ []) tag.attributes)
+
+abbrev pub shared_text : Sharing → Result (List ℕ) Refusal → Result FormulaText Refusal
+shared_text sharing (Ok written) = Ok (record { sharing = sharing; text = written })
+shared_text sharing (Err refusal) = Err refusal
+
+abbrev pub with_sharing : List Event → Result Sharing Refusal → Result FormulaText Refusal
+with_sharing inside (Ok sharing) = shared_text sharing (element_text false inside)
+with_sharing inside (Err refusal) = Err refusal
+
+-- an `f`, by its start and what stands in it
+abbrev pub formula_text : Tag → List Event → Result FormulaText Refusal
+formula_text tag inside = with_sharing inside (sharing_of tag)
+
+abbrev pub some_formula : Result FormulaText Refusal → Result (Option FormulaText) Refusal
+some_formula (Ok found) = Ok (Some found)
+some_formula (Err refusal) = Err refusal
+
+-- the formula that a child of a cell writes, if it is an `f`
+abbrev pub child_formula : Element → Result (Option FormulaText) Refusal
+child_formula child =
+    if is_named (codes "f" ∷ []) child.tag
+    then in_element child (some_formula (formula_text child.tag child.inside))
+    else (if is_named (codes "v" ∷ codes "is" ∷ []) child.tag then Ok None else Err stray_child)
+
+-- the formulas that a cell's children write, in order
+abbrev pub formulas_in : List Event → Result (List FormulaText) Refusal
+formulas_in inside = some_answers child_formula (children inside)
+
+-- the formula of a group: its text, and the first written corner of the group's area
+pub record GroupFormula : Type 0 where
+  pub text : List ℕ
+  pub corner : ℕ × ℕ
+
+abbrev pub as_master : ℕ → List ℕ → Sharing → Option GroupFormula
+as_master index written own = None
+as_master index written (master other range) =
+    if other == index then Some (record { text = written; corner = range.start }) else None
+as_master index written (derived other) = None
+
+abbrev pub or_further : Option GroupFormula → Option GroupFormula → Option GroupFormula
+or_further (Some found) further = Some found
+or_further None further = further
+
+-- looking back, the last master of an index
+abbrev pub master_of : ℕ → List FormulaText → Option GroupFormula
+master_of index [] = None
+master_of index (first ∷ earlier) =
+    or_further (as_master index first.text first.sharing) (master_of index earlier)
+
+-- the formula of a group, as it stands at a position; without a master there is none
+abbrev pub moved_to : ℕ × ℕ → Option GroupFormula → List ℕ
+moved_to position None = []
+moved_to position (Some found) = moved found.text (offset_between found.corner position)
+
+abbrev pub formula_by : List FormulaText → ℕ × ℕ → List ℕ → Sharing → List ℕ
+formula_by earlier position written own = written
+formula_by earlier position written (master index range) = written
+formula_by earlier position written (derived index) = moved_to position (master_of index earlier)
+
+-- the formula of an `f` in the cell at a position, behind these
+abbrev pub formula_of : List FormulaText → ℕ × ℕ → FormulaText → List ℕ
+formula_of earlier position found = formula_by earlier position found.text found.sharing
+
+-- formulas that were passed, put before those that stood before them, the latest first
+abbrev pub behind_formulas : List FormulaText → List FormulaText → List FormulaText
+behind_formulas [] earlier = earlier
+behind_formulas (found ∷ passed) earlier = behind_formulas passed (found ∷ earlier)
+
+-- the formula of the cell at a position: that of its last `f`, and empty without one
+abbrev pub cell_formula : List FormulaText → ℕ × ℕ → List FormulaText → List ℕ
+cell_formula earlier position [] = []
+cell_formula earlier position (found ∷ []) = formula_of earlier position found
+cell_formula earlier position (found ∷ next ∷ others) =
+    cell_formula (found ∷ earlier) position (next ∷ others)

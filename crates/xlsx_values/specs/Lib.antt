@@ -1,0 +1,2 @@
+pub mod CellType
+pub mod Value

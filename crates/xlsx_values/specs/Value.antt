@@ -1,0 +1,224 @@
+-- The value of a cell.
+use Rattle.std.specs.Prelude.{ℕ, ℤ, List, [], ◌∷◌, slice_get}
+use Rattle.std.specs.Prelude.{Bool, true, false, if◌then◌else◌, codes, Option, Some, None, is_some}
+use Rattle.std.specs.Prelude.{option_map, option_and_then, unwrap_or, Result, Ok, Err}
+use Rattle.std.specs.Str.{bytes_eq, str_to_ascii_lowercase, trim}
+use Rattle.attr_text.specs.Attributes.{lookup}
+use Rattle.attr_text.specs.Text.{unescaped}
+use Rattle.attr_text.specs.declared.fault.AttrFault.{AttrFault}
+use Rattle.part_events.specs.Event.{Tag, Event, start, end, leaf, text, char_data, entity_ref, other}
+use Rattle.part_events.specs.Section.{Element, children, is_named}
+use Rattle.cell_data.specs.CellError.{cell_error}
+use Rattle.cell_data.specs.CellValue as value
+use Rattle.cell_data.specs.CellValue.{CellValue}
+use Rattle.cell_data.specs.Decimals.{decimal_of}
+use Rattle.cell_data.specs.declared.format.CellFormat.{CellFormat}
+use Rattle.cell_data.specs.declared.format.CellFormat.TheVariants as format
+use Rattle.cell_data.specs.declared.value.CellErrorType.{CellErrorType}
+use Rattle.cell_data.specs.declared.value.ExcelDateTimeType.TheVariants as counts
+use Rattle.xlsx_sections.specs.Answers.{last_answer, with_three}
+use Rattle.xlsx_sections.specs.ElementText.{element_text}
+use Rattle.xlsx_sections.specs.NumberText.{number_text}
+use Rattle.xlsx_sections.specs.Refusal.{Refusal, lookup_fault, stray_child, lacks_string}
+use Rattle.xlsx_sections.specs.Refusal.{wrong_truth, wrong_error, wrong_number, wrong_type}
+use Rattle.xlsx_sections.specs.Refusal.{in_element}
+use Rattle.xlsx_strings.specs.Strings.{string_of, end_in_string}
+use Rattle.xlsx_values.specs.CellType.{CellKind, untyped, of_number, of_shared, of_truth, of_error}
+use Rattle.xlsx_values.specs.CellType.{of_text, of_date, of_inline, of_unknown, kind_named}
+use Rattle.xlsx_values.specs.CellType.{is_joined, is_inline}
+
+-- what the values of a workbook's cells rest on: its shared strings, the formats of its styles, and
+-- whether its dates count from 1904
+pub record Grounds : Type 0 where
+  pub strings : List (List ℕ)
+  pub formats : List CellFormat
+  pub is_1904 : Bool
+
+-- the first event, where it is a text, as written
+abbrev pub first_text : List Event → Option (List ℕ)
+first_text [] = None
+first_text (start tag ∷ events) = None
+first_text (end own ∷ events) = None
+first_text (leaf (text written) ∷ events) = Some written
+first_text (leaf (char_data written) ∷ events) = None
+first_text (leaf (entity_ref own) ∷ events) = None
+first_text (leaf other ∷ events) = None
+
+-- the format of a style, by the text of its number: one that is none is the first, and a cell
+-- without style has none
+abbrev pub format_at : List CellFormat → Option ℕ → CellFormat
+format_at formats style = unwrap_or (option_and_then (slice_get formats) style) format.Other
+
+abbrev pub style_number : Option (List ℕ) → Option ℕ
+style_number written = option_map (λ (text : List ℕ). unwrap_or (number_text text) 0) written
+
+abbrev pub format_of : List CellFormat → Option (List ℕ) → CellFormat
+format_of formats style = format_at formats (style_number style)
+
+abbrev pub string_at : List (List ℕ) → ℕ → Result CellValue Refusal
+string_at strings place =
+    if is_some (slice_get strings place) then Ok (value.shared_text place) else Err lacks_string
+
+-- The value of the text of a shared string: the place that it names. A text that names none names
+-- the first, and an empty one nothing.
+abbrev pub shared_value : List (List ℕ) → List ℕ → Result CellValue Refusal
+shared_value strings [] = Ok value.nothing
+shared_value strings (b ∷ bs) = string_at strings (unwrap_or (number_text (b ∷ bs)) 0)
+
+-- the value of a truth value's text, which is told by `written` where it has none
+abbrev pub lower_truth : List ℕ → List ℕ → Result CellValue Refusal
+lower_truth written lower =
+    if bytes_eq lower (codes "0") then Ok (value.truth false)
+    else (if bytes_eq lower (codes "false") then Ok (value.truth false)
+    else (if bytes_eq lower (codes "1") then Ok (value.truth true)
+    else (if bytes_eq lower (codes "true") then Ok (value.truth true)
+    else Err (wrong_truth written))))
+
+abbrev pub trimmed_truth : List ℕ → List ℕ → Result CellValue Refusal
+trimmed_truth written [] = Ok value.nothing
+trimmed_truth written (b ∷ bs) = lower_truth written (str_to_ascii_lowercase (b ∷ bs))
+
+abbrev pub truth_value : List ℕ → Result CellValue Refusal
+truth_value written = trimmed_truth written (trim written)
+
+abbrev pub or_wrong_error : List ℕ → Option CellErrorType → Result CellValue Refusal
+or_wrong_error written None = Err (wrong_error written)
+or_wrong_error written (Some error) = Ok (value.failure error)
+
+abbrev pub error_value : List ℕ → Result CellValue Refusal
+error_value written = or_wrong_error written (cell_error written)
+
+-- a number, by the format of its style
+abbrev pub formatted : Bool → CellFormat → ℤ × ℤ → CellValue
+formatted is_1904 format.Other decimal = value.number decimal
+formatted is_1904 format.DateTime decimal = value.time decimal counts.DateTime is_1904
+formatted is_1904 format.TimeDelta decimal = value.time decimal counts.TimeDelta is_1904
+
+abbrev pub or_no_number : Bool → List ℕ → Option CellValue → Result CellValue Refusal
+or_no_number typed written (Some found) = Ok found
+or_no_number true written None = Err (wrong_number written)
+or_no_number false written None = Ok (value.text written)
+
+-- the value of a number's text, which is typed as one, or has no type
+abbrev pub number_value : Bool → CellFormat → Bool → List ℕ → Result CellValue Refusal
+number_value is_1904 format typed [] = Ok value.nothing
+number_value is_1904 format typed (b ∷ bs) =
+    or_no_number typed (b ∷ bs) (option_map (formatted is_1904 format) (decimal_of (b ∷ bs)))
+
+-- what the text of a `v` of a type says that is one text; other types say nothing
+abbrev pub value_of_first : Grounds → CellFormat → CellKind → List ℕ → Result CellValue Refusal
+value_of_first grounds format untyped written = number_value grounds.is_1904 format false written
+value_of_first grounds format of_number written = number_value grounds.is_1904 format true written
+value_of_first grounds format of_shared written = shared_value grounds.strings written
+value_of_first grounds format of_truth written = truth_value written
+value_of_first grounds format of_error written = error_value written
+value_of_first grounds format of_text written = Ok value.nothing
+value_of_first grounds format of_date written = Ok value.nothing
+value_of_first grounds format of_inline written = Ok value.nothing
+value_of_first grounds format (of_unknown typ) written = Ok value.nothing
+
+-- and what it says of a type whose text is joined
+abbrev pub value_of_joined : CellKind → List ℕ → Result CellValue Refusal
+value_of_joined untyped written = Ok value.nothing
+value_of_joined of_number written = Ok value.nothing
+value_of_joined of_shared written = Ok value.nothing
+value_of_joined of_truth written = Ok value.nothing
+value_of_joined of_error written = Ok value.nothing
+value_of_joined of_text written = Ok (value.text (unescaped written))
+value_of_joined of_date written = Ok (value.iso_time written)
+value_of_joined of_inline written = Ok value.nothing
+value_of_joined (of_unknown typ) written = Err (wrong_type typ)
+
+abbrev pub of_first :
+    (List ℕ → Result CellValue Refusal) → Option (List ℕ) → Result CellValue Refusal
+of_first read None = Ok value.nothing
+of_first read (Some written) = read written
+
+abbrev pub of_joined :
+    (List ℕ → Result CellValue Refusal) → Result (List ℕ) Refusal → Result CellValue Refusal
+of_joined read (Ok written) = read written
+of_joined read (Err refusal) = Err refusal
+
+-- what a `v` says of the value of a cell of a type, where it counts
+abbrev pub counted_value : Grounds → CellFormat → CellKind → List Event → Result CellValue Refusal
+counted_value grounds format kind inside =
+    if is_joined kind then of_joined (value_of_joined kind) (element_text false inside)
+    else of_first (value_of_first grounds format kind) (first_text inside)
+
+abbrev pub some_value : Result CellValue Refusal → Result (Option CellValue) Refusal
+some_value (Ok found) = Ok (Some found)
+some_value (Err refusal) = Err refusal
+
+-- what a `v` says of the value of a cell of a type; under an inline type it doesn't count
+abbrev pub value_element :
+    Grounds → CellFormat → CellKind → List Event → Result (Option CellValue) Refusal
+value_element grounds format kind inside =
+    if is_inline kind then Ok None else some_value (counted_value grounds format kind inside)
+
+-- what an `is` says
+abbrev pub inline_value : List Event → Result CellValue Refusal
+inline_value inside = of_joined (λ (written : List ℕ). Ok (value.text written)) (string_of inside)
+
+abbrev pub is_child : List ℕ → Tag → Bool
+is_child own tag = is_named (own ∷ []) tag
+
+-- what a child of a cell says of the cell's value
+abbrev pub child_value :
+    Grounds → CellFormat → CellKind → Element → Result (Option CellValue) Refusal
+child_value grounds format kind child =
+    if is_child (codes "v") child.tag
+    then in_element child (value_element grounds format kind child.inside)
+    else (if is_child (codes "is") child.tag
+    then in_element child (some_value (inline_value child.inside))
+    else (if is_child (codes "f") child.tag then Ok None
+    else Err stray_child))
+
+abbrev pub or_nothing : Result (Option CellValue) Refusal → Result CellValue Refusal
+or_nothing (Ok (Some found)) = Ok found
+or_nothing (Ok None) = Ok value.nothing
+or_nothing (Err refusal) = Err refusal
+
+-- the value of a cell of a type, in the format of its style: that of its last child that counts
+abbrev pub value_in : Grounds → CellFormat → CellKind → List Event → Result CellValue Refusal
+value_in grounds format kind inside =
+    or_nothing (last_answer (child_value grounds format kind) (children inside))
+
+abbrev pub typed_value :
+    Grounds → List Event → Option (List ℕ) → Option (List ℕ) → Result CellValue Refusal
+typed_value grounds inside style typ =
+    value_in grounds (format_of grounds.formats style) (kind_named typ) inside
+
+-- the position isn't the value's, but the three keys are looked up together
+abbrev pub looked_value :
+    Grounds → List Event → Result (List (Option (List ℕ))) AttrFault → Result CellValue Refusal
+looked_value grounds inside (Ok values) =
+    with_three (λ position style typ. typed_value grounds inside style typ) (Ok value.nothing)
+    values
+looked_value grounds inside (Err fault) = Err (lookup_fault fault)
+
+-- the value of a cell, by its start and what stands in it
+abbrev pub cell_value : Grounds → Tag → List Event → Result CellValue Refusal
+cell_value grounds tag inside =
+    looked_value grounds inside
+    (lookup (codes "r" ∷ codes "s" ∷ codes "t" ∷ []) tag.attributes)
+
+-- The end of the part in a `v` of a type: one of one text is skipped behind its first event, and
+-- one that doesn't count from its start.
+abbrev pub end_in_value : CellKind → List Event → Option (List ℕ)
+end_in_value kind [] = if is_inline kind then None else Some (codes "v")
+end_in_value kind (event ∷ events) = if is_joined kind then Some (codes "v") else None
+
+-- a value with its text in place of the place of a shared string
+abbrev pub text_at : List (List ℕ) → ℕ → CellValue
+text_at strings place = value.text (unwrap_or (slice_get strings place) [])
+
+abbrev pub resolved : List (List ℕ) → CellValue → CellValue
+resolved strings value.nothing = value.nothing
+resolved strings (value.integer n) = value.integer n
+resolved strings (value.number decimal) = value.number decimal
+resolved strings (value.text written) = value.text written
+resolved strings (value.shared_text place) = text_at strings place
+resolved strings (value.truth b) = value.truth b
+resolved strings (value.time days kind is_1904) = value.time days kind is_1904
+resolved strings (value.iso_time written) = value.iso_time written
+resolved strings (value.failure error) = value.failure error
