@@ -1,5 +1,6 @@
 pub mod ElementsRead
 pub mod Kept
+pub mod NumbersRead
 pub mod Refused
 pub mod SectionsRead
 pub mod Sound
