@@ -1,0 +1,3 @@
+pub mod CountersMoved
+pub mod MarksAhead
+pub mod Refusing

@@ -1,0 +1,108 @@
+-- The marks ahead, from one event to the next, and behind a cell.
+use Rattle.std.proofs.Common.{◌≡◌, ℕ, zero, suc, ◌+◌, List, [], ◌∷◌, ◌++◌, length, Bool, true, false, Option, Some, None, refl, sym, ◌∙◌, ap, subst, arith}
+use Rattle.std.specs.Prelude.{if◌then◌else◌}
+use Rattle.part_events.specs.Event.{Tag, Event, start, end, leaf}
+use Rattle.part_events.specs.Section.{Element, element_of, content, behind, outermost_from, unclosed, unclosed_from}
+use Rattle.part_events.proofs.Sections.{content-content}
+use Rattle.xlsx_cells.specs.Marks.{Mark, row_start, row_end, cell, cells, is_cell, is_row, is_row_name, marks_from, marks, cell_start, marks_of, behind_marks}
+
+-- the marks of a section behind an element that lies in it
+pub marks_behind : (inner outer within : ℕ) (events : List Event) → within ≡ inner + suc outer
+    → marks_from (suc inner) (content within events)
+    ≡ marks_from 0 (content outer (behind inner events))
+marks_behind inner outer within [] is = refl
+marks_behind inner outer within (start tag ∷ events) is =
+    marks_behind (suc inner) outer (suc within) events (omega arith)
+marks_behind zero outer zero (end name ∷ events) is = absurd (omega arith)
+marks_behind (suc inner) outer zero (end name ∷ events) is = absurd (omega arith)
+marks_behind zero outer (suc within) (end name ∷ events) is =
+    let same : within ≡ outer = omega arith in
+    ap (λ (n : ℕ). marks_from 0 (content n events)) same
+marks_behind (suc inner) outer (suc within) (end name ∷ events) is =
+    marks_behind inner outer within events (omega arith)
+marks_behind inner outer within (leaf kind ∷ events) is =
+    marks_behind inner outer within events is
+
+-- a cell is the next mark, and the others are those behind it
+pub marks_cell : (tag : Tag) (outer : ℕ) (events : List Event) → is_cell tag ≡ true
+    → marks (start tag ∷ content (suc outer) events)
+    ≡ cell (record {
+      tag = tag;
+      inside = content 0 events;
+      behind = length (content (suc outer) events);
+    }) ∷ marks (content outer (behind 0 events))
+marks_cell tag outer events is =
+    let all = content (suc outer) events in
+    let element : List Event → Element =
+    λ (within : List Event). record { tag = tag; inside = within; behind = length all } in
+    ap (λ (b : Bool). if b then cell (element_of tag all) ∷ marks_from 1 all
+    else (if is_row tag then row_start tag ∷ marks_from 0 all else marks_from 0 all)) is
+    ∙ ap (λ (within : List Event). cell (element within) ∷ marks_from 1 all)
+    (content-content 0 (suc outer) events (omega arith))
+    ∙ ap (λ (others : List Mark). cell (element (content 0 events)) ∷ others)
+    (marks_behind 0 outer (suc outer) events (omega arith))
+
+no_cell_if : (b : Bool) (tag : Tag) → (if b then Some tag else None) ≡ None → b ≡ false
+no_cell_if true tag is = absurd (cc)
+no_cell_if false tag is = refl
+
+pub no_cell_start : (tag : Tag) → cell_start (start tag) ≡ None → is_cell tag ≡ false
+no_cell_start tag is = no_cell_if (is_cell tag) tag is
+
+one_if : (b : Bool) (mark : Mark) (others : List Mark) → (if b then mark ∷ others else others)
+    ≡ (if b then mark ∷ [] else []) ++ others
+one_if true mark others = refl
+one_if false mark others = refl
+
+-- an event that starts no cell makes its marks, and the others are those behind it
+pub marks_event : (event : Event) (events : List Event) → cell_start event ≡ None
+    → marks (event ∷ events) ≡ marks_of event ++ marks events
+marks_event (start tag) events none =
+    ap (λ (b : Bool). if b then cell (element_of tag events) ∷ marks_from 1 events
+    else (if is_row tag then row_start tag ∷ marks_from 0 events else marks_from 0 events))
+    (no_cell_start tag none)
+    ∙ one_if (is_row tag) (row_start tag) (marks events)
+marks_event (end name) events none = one_if (is_row_name name) row_end (marks events)
+marks_event (leaf kind) events none = refl
+
+-- and is no unclosed cell
+pub unclosed_event : (event : Event) (events : List Event) → cell_start event ≡ None
+    → unclosed is_cell (event ∷ events) ≡ unclosed is_cell events
+unclosed_event (start tag) events none = rw (no_cell_start tag none) refl
+unclosed_event (end name) events none = refl
+unclosed_event (leaf kind) events none = refl
+
+pub behind_append : (first second before : List Mark) → behind_marks (first ++ second) before
+    ≡ behind_marks second (behind_marks first before)
+behind_append [] second before = refl
+behind_append (mark ∷ first) second before = behind_append first second (mark ∷ before)
+
+cells_if : (is_it is_other : Bool) (tag : Tag) (events : List Event)
+    → cells (marks_from 1 events) ≡ outermost_from is_cell 1 events
+    → cells (marks_from 0 events) ≡ outermost_from is_cell 0 events
+    → cells (if is_it then cell (element_of tag events) ∷ marks_from 1 events
+    else (if is_other then row_start tag ∷ marks_from 0 events else marks_from 0 events))
+    ≡ (if is_it then element_of tag events ∷ outermost_from is_cell 1 events
+    else outermost_from is_cell 0 events)
+cells_if true is_other tag events inner outer =
+    ap (λ (others : List Element). element_of tag events ∷ others) inner
+cells_if false true tag events inner outer = outer
+cells_if false false tag events inner outer = outer
+
+row_end_if : (b : Bool) (others : List Mark) → cells (if b then row_end ∷ others else others)
+    ≡ cells others
+row_end_if true others = refl
+row_end_if false others = refl
+
+-- the cells among the marks are the outermost ones
+pub cells_outermost : (within : ℕ) (events : List Event)
+    → cells (marks_from within events) ≡ outermost_from is_cell within events
+cells_outermost within [] = refl
+cells_outermost zero (start tag ∷ events) =
+    cells_if (is_cell tag) (is_row tag) tag events (cells_outermost 1 events)
+    (cells_outermost 0 events)
+cells_outermost (suc within) (start tag ∷ events) = cells_outermost (suc (suc within)) events
+cells_outermost zero (end name ∷ events) =
+    row_end_if (is_row_name name) (marks_from 0 events) ∙ cells_outermost 0 events
+cells_outermost (suc within) (end name ∷ events) = cells_outermost within events
+cells_outermost within (leaf kind ∷ events) = cells_outermost within events

@@ -1,0 +1,89 @@
+-- Where the cells of a sheet stand. A mark is seen by the marks that stand before it, the latest
+-- first.
+use Rattle.std.specs.Prelude.{◌≡◌, ℕ, suc, ◌+◌, nat_le, List, [], ◌∷◌, if◌then◌else◌, codes, Option}
+use Rattle.std.specs.Prelude.{Some, None, Result, Ok, Err}
+use Rattle.attr_text.specs.Attributes.{value_of}
+use Rattle.attr_text.specs.declared.fault.AttrFault.{AttrFault}
+use Rattle.cell_refs.specs.A1.{corner, row_of}
+use Rattle.cell_refs.specs.declared.TheConstants.{MAX_ROWS, MAX_COLUMNS}
+use Rattle.cell_refs.specs.declared.error.RefError.{RefError}
+use Rattle.cell_refs.specs.declared.error.RefError.TheVariants as ref
+use Rattle.part_events.specs.Event.{Tag}
+use Rattle.xlsx_sections.specs.Refusal.{Refusal, lookup_fault, misplaced}
+use Rattle.xlsx_cells.specs.Marks.{Mark, row_start, row_end, cell}
+
+abbrev pub some_placed : {A : Type 0} → Result A RefError → Result (Option A) Refusal
+some_placed (Ok place) = Ok (Some place)
+some_placed (Err fault) = Err (misplaced fault)
+
+-- what an attribute names that may be absent
+abbrev pub named_by :
+    {A : Type 0} → (List ℕ → Result A RefError) → Result (Option (List ℕ)) AttrFault →
+    Result (Option A) Refusal
+named_by read (Ok None) = Ok None
+named_by read (Ok (Some written)) = some_placed (read written)
+named_by read (Err fault) = Err (lookup_fault fault)
+
+-- the row that the start of a row names, and the position that the start of a cell names
+abbrev pub row_named : Tag → Result (Option ℕ) Refusal
+row_named tag = named_by row_of (value_of (codes "r") tag.attributes)
+
+abbrev pub position_named : Tag → Result (Option (ℕ × ℕ)) Refusal
+position_named tag = named_by corner (value_of (codes "r") tag.attributes)
+
+-- the row that was named, and one more for each end; else what is found further back
+abbrev pub or_further_row : ℕ → Result (Option ℕ) Refusal → ℕ → ℕ
+or_further_row ends (Ok (Some row)) further = row + ends
+or_further_row ends (Ok None) further = further
+or_further_row ends (Err refusal) further = further
+
+-- Looking back, the last row that a start names, and one more for each end of a row behind it.
+-- `ends` were passed.
+abbrev pub row_counter : ℕ → List Mark → ℕ
+row_counter ends [] = ends
+row_counter ends (row_start tag ∷ before) =
+    or_further_row ends (row_named tag) (row_counter ends before)
+row_counter ends (row_end ∷ before) = row_counter (suc ends) before
+row_counter ends (cell element ∷ before) = row_counter ends before
+
+-- behind a cell that names its position, its column, and one more for it and each cell since; else
+-- what is found further back
+abbrev pub or_further_column : ℕ → Result (Option (ℕ × ℕ)) Refusal → ℕ → ℕ
+or_further_column since (Ok (Some position)) further = position.1 + 1 + since
+or_further_column since (Ok None) further = further
+or_further_column since (Err refusal) further = further
+
+-- Looking back to the last end of a row, or to the last cell that names its position: the cells
+-- since the one, or the column behind the other with the cells since. `since` were passed.
+abbrev pub column_counter : ℕ → List Mark → ℕ
+column_counter since [] = since
+column_counter since (row_start tag ∷ before) = column_counter since before
+column_counter since (row_end ∷ before) = since
+column_counter since (cell element ∷ before) =
+    or_further_column since (position_named element.tag) (column_counter (suc since) before)
+
+-- a cell that names no position stands where the counters do, unless one of them is past its last
+-- value
+abbrev pub implied_position : ℕ → ℕ → Result (ℕ × ℕ) Refusal
+implied_position row column =
+    if nat_le MAX_COLUMNS column then Err (misplaced ref.ColumnNumberOverflow)
+    else (if nat_le MAX_ROWS row then Err (misplaced ref.RowNumberOverflow)
+    else Ok (row, column))
+
+abbrev pub or_implied : List Mark → Result (Option (ℕ × ℕ)) Refusal → Result (ℕ × ℕ) Refusal
+or_implied before (Ok (Some position)) = Ok position
+or_implied before (Ok None) =
+    implied_position (row_counter 0 before) (column_counter 0 before)
+or_implied before (Err refusal) = Err refusal
+
+-- the position of a cell
+abbrev pub cell_position : List Mark → Tag → Result (ℕ × ℕ) Refusal
+cell_position before tag = or_implied before (position_named tag)
+
+-- only rows were passed, and none of them is refused
+abbrev pub PassesRows : List Mark → Type 0
+PassesRows [] = Unit {0}
+PassesRows (row_start tag ∷ passed) =
+    ((row : Option ℕ) × (row_named tag ≡ Ok row)) × PassesRows passed
+PassesRows (row_end ∷ passed) = PassesRows passed
+PassesRows (cell element ∷ passed) = ⊥
