@@ -1,1 +1,3 @@
 pub mod Formula
+pub mod Kept
+pub mod Refused

@@ -1,3 +1,9 @@
 //! The formulas that cells write, those of shared groups among them (ECMA-376 part 1,
 //! section 18.3.1.40).
 #![tactic(auto)]
+
+mod formula;
+mod masters;
+
+pub use formula::{Formula, Share, read_formula, share_of};
+pub use masters::Masters;

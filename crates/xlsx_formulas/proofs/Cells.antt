@@ -1,0 +1,156 @@
+-- How the formula of a cell goes on with the children that are read.
+use Rattle.std.proofs.Common.{◌≡◌, ℕ, List, [], ◌∷◌, ◌++◌, true, false, Option, Some, None, Result, Ok, Err, refl, sym, ◌∙◌, ap, subst, codes, append-nil}
+use Rattle.part_events.specs.Section.{Element, is_named}
+use Rattle.xlsx_sections.specs.Answers.{and_others_if, some_answers, prepended}
+use Rattle.xlsx_sections.specs.Refusal.{Refusal, stray_child, further, events_behind}
+use Rattle.xlsx_sections.proofs.Kept.{prepended-and_others, prepended-nil}
+use Rattle.xlsx_formulas.specs.Formula.{FormulaText, formula_text, child_formula, formula_of, behind_formulas, cell_formula}
+use Rattle.xlsx_formulas.specs.Kept.{AreMasters}
+use Rattle.xlsx_formulas.specs.declared.masters.Masters.{Masters}
+
+-- the formula of a cell whose last `f` is this one
+pub last_formula : (earlier : List FormulaText) (position : ℕ × ℕ) (passed : List FormulaText)
+    (found : FormulaText)
+    → cell_formula earlier position (passed ++ found ∷ [])
+    ≡ formula_of (behind_formulas passed earlier) position found
+last_formula earlier position [] found = refl
+last_formula earlier position (first ∷ []) found = refl
+last_formula earlier position (first ∷ next ∷ others) found =
+    last_formula (first ∷ earlier) position (next ∷ others) found
+
+-- what stands before the formulas behind a cell with one more
+pub behind_further : (passed earlier : List FormulaText) (found : FormulaText)
+    → behind_formulas (passed ++ found ∷ []) earlier ≡ found ∷ behind_formulas passed earlier
+behind_further [] earlier found = refl
+behind_further (first ∷ others) earlier found = behind_further others (first ∷ earlier) found
+
+-- one that gives something was taken of those that are left
+pub some_taken : {X A : Type 0} {x : X} {xs rest : List X} {own : A} {all : Result (List A) Refusal}
+    (answer : X → Result (Option A) Refusal) (kept : List A) → xs ≡ x ∷ rest
+    → answer x ≡ Ok (Some own) → prepended kept (some_answers answer xs) ≡ all
+    → prepended (kept ++ own ∷ []) (some_answers answer rest) ≡ all
+some_taken {x = x} {rest = rest} {own = own} answer kept same is holds =
+    prepended-and_others kept own (Ok own) (some_answers answer rest) refl
+    ∙ ap (λ (first : Result (Option _) Refusal). prepended kept
+    (and_others_if first (some_answers answer rest))) (sym is)
+    ∙ (rw same at holds)
+
+-- one that gives nothing was
+pub some_passed : {X A : Type 0} {x : X} {xs rest : List X} {all : Result (List A) Refusal}
+    (answer : X → Result (Option A) Refusal) (kept : List A) → xs ≡ x ∷ rest → answer x ≡ Ok None
+    → prepended kept (some_answers answer xs) ≡ all
+    → prepended kept (some_answers answer rest) ≡ all
+some_passed {rest = rest} answer kept same is holds =
+    ap (λ (first : Result (Option _) Refusal). prepended kept
+    (and_others_if first (some_answers answer rest))) (sym is)
+    ∙ (rw same at holds)
+
+-- one of those that are left is refused
+pub some_refused : {X A : Type 0} {x : X} {xs rest : List X} {all : Result (List A) Refusal}
+    {refusal : Refusal} (answer : X → Result (Option A) Refusal) (kept : List A) → xs ≡ x ∷ rest
+    → answer x ≡ Err refusal → prepended kept (some_answers answer xs) ≡ all → all ≡ Err refusal
+some_refused {xs = xs} {refusal = refusal} answer kept same refuses holds =
+    let here : prepended kept (some_answers answer xs) ≡ Err refusal = rw (same, refuses) refl in
+    sym holds ∙ here
+
+-- none of them is left
+pub all_taken : {X A : Type 0} {xs : List X} {all : Result (List A) Refusal}
+    (answer : X → Result (Option A) Refusal) (kept : List A) → xs ≡ []
+    → prepended kept (some_answers answer xs) ≡ all → all ≡ Ok kept
+all_taken {xs = xs} answer kept same holds =
+    let here : prepended kept (some_answers answer xs) ≡ Ok kept = rw (same, append-nil kept) refl
+    in
+    sym holds ∙ here
+
+-- what a child of a cell writes, by what is read of it
+pub child_read : (child : Element) (found : FormulaText)
+    → is_named (codes "f" ∷ []) child.tag ≡ true
+    → formula_text child.tag child.inside ≡ Ok found → child_formula child ≡ Ok (Some found)
+child_read child found named is = rw (named, is) refl
+
+pub child_refused : (child : Element) (refusal : Refusal)
+    → is_named (codes "f" ∷ []) child.tag ≡ true
+    → formula_text child.tag child.inside ≡ Err refusal
+    → child_formula child ≡ Err (further (events_behind child) refusal)
+child_refused child refusal named is = rw (named, is) refl
+
+pub child_passed : (child : Element) → is_named (codes "f" ∷ []) child.tag ≡ false
+    → is_named (codes "v" ∷ codes "is" ∷ []) child.tag ≡ true → child_formula child ≡ Ok None
+child_passed child formula value = rw (formula, value) refl
+
+pub child_stray : (child : Element) → is_named (codes "f" ∷ []) child.tag ≡ false
+    → is_named (codes "v" ∷ codes "is" ∷ []) child.tag ≡ false
+    → child_formula child ≡ Err stray_child
+child_stray child formula value = rw (formula, value) refl
+
+-- The children of a cell were read but for those that are left: the formulas of groups are kept of
+-- the sheet up to here, and the text is that of the cell so far. `all` is what all children say, and
+-- `earlier` what stands before the cell.
+pub record KeepsFormulas
+    (earlier : List FormulaText) (position : ℕ × ℕ) (all : Result (List FormulaText) Refusal)
+    (left : List Element) (masters : Masters) (written : List ℕ) : Type 0 where
+  pub passed : List FormulaText
+  pub formulas : prepended passed (some_answers child_formula left) ≡ all
+  pub groups : AreMasters (behind_formulas passed earlier) masters
+  pub text : written ≡ cell_formula earlier position passed
+
+pub keeps_no_formula : (earlier : List FormulaText) (position : ℕ × ℕ) (left : List Element)
+    (masters : Masters) → AreMasters earlier masters
+    → KeepsFormulas earlier position (some_answers child_formula left) left masters []
+keeps_no_formula earlier position left masters groups = record {
+  passed = [];
+  formulas = prepended-nil (some_answers child_formula left);
+  groups = groups;
+  text = refl;
+}
+
+-- a child that writes a formula was read, and the formula taken
+pub formula_kept : {earlier : List FormulaText} {position : ℕ × ℕ}
+    {all : Result (List FormulaText) Refusal} {left rest : List Element} {old new : Masters}
+    {written text : List ℕ} {child : Element} {found : FormulaText}
+    → KeepsFormulas earlier position all left old written → left ≡ child ∷ rest
+    → child_formula child ≡ Ok (Some found)
+    → ((before : List FormulaText) → AreMasters before old
+    → text ≡ formula_of before position found)
+    → ((before : List FormulaText) → AreMasters before old → AreMasters (found ∷ before) new)
+    → KeepsFormulas earlier position all rest new text
+formula_kept {earlier = earlier} {position = position} {new = new} {found = found} keeps same is
+    text groups =
+    let behind = behind_formulas keeps.passed earlier in
+    record {
+      passed = keeps.passed ++ found ∷ [];
+      formulas = some_taken child_formula keeps.passed same is keeps.formulas;
+      groups = subst (λ (before : List FormulaText). AreMasters before new)
+          (sym (behind_further keeps.passed earlier found)) (groups behind keeps.groups);
+      text = text behind keeps.groups
+          ∙ sym (last_formula earlier position keeps.passed found);
+    }
+
+-- a child that writes none was
+pub child_kept : {earlier : List FormulaText} {position : ℕ × ℕ}
+    {all : Result (List FormulaText) Refusal} {left rest : List Element} {masters : Masters}
+    {written : List ℕ} {child : Element} → KeepsFormulas earlier position all left masters written
+    → left ≡ child ∷ rest → child_formula child ≡ Ok None
+    → KeepsFormulas earlier position all rest masters written
+child_kept keeps same is = record {
+  passed = keeps.passed;
+  formulas = some_passed child_formula keeps.passed same is keeps.formulas;
+  groups = keeps.groups;
+  text = keeps.text;
+}
+
+-- a child is refused, and so is the cell
+pub formulas_refused : {earlier : List FormulaText} {position : ℕ × ℕ}
+    {all : Result (List FormulaText) Refusal} {left rest : List Element} {masters : Masters}
+    {written : List ℕ} {child : Element} {refusal : Refusal}
+    → KeepsFormulas earlier position all left masters written → left ≡ child ∷ rest
+    → child_formula child ≡ Err refusal → all ≡ Err refusal
+formulas_refused keeps same refuses =
+    some_refused child_formula keeps.passed same refuses keeps.formulas
+
+-- all children were read: these are the formulas of the cell
+pub formulas_read : {earlier : List FormulaText} {position : ℕ × ℕ}
+    {all : Result (List FormulaText) Refusal} {left : List Element} {masters : Masters}
+    {written : List ℕ} → (keeps : KeepsFormulas earlier position all left masters written)
+    → left ≡ [] → all ≡ Ok keeps.passed
+formulas_read keeps same = all_taken child_formula keeps.passed same keeps.formulas

@@ -1,0 +1,33 @@
+-- What is kept of formulas, apart from where their texts lie in memory.
+use Rattle.std.specs.Prelude.{◌≡◌, ℕ, List, Option, option_map, string_bytes}
+use Rattle.std.specs.BTreeMap.{get}
+use Rattle.std.specs.Ordering.{nat_cmp}
+use Rattle.xlsx_formulas.specs.Formula.{Sharing, own, master, derived, FormulaText, GroupFormula}
+use Rattle.xlsx_formulas.specs.Formula.{master_of}
+use Rattle.xlsx_formulas.specs.declared.formula.Share.{Share}
+use Rattle.xlsx_formulas.specs.declared.formula.Share.TheVariants.{Own, Master, Derived}
+use Rattle.xlsx_formulas.specs.declared.formula.Formula.{Formula}
+use Rattle.xlsx_formulas.specs.declared.masters.Masters.{Masters}
+use Rattle.xlsx_formulas.specs.declared.masters.Master as kept
+
+abbrev pub sharing_seen : Share → Sharing
+sharing_seen Own = own
+sharing_seen (Master index area) = master index area
+sharing_seen (Derived index) = derived index
+
+abbrev pub formula_seen : Formula → FormulaText
+formula_seen formula = record {
+  sharing = sharing_seen formula.share;
+  text = string_bytes formula.text;
+}
+
+abbrev pub group_seen : kept.Master → GroupFormula
+group_seen found = record { text = string_bytes found.text; corner = found.corner }
+
+-- the formula that is kept of the group of an index
+abbrev pub masters_in : Masters → ℕ → Option GroupFormula
+masters_in masters index = option_map group_seen (get nat_cmp masters.groups index)
+
+-- the formulas that are kept are those of the last masters among these
+abbrev pub AreMasters : List FormulaText → Masters → Type 0
+AreMasters earlier masters = (index : ℕ) → masters_in masters index ≡ master_of index earlier

@@ -1,0 +1,42 @@
+-- The refusals that reading a formula can have, whatever the package tells.
+use Rattle.std.specs.Prelude.{◌≡◌, ◌⊎◌, ⊤, codes}
+use Rattle.part_events.specs.declared.fault.XmlFault.TheVariants.{EndMismatch, Entity}
+use Rattle.cell_data.specs.declared.error.XlsxError.{XlsxError}
+use Rattle.cell_data.specs.declared.error.XlsxError.TheVariants.{OutOfMemory, Io, Xml, XmlAttr}
+use Rattle.cell_data.specs.declared.error.XlsxError.TheVariants.{XmlEof, Unexpected}
+use Rattle.cell_data.specs.declared.error.XlsxError.TheVariants.{Alphanumeric, DimensionCount}
+use Rattle.cell_data.specs.declared.error.XlsxError.TheVariants.{RangeWithoutRowComponent}
+use Rattle.cell_data.specs.declared.error.XlsxError.TheVariants.{RangeWithoutColumnComponent}
+use Rattle.cell_data.specs.declared.error.XlsxError.TheVariants.{ColumnNumberOverflow}
+use Rattle.cell_data.specs.declared.error.XlsxError.TheVariants.{RowNumberOverflow}
+
+-- those of its start
+abbrev pub IsShareError : XlsxError → Type 0
+IsShareError (XmlAttr fault) = ⊤
+IsShareError (Unexpected text) =
+    (text.now ≡ codes "si attribute must be a number")
+    ⊎ (text.now ≡ codes "si attribute is mandatory if it is shared")
+IsShareError (Alphanumeric byte) = ⊤
+IsShareError RangeWithoutRowComponent = ⊤
+IsShareError RangeWithoutColumnComponent = ⊤
+IsShareError ColumnNumberOverflow = ⊤
+IsShareError RowNumberOverflow = ⊤
+IsShareError (DimensionCount count) = ⊤
+IsShareError _ = ⊥
+
+-- and those of all of it
+abbrev pub IsFormulaError : XlsxError → Type 0
+IsFormulaError Io = ⊤
+IsFormulaError OutOfMemory = ⊤
+IsFormulaError (Xml (EndMismatch at)) = ⊤
+IsFormulaError (Xml (Entity at)) = ⊤
+IsFormulaError (XmlEof element) = element.now ≡ codes "f"
+IsFormulaError (XmlAttr fault) = ⊤
+IsFormulaError (Unexpected text) = IsShareError (Unexpected text)
+IsFormulaError (Alphanumeric byte) = ⊤
+IsFormulaError RangeWithoutRowComponent = ⊤
+IsFormulaError RangeWithoutColumnComponent = ⊤
+IsFormulaError ColumnNumberOverflow = ⊤
+IsFormulaError RowNumberOverflow = ⊤
+IsFormulaError (DimensionCount count) = ⊤
+IsFormulaError _ = ⊥

@@ -1,0 +1,101 @@
+ghost use Rattle.std.specs.Prelude.{◌≡◌, ℕ, suc, length, codes, true, Ok, Err, IfOk, OnOk, IfErr};
+ghost use Rattle.part_events.specs.Event.{Tag, start, tag_of};
+ghost use Rattle.part_events.specs.Reading.{reading, open_elements, IsReading, IsAtElement, ReadsPart, Skips, ahead};
+ghost use Rattle.part_events.specs.Section.{content};
+ghost use Rattle.cell_data.specs.declared.error.XlsxError.TheVariants.{Io};
+ghost use Rattle.xlsx_sections.specs.Elements.{ElementReadFails};
+ghost use Rattle.xlsx_sections.specs.PartSection.{always};
+ghost use Rattle.xlsx_sections.specs.Refusal.{ElementFails};
+ghost use Rattle.xlsx_formulas.specs.Formula.{sharing_of, formula_text};
+ghost use Rattle.xlsx_formulas.specs.Kept.{sharing_seen, formula_seen};
+ghost use Rattle.xlsx_formulas.specs.Refused.{IsShareError, IsFormulaError};
+
+use attr_text::{RawAttributes, get_attrs};
+use cell_data::XlsxError;
+use cell_refs::{Dimensions, get_dimension};
+use part_events::{Cursor, Package, StartTag};
+use std::alloc::Global;
+use xlsx_sections::{number_text, read_element_text, start_tag};
+
+/// Whose formula an `f` writes.
+#[derive(Clone, Copy, Debug, PartialEq, Eq)]
+pub enum Share {
+    /// Its cell's alone.
+    Own,
+    /// That of the group of this index, which is written for this area.
+    Master { index: u64, area: Dimensions },
+    /// One of the group of this index.
+    Derived { index: u64 },
+}
+
+/// A formula as its `f` writes it.
+#[derive(Debug, Drop)]
+pub struct Formula {
+    pub share: Share,
+    pub text: String,
+}
+
+/// What a start says of the sharing of its formula, by its attributes `t`, `si` and `ref` (ECMA-376 part 1, section
+/// 18.3.1.40). A shared formula with `ref` is the master of its group.
+///
+/// A shared formula is refused as `Unexpected` where it has no `si`, or one that is no number of 64 bits, and as its
+/// reference where `ref` names no area.
+pub fn share_of(tag: StartTag<'_>) -> Result<Share, XlsxError>
+    ensures ok { IfOk result (λ share. sharing_of (tag_of tag.entry) ≡ Ok (sharing_seen share)) }
+    ensures err { IfErr result (λ error. (at behind : ℕ) →
+        ElementFails (sharing_of (tag_of tag.entry)) at behind error) }
+    ensures kind { IfErr result IsShareError }
+{
+    let (typ, index, range) = get_attrs!(tag, "t" => typ, "si" => index, "ref" => range)?;
+    let Some("shared") = typ else {
+        return Ok(Share::Own);
+    };
+    let Some(index) = index else {
+        return Err(XlsxError::Unexpected("si attribute is mandatory if it is shared"));
+    };
+    let Some(index) = number_text(index) else {
+        return Err(XlsxError::Unexpected("si attribute must be a number"));
+    };
+    match range {
+        Some(range) => Ok(Share::Master {
+            index,
+            area: get_dimension(range)?,
+        }),
+        None => Ok(Share::Derived { index }),
+    }
+}
+
+/// Reads the `f` at whose start the package stands, to its end: the sharing that its start says, and then its text, which is
+/// each Text, with its line ends as LF, and the character of each reference.
+///
+/// It is refused as [`share_of`] its start is, where a reference in its text has no character, and where its end isn't
+/// there.
+pub fn read_formula<P: Package>(
+    alloc: Global,
+    package: &mut P,
+    cursor: &mut Cursor,
+) -> Result<Formula, XlsxError>
+    requires reading { IsReading (reading (P.state «package».old) cursor.old) }
+    requires element { IsAtElement (reading (P.state «package».old) cursor.old) }
+    ensures reads { let old = reading (P.state «package».old) cursor.old in
+        let new = reading (P.state «package».new) cursor.new in
+        ReadsPart Io result old new }
+    ensures depth { OnOk result (length (open_elements cursor.old) ≡ suc (length (open_elements cursor.new))) }
+    ensures skips { let old = reading (P.state «package».old) cursor.old in
+        let new = reading (P.state «package».new) cursor.new in
+        old.source.is_told ≡ true → OnOk result (Skips old new) }
+    ensures formula { let old = reading (P.state «package».old) cursor.old in
+        let inside = content 0 (ahead old) in
+        old.source.is_told ≡ true → (tag : Tag) → start tag ≡ old.source.current →
+        IfOk result (λ found. formula_text tag inside ≡ Ok (formula_seen found)) }
+    ensures err { let old = reading (P.state «package».old) cursor.old in
+        let new = reading (P.state «package».new) cursor.new in
+        IfErr result (λ error. (tag : Tag) → start tag ≡ old.source.current →
+        ElementReadFails (always (codes "f")) (formula_text tag) old new error) }
+    ensures kind { IfErr result IsFormulaError }
+{
+    let share = share_of(start_tag(package))?;
+    let mut text = String::new(alloc);
+    read_element_text(package, cursor, &mut text, false, "f")?;
+    Ok(Formula { share, text })
+}
