@@ -11,7 +11,7 @@ use Rattle.xlsx_strings.specs.Strings.{end_in_string}
 use Rattle.xlsx_values.specs.CellType.{CellKind, untyped, kind_named}
 use Rattle.xlsx_values.specs.Value.{end_in_value}
 use Rattle.xlsx_cells.specs.Marks.{is_cell}
-use Rattle.xlsx_cells.specs.declared.cell_contents.Wants.{Wants}
+use Rattle.xlsx_cells.specs.declared.children.Wants.{Wants}
 
 abbrev pub kind_from : Result (List (Option (List ℕ))) AttrFault → CellKind
 kind_from (Ok values) = with_three (λ position style typ. kind_named typ) untyped values

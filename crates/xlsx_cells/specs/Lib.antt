@@ -1,3 +1,6 @@
+pub mod Children
 pub mod Counting
+pub mod Ends
 pub mod Marks
 pub mod Position
+pub mod Sheet

@@ -75,12 +75,14 @@ abbrev pub some_formula : Result FormulaText Refusal → Result (Option FormulaT
 some_formula (Ok found) = Ok (Some found)
 some_formula (Err refusal) = Err refusal
 
--- the formula that a child of a cell writes, if it is an `f`
+-- the formula that a child of a cell writes, if it is an `f`, by its start and what stands in it
+abbrev pub said_formula : Tag → List Event → Result (Option FormulaText) Refusal
+said_formula tag inside =
+    if is_named (codes "f" ∷ []) tag then some_formula (formula_text tag inside)
+    else (if is_named (codes "v" ∷ codes "is" ∷ []) tag then Ok None else Err stray_child)
+
 abbrev pub child_formula : Element → Result (Option FormulaText) Refusal
-child_formula child =
-    if is_named (codes "f" ∷ []) child.tag
-    then in_element child (some_formula (formula_text child.tag child.inside))
-    else (if is_named (codes "v" ∷ codes "is" ∷ []) child.tag then Ok None else Err stray_child)
+child_formula child = in_element child (said_formula child.tag child.inside)
 
 -- the formulas that a cell's children write, in order
 abbrev pub formulas_in : List Event → Result (List FormulaText) Refusal

@@ -162,16 +162,19 @@ inline_value inside = of_joined (λ (written : List ℕ). Ok (value.text written
 abbrev pub is_child : List ℕ → Tag → Bool
 is_child own tag = is_named (own ∷ []) tag
 
--- what a child of a cell says of the cell's value
+-- what a child of a cell says of the cell's value, by its start and what stands in it
+abbrev pub said_value :
+    Grounds → CellFormat → CellKind → Tag → List Event → Result (Option CellValue) Refusal
+said_value grounds format kind tag inside =
+    if is_child (codes "f") tag then Ok None
+    else (if is_child (codes "v") tag then value_element grounds format kind inside
+    else (if is_child (codes "is") tag then some_value (inline_value inside)
+    else Err stray_child))
+
 abbrev pub child_value :
     Grounds → CellFormat → CellKind → Element → Result (Option CellValue) Refusal
 child_value grounds format kind child =
-    if is_child (codes "v") child.tag
-    then in_element child (value_element grounds format kind child.inside)
-    else (if is_child (codes "is") child.tag
-    then in_element child (some_value (inline_value child.inside))
-    else (if is_child (codes "f") child.tag then Ok None
-    else Err stray_child))
+    in_element child (said_value grounds format kind child.tag child.inside)
 
 abbrev pub or_nothing : Result (Option CellValue) Refusal → Result CellValue Refusal
 or_nothing (Ok (Some found)) = Ok found
