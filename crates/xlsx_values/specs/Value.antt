@@ -22,7 +22,7 @@ use Rattle.xlsx_sections.specs.NumberText.{number_text}
 use Rattle.xlsx_sections.specs.Refusal.{Refusal, lookup_fault, stray_child, lacks_string}
 use Rattle.xlsx_sections.specs.Refusal.{wrong_truth, wrong_error, wrong_number, wrong_type}
 use Rattle.xlsx_sections.specs.Refusal.{in_element}
-use Rattle.xlsx_strings.specs.Strings.{string_of, end_in_string}
+use Rattle.xlsx_strings.specs.Strings.{string_of}
 use Rattle.xlsx_values.specs.CellType.{CellKind, untyped, of_number, of_shared, of_truth, of_error}
 use Rattle.xlsx_values.specs.CellType.{of_text, of_date, of_inline, of_unknown, kind_named}
 use Rattle.xlsx_values.specs.CellType.{is_joined, is_inline}
@@ -65,18 +65,24 @@ abbrev pub shared_value : List (List ℕ) → List ℕ → Result CellValue Refu
 shared_value strings [] = Ok value.nothing
 shared_value strings (b ∷ bs) = string_at strings (unwrap_or (number_text (b ∷ bs)) 0)
 
--- the value of a truth value's text, which is told by `written` where it has none
-abbrev pub lower_truth : List ℕ → List ℕ → Result CellValue Refusal
-lower_truth written lower =
-    if bytes_eq lower (codes "0") then Ok (value.truth false)
-    else (if bytes_eq lower (codes "false") then Ok (value.truth false)
-    else (if bytes_eq lower (codes "1") then Ok (value.truth true)
-    else (if bytes_eq lower (codes "true") then Ok (value.truth true)
-    else Err (wrong_truth written))))
+-- the truth value of a text in small letters
+abbrev pub lower_truth : List ℕ → Option Bool
+lower_truth lower =
+    if bytes_eq lower (codes "0") then Some false
+    else (if bytes_eq lower (codes "false") then Some false
+    else (if bytes_eq lower (codes "1") then Some true
+    else (if bytes_eq lower (codes "true") then Some true
+    else None)))
 
+abbrev pub or_wrong_truth : List ℕ → Option Bool → Result CellValue Refusal
+or_wrong_truth written None = Err (wrong_truth written)
+or_wrong_truth written (Some b) = Ok (value.truth b)
+
+-- the value of a truth value's text, which is told by `written` where it has none
 abbrev pub trimmed_truth : List ℕ → List ℕ → Result CellValue Refusal
 trimmed_truth written [] = Ok value.nothing
-trimmed_truth written (b ∷ bs) = lower_truth written (str_to_ascii_lowercase (b ∷ bs))
+trimmed_truth written (b ∷ bs) =
+    or_wrong_truth written (lower_truth (str_to_ascii_lowercase (b ∷ bs)))
 
 abbrev pub truth_value : List ℕ → Result CellValue Refusal
 truth_value written = trimmed_truth written (trim written)
