@@ -1,1 +1,2 @@
 mod TextValues
+mod ValuesRead

@@ -145,11 +145,18 @@ abbrev pub of_joined :
 of_joined read (Ok written) = read written
 of_joined read (Err refusal) = Err refusal
 
+-- what a `v` says of the value of a cell of a type by its first event, and by its joined text
+abbrev pub first_value : Grounds → CellFormat → CellKind → List Event → Result CellValue Refusal
+first_value grounds format kind inside =
+    of_first (value_of_first grounds format kind) (first_text inside)
+
+abbrev pub joined_value : CellKind → List Event → Result CellValue Refusal
+joined_value kind inside = of_joined (value_of_joined kind) (element_text false inside)
+
 -- what a `v` says of the value of a cell of a type, where it counts
 abbrev pub counted_value : Grounds → CellFormat → CellKind → List Event → Result CellValue Refusal
 counted_value grounds format kind inside =
-    if is_joined kind then of_joined (value_of_joined kind) (element_text false inside)
-    else of_first (value_of_first grounds format kind) (first_text inside)
+    if is_joined kind then joined_value kind inside else first_value grounds format kind inside
 
 abbrev pub some_value : Result CellValue Refusal → Result (Option CellValue) Refusal
 some_value (Ok found) = Ok (Some found)
@@ -208,11 +215,16 @@ cell_value grounds tag inside =
     looked_value grounds inside
     (lookup (codes "r" ∷ codes "s" ∷ codes "t" ∷ []) tag.attributes)
 
--- The end of the part in a `v` of a type: one of one text is skipped behind its first event, and
--- one that doesn't count from its start.
+-- The end of the part in a `v` is told as `v`, but one that is read by its first event is skipped
+-- behind it, and one that doesn't count from its start.
+abbrev pub end_in_first : List Event → Option (List ℕ)
+end_in_first [] = Some (codes "v")
+end_in_first (event ∷ events) = None
+
 abbrev pub end_in_value : CellKind → List Event → Option (List ℕ)
-end_in_value kind [] = if is_inline kind then None else Some (codes "v")
-end_in_value kind (event ∷ events) = if is_joined kind then Some (codes "v") else None
+end_in_value kind inside =
+    if is_inline kind then None
+    else (if is_joined kind then Some (codes "v") else end_in_first inside)
 
 -- a value with its text in place of the place of a shared string
 abbrev pub text_at : List (List ℕ) → ℕ → CellValue

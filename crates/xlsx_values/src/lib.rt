@@ -4,6 +4,8 @@
 mod book;
 mod text_value;
 mod types;
+mod value;
 
 pub use book::{Book, format_of_style};
 pub use types::{CellType, cell_type};
+pub use value::read_value;
