@@ -1,0 +1,2 @@
+mod TextValues
+mod ValuesRead

@@ -1,2 +1,3 @@
 pub mod CellType
 pub mod Value
+pub mod Book

@@ -22,7 +22,7 @@ use Rattle.xlsx_sections.specs.NumberText.{number_text}
 use Rattle.xlsx_sections.specs.Refusal.{Refusal, lookup_fault, stray_child, lacks_string}
 use Rattle.xlsx_sections.specs.Refusal.{wrong_truth, wrong_error, wrong_number, wrong_type}
 use Rattle.xlsx_sections.specs.Refusal.{in_element}
-use Rattle.xlsx_strings.specs.Strings.{string_of, end_in_string}
+use Rattle.xlsx_strings.specs.Strings.{string_of}
 use Rattle.xlsx_values.specs.CellType.{CellKind, untyped, of_number, of_shared, of_truth, of_error}
 use Rattle.xlsx_values.specs.CellType.{of_text, of_date, of_inline, of_unknown, kind_named}
 use Rattle.xlsx_values.specs.CellType.{is_joined, is_inline}
@@ -65,18 +65,24 @@ abbrev pub shared_value : List (List ℕ) → List ℕ → Result CellValue Refu
 shared_value strings [] = Ok value.nothing
 shared_value strings (b ∷ bs) = string_at strings (unwrap_or (number_text (b ∷ bs)) 0)
 
--- the value of a truth value's text, which is told by `written` where it has none
-abbrev pub lower_truth : List ℕ → List ℕ → Result CellValue Refusal
-lower_truth written lower =
-    if bytes_eq lower (codes "0") then Ok (value.truth false)
-    else (if bytes_eq lower (codes "false") then Ok (value.truth false)
-    else (if bytes_eq lower (codes "1") then Ok (value.truth true)
-    else (if bytes_eq lower (codes "true") then Ok (value.truth true)
-    else Err (wrong_truth written))))
+-- the truth value of a text in small letters
+abbrev pub lower_truth : List ℕ → Option Bool
+lower_truth lower =
+    if bytes_eq lower (codes "0") then Some false
+    else (if bytes_eq lower (codes "false") then Some false
+    else (if bytes_eq lower (codes "1") then Some true
+    else (if bytes_eq lower (codes "true") then Some true
+    else None)))
 
+abbrev pub or_wrong_truth : List ℕ → Option Bool → Result CellValue Refusal
+or_wrong_truth written None = Err (wrong_truth written)
+or_wrong_truth written (Some b) = Ok (value.truth b)
+
+-- the value of a truth value's text, which is told by `written` where it has none
 abbrev pub trimmed_truth : List ℕ → List ℕ → Result CellValue Refusal
 trimmed_truth written [] = Ok value.nothing
-trimmed_truth written (b ∷ bs) = lower_truth written (str_to_ascii_lowercase (b ∷ bs))
+trimmed_truth written (b ∷ bs) =
+    or_wrong_truth written (lower_truth (str_to_ascii_lowercase (b ∷ bs)))
 
 abbrev pub truth_value : List ℕ → Result CellValue Refusal
 truth_value written = trimmed_truth written (trim written)
@@ -139,11 +145,18 @@ abbrev pub of_joined :
 of_joined read (Ok written) = read written
 of_joined read (Err refusal) = Err refusal
 
+-- what a `v` says of the value of a cell of a type by its first event, and by its joined text
+abbrev pub first_value : Grounds → CellFormat → CellKind → List Event → Result CellValue Refusal
+first_value grounds format kind inside =
+    of_first (value_of_first grounds format kind) (first_text inside)
+
+abbrev pub joined_value : CellKind → List Event → Result CellValue Refusal
+joined_value kind inside = of_joined (value_of_joined kind) (element_text false inside)
+
 -- what a `v` says of the value of a cell of a type, where it counts
 abbrev pub counted_value : Grounds → CellFormat → CellKind → List Event → Result CellValue Refusal
 counted_value grounds format kind inside =
-    if is_joined kind then of_joined (value_of_joined kind) (element_text false inside)
-    else of_first (value_of_first grounds format kind) (first_text inside)
+    if is_joined kind then joined_value kind inside else first_value grounds format kind inside
 
 abbrev pub some_value : Result CellValue Refusal → Result (Option CellValue) Refusal
 some_value (Ok found) = Ok (Some found)
@@ -205,11 +218,16 @@ cell_value grounds tag inside =
     looked_value grounds inside
     (lookup (codes "r" ∷ codes "s" ∷ codes "t" ∷ []) tag.attributes)
 
--- The end of the part in a `v` of a type: one of one text is skipped behind its first event, and
--- one that doesn't count from its start.
+-- The end of the part in a `v` is told as `v`, but one that is read by its first event is skipped
+-- behind it, and one that doesn't count from its start.
+abbrev pub end_in_first : List Event → Option (List ℕ)
+end_in_first [] = Some (codes "v")
+end_in_first (event ∷ events) = None
+
 abbrev pub end_in_value : CellKind → List Event → Option (List ℕ)
-end_in_value kind [] = if is_inline kind then None else Some (codes "v")
-end_in_value kind (event ∷ events) = if is_joined kind then Some (codes "v") else None
+end_in_value kind inside =
+    if is_inline kind then None
+    else (if is_joined kind then Some (codes "v") else end_in_first inside)
 
 -- a value with its text in place of the place of a shared string
 abbrev pub text_at : List (List ℕ) → ℕ → CellValue

@@ -1,2 +1,11 @@
 //! The values of cells (ECMA-376 part 1, section 18.3.1.4).
 #![tactic(auto)]
+
+mod book;
+mod text_value;
+mod types;
+mod value;
+
+pub use book::{Book, format_of_style};
+pub use types::{CellType, cell_type};
+pub use value::read_value;

@@ -1,0 +1,32 @@
+ghost use Rattle.std.specs.Prelude.{◌≡◌};
+ghost use Rattle.std.specs.Option.{option_copied};
+ghost use Rattle.xlsx_values.specs.Value.{format_of};
+
+use cell_data::CellFormat;
+use xlsx_sections::number_text;
+
+/// What the values of a workbook's cells rest on.
+#[derive(Clone, Copy)]
+pub struct Book<'a> {
+    /// The shared strings, by their places.
+    pub strings: &'a [String],
+    /// What the number formats of the styles make of numbers, by the numbers of the styles.
+    pub formats: &'a [CellFormat],
+    /// Whether dates count from 1904.
+    pub is_1904: bool,
+}
+
+/// What the number format of a cell's style makes of a number, by the text of the cell's `s`, where it has one. A text that
+/// is no number is that of the first style.
+pub fn format_of_style(formats: &[CellFormat], style: Option<&str>) -> CellFormat
+    ensures { result ≡ format_of formats.now (option_copied style.entry) }
+{
+    let Some(style) = style else {
+        return CellFormat::Other;
+    };
+    let place = number_text(style).unwrap_or(0) as usize;
+    match formats.get(place) {
+        Some(format) => *format,
+        None => CellFormat::Other,
+    }
+}
