@@ -1,3 +1,4 @@
 pub mod CountersMoved
 pub mod MarksAhead
+pub mod Passing
 pub mod Refusing

@@ -1,0 +1,22 @@
+use Rattle.std.proofs.Common.{◌≡◌, List, true}
+use Rattle.part_events.specs.Reading.{reading}
+use Rattle.part_events.specs.Walk.{SameAhead}
+use Rattle.xlsx_sections.specs.PartSection.{KeepsSection}
+use Rattle.xlsx_cells.specs.Counting.{AreKept}
+use Rattle.xlsx_cells.specs.Marks.{Mark, is_cell}
+use Rattle.xlsx_cells.proofs.Passing.{HasPassed}
+use Rattle.xlsx_cells.proofs.finding.find_cell.Given as goal
+
+abbrev pub invariant-events : goal.invariant-events
+invariant-events g l =
+    let old = reading (g.P.Package.state l.fn.«package») l.fn.cursor in
+    let now = reading (g.P.Package.state l.«package») l.cursor in
+    record {
+      section : KeepsSection l.base old now;
+      same : old.source.is_told ≡ true → SameAhead is_cell l.base old now;
+      passed : old.source.is_told ≡ true → (before : List Mark) → AreKept before l.fn.counters
+          → HasPassed before l.base old now l.counters;
+    }
+
+abbrev pub decreases-events : goal.decreases-events
+decreases-events g l = (g.P.Package.state l.«package»).left

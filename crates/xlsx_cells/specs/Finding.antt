@@ -1,0 +1,91 @@
+-- How the next cell of a sheet's data is found.
+use Rattle.std.specs.Prelude.{◌≡◌, ⊤, ℕ, ◌-◌, ◌<◌, List, [], ◌∷◌, ◌++◌, codes, true, Option, Some, None}
+use Rattle.std.specs.Prelude.{Result, Ok, Err}
+use Rattle.cell_refs.specs.declared.TheConstants.{MAX_ROWS, MAX_COLUMNS}
+use Rattle.part_events.specs.Event.{Tag, Event, start}
+use Rattle.part_events.specs.Reading.{Reading}
+use Rattle.part_events.specs.Section.{Element}
+use Rattle.part_events.specs.Walk.{element_at, section_ahead, section_behind, is_closed_ahead}
+use Rattle.cell_data.specs.declared.error.XlsxError.{XlsxError}
+use Rattle.xlsx_sections.specs.Elements.{FindsElementIn, end_among}
+use Rattle.xlsx_sections.specs.PartSection.{PartSection, SectionFails, StandsAtStart, inside_of}
+use Rattle.xlsx_sections.specs.Refusal.{Refusal}
+use Rattle.xlsx_cells.specs.Counting.{AreKept}
+use Rattle.xlsx_cells.specs.Marks.{Mark, row_start, row_end, cell, is_cell, marks, behind_marks}
+use Rattle.xlsx_cells.specs.Position.{row_named, cell_position, PassesRows}
+use Rattle.xlsx_cells.specs.declared.counters.Counters.{Counters}
+
+-- the marks of what is left of a sheet's data, whose element is number `base` of the open ones
+abbrev pub marks_left : ℕ → Reading → List Mark
+marks_left base r = marks (section_ahead base r)
+
+-- a cell was found, at whose start reading stands
+pub record FindsCell
+    (before : List Mark) (position : ℕ × ℕ) (base : ℕ) (old new : Reading)
+    (counters : Counters) : Type 0 where
+  pub passed : List Mark
+  pub rows : PassesRows passed
+  pub tag : Tag
+  pub current : start tag ≡ new.source.current
+  pub marks :
+      marks_left base old
+      ≡ passed ++ cell (element_at base tag new) ∷ marks (section_behind base new)
+  pub placed : cell_position (behind_marks passed before) tag ≡ Ok position
+  pub counts : AreKept (cell (element_at base tag new) ∷ behind_marks passed before) counters
+
+-- no cell is left, and the data are closed
+pub record FindsNone (base : ℕ) (old : Reading) : Type 0 where
+  pub rows : PassesRows (marks_left base old)
+  pub closed : is_closed_ahead base old ≡ true
+
+abbrev pub Finds :
+    List Mark → Option (ℕ × ℕ) → ℕ → Reading → Reading → Counters → Type 0
+Finds before None base old new counters = FindsNone base old
+Finds before (Some position) base old new counters =
+    FindsCell before position base old new counters
+
+-- where reading stands then
+abbrev pub StandsAtCell : ℕ → Option (ℕ × ℕ) → Reading → Reading → Type 0
+StandsAtCell base None old new = ⊤
+StandsAtCell base (Some position) old new =
+    StandsAtStart is_cell base (Some (new.at - 1)) old new
+    × (position.0 < MAX_ROWS) × (position.1 < MAX_COLUMNS)
+
+abbrev pub FindsCellElement : ℕ → Option (ℕ × ℕ) → Reading → Reading → Type 0
+FindsCellElement base None old new = ⊤
+FindsCellElement base (Some position) old new =
+    FindsElementIn is_cell base (Some (new.at - 1)) old new
+
+-- behind a row that isn't refused
+abbrev pub BehindRow : Result (Option ℕ) Refusal → Refusal → Type 0 → Type 0
+BehindRow (Ok row) refusal others = others
+BehindRow (Err own) refusal others = own ≡ refusal
+
+-- a mark that a step takes is refused: it takes rows up to the first that is refused, or up to a
+-- cell
+abbrev pub IsTakenRefused :
+    (List Mark → Element → Refusal → Type 0) → List Mark → List Mark → Refusal → Type 0
+IsTakenRefused refused before [] refusal = ⊥
+IsTakenRefused refused before (row_start tag ∷ marks) refusal =
+    BehindRow (row_named tag) refusal
+    (IsTakenRefused refused (row_start tag ∷ before) marks refusal)
+IsTakenRefused refused before (row_end ∷ marks) refusal =
+    IsTakenRefused refused (row_end ∷ before) marks refusal
+IsTakenRefused refused before (cell element ∷ marks) refusal = refused before element refusal
+
+-- why a step is refused, where `refused` says why a cell is
+abbrev pub IsStepRefused :
+    (List Mark → Element → Refusal → Type 0) → Counters → PartSection → Refusal → Type 0
+IsStepRefused refused counters section refusal =
+    (before : List Mark) → AreKept before counters →
+    IsTakenRefused refused before (marks (inside_of section)) refusal
+
+abbrev pub IsMisplaced : List Mark → Element → Refusal → Type 0
+IsMisplaced before element refusal = cell_position before element.tag ≡ Err refusal
+
+-- when no cell is found; `inner` tells the end of the part in a cell
+abbrev pub FindFails :
+    (Element → Option (List ℕ)) → Counters → ℕ → Reading → Reading → XlsxError → Type 0
+FindFails inner counters base old new error =
+    SectionFails (end_among is_cell (codes "sheetData") inner)
+    (IsStepRefused IsMisplaced counters) base old new error

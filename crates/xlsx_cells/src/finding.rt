@@ -1,0 +1,95 @@
+ghost use Rattle.std.specs.Prelude.{◌≡◌, ◌≤◌, ℕ, List, length, true, Option, option_map, codes, IfOk, OnOk, IfErr};
+ghost use Rattle.part_events.specs.Event.{tag_of, event_of};
+ghost use Rattle.part_events.specs.Reading.{reading, open_elements, IsReading, ReadsPart};
+ghost use Rattle.part_events.specs.Section.{Element};
+ghost use Rattle.cell_data.specs.declared.error.XlsxError.TheVariants.{Io};
+ghost use Rattle.xlsx_cells.specs.Counting.{AreKept, IsRefused, IsRowRefused, IsPositionError};
+ghost use Rattle.xlsx_cells.specs.Errors.{IsFindError};
+ghost use Rattle.xlsx_cells.specs.Finding.{Finds, FindsCellElement, StandsAtCell, FindFails};
+ghost use Rattle.xlsx_cells.specs.Marks.{Mark, cell_start, marks_of, behind_marks};
+ghost use Rattle.xlsx_cells.specs.Position.{PassesRows};
+
+use crate::counters::Counters;
+use attr_text::local_name;
+use cell_data::XlsxError;
+use part_events::{Cursor, Package, PartEvent, StartTag, Step};
+
+/// The start of a cell that an event is.
+fn cell_start(event: PartEvent<'_>) -> Option<StartTag<'_>>
+    ensures { option_map tag_of result ≡ cell_start (event_of event.entry) }
+{
+    match event {
+        PartEvent::Start(tag) if tag.local_name() == "c" => Some(tag),
+        _ => None,
+    }
+}
+
+/// Passes an event that starts no cell.
+fn pass(counters: &mut Counters, event: PartEvent<'_>) -> Result<(), XlsxError>
+    ensures kept { OnOk result ((before : List Mark) → AreKept before counters.old →
+        AreKept (behind_marks (marks_of (event_of event.entry)) before) counters.new) }
+    ensures rows { OnOk result (PassesRows (marks_of (event_of event.entry))) }
+    ensures err { IfErr result (IsRefused (IsRowRefused (event_of event.entry))) }
+    ensures kind { IfErr result IsPositionError }
+{
+    match event {
+        PartEvent::Start(tag) => {
+            if tag.local_name() == "row" {
+                counters.start_row(tag)?;
+            }
+        }
+        PartEvent::End(name) => {
+            if local_name(name) == "row" {
+                counters.end_row();
+            }
+        }
+        PartEvent::Text(_)
+        | PartEvent::CharData(_)
+        | PartEvent::EntityRef(_)
+        | PartEvent::Other => {}
+    }
+    Ok(())
+}
+
+/// Reads on to the start of the next cell of a sheet's data, whose element is number `base` of the open ones, counted from 1.
+/// Answers the cell's position, its row and column counted from 0, and None at the end of the data.
+pub fn find_cell<P: Package>(
+    package: &mut P,
+    cursor: &mut Cursor,
+    base: usize,
+    counters: &mut Counters,
+) -> Result<Option<(u32, u32)>, XlsxError>
+    requires reading { IsReading (reading (P.state «package».old) cursor.old) }
+    requires within { base ≤ length (open_elements cursor.old) }
+    ensures reads { let old = reading (P.state «package».old) cursor.old in
+        let new = reading (P.state «package».new) cursor.new in
+        ReadsPart Io result old new }
+    ensures stands { let old = reading (P.state «package».old) cursor.old in
+        let new = reading (P.state «package».new) cursor.new in
+        IfOk result (λ found. StandsAtCell base found old new) }
+    ensures element { let old = reading (P.state «package».old) cursor.old in
+        let new = reading (P.state «package».new) cursor.new in
+        old.source.is_told ≡ true → IfOk result (λ found. FindsCellElement base found old new) }
+    ensures finds { let old = reading (P.state «package».old) cursor.old in
+        let new = reading (P.state «package».new) cursor.new in
+        old.source.is_told ≡ true → (before : List Mark) → AreKept before counters.old →
+        IfOk result (λ found. Finds before found base old new counters.new) }
+    ensures err { let old = reading (P.state «package».old) cursor.old in
+        let new = reading (P.state «package».new) cursor.new in
+        IfErr result (λ error. (inner : Element → Option (List ℕ)) →
+        FindFails inner counters.old base old new error) }
+    ensures kind { IfErr result IsFindError }
+{
+    'events: loop {
+        match cursor.next_inside(package, base)? {
+            Step::Found => {}
+            Step::Closed => return Ok(None),
+            Step::Ended => return Err(XlsxError::XmlEof("sheetData")),
+        }
+        let event = package.event();
+        if let Some(tag) = cell_start(event) {
+            return Ok(Some(counters.place(tag)?));
+        }
+        pass(counters, event)?;
+    }
+}
