@@ -3,6 +3,8 @@
 
 mod book;
 mod resolving;
+#[cfg(test)]
+mod tests;
 mod text_value;
 mod types;
 mod value;
