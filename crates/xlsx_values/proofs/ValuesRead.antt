@@ -1,5 +1,10 @@
 -- How the value of a cell is read, and how one that is refused makes its element refused.
-use Rattle.std.proofs.Common.{◌≡◌, ℕ, suc, ◌+◌, List, [], ◌∷◌, length, Bool, true, false, Some, None, Option, Result, Ok, Err, refl, sym, ◌∙◌, ap, subst, arith, codes}
+use Rattle.std.proofs.Common.{◌≡◌, ℕ, ◌+◌, ◌-◌, ◌<◌, List, [], ◌∷◌, length, true, false, None, Ok, Err, sym, ◌∙◌, ap, arith, codes}
+use Rattle.part_events.specs.Event.{Event}
+use Rattle.part_events.specs.Nesting.{starts_in, ends_in}
+use Rattle.part_events.specs.Reading.{Reading, IsReading, IsAtElement, ahead}
+use Rattle.part_events.specs.Section.{content}
+use Rattle.part_events.specs.Walk.{section_ahead, TakesInside}
 use Rattle.part_events.specs.declared.fault.XmlFault.TheVariants.{EndMismatch, Unclosed, Entity}
 use Rattle.cell_data.specs.declared.error.XlsxError.{XlsxError}
 use Rattle.cell_data.specs.declared.error.XlsxError.TheVariants.{OutOfMemory, Io, Xml, XmlEof}
@@ -7,6 +12,14 @@ use Rattle.cell_data.specs.declared.error.XlsxError.TheVariants.{Unexpected, Unr
 use Rattle.cell_data.specs.declared.error.XlsxError.TheVariants.{CellError, ParseFloat}
 use Rattle.cell_data.specs.declared.error.XlsxError.TheVariants.{CellTAttribute}
 use Rattle.xlsx_sections.specs.Elements.{IsTextError, IsEndError}
+use Rattle.xlsx_sections.specs.ElementText.{element_text}
+use Rattle.xlsx_sections.specs.PartSection.{always, inside_of, section_left}
+use Rattle.xlsx_sections.specs.Refusal.{Refusal, ElementFails}
+use Rattle.xlsx_sections.specs.Elements.{ElementReadFails, IsInsideRefused}
+use Rattle.xlsx_sections.proofs.ElementsRead.{own_inside}
+use Rattle.xlsx_sections.proofs.Refused.{event_refused}
+use Rattle.xlsx_values.specs.CellType.{CellKind}
+use Rattle.xlsx_values.specs.Value.{of_joined, value_of_joined, joined_value}
 use Rattle.xlsx_values.specs.Book.{IsTextValueError, IsValueError}
 
 pub text_value : (error : XlsxError) → IsTextValueError error → IsValueError error
@@ -34,3 +47,44 @@ skipped (Xml (Unclosed at)) is = tt
 skipped _ is = absurd is
 
 pub ruleset value_errors = (text_value, joined_text, skipped)
+
+-- the first event of the element at whose start a reader stood
+pub first_event : {depth : ℕ} {event : Event} {old new : Reading} → depth ≡ length old.names
+    → event ≡ new.source.current → TakesInside depth old new
+    → inside_of (section_left (length old.names) old) ≡ event ∷ section_ahead depth new
+first_event {depth = depth} {old = old} {new = new} deep current takes =
+    ap (λ (n : ℕ). section_ahead n old) (sym deep) ∙ takes.events
+    ∙ ap (λ (next : Event). next ∷ section_ahead depth new) (sym current)
+
+some_past : (past : List Event) (n : ℕ) → n + ends_in past ≡ starts_in past → 0 < n
+    → 0 < length past
+some_past [] n same some = absurd (omega (arith, same, some))
+some_past (event ∷ past) n same some = omega arith
+
+-- the start of an element was taken
+started : (old : Reading) → IsReading old → IsAtElement old → old.source.is_told ≡ true
+    → 0 < old.at
+started old is element told =
+    let tracked = is.tracked told in
+    omega (
+      arith,
+      tracked.at,
+      some_past old.source.past (length old.names) tracked.depth (is.element element),
+    )
+
+-- the joined text of the element at whose start a reader stood has no value
+pub joined_refused : (kind : CellKind) (old new : Reading) (text : List ℕ) (error : XlsxError)
+    → IsReading old → IsAtElement old
+    → (old.source.is_told ≡ true → element_text false (content 0 (ahead old)) ≡ Ok text)
+    → ((at behind : ℕ) → ElementFails (value_of_joined kind text) at behind error)
+    → ElementReadFails (always (codes "v")) (joined_value kind) old new error
+joined_refused kind old new text error is element read fails =
+    let inside = content 0 (ahead old) in
+    event_refused (length old.names) (old.at - 1) (length inside) old (always (codes "v"))
+    (λ (refusal : Refusal). value_of_joined kind text ≡ Err refusal)
+    (IsInsideRefused (joined_value kind)) new error
+    (λ told. omega (arith, started old is element told, ap length (own_inside old)))
+    (λ told refusal refuses.
+    ap (joined_value kind) (own_inside old) ∙ ap (of_joined (value_of_joined kind)) (read told)
+    ∙ refuses)
+    (fails (old.at - 1) (length inside))

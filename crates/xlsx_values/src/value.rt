@@ -130,10 +130,6 @@ pub fn read_value<P: Package>(
         | CellType::Number
         | CellType::Shared
         | CellType::Truth
-        | CellType::Error => {
-            Ok(Some(read_first(
-                alloc, package, cursor, book, format, typ,
-            )?))
-        }
+        | CellType::Error => { Ok(Some(read_first(alloc, package, cursor, book, format, typ)?)) }
     }
 }

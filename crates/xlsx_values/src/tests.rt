@@ -1,0 +1,320 @@
+use crate::{Book, cell_type, format_of_style, read_value, to_data};
+use cell_data::{CellErrorType, CellFormat, Data, DataRef, ExcelDateTimeType, XlsxError};
+use part_events::{Cursor, FailingPackage, MemoryPackage, Package, PartEvent, StartTag};
+use std::alloc::{AllocError, Global};
+use std::process::Abort;
+use std::test::Fail;
+use xlsx_sections::enter;
+
+const FORMATS: [CellFormat; 3] = [
+    CellFormat::Other,
+    CellFormat::DateTime,
+    CellFormat::TimeDelta,
+];
+
+const WHOLE: PartEvent<'_> = PartEvent::End("v");
+
+fn start(name: &str) -> PartEvent<'_> {
+    PartEvent::Start(StartTag {
+        name,
+        attributes: "",
+    })
+}
+
+// A package with one part, which begins with the start of a `v`.
+fn held_package(
+    rt: &impl Abort,
+    alloc: Global,
+    inside: &[PartEvent<'_>],
+) -> Result<MemoryPackage, AllocError> {
+    let mut package = MemoryPackage::new(alloc);
+    package.add_part("part")?;
+    assert!(rt; package.part_count() == 1);
+    package.push_event(start("v"))?;
+    for event in inside {
+        assert!(rt; package.part_count() == 1);
+        package.push_event(*event)?;
+    }
+    Ok(package)
+}
+
+// Reads the `v` of a package as the value of a cell with this style and type.
+fn read_part<P: Package>(
+    alloc: Global,
+    package: &mut P,
+    strings: &[String],
+    style: Option<&str>,
+    typ: Option<&str>,
+) -> Result<Option<DataRef>, XlsxError> {
+    if !package.open("part")? {
+        return Ok(None);
+    }
+    let mut cursor = Cursor::new(alloc, package);
+    enter(package, &mut cursor, "v")?;
+    let book = Book {
+        strings,
+        formats: &FORMATS,
+        is_1904: true,
+    };
+    let format = format_of_style(&FORMATS, style);
+    let typ = cell_type(alloc, typ)?;
+    read_value(alloc, package, &mut cursor, book, format, &typ)
+}
+
+fn error_text(error: CellErrorType) -> &'static str {
+    match error {
+        CellErrorType::Div0 => "#DIV/0!",
+        CellErrorType::NA => "#N/A",
+        CellErrorType::Name => "#NAME?",
+        CellErrorType::Null => "#NULL!",
+        CellErrorType::Num => "#NUM!",
+        CellErrorType::Ref => "#REF!",
+        CellErrorType::Value => "#VALUE!",
+        CellErrorType::GettingData => "#GETTING_DATA",
+    }
+}
+
+// A value: the letter of its kind and its text.
+fn text_of(alloc: Global, value: &Data) -> Result<String, AllocError> {
+    let mut out = String::new(alloc);
+    match value {
+        Data::Int(_) => out.push_str("whole")?,
+        Data::Decimal(number) => {
+            out.push_str("n:")?;
+            number.push_to(&mut out)?;
+        }
+        Data::String(text) => {
+            out.push_str("s:")?;
+            out.push_str(text.as_str())?;
+        }
+        Data::Bool(truth) => out.push_str(if *truth { "b:true" } else { "b:false" })?,
+        Data::DateTime(time) => {
+            out.push_str(match time.kind {
+                ExcelDateTimeType::DateTime => "t:",
+                ExcelDateTimeType::TimeDelta => "d:",
+            })?;
+            time.value.push_to(&mut out)?;
+            out.push_str(if time.is_1904 { " of 1904" } else { " of 1900" })?;
+        }
+        Data::DateTimeIso(text) => {
+            out.push_str("i:")?;
+            out.push_str(text.as_str())?;
+        }
+        Data::Error(error) => {
+            out.push_str("e:")?;
+            out.push_str(error_text(*error))?;
+        }
+        Data::Empty => out.push_str("empty")?,
+    }
+    Ok(out)
+}
+
+// What a `v` says, or the text of its refusal.
+fn told<P: Package>(
+    alloc: Global,
+    package: &mut P,
+    strings: &[String],
+    style: Option<&str>,
+    typ: Option<&str>,
+) -> Result<String, AllocError> {
+    match read_part(alloc, package, strings, style, typ) {
+        Ok(Some(value)) => text_of(alloc, &to_data(alloc, value, strings)?),
+        Ok(None) => String::from_str(alloc, "not counted"),
+        Err(error) => error.to_string(alloc),
+    }
+}
+
+/// A type, and what is told of a `v` in which the first event is an empty text, the text 1, a reference to `&`, the
+/// character data 1, or a comment.
+const FIRST: [(Option<&str>, [&str; 5]); 11] = [
+    (None, ["empty", "n:1", "empty", "empty", "empty"]),
+    (Some("n"), ["empty", "n:1", "empty", "empty", "empty"]),
+    (Some("s"), ["empty", "s:one", "empty", "empty", "empty"]),
+    (Some("b"), ["empty", "b:true", "empty", "empty", "empty"]),
+    (
+        Some("e"),
+        [
+            "Unsupported cell error value ''",
+            "Unsupported cell error value '1'",
+            "empty",
+            "empty",
+            "empty",
+        ],
+    ),
+    (Some("str"), ["s:", "s:1", "s:&", "s:", "s:"]),
+    (Some("d"), ["i:", "i:1", "i:&", "i:", "i:"]),
+    (Some("inlineStr"), ["not counted"; 5]),
+    (Some("is"), ["not counted"; 5]),
+    (Some("zz"), ["Unknown cell 't' attribute: \"zz\""; 5]),
+    (Some(""), ["Unknown cell 't' attribute: \"\""; 5]),
+];
+
+/// A type, a text and what is told of it.
+const TEXTS: [(Option<&str>, &str, &str); 24] = [
+    (Some("s"), "x", "s:zero"),
+    (Some("s"), "0", "s:zero"),
+    (Some("s"), "+1", "s:zero"),
+    (
+        Some("s"),
+        "2",
+        "Cell string index not found in shared strings table",
+    ),
+    (Some("b"), "2", "Unrecognized boolean cell value: 2"),
+    (Some("b"), "FALSE", "b:false"),
+    (Some("b"), "tRue", "b:true"),
+    (Some("b"), " 1 ", "b:true"),
+    (Some("b"), "  ", "empty"),
+    (Some("b"), " 00", "Unrecognized boolean cell value:  00"),
+    (Some("n"), "inf", "Parse float error: inf"),
+    (Some("n"), "2.50", "n:2.5"),
+    (Some("n"), " 1", "Parse float error:  1"),
+    (None, "inf", "s:inf"),
+    (None, "a_x0041_", "s:a_x0041_"),
+    (None, "1e3", "n:1000"),
+    (Some("e"), "#BAD!", "Unsupported cell error value '#BAD!'"),
+    (Some("e"), "#DIV/0!", "e:#DIV/0!"),
+    (Some("e"), "#N/A", "e:#N/A"),
+    (Some("e"), "#n/a", "Unsupported cell error value '#n/a'"),
+    (Some("zz"), "1", "Unknown cell 't' attribute: \"zz\""),
+    (Some("str"), "a\r\n_x0041_", "s:a\nA"),
+    (Some("d"), "2024-01-01", "i:2024-01-01"),
+    (Some("N"), "1", "Unknown cell 't' attribute: \"N\""),
+];
+
+#[test]
+fn texts_of_each_type_have_their_values(rt: HostRuntime) -> Result<(), Fail> {
+    let alloc = rt.alloc();
+    let strings = vec![in alloc;
+        String::from_str(alloc, "zero")?,
+        String::from_str(alloc, "one")?,
+    ]?;
+    let first = [
+        PartEvent::Text(""),
+        PartEvent::Text("1"),
+        PartEvent::EntityRef("amp"),
+        PartEvent::CharData("1"),
+        PartEvent::Other,
+    ];
+    for (typ, wanted) in FIRST {
+        for (event, want) in first.iter().zip(wanted.iter()) {
+            let mut package = held_package(&rt, alloc, &[*event, WHOLE])?;
+            let found = told(alloc, &mut package, &strings, None, typ)?;
+            assert_eq!(rt; found.as_str(), *want, "{typ:?} {event:?}");
+        }
+    }
+    for (typ, text, want) in TEXTS {
+        let mut package = held_package(&rt, alloc, &[PartEvent::Text(text), WHOLE])?;
+        let found = told(alloc, &mut package, &strings, None, typ)?;
+        assert_eq!(rt; found.as_str(), want, "{typ:?} {text}");
+    }
+    Ok(())
+}
+
+#[test]
+fn longer_elements_are_read_to_their_ends(rt: HostRuntime) -> Result<(), Fail> {
+    let alloc = rt.alloc();
+    let strings = Vec::new(alloc);
+    let split = [
+        PartEvent::Text("a"),
+        PartEvent::EntityRef("lt"),
+        PartEvent::Text("_x0041_"),
+        WHOLE,
+    ];
+    for (typ, want) in [
+        (None, "s:a"),
+        (Some("str"), "s:a<A"),
+        (Some("d"), "i:a<_x0041_"),
+        (Some("is"), "not counted"),
+    ] {
+        let mut package = held_package(&rt, alloc, &split)?;
+        let found = told(alloc, &mut package, &strings, None, typ)?;
+        assert_eq!(rt; found.as_str(), want, "{typ:?}");
+        assert_eq!(rt; package.taken(), 5, "{typ:?}");
+    }
+    let nested = [start("x"), PartEvent::Text("1"), PartEvent::End("x"), WHOLE];
+    for (typ, want) in [
+        (Some("n"), "empty"),
+        (Some("str"), "s:1"),
+        (Some("inlineStr"), "not counted"),
+    ] {
+        let mut package = held_package(&rt, alloc, &nested)?;
+        let found = told(alloc, &mut package, &strings, None, typ)?;
+        assert_eq!(rt; found.as_str(), want, "{typ:?}");
+        assert_eq!(rt; package.taken(), 5, "{typ:?}");
+    }
+    for (style, want) in [
+        (None, "n:1.5"),
+        (Some("0"), "n:1.5"),
+        (Some("1"), "t:1.5 of 1904"),
+        (Some("2"), "d:1.5 of 1904"),
+        (Some("3"), "n:1.5"),
+        (Some("x"), "n:1.5"),
+    ] {
+        let mut package = held_package(&rt, alloc, &[PartEvent::Text("1.5"), WHOLE])?;
+        let found = told(alloc, &mut package, &strings, style, None)?;
+        assert_eq!(rt; found.as_str(), want, "{style:?}");
+    }
+    Ok(())
+}
+
+/// A type, what stands behind the start of a `v`, and why it can't be read.
+const REFUSED: [(Option<&str>, &[PartEvent<'static>], &str); 9] = [
+    (Some("n"), &[], "Unexpected end of xml, expecting '</v>'"),
+    (Some("str"), &[], "Unexpected end of xml, expecting '</v>'"),
+    (Some("is"), &[], "Xml error: unclosed element at 1"),
+    (
+        None,
+        &[PartEvent::Text("1")],
+        "Xml error: unclosed element at 2",
+    ),
+    (
+        Some("d"),
+        &[PartEvent::Text("1")],
+        "Unexpected end of xml, expecting '</v>'",
+    ),
+    (
+        Some("n"),
+        &[PartEvent::End("c")],
+        "Xml error: end tag mismatch at 1",
+    ),
+    (
+        Some("is"),
+        &[PartEvent::EntityRef("x"), PartEvent::End("c")],
+        "Xml error: end tag mismatch at 2",
+    ),
+    (
+        Some("str"),
+        &[PartEvent::Other, PartEvent::EntityRef("x"), WHOLE],
+        "Xml error: unknown entity at 2",
+    ),
+    (
+        Some("n"),
+        &[PartEvent::Text("x"), PartEvent::End("c")],
+        "Parse float error: x",
+    ),
+];
+
+#[test]
+fn elements_are_refused_and_planned_calls_fail(rt: HostRuntime) -> Result<(), Fail> {
+    let alloc = rt.alloc();
+    let strings = Vec::new(alloc);
+    for (typ, events, want) in REFUSED {
+        let mut package = held_package(&rt, alloc, events)?;
+        let found = told(alloc, &mut package, &strings, None, typ)?;
+        assert_eq!(rt; found.as_str(), want, "{typ:?}");
+    }
+    for number in 0..5u64 {
+        for (typ, whole) in [
+            (None, "n:1"),
+            (Some("str"), "s:1"),
+            (Some("is"), "not counted"),
+        ] {
+            let inner = held_package(&rt, alloc, &[PartEvent::Text("1"), WHOLE])?;
+            let mut package = FailingPackage::new(inner, vec![in alloc; number]?);
+            let want = if number < 4 { "I/O error" } else { whole };
+            let found = told(alloc, &mut package, &strings, None, typ)?;
+            assert_eq!(rt; found.as_str(), want, "{typ:?}, call {number}");
+        }
+    }
+    Ok(())
+}
