@@ -1,10 +1,12 @@
 -- How the formula of a cell goes on with the children that are read.
-use Rattle.std.proofs.Common.{◌≡◌, ℕ, List, [], ◌∷◌, ◌++◌, true, false, Option, Some, None, Result, Ok, Err, refl, sym, ◌∙◌, ap, subst, codes, append-nil}
+use Rattle.std.proofs.Common.{◌≡◌, ℕ, List, [], ◌∷◌, ◌++◌, true, false, Option, Some, None}
+use Rattle.std.proofs.Common.{Result, Ok, Err, refl, sym, ◌∙◌, ap, subst, codes, append-nil}
 use Rattle.part_events.specs.Section.{Element, is_named}
 use Rattle.xlsx_sections.specs.Answers.{and_others_if, some_answers, prepended}
 use Rattle.xlsx_sections.specs.Refusal.{Refusal, stray_child, further, events_behind}
 use Rattle.xlsx_sections.proofs.Kept.{prepended-and_others, prepended-nil}
-use Rattle.xlsx_formulas.specs.Formula.{FormulaText, formula_text, child_formula, formula_of, behind_formulas, cell_formula}
+use Rattle.xlsx_formulas.specs.Formula.{FormulaText, formula_text, child_formula, formula_of}
+use Rattle.xlsx_formulas.specs.Formula.{behind_formulas, cell_formula}
 use Rattle.xlsx_formulas.specs.Kept.{AreMasters}
 use Rattle.xlsx_formulas.specs.declared.masters.Masters.{Masters}
 
@@ -84,8 +86,8 @@ pub child_stray : (child : Element) → is_named (codes "f" ∷ []) child.tag �
 child_stray child formula value = rw (formula, value) refl
 
 -- The children of a cell were read but for those that are left: the formulas of groups are kept of
--- the sheet up to here, and the text is that of the cell so far. `all` is what all children say, and
--- `earlier` what stands before the cell.
+-- the sheet up to here, and the text is that of the cell so far. `all` is what all children say,
+-- and `earlier` what stands before the cell.
 pub record KeepsFormulas
     (earlier : List FormulaText) (position : ℕ × ℕ) (all : Result (List FormulaText) Refusal)
     (left : List Element) (masters : Masters) (written : List ℕ) : Type 0 where

@@ -1,6 +1,7 @@
 ghost use Rattle.std.specs.Prelude.{◌≡◌, ℕ, suc, length, codes, true, Ok, Err, IfOk, OnOk, IfErr};
 ghost use Rattle.part_events.specs.Event.{Tag, start, tag_of};
-ghost use Rattle.part_events.specs.Reading.{reading, open_elements, IsReading, IsAtElement, ReadsPart, Skips, ahead};
+ghost use Rattle.part_events.specs.Reading.{reading, open_elements, ahead};
+ghost use Rattle.part_events.specs.Reading.{IsReading, IsAtElement, ReadsPart, Skips};
 ghost use Rattle.part_events.specs.Section.{content};
 ghost use Rattle.cell_data.specs.declared.error.XlsxError.TheVariants.{Io};
 ghost use Rattle.xlsx_sections.specs.Elements.{ElementReadFails};
@@ -35,11 +36,11 @@ pub struct Formula {
     pub text: String,
 }
 
-/// What a start says of the sharing of its formula, by its attributes `t`, `si` and `ref` (ECMA-376 part 1, section
-/// 18.3.1.40). A shared formula with `ref` is the master of its group.
+/// What a start says of the sharing of its formula, by its attributes `t`, `si` and `ref` (ECMA-376
+/// part 1, section 18.3.1.40). A shared formula with `ref` is the master of its group.
 ///
-/// A shared formula is refused as `Unexpected` where it has no `si`, or one that is no number of 64 bits, and as its
-/// reference where `ref` names no area.
+/// A shared formula is refused as `Unexpected` where it has no `si`, or one that is no number of 64
+/// bits, and as its reference where `ref` names no area.
 pub fn share_of(tag: StartTag<'_>) -> Result<Share, XlsxError>
     ensures ok { IfOk result (λ share. sharing_of (tag_of tag.entry) ≡ Ok (sharing_seen share)) }
     ensures err { IfErr result (λ error. (at behind : ℕ) →
@@ -65,11 +66,12 @@ pub fn share_of(tag: StartTag<'_>) -> Result<Share, XlsxError>
     }
 }
 
-/// Reads the `f` at whose start the package stands, to its end: the sharing that its start says, and then its text, which is
-/// each Text, with its line ends as LF, and the character of each reference.
+/// Reads the `f` at whose start the package stands, to its end: the sharing that its start says,
+/// and then its text, which is each Text, with its line ends as LF, and the character of each
+/// reference.
 ///
-/// It is refused as [`share_of`] its start is, where a reference in its text has no character, and where its end isn't
-/// there.
+/// It is refused as [`share_of`] its start is, where a reference in its text has no character, and
+/// where its end isn't there.
 pub fn read_formula<P: Package>(
     alloc: Global,
     package: &mut P,
@@ -80,7 +82,8 @@ pub fn read_formula<P: Package>(
     ensures reads { let old = reading (P.state «package».old) cursor.old in
         let new = reading (P.state «package».new) cursor.new in
         ReadsPart Io result old new }
-    ensures depth { OnOk result (length (open_elements cursor.old) ≡ suc (length (open_elements cursor.new))) }
+    ensures depth { OnOk result
+        (length (open_elements cursor.old) ≡ suc (length (open_elements cursor.new))) }
     ensures skips { let old = reading (P.state «package».old) cursor.old in
         let new = reading (P.state «package».new) cursor.new in
         old.source.is_told ≡ true → OnOk result (Skips old new) }

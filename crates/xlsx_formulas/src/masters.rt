@@ -14,7 +14,8 @@ struct Master {
     corner: (u32, u32),
 }
 
-/// The formulas of the groups of a sheet, by their indices: of each group the last one that was written.
+/// The formulas of the groups of a sheet, by their indices: of each group the last one that was
+/// written.
 #[derive(Debug, Drop)]
 pub struct Masters {
     groups: BTreeMap<u64, Master>,
@@ -30,9 +31,10 @@ impl Masters {
         }
     }
 
-    /// The text of a formula in the cell at `position`, a row and a column counted from 0. That of a group is kept, also
-    /// where it is empty, in place of an earlier one of its index. One that is derived from it is moved by the way from the
-    /// first written corner of the group's area to the cell; where no such group is kept, it is empty.
+    /// The text of a formula in the cell at `position`, a row and a column counted from 0. That of
+    /// a group is kept, also where it is empty, in place of an earlier one of its index. One that
+    /// is derived from it is moved by the way from the first written corner of the group's area to
+    /// the cell; where no such group is kept, it is empty.
     ///
     /// Where memory is wanting the groups stay as they were.
     pub fn take(
@@ -41,9 +43,11 @@ impl Masters {
         formula: Formula,
         position: (u32, u32),
     ) -> Result<String, AllocError>
-        ensures text { IfOk result (λ text. (earlier : List FormulaText) → AreMasters earlier self.old →
+        ensures text { IfOk result (λ text. (earlier : List FormulaText) →
+            AreMasters earlier self.old →
             string_bytes text ≡ formula_of earlier position (formula_seen formula)) }
-        ensures masters { OnOk result ((earlier : List FormulaText) → AreMasters earlier self.old →
+        ensures masters { OnOk result ((earlier : List FormulaText) →
+            AreMasters earlier self.old →
             AreMasters (formula_seen formula ∷ earlier) self.new) }
         ensures err { OnErr result ((earlier : List FormulaText) → AreMasters earlier self.old →
             AreMasters earlier self.new) }
