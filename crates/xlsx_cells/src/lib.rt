@@ -1,5 +1,7 @@
 //! The cells of a worksheet, read as its part's events come.
 #![tactic(auto)]
 
+mod children;
 mod counters;
 mod finding;
+mod stub;

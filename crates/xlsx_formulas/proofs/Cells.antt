@@ -3,9 +3,9 @@ use Rattle.std.proofs.Common.{◌≡◌, ℕ, List, [], ◌∷◌, ◌++◌, tru
 use Rattle.std.proofs.Common.{Result, Ok, Err, refl, sym, ◌∙◌, ap, subst, codes, append-nil}
 use Rattle.part_events.specs.Section.{Element, is_named}
 use Rattle.xlsx_sections.specs.Answers.{and_others_if, some_answers, prepended}
-use Rattle.xlsx_sections.specs.Refusal.{Refusal, stray_child, further, events_behind}
+use Rattle.xlsx_sections.specs.Refusal.{Refusal}
 use Rattle.xlsx_sections.proofs.Kept.{prepended-and_others, prepended-nil}
-use Rattle.xlsx_formulas.specs.Formula.{FormulaText, formula_text, child_formula, formula_of}
+use Rattle.xlsx_formulas.specs.Formula.{FormulaText, child_formula, formula_of}
 use Rattle.xlsx_formulas.specs.Formula.{behind_formulas, cell_formula}
 use Rattle.xlsx_formulas.specs.Kept.{AreMasters}
 use Rattle.xlsx_formulas.specs.declared.masters.Masters.{Masters}
@@ -63,27 +63,6 @@ all_taken {xs = xs} answer kept same holds =
     let here : prepended kept (some_answers answer xs) ≡ Ok kept = rw (same, append-nil kept) refl
     in
     sym holds ∙ here
-
--- what a child of a cell writes, by what is read of it
-pub child_read : (child : Element) (found : FormulaText)
-    → is_named (codes "f" ∷ []) child.tag ≡ true
-    → formula_text child.tag child.inside ≡ Ok found → child_formula child ≡ Ok (Some found)
-child_read child found named is = rw (named, is) refl
-
-pub child_refused : (child : Element) (refusal : Refusal)
-    → is_named (codes "f" ∷ []) child.tag ≡ true
-    → formula_text child.tag child.inside ≡ Err refusal
-    → child_formula child ≡ Err (further (events_behind child) refusal)
-child_refused child refusal named is = rw (named, is) refl
-
-pub child_passed : (child : Element) → is_named (codes "f" ∷ []) child.tag ≡ false
-    → is_named (codes "v" ∷ codes "is" ∷ []) child.tag ≡ true → child_formula child ≡ Ok None
-child_passed child formula value = rw (formula, value) refl
-
-pub child_stray : (child : Element) → is_named (codes "f" ∷ []) child.tag ≡ false
-    → is_named (codes "v" ∷ codes "is" ∷ []) child.tag ≡ false
-    → child_formula child ≡ Err stray_child
-child_stray child formula value = rw (formula, value) refl
 
 -- The children of a cell were read but for those that are left: the formulas of groups are kept of
 -- the sheet up to here, and the text is that of the cell so far. `all` is what all children say,

@@ -79,7 +79,8 @@ some_formula (Err refusal) = Err refusal
 abbrev pub said_formula : Tag → List Event → Result (Option FormulaText) Refusal
 said_formula tag inside =
     if is_named (codes "f" ∷ []) tag then some_formula (formula_text tag inside)
-    else (if is_named (codes "v" ∷ codes "is" ∷ []) tag then Ok None else Err stray_child)
+    else (if is_named (codes "v" ∷ []) tag then Ok None
+    else (if is_named (codes "is" ∷ []) tag then Ok None else Err stray_child))
 
 abbrev pub child_formula : Element → Result (Option FormulaText) Refusal
 child_formula child = in_element child (said_formula child.tag child.inside)

@@ -1,0 +1,92 @@
+-- What a sheet's data say.
+use Rattle.std.specs.Prelude.{ℕ, List, [], ◌∷◌, ◌++◌, Bool, true, false, if◌then◌else◌, Result, Ok, Err}
+use Rattle.std.specs.Prelude.{Option, Some, None}
+use Rattle.part_events.specs.Event.{Event}
+use Rattle.part_events.specs.Section.{Element}
+use Rattle.cell_data.specs.CellValue as value
+use Rattle.cell_data.specs.CellValue.{CellValue}
+use Rattle.xlsx_sections.specs.Answers.{and_others}
+use Rattle.xlsx_sections.specs.Refusal.{Refusal, in_element}
+use Rattle.xlsx_values.specs.Value.{Grounds, cell_value, resolved}
+use Rattle.xlsx_formulas.specs.Formula.{FormulaText, formulas_in, cell_formula, behind_formulas}
+use Rattle.xlsx_cells.specs.Marks.{Mark, row_start, row_end, cell, marks}
+use Rattle.xlsx_cells.specs.Position.{row_named, cell_position}
+
+abbrev pub behind_row :
+    {A : Type 0} → Result (Option ℕ) Refusal → Result (List A) Refusal → Result (List A) Refusal
+behind_row (Ok row) others = others
+behind_row (Err refusal) others = Err refusal
+
+-- what each cell gives, seen with the marks before it, or the first refusal, a row's among them
+abbrev pub answers_from :
+    {A : Type 0} → (List Mark → Element → Result A Refusal) → List Mark → List Mark →
+    Result (List A) Refusal
+answers_from answer before [] = Ok []
+answers_from answer before (row_start tag ∷ marks) =
+    behind_row (row_named tag) (answers_from answer (row_start tag ∷ before) marks)
+answers_from answer before (row_end ∷ marks) = answers_from answer (row_end ∷ before) marks
+answers_from answer before (cell element ∷ marks) =
+    and_others (answer before element) (answers_from answer (cell element ∷ before) marks)
+
+abbrev pub at_position :
+    {A : Type 0} → Result (ℕ × ℕ) Refusal → Result A Refusal → Result ((ℕ × ℕ) × A) Refusal
+at_position (Ok position) (Ok a) = Ok (position, a)
+at_position (Ok position) (Err refusal) = Err refusal
+at_position (Err refusal) answer = Err refusal
+
+-- the position and the value of a cell
+abbrev pub placed_value : Grounds → List Mark → Element → Result ((ℕ × ℕ) × CellValue) Refusal
+placed_value grounds before element =
+    at_position (cell_position before element.tag)
+    (in_element element (cell_value grounds element.tag element.inside))
+
+-- its position and the formulas that it writes
+abbrev pub placed_formulas : List Mark → Element → Result ((ℕ × ℕ) × List FormulaText) Refusal
+placed_formulas before element =
+    at_position (cell_position before element.tag)
+    (in_element element (formulas_in element.inside))
+
+-- the values of a sheet's cells, in order
+abbrev pub values_in : Grounds → List Event → Result (List ((ℕ × ℕ) × CellValue)) Refusal
+values_in grounds inside = answers_from (placed_value grounds) [] (marks inside)
+
+-- and what formulas they write
+abbrev pub formulas_written : List Event → Result (List ((ℕ × ℕ) × List FormulaText)) Refusal
+formulas_written inside = answers_from placed_formulas [] (marks inside)
+
+-- the formula of each cell, behind these
+abbrev pub formulas_along :
+    List FormulaText → List ((ℕ × ℕ) × List FormulaText) → List ((ℕ × ℕ) × List ℕ)
+formulas_along earlier [] = []
+formulas_along earlier (cell ∷ cells) =
+    (cell.0, cell_formula earlier cell.0 cell.1)
+    ∷ formulas_along (behind_formulas cell.1 earlier) cells
+
+-- a value counts unless it is empty, and so does a formula
+abbrev pub is_nothing : CellValue → Bool
+is_nothing value.nothing = true
+is_nothing (value.integer n) = false
+is_nothing (value.number decimal) = false
+is_nothing (value.text written) = false
+is_nothing (value.shared_text place) = false
+is_nothing (value.truth b) = false
+is_nothing (value.time days kind is_1904) = false
+is_nothing (value.iso_time written) = false
+is_nothing (value.failure error) = false
+
+abbrev pub is_empty : List ℕ → Bool
+is_empty [] = true
+is_empty (b ∷ bs) = false
+
+-- the values that count, with the texts of shared strings
+abbrev pub used_values : List (List ℕ) → List ((ℕ × ℕ) × CellValue) → List ((ℕ × ℕ) × CellValue)
+used_values strings [] = []
+used_values strings (cell ∷ cells) =
+    if is_nothing cell.1 then used_values strings cells
+    else (cell.0, resolved strings cell.1) ∷ used_values strings cells
+
+-- the formulas that count
+abbrev pub used_formulas : List ((ℕ × ℕ) × List ℕ) → List ((ℕ × ℕ) × List ℕ)
+used_formulas [] = []
+used_formulas (cell ∷ cells) =
+    if is_empty cell.1 then used_formulas cells else cell ∷ used_formulas cells

@@ -1,0 +1,288 @@
+ghost use Rattle.std.specs.Prelude.{◌≡◌, suc, length, List, true, false, Ok, IfOk, OnOk, IfErr, string_bytes, codes};
+ghost use Rattle.part_events.specs.Event.{tag_of, start};
+ghost use Rattle.part_events.specs.Reading.{reading, open_elements, IsReading, IsAtElement, ReadsPart, Skips, ahead};
+ghost use Rattle.part_events.specs.Section.{Element, content};
+ghost use Rattle.cell_data.specs.CellValue.{value_of_data_ref};
+ghost use Rattle.cell_data.specs.declared.error.XlsxError.TheVariants.{Io};
+ghost use Rattle.xlsx_sections.specs.PartSection.{SectionFails};
+ghost use Rattle.xlsx_values.specs.Book.{kind_of, grounds_of};
+ghost use Rattle.cell_data.specs.declared.format.CellFormat.{CellFormat};
+ghost use Rattle.xlsx_values.specs.CellType.{CellKind};
+ghost use Rattle.xlsx_values.specs.Value.{Grounds, value_in, said_value, or_nothing};
+ghost use Rattle.xlsx_sections.specs.Answers.{or_earlier};
+ghost use Rattle.xlsx_formulas.specs.Formula.{FormulaText};
+ghost use Rattle.xlsx_formulas.specs.Kept.{AreMasters};
+ghost use Rattle.xlsx_cells.specs.Children.{StandsAt, value_kept, IsNamedAs, value_name, ChildFails, AreChildrenRefused, FormulaStep, ReadsFormula, ReadsFormulas};
+ghost use Rattle.xlsx_cells.specs.declared.children.ChildName.TheVariants.{Formula};
+ghost use Rattle.xlsx_cells.specs.Errors.{IsCellError};
+ghost use Rattle.xlsx_cells.specs.Ends.{end_in_children};
+
+use cell_data::{CellFormat, DataRef, XlsxError};
+use part_events::{Cursor, Package, StartTag};
+use std::alloc::Global;
+use xlsx_formulas::{Masters, read_formula};
+use xlsx_sections::{next_child_in, skip_element_in, start_tag};
+use xlsx_values::{Book, CellType, read_value};
+use crate::stub::read_inline;
+
+/// What is wanted of each cell beside its position.
+#[derive(Clone, Copy, Debug, PartialEq, Eq)]
+pub struct Wants {
+    pub values: bool,
+    pub formulas: bool,
+}
+
+/// What the start of a cell says.
+#[derive(Debug, Drop)]
+pub struct CellStart {
+    /// The row and the column, counted from 0.
+    pub pos: (u32, u32),
+    pub format: CellFormat,
+    pub typ: CellType,
+}
+
+/// What the children of a cell say: of its value the last that counts, and the text of its last formula.
+#[derive(Debug, Drop)]
+pub struct CellContents {
+    pub value: Option<DataRef>,
+    pub formula: String,
+}
+
+/// What is asked for, and what the values rest on.
+#[derive(Clone, Copy)]
+pub struct Asked<'a> {
+    pub wants: Wants,
+    pub book: Book<'a>,
+}
+
+/// What a child of a cell is by its name.
+#[derive(Clone, Copy, Debug)]
+enum ChildName {
+    Formula,
+    Value,
+    Inline,
+    Stray,
+}
+
+fn child_name(tag: StartTag<'_>) -> ChildName
+    ensures { IsNamedAs result (tag_of tag.entry) }
+{
+    match tag.local_name() {
+        "f" => ChildName::Formula,
+        "v" => ChildName::Value,
+        "is" => ChildName::Inline,
+        _ => ChildName::Stray,
+    }
+}
+
+/// Reads the `f` at whose start the package stands, to its end, and takes its formula where it is wanted.
+fn take_formula<P: Package>(
+    alloc: Global,
+    package: &mut P,
+    cursor: &mut Cursor,
+    wants: Wants,
+    pos: (u32, u32),
+    masters: &mut Masters,
+    text: &mut String,
+) -> Result<(), XlsxError>
+    requires reading { IsReading (reading (P.state «package».old) cursor.old) }
+    requires element { IsAtElement (reading (P.state «package».old) cursor.old) }
+    ensures reads { let old = reading (P.state «package».old) cursor.old in
+        let new = reading (P.state «package».new) cursor.new in
+        ReadsPart Io result old new }
+    ensures depth { OnOk result
+        (length (open_elements cursor.old) ≡ suc (length (open_elements cursor.new))) }
+    ensures skips { let old = reading (P.state «package».old) cursor.old in
+        let new = reading (P.state «package».new) cursor.new in
+        old.source.is_told ≡ true → OnOk result (Skips old new) }
+    ensures formula { let old = reading (P.state «package».old) cursor.old in
+        let before : FormulaStep =
+        record { masters = masters.old; text = string_bytes text.old } in
+        let after : FormulaStep =
+        record { masters = masters.new; text = string_bytes text.new } in
+        old.source.is_told ≡ true → wants.formulas ≡ true → (element : Element) →
+        StandsAt element old → IsNamedAs Formula element.tag →
+        OnOk result (ReadsFormula pos element.tag element.inside before after) }
+    ensures same { wants.formulas ≡ false → OnOk result (masters.new ≡ masters.old) }
+    ensures err { let old = reading (P.state «package».old) cursor.old in
+        let new = reading (P.state «package».new) cursor.new in
+        IfErr result (λ error. (grounds : Grounds) (format : CellFormat) (kind : CellKind)
+        (element : Element) → StandsAt element old → IsNamedAs Formula element.tag →
+        ChildFails wants grounds format kind element.tag old new error) }
+    ensures kind { IfErr result IsCellError }
+{
+    if !wants.formulas {
+        return skip_element_in(package, cursor, None);
+    }
+    let formula = read_formula(alloc, package, cursor)?;
+    *text = masters.take(alloc, formula, pos)?;
+    Ok(())
+}
+
+/// Reads the `v` or the `is` at whose start the package stands, to its end, and keeps its value where it is wanted and counts.
+fn keep_value<P: Package>(
+    alloc: Global,
+    package: &mut P,
+    cursor: &mut Cursor,
+    asked: Asked<'_>,
+    start: &CellStart,
+    is_inline: bool,
+    value: &mut Option<DataRef>,
+) -> Result<(), XlsxError>
+    requires reading { IsReading (reading (P.state «package».old) cursor.old) }
+    requires element { IsAtElement (reading (P.state «package».old) cursor.old) }
+    ensures reads { let old = reading (P.state «package».old) cursor.old in
+        let new = reading (P.state «package».new) cursor.new in
+        ReadsPart Io result old new }
+    ensures depth { OnOk result
+        (length (open_elements cursor.old) ≡ suc (length (open_elements cursor.new))) }
+    ensures skips { let old = reading (P.state «package».old) cursor.old in
+        let new = reading (P.state «package».new) cursor.new in
+        old.source.is_told ≡ true → OnOk result (Skips old new) }
+    ensures value { let old = reading (P.state «package».old) cursor.old in
+        let said = said_value (grounds_of asked.entry.book) start.now.format
+        (kind_of start.now.typ) in
+        old.source.is_told ≡ true → asked.entry.wants.values ≡ true → (element : Element) →
+        StandsAt element old → IsNamedAs (value_name is_inline) element.tag → OnOk result
+        (or_earlier (value_kept value.old) (said element.tag element.inside)
+        ≡ Ok (value_kept value.new)) }
+    ensures err { let old = reading (P.state «package».old) cursor.old in
+        let new = reading (P.state «package».new) cursor.new in
+        let grounds = grounds_of asked.entry.book in
+        let kind = kind_of start.now.typ in
+        IfErr result (λ error. (element : Element) →
+        StandsAt element old → IsNamedAs (value_name is_inline) element.tag →
+        ChildFails asked.entry.wants grounds start.now.format kind element.tag old new error) }
+    ensures kind { IfErr result IsCellError }
+{
+    if !asked.wants.values {
+        return skip_element_in(package, cursor, None);
+    }
+    if is_inline {
+        *value = Some(read_inline(alloc, package, cursor)?);
+        return Ok(());
+    }
+    let found = read_value(alloc, package, cursor, asked.book, start.format, &start.typ)?;
+    if found.is_some() {
+        *value = found;
+    }
+    Ok(())
+}
+
+/// Reads the child of a cell at whose start the package stands, to its end.
+fn read_child<P: Package>(
+    alloc: Global,
+    package: &mut P,
+    cursor: &mut Cursor,
+    asked: Asked<'_>,
+    start: &CellStart,
+    masters: &mut Masters,
+    contents: &mut CellContents,
+) -> Result<(), XlsxError>
+    requires reading { IsReading (reading (P.state «package».old) cursor.old) }
+    requires element { IsAtElement (reading (P.state «package».old) cursor.old) }
+    ensures reads { let old = reading (P.state «package».old) cursor.old in
+        let new = reading (P.state «package».new) cursor.new in
+        ReadsPart Io result old new }
+    ensures depth { OnOk result
+        (length (open_elements cursor.old) ≡ suc (length (open_elements cursor.new))) }
+    ensures skips { let old = reading (P.state «package».old) cursor.old in
+        let new = reading (P.state «package».new) cursor.new in
+        old.source.is_told ≡ true → OnOk result (Skips old new) }
+    ensures value { let old = reading (P.state «package».old) cursor.old in
+        let said = said_value (grounds_of asked.entry.book) start.now.format
+        (kind_of start.now.typ) in
+        old.source.is_told ≡ true → asked.entry.wants.values ≡ true → (element : Element) →
+        StandsAt element old → OnOk result
+        (or_earlier (value_kept contents.old.value) (said element.tag element.inside)
+        ≡ Ok (value_kept contents.new.value)) }
+    ensures formula { let old = reading (P.state «package».old) cursor.old in
+        let before : FormulaStep =
+        record { masters = masters.old; text = string_bytes contents.old.formula } in
+        let after : FormulaStep =
+        record { masters = masters.new; text = string_bytes contents.new.formula } in
+        old.source.is_told ≡ true → asked.entry.wants.formulas ≡ true → (element : Element) →
+        StandsAt element old →
+        OnOk result (ReadsFormula start.now.pos element.tag element.inside before after) }
+    ensures same { asked.entry.wants.formulas ≡ false → OnOk result (masters.new ≡ masters.old) }
+    ensures err { let old = reading (P.state «package».old) cursor.old in
+        let new = reading (P.state «package».new) cursor.new in
+        let grounds = grounds_of asked.entry.book in
+        let kind = kind_of start.now.typ in
+        IfErr result (λ error. (element : Element) → StandsAt element old →
+        ChildFails asked.entry.wants grounds start.now.format kind element.tag old new error) }
+    ensures kind { IfErr result IsCellError }
+{
+    match child_name(start_tag(package)) {
+        ChildName::Formula => take_formula(
+            alloc,
+            package,
+            cursor,
+            asked.wants,
+            start.pos,
+            masters,
+            &mut contents.formula,
+        ),
+        ChildName::Value => {
+            let value = &mut contents.value;
+            keep_value(alloc, package, cursor, asked, start, false, value)
+        }
+        ChildName::Inline => {
+            let value = &mut contents.value;
+            keep_value(alloc, package, cursor, asked, start, true, value)
+        }
+        ChildName::Stray => Err(XlsxError::UnexpectedNode("v, f, or is")),
+    }
+}
+
+/// Reads what stands in the cell at whose start the package stands, to its end.
+pub fn read_children<P: Package>(
+    alloc: Global,
+    package: &mut P,
+    cursor: &mut Cursor,
+    asked: Asked<'_>,
+    start: &CellStart,
+    masters: &mut Masters,
+) -> Result<CellContents, XlsxError>
+    requires reading { IsReading (reading (P.state «package».old) cursor.old) }
+    requires element { IsAtElement (reading (P.state «package».old) cursor.old) }
+    ensures reads { let old = reading (P.state «package».old) cursor.old in
+        let new = reading (P.state «package».new) cursor.new in
+        ReadsPart Io result old new }
+    ensures depth { OnOk result
+        (length (open_elements cursor.old) ≡ suc (length (open_elements cursor.new))) }
+    ensures skips { let old = reading (P.state «package».old) cursor.old in
+        let new = reading (P.state «package».new) cursor.new in
+        old.source.is_told ≡ true → OnOk result (Skips old new) }
+    ensures value { let old = reading (P.state «package».old) cursor.old in
+        let value = value_in (grounds_of asked.entry.book) start.now.format
+        (kind_of start.now.typ) in
+        old.source.is_told ≡ true → asked.entry.wants.values ≡ true →
+        IfOk result (λ contents. value (content 0 (ahead old))
+        ≡ or_nothing (Ok (value_kept contents.value))) }
+    ensures formula { let old = reading (P.state «package».old) cursor.old in
+        old.source.is_told ≡ true → asked.entry.wants.formulas ≡ true →
+        (earlier : List FormulaText) → AreMasters earlier masters.old →
+        IfOk result (λ contents. ReadsFormulas earlier start.now.pos (content 0 (ahead old))
+        (record { masters = masters.new; text = string_bytes contents.formula })) }
+    ensures same { asked.entry.wants.formulas ≡ false → OnOk result (masters.new ≡ masters.old) }
+    ensures err { let old = reading (P.state «package».old) cursor.old in
+        let new = reading (P.state «package».new) cursor.new in
+        let wants = asked.entry.wants in
+        let kind = kind_of start.now.typ in
+        let refused = AreChildrenRefused wants (grounds_of asked.entry.book) start.now.format kind
+        in
+        IfErr result (SectionFails (end_in_children wants kind) refused (length old.names)
+        old new) }
+    ensures kind { IfErr result IsCellError }
+{
+    let base = cursor.depth();
+    let mut contents = CellContents {
+        value: None,
+        formula: String::new(alloc),
+    };
+    'children: while next_child_in(package, cursor, base, "c")?.is_some() {
+        read_child(alloc, package, cursor, asked, start, masters, &mut contents)?;
+    }
+    Ok(contents)
+}
