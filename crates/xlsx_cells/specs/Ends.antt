@@ -1,5 +1,5 @@
 -- Where the part of a sheet ends in its data, as a refusal tells it.
-use Rattle.std.specs.Prelude.{ℕ, List, [], ◌∷◌, Bool, if◌then◌else◌, codes, Option, Some, None, Result}
+use Rattle.std.specs.Prelude.{ℕ, List, [], ◌∷◌, Bool, ◌||◌, if◌then◌else◌, codes, Option, Some, None, Result}
 use Rattle.std.specs.Prelude.{Ok, Err}
 use Rattle.attr_text.specs.Attributes.{lookup}
 use Rattle.attr_text.specs.declared.fault.AttrFault.{AttrFault}
@@ -39,8 +39,16 @@ abbrev pub end_in_children : Wants → CellKind → List Event → Option (List 
 end_in_children wants kind inside =
     end_among is_any (codes "c") (end_in_child_element wants kind) inside
 
+-- something is wanted of what stands in a cell
+abbrev pub reads_children : Wants → Bool
+reads_children wants = wants.values || wants.formulas
+
+-- a call that wants nothing of a cell's children reads none of them, and skips none
 abbrev pub end_in_cell : Wants → Element → Option (List ℕ)
-end_in_cell wants element = end_in_children wants (kind_of_cell element.tag) element.inside
+end_in_cell wants element =
+    if reads_children wants
+    then end_in_children wants (kind_of_cell element.tag) element.inside
+    else Some (codes "c")
 
 -- the name of the element in which a sheet's data end, or none where that element is skipped
 abbrev pub end_in_data : Wants → List Event → Option (List ℕ)

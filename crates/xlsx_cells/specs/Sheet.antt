@@ -58,9 +58,9 @@ formulas_written inside = answers_from placed_formulas [] (marks inside)
 abbrev pub formulas_along :
     List FormulaText → List ((ℕ × ℕ) × List FormulaText) → List ((ℕ × ℕ) × List ℕ)
 formulas_along earlier [] = []
-formulas_along earlier (cell ∷ cells) =
-    (cell.0, cell_formula earlier cell.0 cell.1)
-    ∷ formulas_along (behind_formulas cell.1 earlier) cells
+formulas_along earlier (first ∷ others) =
+    (first.0, cell_formula earlier first.0 first.1)
+    ∷ formulas_along (behind_formulas first.1 earlier) others
 
 -- a value counts unless it is empty, and so does a formula
 abbrev pub is_nothing : CellValue → Bool
@@ -81,12 +81,12 @@ is_empty (b ∷ bs) = false
 -- the values that count, with the texts of shared strings
 abbrev pub used_values : List (List ℕ) → List ((ℕ × ℕ) × CellValue) → List ((ℕ × ℕ) × CellValue)
 used_values strings [] = []
-used_values strings (cell ∷ cells) =
-    if is_nothing cell.1 then used_values strings cells
-    else (cell.0, resolved strings cell.1) ∷ used_values strings cells
+used_values strings (first ∷ others) =
+    if is_nothing first.1 then used_values strings others
+    else (first.0, resolved strings first.1) ∷ used_values strings others
 
 -- the formulas that count
 abbrev pub used_formulas : List ((ℕ × ℕ) × List ℕ) → List ((ℕ × ℕ) × List ℕ)
 used_formulas [] = []
-used_formulas (cell ∷ cells) =
-    if is_empty cell.1 then used_formulas cells else cell ∷ used_formulas cells
+used_formulas (first ∷ others) =
+    if is_empty first.1 then used_formulas others else first ∷ used_formulas others

@@ -15,7 +15,7 @@ ghost use Rattle.xlsx_formulas.specs.Kept.{AreMasters};
 ghost use Rattle.xlsx_cells.specs.Children.{StandsAt, value_kept, IsNamedAs, value_name, ChildFails, AreChildrenRefused, FormulaStep, ReadsFormula, ReadsFormulas};
 ghost use Rattle.xlsx_cells.specs.declared.children.ChildName.TheVariants.{Formula};
 ghost use Rattle.xlsx_cells.specs.Errors.{IsCellError};
-ghost use Rattle.xlsx_cells.specs.Ends.{end_in_children};
+ghost use Rattle.xlsx_cells.specs.Ends.{reads_children, end_in_children};
 
 use cell_data::{CellFormat, DataRef, XlsxError};
 use part_events::{Cursor, Package, StartTag};
@@ -181,6 +181,7 @@ fn read_child<P: Package>(
 ) -> Result<(), XlsxError>
     requires reading { IsReading (reading (P.state «package».old) cursor.old) }
     requires element { IsAtElement (reading (P.state «package».old) cursor.old) }
+    requires wanted { reads_children asked.wants ≡ true }
     ensures reads { let old = reading (P.state «package».old) cursor.old in
         let new = reading (P.state «package».new) cursor.new in
         ReadsPart Io result old new }
@@ -246,6 +247,7 @@ pub fn read_children<P: Package>(
 ) -> Result<CellContents, XlsxError>
     requires reading { IsReading (reading (P.state «package».old) cursor.old) }
     requires element { IsAtElement (reading (P.state «package».old) cursor.old) }
+    requires wanted { reads_children asked.wants ≡ true }
     ensures reads { let old = reading (P.state «package».old) cursor.old in
         let new = reading (P.state «package».new) cursor.new in
         ReadsPart Io result old new }
@@ -281,7 +283,7 @@ pub fn read_children<P: Package>(
         value: None,
         formula: String::new(alloc),
     };
-    'children: while next_child_in(package, cursor, base, "c")?.is_some() {
+    'children: while let Some(_) = next_child_in(package, cursor, base, "c")? {
         read_child(alloc, package, cursor, asked, start, masters, &mut contents)?;
     }
     Ok(contents)

@@ -170,6 +170,26 @@ refused_as base old ending after before new error is within weaker fails =
     } in
     refused_later base old old ending after before new error here (λ _. refl) (λ _. weaker) fails
 
+-- a section whose end is told in another way, and of which more is refused
+pub refused_by : (base : ℕ) (old : Reading) (first second : List Event → Option (List ℕ))
+    (after before : PartSection → Refusal → Type 0) (new : Reading) (error : XlsxError)
+    → (old.source.is_told ≡ true → second (inside_of (section_left base old))
+    ≡ first (inside_of (section_left base old)))
+    → (old.source.is_told ≡ true → (refusal : Refusal) → after (section_left base old) refusal
+    → before (section_left base old) refusal) → SectionFails first after base old new error
+    → SectionFails second before base old new error
+refused_by base old first second after before new Io ends weaker fails = fails
+refused_by base old first second after before new OutOfMemory ends weaker fails = tt
+refused_by base old first second after before new (Xml (EndMismatch at)) ends weaker fails = fails
+refused_by base old first second after before new (Xml (Unclosed at)) ends weaker fails = λ told.
+    ((fails told).0, ends told ∙ (fails told).1, (fails told).2)
+refused_by base old first second after before new (XmlEof element) ends weaker fails = λ told.
+    ((fails told).0, ends told ∙ (fails told).1)
+refused_by base old first second after before new error ends weaker fails = λ told.
+    let last = last_of (section_left base old) in
+    refused_weaker last last (before (section_left base old)) (after (section_left base old)) error
+    (weaker told) refl (fails told)
+
 -- where no element is refused, no error tells of one
 pub never_refused : (last : ℕ) (refused : Refusal → Type 0) (error : XlsxError)
     → ((refusal : Refusal) → refused refusal → ⊥) → RefusedAs last refused error → ⊥

@@ -1,0 +1,213 @@
+-- How the children of a cell are read, and why they are refused.
+use Rattle.std.proofs.Common.{◌≡◌, ℕ, List, [], ◌∷◌, ◌++◌, Bool, true, false, Option, Some, None, Result, Ok, Err, refl, sym, ◌∙◌, ap, subst, inl, inr, codes, length, ◌⊎◌}
+use Rattle.std.specs.Prelude.{not, ◌||◌}
+use Rattle.part_events.specs.Event.{Tag, Event, start, end, leaf, IsStartAnd}
+use Rattle.part_events.specs.Reading.{Reading, ReadsOn, LeavesPart}
+use Rattle.part_events.specs.Section.{Element}
+use Rattle.part_events.proofs.Onward.{moves_further}
+use Rattle.cell_data.specs.declared.error.XlsxError.{XlsxError}
+use Rattle.cell_data.specs.declared.format.CellFormat.{CellFormat}
+use Rattle.cell_data.specs.CellValue.{CellValue}
+use Rattle.xlsx_sections.specs.Answers.{or_earlier, some_answers, prepended}
+use Rattle.xlsx_sections.specs.Elements.{ElementReadFails, IsInsideRefused, named_end}
+use Rattle.xlsx_sections.specs.PartSection.{PartSection, SectionFails, Never, always, inside_of, section_left}
+use Rattle.xlsx_sections.specs.Refusal.{Refusal, stray_child, in_element}
+use Rattle.xlsx_sections.proofs.Kept.{prepended-nil}
+use Rattle.xlsx_sections.proofs.Refused.{refused_by}
+use Rattle.xlsx_strings.specs.Strings.{end_in_string}
+use Rattle.xlsx_values.specs.CellType.{CellKind}
+use Rattle.xlsx_values.specs.Value.{Grounds, value_element, inline_value, said_value, some_value, end_in_value}
+use Rattle.xlsx_formulas.specs.Formula.{FormulaText, formula_text, said_formula, some_formula, child_formula, formulas_in}
+use Rattle.xlsx_formulas.proofs.Cells.{KeepsFormulas, some_passed, some_taken, some_refused, child_kept, formula_kept, formulas_read}
+use Rattle.xlsx_cells.specs.Children.{StandsAt, IsNamedAs, IsChildRefused, ChildFails, FormulaStep, StepsFormula, ReadsFormula, ReadsFormulas}
+use Rattle.xlsx_cells.specs.Ends.{reads_children, end_in_child}
+use Rattle.xlsx_cells.specs.declared.children.ChildName.TheVariants.{Formula, Value, Inline, Stray}
+use Rattle.xlsx_cells.specs.declared.children.Wants.{Wants}
+
+pub formula_fails : (wants : Wants) (grounds : Grounds) (format : CellFormat) (kind : CellKind)
+    (tag : Tag) (old new : Reading) (error : XlsxError) → IsNamedAs Formula tag
+    → wants.formulas ≡ true → ElementReadFails (always (codes "f")) (formula_text tag) old new error
+    → ChildFails wants grounds format kind tag old new error
+formula_fails wants grounds format kind tag old new error named wanted fails =
+    refused_by (length old.names) old (always (codes "f")) (end_in_child wants kind tag)
+    (IsInsideRefused (formula_text tag)) (IsChildRefused wants grounds format kind tag) new error
+    (λ told. rw (named, wanted) refl)
+    (λ told refusal is. inr (wanted, rw named (ap some_formula is))) fails
+
+pub value_fails : (wants : Wants) (grounds : Grounds) (format : CellFormat) (kind : CellKind)
+    (tag : Tag) (old new : Reading) (error : XlsxError) → IsNamedAs Value tag
+    → wants.values ≡ true
+    → ElementReadFails (end_in_value kind) (value_element grounds format kind) old new error
+    → ChildFails wants grounds format kind tag old new error
+value_fails wants grounds format kind tag old new error named wanted fails =
+    refused_by (length old.names) old (end_in_value kind) (end_in_child wants kind tag)
+    (IsInsideRefused (value_element grounds format kind))
+    (IsChildRefused wants grounds format kind tag) new error
+    (λ told. rw (named.0, named.1, wanted) refl)
+    (λ told refusal is. inl (wanted, rw (named.0, named.1) is)) fails
+
+pub inline_fails : (wants : Wants) (grounds : Grounds) (format : CellFormat) (kind : CellKind)
+    (tag : Tag) (old new : Reading) (error : XlsxError) → IsNamedAs Inline tag
+    → wants.values ≡ true → ElementReadFails end_in_string inline_value old new error
+    → ChildFails wants grounds format kind tag old new error
+inline_fails wants grounds format kind tag old new error named wanted fails =
+    refused_by (length old.names) old end_in_string (end_in_child wants kind tag)
+    (IsInsideRefused inline_value) (IsChildRefused wants grounds format kind tag) new error
+    (λ told. rw (named.0, named.1, named.2, wanted) refl)
+    (λ told refusal is. inl (wanted, rw (named.0, named.1, named.2) (ap some_value is))) fails
+
+-- a child that isn't wanted is skipped
+pub skipped_fails : (wants : Wants) (grounds : Grounds) (format : CellFormat) (kind : CellKind)
+    (tag : Tag) (old new : Reading) (error : XlsxError)
+    → ((inside : List Event) → end_in_child wants kind tag inside ≡ None)
+    → SectionFails (named_end None) Never (length old.names) old new error
+    → ChildFails wants grounds format kind tag old new error
+skipped_fails wants grounds format kind tag old new error ends fails =
+    refused_by (length old.names) old (named_end None) (end_in_child wants kind tag) Never
+    (IsChildRefused wants grounds format kind tag) new error
+    (λ told. ends (inside_of (section_left (length old.names) old)))
+    (λ told refusal never. absurd never) fails
+
+pub skips_formula : (wants : Wants) (kind : CellKind) (tag : Tag) (inside : List Event)
+    → IsNamedAs Formula tag → wants.formulas ≡ false → end_in_child wants kind tag inside ≡ None
+skips_formula wants kind tag inside named unwanted = rw (named, unwanted) refl
+
+pub skips_value : (wants : Wants) (kind : CellKind) (tag : Tag) (inside : List Event)
+    → IsNamedAs Value tag → wants.values ≡ false → end_in_child wants kind tag inside ≡ None
+skips_value wants kind tag inside named unwanted = rw (named.0, named.1, unwanted) refl
+
+pub skips_inline : (wants : Wants) (kind : CellKind) (tag : Tag) (inside : List Event)
+    → IsNamedAs Inline tag → wants.values ≡ false → end_in_child wants kind tag inside ≡ None
+skips_inline wants kind tag inside named unwanted =
+    rw (named.0, named.1, named.2, unwanted) refl
+
+pub is_wanted : (b : Bool) → not b ≡ false → b ≡ true
+is_wanted true is = refl
+is_wanted false is = absurd (cc)
+
+stray_if : (values formulas : Bool) (P Q : Type 0) → (values || formulas) ≡ true → P → Q
+    → ((values ≡ true) × P) ⊎ ((formulas ≡ true) × Q)
+stray_if true formulas P Q some p q = inl (refl, p)
+stray_if false true P Q some p q = inr (refl, q)
+stray_if false false P Q some p q = absurd (cc)
+
+pub stray_refused : (wants : Wants) (grounds : Grounds) (format : CellFormat) (kind : CellKind)
+    (tag : Tag) (s : PartSection) → IsNamedAs Stray tag → reads_children wants ≡ true
+    → IsChildRefused wants grounds format kind tag s stray_child
+stray_refused wants grounds format kind tag s named some =
+    stray_if wants.values wants.formulas
+    (said_value grounds format kind tag (inside_of s) ≡ Err stray_child)
+    (said_formula tag (inside_of s) ≡ Err stray_child) some
+    (rw (named.0, named.1, named.2) refl) (rw (named.0, named.1, named.2) refl)
+
+-- a value that was read is kept in place of an earlier one
+pub value_said : (grounds : Grounds) (format : CellFormat) (kind : CellKind) (element : Element)
+    (earlier found : Option CellValue) → IsNamedAs Value element.tag
+    → value_element grounds format kind element.inside ≡ Ok found
+    → or_earlier earlier (said_value grounds format kind element.tag element.inside)
+    ≡ or_earlier earlier (Ok found)
+value_said grounds format kind element earlier found named is =
+    let said : said_value grounds format kind element.tag element.inside ≡ Ok found =
+    rw (named.0, named.1) is in
+    ap (or_earlier earlier) said
+
+pub inline_said : (grounds : Grounds) (format : CellFormat) (kind : CellKind) (element : Element)
+    (earlier : Option CellValue) (found : CellValue) → IsNamedAs Inline element.tag
+    → inline_value element.inside ≡ Ok found
+    → or_earlier earlier (said_value grounds format kind element.tag element.inside)
+    ≡ Ok (Some found)
+inline_said grounds format kind element earlier found named is =
+    let said : said_value grounds format kind element.tag element.inside ≡ Ok (Some found) =
+    rw (named.0, named.1, named.2) (ap some_value is) in
+    ap (or_earlier earlier) said
+
+pub same_tag : {first second : Tag} → start first ≡ start second → first ≡ second
+same_tag same = cc
+
+-- the start at which a reader stands
+pub start_there : (event : Event) (P : Tag → Type 0) → IsStartAnd event P
+    → (tag : Tag) × (start tag ≡ event) × P tag
+start_there (start tag) P is = (tag, refl, is)
+start_there (end name) P is = absurd is
+start_there (leaf kind) P is = absurd is
+
+-- a refused call behind others that weren't
+pub leaves_further : {E : Type 0} {fault : E} {first mid new : Reading} {error : E}
+    → ReadsOn first mid → LeavesPart fault mid new error → LeavesPart fault first new error
+leaves_further reads leaves = record {
+  moves = moves_further reads.moves leaves.moves;
+  faults = λ other. leaves.faults other ∙ reads.stays.faults;
+}
+
+pub or_earlier_in_element : {A : Type 0} (element : Element) (kept next : Option A)
+    (said : Result (Option A) Refusal) → or_earlier kept said ≡ Ok next
+    → or_earlier kept (in_element element said) ≡ Ok next
+or_earlier_in_element element kept next (Ok found) is = is
+or_earlier_in_element element kept next (Err refusal) is = absurd (cc)
+
+-- the formulas of a cell's children, of which these are left
+pub record ListsFormulas (all : Result (List FormulaText) Refusal) (left : List Element) : Type 0
+  where
+    pub passed : List FormulaText
+    pub formulas : prepended passed (some_answers child_formula left) ≡ all
+
+pub lists_all : (left : List Element) → ListsFormulas (some_answers child_formula left) left
+lists_all left = record {
+  passed = [];
+  formulas = prepended-nil (some_answers child_formula left);
+}
+
+listed_by : {all : Result (List FormulaText) Refusal} {left rest : List Element} {child : Element}
+    (found : Option FormulaText) → ListsFormulas all left → left ≡ child ∷ rest
+    → child_formula child ≡ Ok found → ListsFormulas all rest
+listed_by None lists same is = record {
+  passed = lists.passed;
+  formulas = some_passed child_formula lists.passed same is lists.formulas;
+}
+listed_by (Some own) lists same is = record {
+  passed = lists.passed ++ own ∷ [];
+  formulas = some_taken child_formula lists.passed same is lists.formulas;
+}
+
+pub listed_further : {all : Result (List FormulaText) Refusal} {left rest : List Element}
+    {child : Element} {position : ℕ × ℕ} {old new : FormulaStep} → ListsFormulas all left
+    → left ≡ child ∷ rest → ReadsFormula position child.tag child.inside old new
+    → ListsFormulas all rest
+listed_further {child = child} lists same step =
+    listed_by step.found lists same (ap (in_element child) step.said)
+
+pub formulas_refused : {all : Result (List FormulaText) Refusal} {left rest : List Element}
+    {child : Element} {refusal : Refusal} → ListsFormulas all left → left ≡ child ∷ rest
+    → child_formula child ≡ Err refusal → all ≡ Err refusal
+formulas_refused lists same refuses =
+    some_refused child_formula lists.passed same refuses lists.formulas
+
+kept_by : {earlier : List FormulaText} {position : ℕ × ℕ}
+    {all : Result (List FormulaText) Refusal} {left rest : List Element} {child : Element}
+    (old new : FormulaStep) (found : Option FormulaText)
+    → KeepsFormulas earlier position all left old.masters old.text → left ≡ child ∷ rest
+    → child_formula child ≡ Ok found → StepsFormula position found old new
+    → KeepsFormulas earlier position all rest new.masters new.text
+kept_by old new None keeps same is steps = rw steps (child_kept keeps same is)
+kept_by old new (Some own) keeps same is steps =
+    formula_kept keeps same is steps.text steps.masters
+
+pub formulas_further : {earlier : List FormulaText} {position : ℕ × ℕ}
+    {all : Result (List FormulaText) Refusal} {left rest : List Element} {child : Element}
+    (old new : FormulaStep) → KeepsFormulas earlier position all left old.masters old.text
+    → left ≡ child ∷ rest → ReadsFormula position child.tag child.inside old new
+    → KeepsFormulas earlier position all rest new.masters new.text
+formulas_further {child = child} old new keeps same step =
+    kept_by old new step.found keeps same (ap (in_element child) step.said) step.steps
+
+-- all children were read
+pub formulas_whole : {earlier : List FormulaText} {position : ℕ × ℕ} {inside : List Event}
+    {left : List Element} (new : FormulaStep)
+    → KeepsFormulas earlier position (formulas_in inside) left new.masters new.text → left ≡ []
+    → ReadsFormulas earlier position inside new
+formulas_whole new keeps none = record {
+  kept = keeps.passed;
+  listed = formulas_read keeps none;
+  text = keeps.text;
+  masters = keeps.groups;
+}

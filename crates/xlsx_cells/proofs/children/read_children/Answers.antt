@@ -1,0 +1,167 @@
+use Rattle.std.proofs.Common.{◌≡◌, ◌≤◌, ℕ, List, length, true, Some, None, Option, Err, Ok, refl, sym, ◌∙◌, ap, subst, inl, inr, arith, codes, string_bytes}
+use Rattle.std.proofs.lemmas.Result.{err_from_is_err_and}
+use Rattle.part_events.specs.Event.{Tag, start}
+use Rattle.part_events.specs.Reading.{reading, ahead}
+use Rattle.part_events.specs.Section.{Element, content, children, is_any}
+use Rattle.part_events.specs.Walk.{inside, section_ahead, element_at}
+use Rattle.xlsx_sections.specs.Answers.{last_answer}
+use Rattle.xlsx_sections.specs.Elements.{end_outside, FindsElementIn}
+use Rattle.xlsx_sections.specs.PartSection.{Never, SectionFails, StandsAtStart, section_left}
+use Rattle.xlsx_sections.specs.Refusal.{Refusal, in_element}
+use Rattle.xlsx_sections.proofs.ElementsRead.{IsElementFound, IsElementPassed, keeps_none, element_found, element_passed, element_refused, own_inside}
+use Rattle.xlsx_sections.proofs.Kept.{last_further, last_refused}
+use Rattle.xlsx_sections.proofs.Refused.{refused_later}
+use Rattle.xlsx_values.specs.Book.{kind_of, grounds_of}
+use Rattle.xlsx_values.specs.Value.{child_value, said_value, or_nothing}
+use Rattle.xlsx_formulas.specs.Formula.{said_formula}
+use Rattle.xlsx_cells.specs.Children.{StandsAt, FormulaStep, ReadsFormulas, value_kept, IsChildRefused, AreChildrenRefused}
+use Rattle.xlsx_cells.specs.Ends.{end_in_child, end_in_child_element, end_in_children}
+use Rattle.xlsx_cells.proofs.ChildrenRead.{start_there, leaves_further, or_earlier_in_element, listed_further, formulas_further, formulas_refused, formulas_whole}
+use Rattle.xlsx_cells.proofs.children.read_children.Goals as goal
+
+pub returns-in_err-next_child_in-clause-err : goal.returns-in_err-next_child_in-clause-err
+returns-in_err-next_child_in-clause-err g c =
+    let old = reading (g.P.Package.state c.args.package.now) c.args.cursor.now in
+    let mid = reading (g.P.Package.state c.children.package) c.children.cursor in
+    let new = reading (g.P.Package.state c.next_child_in.new.package) c.next_child_in.new.cursor in
+    let base = c.depth-base.result in
+    let wants = c.args.asked.wants in
+    let kind = kind_of c.args.start.now.typ in
+    let inner = end_in_child_element wants kind in
+    let now = c.children.invariant in
+    let refused = AreChildrenRefused wants (grounds_of c.args.asked.book) c.args.start.now.format
+    kind in
+    let p = err_from_is_err_and c.from_residual.result c.from_residual.ensures.1 in
+    rw (p.1, p.2)
+    (subst (λ (n : ℕ). SectionFails (end_in_children wants kind) refused n old new
+    c.in_err-next_child_in.field-0.0) now.base
+    (refused_later base old mid (end_in_children wants kind) Never refused new
+    c.in_err-next_child_in.field-0.0 now.keeps.section
+    (λ told. ap (end_outside (codes "c") inner) (now.keeps.unclosed told))
+    (λ told refusal never. absurd never) (c.in_err-next_child_in.ensures.err inner)))
+
+pub children-preserved : goal.children-preserved
+children-preserved g c =
+    let old = reading (g.P.Package.state c.args.package.now) c.args.cursor.now in
+    let mid = reading (g.P.Package.state c.children.package) c.children.cursor in
+    let at = reading (g.P.Package.state c.next_child_in.new.package) c.next_child_in.new.cursor in
+    let after = reading (g.P.Package.state c.read_child.new.package) c.read_child.new.cursor in
+    let base = c.depth-base.result in
+    let now = c.children.invariant in
+    let grounds = grounds_of c.args.asked.book in
+    let format = c.args.start.now.format in
+    let kind = kind_of c.args.start.now.typ in
+    let place = c.in-Some.field-0 in
+    let stands : StandsAtStart is_any base (Some place) mid at =
+    rw c.in-Some.is at c.in_ok-next_child_in.ensures.stands in
+    let finds : mid.source.is_told ≡ true → FindsElementIn is_any base (Some place) mid at =
+    λ told. rw c.in-Some.is at (c.in_ok-next_child_in.ensures.found told) in
+    let first = start_there at.source.current (λ (tag : Tag). is_any tag ≡ true) stands.2 in
+    let tag = first.0 in
+    let found : IsElementFound is_any base tag place old mid at =
+    element_found is_any first.1 now.keeps c.in_ok-next_child_in.ensures.reads stands finds in
+    let passed : IsElementPassed is_any base tag old mid at after =
+    element_passed found c.in_ok-read_child.ensures.reads c.in_ok-read_child.ensures.depth
+    c.in_ok-read_child.ensures.skips in
+    let there : old.source.is_told ≡ true → at.source.is_told ≡ true =
+    λ told. found.read.reads.moves.parts.is_told ∙ told in
+    let element = element_at base tag at in
+    let stand : StandsAt element at = record { tag = first.1; inside = refl } in
+    let before : FormulaStep =
+    record { masters = c.children.masters; text = string_bytes c.children.contents.formula } in
+    let behind : FormulaStep = record {
+      masters = c.read_child.new.masters;
+      text = string_bytes c.read_child.new.contents.formula;
+    } in
+    record {
+      base = now.base;
+      keeps = passed.keeps;
+      value = λ told wanted.
+          last_further (child_value grounds format kind) (value_kept c.children.contents.value)
+          (passed.elements told)
+          (or_earlier_in_element element (value_kept c.children.contents.value)
+          (value_kept c.read_child.new.contents.value)
+          (said_value grounds format kind tag element.inside)
+          (c.in_ok-read_child.ensures.value (there told) wanted element stand))
+          (now.value told wanted);
+      listed = λ told wanted.
+          listed_further (now.listed told wanted) (passed.elements told)
+          (c.in_ok-read_child.ensures.formula (there told) wanted element stand);
+      formulas = λ told wanted earlier kept.
+          formulas_further before behind (now.formulas told wanted earlier kept)
+          (passed.elements told)
+          (c.in_ok-read_child.ensures.formula (there told) wanted element stand);
+      same = λ unwanted. c.in_ok-read_child.ensures.same unwanted ∙ now.same unwanted;
+    }
+
+pub returns-in_err-read_child-clause-reads : goal.returns-in_err-read_child-clause-reads
+returns-in_err-read_child-clause-reads g c =
+    let now = c.children.invariant in
+    let p = err_from_is_err_and c.from_residual-in_err-read_child.result
+    c.from_residual-in_err-read_child.ensures.1 in
+    rw (p.1, p.2)
+    (leaves_further now.keeps.section.reads
+    (leaves_further c.in_ok-next_child_in.ensures.reads c.in_err-read_child.ensures.reads))
+
+pub returns-in_err-read_child-clause-err : goal.returns-in_err-read_child-clause-err
+returns-in_err-read_child-clause-err g c =
+    let old = reading (g.P.Package.state c.args.package.now) c.args.cursor.now in
+    let mid = reading (g.P.Package.state c.children.package) c.children.cursor in
+    let at = reading (g.P.Package.state c.next_child_in.new.package) c.next_child_in.new.cursor in
+    let after = reading (g.P.Package.state c.read_child.new.package) c.read_child.new.cursor in
+    let base = c.depth-base.result in
+    let now = c.children.invariant in
+    let wants = c.args.asked.wants in
+    let grounds = grounds_of c.args.asked.book in
+    let format = c.args.start.now.format in
+    let kind = kind_of c.args.start.now.typ in
+    let place = c.in-Some.field-0 in
+    let stands : StandsAtStart is_any base (Some place) mid at =
+    rw c.in-Some.is at c.in_ok-next_child_in.ensures.stands in
+    let finds : mid.source.is_told ≡ true → FindsElementIn is_any base (Some place) mid at =
+    λ told. rw c.in-Some.is at (c.in_ok-next_child_in.ensures.found told) in
+    let first = start_there at.source.current (λ (tag : Tag). is_any tag ≡ true) stands.2 in
+    let tag = first.0 in
+    let found : IsElementFound is_any base tag place old mid at =
+    element_found is_any first.1 now.keeps c.in_ok-next_child_in.ensures.reads stands finds in
+    let element = element_at base tag at in
+    let stand : StandsAt element at = record { tag = first.1; inside = refl } in
+    let inner = end_in_child_element wants kind in
+    let refused = AreChildrenRefused wants grounds format kind in
+    let error = c.in_err-read_child.field-0.0 in
+    let p = err_from_is_err_and c.from_residual-in_err-read_child.result
+    c.from_residual-in_err-read_child.ensures.1 in
+    rw (p.1, p.2)
+    (subst (λ (n : ℕ). SectionFails (end_in_children wants kind) refused n old after error) now.base
+    (element_refused (codes "c") inner (end_in_child wants kind tag)
+    (IsChildRefused wants grounds format kind tag) refused after error found (λ told. refl)
+    (λ told refusal is. elim is [
+      | inl own ↦ inl (
+        own.0,
+        ap or_nothing (last_refused (child_value grounds format kind)
+        (value_kept c.children.contents.value) (found.next told).elements
+        (ap (in_element element) (rw (own_inside at) at own.1)) (now.value told own.0)),
+      )
+      | inr own ↦ inr (
+        own.0,
+        formulas_refused (now.listed told own.0) (found.next told).elements
+        (ap (in_element element) (rw (own_inside at) at own.1)),
+      )
+    ])
+    (c.in_err-read_child.ensures.err element stand)))
+
+pub returns-clause-formula : goal.returns-clause-formula
+returns-clause-formula g c = λ told wanted earlier kept.
+    let old = reading (g.P.Package.state c.args.package.now) c.args.cursor.now in
+    let mid = reading (g.P.Package.state c.children.package) c.children.cursor in
+    let new = reading (g.P.Package.state c.next_child_in.new.package) c.next_child_in.new.cursor in
+    let base = c.depth-base.result in
+    let now = c.children.invariant in
+    let closes : FindsElementIn is_any base None mid new =
+    rw c.in_default.is at
+    (c.in_ok-next_child_in.ensures.found (now.keeps.section.reads.moves.parts.is_told ∙ told)) in
+    let behind : FormulaStep =
+    record { masters = c.children.masters; text = string_bytes c.children.contents.formula } in
+    let none : inside base old ≡ 0 = omega (arith, now.base) in
+    subst (λ (n : ℕ). ReadsFormulas earlier c.args.start.now.pos (content n (ahead old)) behind) none
+    (formulas_whole behind (now.formulas told wanted earlier kept) closes.elements)

@@ -1,0 +1,42 @@
+use Rattle.std.proofs.Common.{◌≡◌, List, true, false, length, string_bytes}
+use Rattle.part_events.specs.Reading.{reading, open_elements, ahead}
+use Rattle.part_events.specs.Section.{content, children, is_any}
+use Rattle.part_events.specs.Walk.{section_ahead}
+use Rattle.xlsx_sections.specs.Answers.{or_earlier, last_answer, some_answers}
+use Rattle.xlsx_sections.specs.Elements.{KeepsElements}
+use Rattle.xlsx_values.specs.Book.{kind_of, grounds_of}
+use Rattle.xlsx_values.specs.Value.{child_value}
+use Rattle.xlsx_formulas.specs.Formula.{FormulaText, formulas_in}
+use Rattle.xlsx_formulas.specs.Kept.{AreMasters}
+use Rattle.xlsx_formulas.proofs.Cells.{KeepsFormulas}
+use Rattle.xlsx_cells.specs.Children.{value_kept}
+use Rattle.xlsx_cells.proofs.ChildrenRead.{ListsFormulas}
+use Rattle.xlsx_cells.proofs.children.read_children.Given as goal
+
+abbrev pub invariant-children : goal.invariant-children
+invariant-children g l =
+    let old = reading (g.P.Package.state l.fn.«package») l.fn.cursor in
+    let now = reading (g.P.Package.state l.«package») l.cursor in
+    let grounds = grounds_of l.asked.book in
+    let kind = kind_of l.start.typ in
+    record {
+      base : l.base ≡ length (open_elements l.fn.cursor);
+      keeps : KeepsElements is_any l.base old now;
+      value : old.source.is_told ≡ true → l.asked.wants.values ≡ true →
+          or_earlier (value_kept l.contents.value)
+          (last_answer (child_value grounds l.start.format kind)
+          (children (section_ahead l.base now)))
+          ≡ last_answer (child_value grounds l.start.format kind)
+          (children (section_ahead l.base old));
+      listed : old.source.is_told ≡ true → l.asked.wants.formulas ≡ true →
+          ListsFormulas (formulas_in (section_ahead l.base old))
+          (children (section_ahead l.base now));
+      formulas : old.source.is_told ≡ true → l.asked.wants.formulas ≡ true →
+          (earlier : List FormulaText) → AreMasters earlier l.fn.masters →
+          KeepsFormulas earlier l.start.pos (formulas_in (section_ahead l.base old))
+          (children (section_ahead l.base now)) l.masters (string_bytes l.contents.formula);
+      same : l.asked.wants.formulas ≡ false → l.masters ≡ l.fn.masters;
+    }
+
+abbrev pub decreases-children : goal.decreases-children
+decreases-children g l = (g.P.Package.state l.«package»).left

@@ -1,0 +1,26 @@
+use Rattle.std.proofs.Common.{◌≡◌, ◌∙◌, Some, Ok, true, sym, ap, string_bytes}
+use Rattle.std.proofs.lemmas.Result.{err_from_is_err_and}
+use Rattle.part_events.specs.Reading.{reading}
+use Rattle.xlsx_formulas.specs.Formula.{some_formula, formula_text}
+use Rattle.xlsx_formulas.specs.Kept.{formula_seen}
+use Rattle.xlsx_cells.proofs.ChildrenRead.{formula_fails, is_wanted}
+use Rattle.xlsx_cells.proofs.children.take_formula.Goals as goal
+
+pub returns-in_err-formula-clause-err : goal.returns-in_err-formula-clause-err
+returns-in_err-formula-clause-err g c =
+    let old = reading (g.P.Package.state c.args.package.now) c.args.cursor.now in
+    let new = reading (g.P.Package.state c.read_formula.new.package) c.read_formula.new.cursor in
+    let p = err_from_is_err_and c.from_residual.result c.from_residual.ensures.1 in
+    rw (p.1, p.2) (λ grounds format kind element stands named.
+    formula_fails c.args.wants grounds format kind element.tag old new c.in_err-formula.field-0.0
+    named (is_wanted c.args.wants.formulas c.if-not-wants.false) (c.in_err-formula.ensures.err element.tag stands.tag))
+
+pub returns-clause-formula : goal.returns-clause-formula
+returns-clause-formula g c = λ told wanted element stands named.
+    let read : formula_text element.tag element.inside ≡ Ok (formula_seen c.in_ok-formula.formula) =
+    rw stands.inside (c.in_ok-formula.ensures.formula told element.tag stands.tag) in
+    record {
+      found = Some (formula_seen c.in_ok-formula.formula);
+      said = rw named (ap some_formula read);
+      steps = record { text = c.in_ok-text.ensures.text; masters = c.in_ok-text.ensures.masters };
+    }
