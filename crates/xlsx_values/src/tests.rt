@@ -126,28 +126,33 @@ fn told<P: Package>(
 
 /// A type, and what is told of a `v` in which the first event is an empty text, the text 1, a reference to `&`, the
 /// character data 1, or a comment.
-const FIRST: [(Option<&str>, [&str; 5]); 11] = [
-    (None, ["empty", "n:1", "empty", "empty", "empty"]),
-    (Some("n"), ["empty", "n:1", "empty", "empty", "empty"]),
-    (Some("s"), ["empty", "s:one", "empty", "empty", "empty"]),
-    (Some("b"), ["empty", "b:true", "empty", "empty", "empty"]),
+const FIRST: [(Option<&str>, &str, &str, &str, &str, &str); 10] = [
+    (None, "empty", "n:1", "empty", "empty", "empty"),
+    (Some("n"), "empty", "n:1", "empty", "empty", "empty"),
+    (Some("s"), "empty", "s:one", "empty", "empty", "empty"),
+    (Some("b"), "empty", "b:true", "empty", "empty", "empty"),
     (
         Some("e"),
-        [
-            "Unsupported cell error value ''",
-            "Unsupported cell error value '1'",
-            "empty",
-            "empty",
-            "empty",
-        ],
+        EMPTY_ERROR,
+        OTHER_ERROR,
+        "empty",
+        "empty",
+        "empty",
     ),
-    (Some("str"), ["s:", "s:1", "s:&", "s:", "s:"]),
-    (Some("d"), ["i:", "i:1", "i:&", "i:", "i:"]),
-    (Some("inlineStr"), ["not counted"; 5]),
-    (Some("is"), ["not counted"; 5]),
-    (Some("zz"), ["Unknown cell 't' attribute: \"zz\""; 5]),
-    (Some(""), ["Unknown cell 't' attribute: \"\""; 5]),
+    (Some("str"), "s:", "s:1", "s:&", "s:", "s:"),
+    (Some("d"), "i:", "i:1", "i:&", "i:", "i:"),
+    (Some("inlineStr"), UNREAD, UNREAD, UNREAD, UNREAD, UNREAD),
+    (Some("is"), UNREAD, UNREAD, UNREAD, UNREAD, UNREAD),
+    (Some("zz"), UNKNOWN, UNKNOWN, UNKNOWN, UNKNOWN, UNKNOWN),
 ];
+
+const EMPTY_ERROR: &str = "Unsupported cell error value ''";
+
+const OTHER_ERROR: &str = "Unsupported cell error value '1'";
+
+const UNREAD: &str = "not counted";
+
+const UNKNOWN: &str = "Unknown cell 't' attribute: \"zz\"";
 
 /// A type, a text and what is told of it.
 const TEXTS: [(Option<&str>, &str, &str); 24] = [
@@ -188,18 +193,17 @@ fn texts_of_each_type_have_their_values(rt: HostRuntime) -> Result<(), Fail> {
         String::from_str(alloc, "zero")?,
         String::from_str(alloc, "one")?,
     ]?;
-    let first = [
-        PartEvent::Text(""),
-        PartEvent::Text("1"),
-        PartEvent::EntityRef("amp"),
-        PartEvent::CharData("1"),
-        PartEvent::Other,
-    ];
-    for (typ, wanted) in FIRST {
-        for (event, want) in first.iter().zip(wanted.iter()) {
-            let mut package = held_package(&rt, alloc, &[*event, WHOLE])?;
+    for (typ, empty, text, reference, char_data, comment) in FIRST {
+        for (event, want) in [
+            (PartEvent::Text(""), empty),
+            (PartEvent::Text("1"), text),
+            (PartEvent::EntityRef("amp"), reference),
+            (PartEvent::CharData("1"), char_data),
+            (PartEvent::Other, comment),
+        ] {
+            let mut package = held_package(&rt, alloc, &[event, WHOLE])?;
             let found = told(alloc, &mut package, &strings, None, typ)?;
-            assert_eq!(rt; found.as_str(), *want, "{typ:?} {event:?}");
+            assert_eq!(rt; found.as_str(), want, "{typ:?} {event:?}");
         }
     }
     for (typ, text, want) in TEXTS {
@@ -224,7 +228,7 @@ fn longer_elements_are_read_to_their_ends(rt: HostRuntime) -> Result<(), Fail> {
         (None, "s:a"),
         (Some("str"), "s:a<A"),
         (Some("d"), "i:a<_x0041_"),
-        (Some("is"), "not counted"),
+        (Some("is"), UNREAD),
     ] {
         let mut package = held_package(&rt, alloc, &split)?;
         let found = told(alloc, &mut package, &strings, None, typ)?;
@@ -235,7 +239,7 @@ fn longer_elements_are_read_to_their_ends(rt: HostRuntime) -> Result<(), Fail> {
     for (typ, want) in [
         (Some("n"), "empty"),
         (Some("str"), "s:1"),
-        (Some("inlineStr"), "not counted"),
+        (Some("inlineStr"), UNREAD),
     ] {
         let mut package = held_package(&rt, alloc, &nested)?;
         let found = told(alloc, &mut package, &strings, None, typ)?;
@@ -303,18 +307,17 @@ fn elements_are_refused_and_planned_calls_fail(rt: HostRuntime) -> Result<(), Fa
         let found = told(alloc, &mut package, &strings, None, typ)?;
         assert_eq!(rt; found.as_str(), want, "{typ:?}");
     }
-    for number in 0..5u64 {
-        for (typ, whole) in [
-            (None, "n:1"),
-            (Some("str"), "s:1"),
-            (Some("is"), "not counted"),
-        ] {
+    for (typ, whole) in [(None, "n:1"), (Some("str"), "s:1"), (Some("is"), UNREAD)] {
+        for number in 0..4u64 {
             let inner = held_package(&rt, alloc, &[PartEvent::Text("1"), WHOLE])?;
             let mut package = FailingPackage::new(inner, vec![in alloc; number]?);
-            let want = if number < 4 { "I/O error" } else { whole };
             let found = told(alloc, &mut package, &strings, None, typ)?;
-            assert_eq!(rt; found.as_str(), want, "{typ:?}, call {number}");
+            assert_eq!(rt; found.as_str(), "I/O error", "{typ:?}, call {number}");
         }
+        let inner = held_package(&rt, alloc, &[PartEvent::Text("1"), WHOLE])?;
+        let mut package = FailingPackage::new(inner, vec![in alloc; 4]?);
+        let found = told(alloc, &mut package, &strings, None, typ)?;
+        assert_eq!(rt; found.as_str(), whole, "{typ:?}");
     }
     Ok(())
 }
