@@ -186,6 +186,21 @@ const TEXTS: [(Option<&str>, &str, &str); 24] = [
     (Some("N"), "1", "Unknown cell 't' attribute: \"N\""),
 ];
 
+// A `v` with this event alone says this.
+fn assert_told(
+    rt: &impl Abort,
+    alloc: Global,
+    strings: &[String],
+    typ: Option<&str>,
+    event: PartEvent<'_>,
+    want: &str,
+) -> Result<(), AllocError> {
+    let mut package = held_package(rt, alloc, &[event, WHOLE])?;
+    let found = told(alloc, &mut package, strings, None, typ)?;
+    assert_eq!(rt; found.as_str(), want, "{typ:?} {event:?}");
+    Ok(())
+}
+
 #[test]
 fn texts_of_each_type_have_their_values(rt: HostRuntime) -> Result<(), Fail> {
     let alloc = rt.alloc();
@@ -194,22 +209,28 @@ fn texts_of_each_type_have_their_values(rt: HostRuntime) -> Result<(), Fail> {
         String::from_str(alloc, "one")?,
     ]?;
     for (typ, empty, text, reference, char_data, comment) in FIRST {
-        for (event, want) in [
-            (PartEvent::Text(""), empty),
-            (PartEvent::Text("1"), text),
-            (PartEvent::EntityRef("amp"), reference),
-            (PartEvent::CharData("1"), char_data),
-            (PartEvent::Other, comment),
-        ] {
-            let mut package = held_package(&rt, alloc, &[event, WHOLE])?;
-            let found = told(alloc, &mut package, &strings, None, typ)?;
-            assert_eq!(rt; found.as_str(), want, "{typ:?} {event:?}");
-        }
+        assert_told(&rt, alloc, &strings, typ, PartEvent::Text(""), empty)?;
+        assert_told(&rt, alloc, &strings, typ, PartEvent::Text("1"), text)?;
+        assert_told(
+            &rt,
+            alloc,
+            &strings,
+            typ,
+            PartEvent::EntityRef("amp"),
+            reference,
+        )?;
+        assert_told(
+            &rt,
+            alloc,
+            &strings,
+            typ,
+            PartEvent::CharData("1"),
+            char_data,
+        )?;
+        assert_told(&rt, alloc, &strings, typ, PartEvent::Other, comment)?;
     }
     for (typ, text, want) in TEXTS {
-        let mut package = held_package(&rt, alloc, &[PartEvent::Text(text), WHOLE])?;
-        let found = told(alloc, &mut package, &strings, None, typ)?;
-        assert_eq!(rt; found.as_str(), want, "{typ:?} {text}");
+        assert_told(&rt, alloc, &strings, typ, PartEvent::Text(text), want)?;
     }
     Ok(())
 }
