@@ -154,36 +154,48 @@ const UNREAD: &str = "not counted";
 
 const UNKNOWN: &str = "Unknown cell 't' attribute: \"zz\"";
 
-/// A type, a text and what is told of it.
-const TEXTS: [(Option<&str>, &str, &str); 24] = [
-    (Some("s"), "x", "s:zero"),
-    (Some("s"), "0", "s:zero"),
-    (Some("s"), "+1", "s:zero"),
-    (
-        Some("s"),
-        "2",
-        "Cell string index not found in shared strings table",
-    ),
-    (Some("b"), "2", "Unrecognized boolean cell value: 2"),
-    (Some("b"), "FALSE", "b:false"),
-    (Some("b"), "tRue", "b:true"),
-    (Some("b"), " 1 ", "b:true"),
-    (Some("b"), "  ", "empty"),
-    (Some("b"), " 00", "Unrecognized boolean cell value:  00"),
-    (Some("n"), "inf", "Parse float error: inf"),
-    (Some("n"), "2.50", "n:2.5"),
-    (Some("n"), " 1", "Parse float error:  1"),
-    (None, "inf", "s:inf"),
-    (None, "a_x0041_", "s:a_x0041_"),
-    (None, "1e3", "n:1000"),
-    (Some("e"), "#BAD!", "Unsupported cell error value '#BAD!'"),
-    (Some("e"), "#DIV/0!", "e:#DIV/0!"),
-    (Some("e"), "#N/A", "e:#N/A"),
-    (Some("e"), "#n/a", "Unsupported cell error value '#n/a'"),
-    (Some("zz"), "1", "Unknown cell 't' attribute: \"zz\""),
-    (Some("str"), "a\r\n_x0041_", "s:a\nA"),
-    (Some("d"), "2024-01-01", "i:2024-01-01"),
-    (Some("N"), "1", "Unknown cell 't' attribute: \"N\""),
+const NOT_SHARED: &str = "Cell string index not found in shared strings table";
+
+/// The text of a shared string and what is told of it.
+const SHARED: [(&str, &str); 4] = [
+    ("x", "s:zero"),
+    ("0", "s:zero"),
+    ("+1", "s:zero"),
+    ("1", NOT_SHARED),
+];
+
+/// The text of a truth value and what is told of it.
+const TRUTHS: [(&str, &str); 6] = [
+    ("2", "Unrecognized boolean cell value: 2"),
+    ("FALSE", "b:false"),
+    ("tRue", "b:true"),
+    (" 1 ", "b:true"),
+    ("  ", "empty"),
+    (" 00", "Unrecognized boolean cell value:  00"),
+];
+
+/// The text of a number, and what is told of it as one and without a type.
+const NUMBERS: [(&str, &str, &str); 4] = [
+    ("inf", "Parse float error: inf", "s:inf"),
+    ("2.50", "n:2.5", "n:2.5"),
+    ("1e3", "n:1000", "n:1000"),
+    (" _x0041_", "Parse float error:  _x0041_", "s: _x0041_"),
+];
+
+/// The text of an error and what is told of it.
+const ERRORS: [(&str, &str); 4] = [
+    ("#BAD!", "Unsupported cell error value '#BAD!'"),
+    ("#n/a", "Unsupported cell error value '#n/a'"),
+    ("#DIV/0!", "e:#DIV/0!"),
+    ("#N/A", "e:#N/A"),
+];
+
+/// Another type, a text and what is told of it.
+const OTHERS: [(&str, &str, &str); 4] = [
+    ("str", "a\r\n_x0041_", "s:a\nA"),
+    ("d", "2024-01-01", "i:2024-01-01"),
+    ("zz", "1", UNKNOWN),
+    ("", "1", "Unknown cell 't' attribute: \"\""),
 ];
 
 // A `v` with this event alone says this.
@@ -229,8 +241,35 @@ fn texts_of_each_type_have_their_values(rt: HostRuntime) -> Result<(), Fail> {
         )?;
         assert_told(&rt, alloc, &strings, typ, PartEvent::Other, comment)?;
     }
-    for (typ, text, want) in TEXTS {
-        assert_told(&rt, alloc, &strings, typ, PartEvent::Text(text), want)?;
+    Ok(())
+}
+
+#[test]
+fn values_and_refusals_go_by_the_type(rt: HostRuntime) -> Result<(), Fail> {
+    let alloc = rt.alloc();
+    let strings = vec![in alloc; String::from_str(alloc, "zero")?]?;
+    for (text, want) in SHARED {
+        assert_told(&rt, alloc, &strings, Some("s"), PartEvent::Text(text), want)?;
+    }
+    for (text, want) in TRUTHS {
+        assert_told(&rt, alloc, &strings, Some("b"), PartEvent::Text(text), want)?;
+    }
+    for (text, typed, untyped) in NUMBERS {
+        assert_told(
+            &rt,
+            alloc,
+            &strings,
+            Some("n"),
+            PartEvent::Text(text),
+            typed,
+        )?;
+        assert_told(&rt, alloc, &strings, None, PartEvent::Text(text), untyped)?;
+    }
+    for (text, want) in ERRORS {
+        assert_told(&rt, alloc, &strings, Some("e"), PartEvent::Text(text), want)?;
+    }
+    for (typ, text, want) in OTHERS {
+        assert_told(&rt, alloc, &strings, Some(typ), PartEvent::Text(text), want)?;
     }
     Ok(())
 }
