@@ -17,9 +17,11 @@ use Rattle.xlsx_sections.specs.PartSection.{always, inside_of, section_left}
 use Rattle.xlsx_sections.specs.Refusal.{Refusal, ElementFails}
 use Rattle.xlsx_sections.specs.Elements.{ElementReadFails, IsInsideRefused}
 use Rattle.xlsx_sections.proofs.ElementsRead.{own_inside}
-use Rattle.xlsx_sections.proofs.Refused.{event_refused}
+use Rattle.xlsx_sections.proofs.Refused.{event_refused, refused_as}
 use Rattle.xlsx_values.specs.CellType.{CellKind}
-use Rattle.xlsx_values.specs.Value.{of_joined, value_of_joined, joined_value}
+use Rattle.xlsx_strings.specs.Strings.{string_of, end_in_string}
+use Rattle.cell_data.specs.CellValue as value
+use Rattle.xlsx_values.specs.Value.{of_joined, value_of_joined, joined_value, inline_value}
 use Rattle.xlsx_values.specs.Book.{IsTextValueError, IsValueError}
 
 pub text_value : (error : XlsxError) → IsTextValueError error → IsValueError error
@@ -88,3 +90,13 @@ joined_refused kind old new text error is element read fails =
     ap (joined_value kind) (own_inside old) ∙ ap (of_joined (value_of_joined kind)) (read told)
     ∙ refuses)
     (fails (old.at - 1) (length inside))
+
+-- the string of an element can't be read, and neither can it as a value
+pub inline_refused : (old new : Reading) (error : XlsxError) → IsReading old
+    → ElementReadFails end_in_string string_of old new error
+    → ElementReadFails end_in_string inline_value old new error
+inline_refused old new error is fails =
+    refused_as (length old.names) old end_in_string (IsInsideRefused string_of)
+    (IsInsideRefused inline_value) new error is (omega arith)
+    (λ refusal refuses. ap (of_joined (λ (written : List ℕ). Ok (value.text written))) refuses)
+    fails

@@ -12,4 +12,4 @@ mod value;
 pub use book::{Book, format_of_style};
 pub use resolving::to_data;
 pub use types::{CellType, cell_type};
-pub use value::read_value;
+pub use value::{read_inline, read_value};

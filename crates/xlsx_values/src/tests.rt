@@ -126,60 +126,92 @@ fn told<P: Package>(
 
 /// A type, and what is told of a `v` in which the first event is an empty text, the text 1, a reference to `&`, the
 /// character data 1, or a comment.
-const FIRST: [(Option<&str>, [&str; 5]); 11] = [
-    (None, ["empty", "n:1", "empty", "empty", "empty"]),
-    (Some("n"), ["empty", "n:1", "empty", "empty", "empty"]),
-    (Some("s"), ["empty", "s:one", "empty", "empty", "empty"]),
-    (Some("b"), ["empty", "b:true", "empty", "empty", "empty"]),
+const FIRST: [(Option<&str>, &str, &str, &str, &str, &str); 10] = [
+    (None, "empty", "n:1", "empty", "empty", "empty"),
+    (Some("n"), "empty", "n:1", "empty", "empty", "empty"),
+    (Some("s"), "empty", "s:one", "empty", "empty", "empty"),
+    (Some("b"), "empty", "b:true", "empty", "empty", "empty"),
     (
         Some("e"),
-        [
-            "Unsupported cell error value ''",
-            "Unsupported cell error value '1'",
-            "empty",
-            "empty",
-            "empty",
-        ],
+        EMPTY_ERROR,
+        OTHER_ERROR,
+        "empty",
+        "empty",
+        "empty",
     ),
-    (Some("str"), ["s:", "s:1", "s:&", "s:", "s:"]),
-    (Some("d"), ["i:", "i:1", "i:&", "i:", "i:"]),
-    (Some("inlineStr"), ["not counted"; 5]),
-    (Some("is"), ["not counted"; 5]),
-    (Some("zz"), ["Unknown cell 't' attribute: \"zz\""; 5]),
-    (Some(""), ["Unknown cell 't' attribute: \"\""; 5]),
+    (Some("str"), "s:", "s:1", "s:&", "s:", "s:"),
+    (Some("d"), "i:", "i:1", "i:&", "i:", "i:"),
+    (Some("inlineStr"), UNREAD, UNREAD, UNREAD, UNREAD, UNREAD),
+    (Some("is"), UNREAD, UNREAD, UNREAD, UNREAD, UNREAD),
+    (Some("zz"), UNKNOWN, UNKNOWN, UNKNOWN, UNKNOWN, UNKNOWN),
 ];
 
-/// A type, a text and what is told of it.
-const TEXTS: [(Option<&str>, &str, &str); 24] = [
-    (Some("s"), "x", "s:zero"),
-    (Some("s"), "0", "s:zero"),
-    (Some("s"), "+1", "s:zero"),
-    (
-        Some("s"),
-        "2",
-        "Cell string index not found in shared strings table",
-    ),
-    (Some("b"), "2", "Unrecognized boolean cell value: 2"),
-    (Some("b"), "FALSE", "b:false"),
-    (Some("b"), "tRue", "b:true"),
-    (Some("b"), " 1 ", "b:true"),
-    (Some("b"), "  ", "empty"),
-    (Some("b"), " 00", "Unrecognized boolean cell value:  00"),
-    (Some("n"), "inf", "Parse float error: inf"),
-    (Some("n"), "2.50", "n:2.5"),
-    (Some("n"), " 1", "Parse float error:  1"),
-    (None, "inf", "s:inf"),
-    (None, "a_x0041_", "s:a_x0041_"),
-    (None, "1e3", "n:1000"),
-    (Some("e"), "#BAD!", "Unsupported cell error value '#BAD!'"),
-    (Some("e"), "#DIV/0!", "e:#DIV/0!"),
-    (Some("e"), "#N/A", "e:#N/A"),
-    (Some("e"), "#n/a", "Unsupported cell error value '#n/a'"),
-    (Some("zz"), "1", "Unknown cell 't' attribute: \"zz\""),
-    (Some("str"), "a\r\n_x0041_", "s:a\nA"),
-    (Some("d"), "2024-01-01", "i:2024-01-01"),
-    (Some("N"), "1", "Unknown cell 't' attribute: \"N\""),
+const EMPTY_ERROR: &str = "Unsupported cell error value ''";
+
+const OTHER_ERROR: &str = "Unsupported cell error value '1'";
+
+const UNREAD: &str = "not counted";
+
+const UNKNOWN: &str = "Unknown cell 't' attribute: \"zz\"";
+
+const NOT_SHARED: &str = "Cell string index not found in shared strings table";
+
+/// The text of a shared string and what is told of it.
+const SHARED: [(&str, &str); 4] = [
+    ("x", "s:zero"),
+    ("0", "s:zero"),
+    ("+1", "s:zero"),
+    ("1", NOT_SHARED),
 ];
+
+/// The text of a truth value and what is told of it.
+const TRUTHS: [(&str, &str); 6] = [
+    ("2", "Unrecognized boolean cell value: 2"),
+    ("FALSE", "b:false"),
+    ("tRue", "b:true"),
+    (" 1 ", "b:true"),
+    ("  ", "empty"),
+    (" 00", "Unrecognized boolean cell value:  00"),
+];
+
+/// The text of a number, and what is told of it as one and without a type.
+const NUMBERS: [(&str, &str, &str); 4] = [
+    ("inf", "Parse float error: inf", "s:inf"),
+    ("2.50", "n:2.5", "n:2.5"),
+    ("1e3", "n:1000", "n:1000"),
+    (" _x0041_", "Parse float error:  _x0041_", "s: _x0041_"),
+];
+
+/// The text of an error and what is told of it.
+const ERRORS: [(&str, &str); 4] = [
+    ("#BAD!", "Unsupported cell error value '#BAD!'"),
+    ("#n/a", "Unsupported cell error value '#n/a'"),
+    ("#DIV/0!", "e:#DIV/0!"),
+    ("#N/A", "e:#N/A"),
+];
+
+/// Another type, a text and what is told of it.
+const OTHERS: [(&str, &str, &str); 4] = [
+    ("str", "a\r\n_x0041_", "s:a\nA"),
+    ("d", "2024-01-01", "i:2024-01-01"),
+    ("zz", "1", UNKNOWN),
+    ("", "1", "Unknown cell 't' attribute: \"\""),
+];
+
+// A `v` with this event alone says this.
+fn assert_told(
+    rt: &impl Abort,
+    alloc: Global,
+    strings: &[String],
+    typ: Option<&str>,
+    event: PartEvent<'_>,
+    want: &str,
+) -> Result<(), AllocError> {
+    let mut package = held_package(rt, alloc, &[event, WHOLE])?;
+    let found = told(alloc, &mut package, strings, None, typ)?;
+    assert_eq!(rt; found.as_str(), want, "{typ:?} {event:?}");
+    Ok(())
+}
 
 #[test]
 fn texts_of_each_type_have_their_values(rt: HostRuntime) -> Result<(), Fail> {
@@ -188,24 +220,56 @@ fn texts_of_each_type_have_their_values(rt: HostRuntime) -> Result<(), Fail> {
         String::from_str(alloc, "zero")?,
         String::from_str(alloc, "one")?,
     ]?;
-    let first = [
-        PartEvent::Text(""),
-        PartEvent::Text("1"),
-        PartEvent::EntityRef("amp"),
-        PartEvent::CharData("1"),
-        PartEvent::Other,
-    ];
-    for (typ, wanted) in FIRST {
-        for (event, want) in first.iter().zip(wanted.iter()) {
-            let mut package = held_package(&rt, alloc, &[*event, WHOLE])?;
-            let found = told(alloc, &mut package, &strings, None, typ)?;
-            assert_eq!(rt; found.as_str(), *want, "{typ:?} {event:?}");
-        }
+    for (typ, empty, text, reference, char_data, comment) in FIRST {
+        assert_told(&rt, alloc, &strings, typ, PartEvent::Text(""), empty)?;
+        assert_told(&rt, alloc, &strings, typ, PartEvent::Text("1"), text)?;
+        assert_told(
+            &rt,
+            alloc,
+            &strings,
+            typ,
+            PartEvent::EntityRef("amp"),
+            reference,
+        )?;
+        assert_told(
+            &rt,
+            alloc,
+            &strings,
+            typ,
+            PartEvent::CharData("1"),
+            char_data,
+        )?;
+        assert_told(&rt, alloc, &strings, typ, PartEvent::Other, comment)?;
     }
-    for (typ, text, want) in TEXTS {
-        let mut package = held_package(&rt, alloc, &[PartEvent::Text(text), WHOLE])?;
-        let found = told(alloc, &mut package, &strings, None, typ)?;
-        assert_eq!(rt; found.as_str(), want, "{typ:?} {text}");
+    Ok(())
+}
+
+#[test]
+fn values_and_refusals_go_by_the_type(rt: HostRuntime) -> Result<(), Fail> {
+    let alloc = rt.alloc();
+    let strings = vec![in alloc; String::from_str(alloc, "zero")?]?;
+    for (text, want) in SHARED {
+        assert_told(&rt, alloc, &strings, Some("s"), PartEvent::Text(text), want)?;
+    }
+    for (text, want) in TRUTHS {
+        assert_told(&rt, alloc, &strings, Some("b"), PartEvent::Text(text), want)?;
+    }
+    for (text, typed, untyped) in NUMBERS {
+        assert_told(
+            &rt,
+            alloc,
+            &strings,
+            Some("n"),
+            PartEvent::Text(text),
+            typed,
+        )?;
+        assert_told(&rt, alloc, &strings, None, PartEvent::Text(text), untyped)?;
+    }
+    for (text, want) in ERRORS {
+        assert_told(&rt, alloc, &strings, Some("e"), PartEvent::Text(text), want)?;
+    }
+    for (typ, text, want) in OTHERS {
+        assert_told(&rt, alloc, &strings, Some(typ), PartEvent::Text(text), want)?;
     }
     Ok(())
 }
@@ -224,7 +288,7 @@ fn longer_elements_are_read_to_their_ends(rt: HostRuntime) -> Result<(), Fail> {
         (None, "s:a"),
         (Some("str"), "s:a<A"),
         (Some("d"), "i:a<_x0041_"),
-        (Some("is"), "not counted"),
+        (Some("is"), UNREAD),
     ] {
         let mut package = held_package(&rt, alloc, &split)?;
         let found = told(alloc, &mut package, &strings, None, typ)?;
@@ -235,7 +299,7 @@ fn longer_elements_are_read_to_their_ends(rt: HostRuntime) -> Result<(), Fail> {
     for (typ, want) in [
         (Some("n"), "empty"),
         (Some("str"), "s:1"),
-        (Some("inlineStr"), "not counted"),
+        (Some("inlineStr"), UNREAD),
     ] {
         let mut package = held_package(&rt, alloc, &nested)?;
         let found = told(alloc, &mut package, &strings, None, typ)?;
@@ -303,18 +367,17 @@ fn elements_are_refused_and_planned_calls_fail(rt: HostRuntime) -> Result<(), Fa
         let found = told(alloc, &mut package, &strings, None, typ)?;
         assert_eq!(rt; found.as_str(), want, "{typ:?}");
     }
-    for number in 0..5u64 {
-        for (typ, whole) in [
-            (None, "n:1"),
-            (Some("str"), "s:1"),
-            (Some("is"), "not counted"),
-        ] {
+    for (typ, whole) in [(None, "n:1"), (Some("str"), "s:1"), (Some("is"), UNREAD)] {
+        for number in 0..4u64 {
             let inner = held_package(&rt, alloc, &[PartEvent::Text("1"), WHOLE])?;
             let mut package = FailingPackage::new(inner, vec![in alloc; number]?);
-            let want = if number < 4 { "I/O error" } else { whole };
             let found = told(alloc, &mut package, &strings, None, typ)?;
-            assert_eq!(rt; found.as_str(), want, "{typ:?}, call {number}");
+            assert_eq!(rt; found.as_str(), "I/O error", "{typ:?}, call {number}");
         }
+        let inner = held_package(&rt, alloc, &[PartEvent::Text("1"), WHOLE])?;
+        let mut package = FailingPackage::new(inner, vec![in alloc; 4]?);
+        let found = told(alloc, &mut package, &strings, None, typ)?;
+        assert_eq!(rt; found.as_str(), whole, "{typ:?}");
     }
     Ok(())
 }

@@ -5,8 +5,9 @@ ghost use Rattle.cell_data.specs.CellValue.{value_of_data_ref};
 ghost use Rattle.cell_data.specs.declared.error.XlsxError.TheVariants.{Io};
 ghost use Rattle.xlsx_sections.specs.Elements.{ElementReadFails};
 ghost use Rattle.xlsx_sections.specs.PartSection.{always};
+ghost use Rattle.xlsx_strings.specs.Strings.{end_in_string, IsStringError};
 ghost use Rattle.xlsx_values.specs.Book.{kind_of, grounds_of, IsValueError};
-ghost use Rattle.xlsx_values.specs.Value.{first_value, joined_value, value_element, end_in_first, end_in_value};
+ghost use Rattle.xlsx_values.specs.Value.{first_value, joined_value, value_element, inline_value, end_in_first, end_in_value};
 
 use crate::book::Book;
 use crate::text_value::{value_of_event, value_of_joined};
@@ -15,6 +16,7 @@ use cell_data::{CellFormat, DataRef, XlsxError};
 use part_events::{Cursor, Package, Step};
 use std::alloc::Global;
 use xlsx_sections::{read_element_text, read_to_end, skip_element_in};
+use xlsx_strings::read_string;
 
 /// The value of the `v` at whose start the package stands, by its first event. Reads to its end.
 #[tactic(auto, using(crate::proofs::ValuesRead::value_errors))]
@@ -132,4 +134,33 @@ pub fn read_value<P: Package>(
         | CellType::Truth
         | CellType::Error => { Ok(Some(read_first(alloc, package, cursor, book, format, typ)?)) }
     }
+}
+
+/// The value of the `is` at whose start the package stands: its text. Reads to its end.
+pub fn read_inline<P: Package>(
+    alloc: Global,
+    package: &mut P,
+    cursor: &mut Cursor,
+) -> Result<DataRef, XlsxError>
+    requires reading { IsReading (reading (P.state «package».old) cursor.old) }
+    requires element { IsAtElement (reading (P.state «package».old) cursor.old) }
+    ensures reads { let old = reading (P.state «package».old) cursor.old in
+        let new = reading (P.state «package».new) cursor.new in
+        ReadsPart Io result old new }
+    ensures depth { OnOk result (length (open_elements cursor.old) ≡ suc (length (open_elements cursor.new))) }
+    ensures skips { let old = reading (P.state «package».old) cursor.old in
+        let new = reading (P.state «package».new) cursor.new in
+        old.source.is_told ≡ true → OnOk result (Skips old new) }
+    ensures value { let old = reading (P.state «package».old) cursor.old in
+        old.source.is_told ≡ true → IfOk result (λ own.
+        inline_value (content 0 (ahead old)) ≡ Ok (value_of_data_ref own)) }
+    ensures err { let old = reading (P.state «package».old) cursor.old in
+        let new = reading (P.state «package».new) cursor.new in
+        IfErr result (ElementReadFails end_in_string inline_value old new) }
+    ensures kind { IfErr result IsStringError }
+{
+    let mut text = String::new(alloc);
+    let mut scratch = String::new(alloc);
+    read_string(alloc, package, cursor, &mut text, &mut scratch)?;
+    Ok(DataRef::String(text))
 }
