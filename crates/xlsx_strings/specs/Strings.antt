@@ -1,7 +1,7 @@
 -- The text of a string element, and the shared strings of a workbook.
-use Rattle.std.specs.Prelude.{◌≡◌, ℕ, ◌-◌, List, [], ◌∷◌, ◌++◌, take, drop, length, Bool, true, false}
+use Rattle.std.specs.Prelude.{◌≡◌, ℕ, ◌-◌, List, [], ◌∷◌, take, drop, length, Bool, true, false}
 use Rattle.std.specs.Prelude.{◌==◌, ◌||◌, if◌then◌else◌, codes, Option, Some, None, Result, Ok, Err}
-use Rattle.std.specs.Prelude.{IsSomeAnd, MatchOption}
+use Rattle.std.specs.Prelude.{IsSomeAnd, MatchOption, ◌⊎◌, ⊤}
 use Rattle.std.specs.List.{prefix_len, suffix_len, flat_map}
 use Rattle.std.specs.Str.{bytes_eq}
 use Rattle.attr_text.specs.Attributes.{value_of}
@@ -10,6 +10,9 @@ use Rattle.attr_text.specs.declared.fault.AttrFault.{AttrFault}
 use Rattle.part_events.specs.Event.{Tag, Event}
 use Rattle.part_events.specs.Package.{Part, part_of}
 use Rattle.part_events.specs.Section.{Element, outermost, is_named}
+use Rattle.part_events.specs.declared.fault.XmlFault.TheVariants.{EndMismatch, Entity}
+use Rattle.cell_data.specs.declared.error.XlsxError.{XlsxError}
+use Rattle.cell_data.specs.declared.error.XlsxError.TheVariants.{OutOfMemory, Io, Xml, XmlAttr, XmlEof}
 use Rattle.xlsx_sections.specs.Answers.{all_answers}
 use Rattle.xlsx_sections.specs.Elements.{end_among}
 use Rattle.xlsx_sections.specs.ElementText.{element_text}
@@ -31,13 +34,28 @@ abbrev pub is_preserved : Option (List ℕ) → Bool
 is_preserved None = false
 is_preserved (Some space) = bytes_eq space (codes "preserve")
 
-abbrev pub spaced : Bool → Result (List ℕ) Refusal → Result (List ℕ) Refusal
-spaced preserved (Ok written) = Ok (unescaped (if preserved then written else trimmed written))
-spaced preserved (Err refusal) = Err refusal
+-- whether a text keeps the blanks at its ends, by its attributes
+abbrev pub keeps_blanks : Result (Option (List ℕ)) AttrFault → Result Bool AttrFault
+keeps_blanks (Ok space) = Ok (is_preserved space)
+keeps_blanks (Err fault) = Err fault
 
-abbrev pub text_by : List Event → Result (Option (List ℕ)) AttrFault → Result (List ℕ) Refusal
-text_by inside (Ok space) = spaced (is_preserved space) (element_text true inside)
+abbrev pub blanks_kept : Tag → Result Bool AttrFault
+blanks_kept tag = keeps_blanks (value_of (codes "xml:space") tag.attributes)
+
+abbrev pub spaced : Bool → List ℕ → List ℕ
+spaced kept written = if kept then written else trimmed written
+
+abbrev pub all_spaced : Bool → Result (List ℕ) Refusal → Result (List ℕ) Refusal
+all_spaced kept (Ok written) = Ok (unescaped (spaced kept written))
+all_spaced kept (Err refusal) = Err refusal
+
+abbrev pub text_by : List Event → Result Bool AttrFault → Result (List ℕ) Refusal
+text_by inside (Ok kept) = all_spaced kept (element_text true inside)
 text_by inside (Err fault) = Err (lookup_fault fault)
+
+-- the text of an element of this start, by what stands in it
+abbrev pub text_of : Tag → List Event → Result (List ℕ) Refusal
+text_of tag inside = text_by inside (blanks_kept tag)
 
 abbrev pub is_text : Tag → Bool
 is_text tag = is_named (codes "t" ∷ []) tag
@@ -47,12 +65,11 @@ abbrev pub is_text_or_phonetic : Tag → Bool
 is_text_or_phonetic tag = is_named (codes "t" ∷ codes "rPh" ∷ []) tag
 
 -- what such an element adds to its string
-abbrev pub string_text : Element → Result (List ℕ) Refusal
-string_text element =
-    if is_text element.tag
-    then in_element element
-    (text_by element.inside (value_of (codes "xml:space") element.tag.attributes))
-    else Ok []
+abbrev pub piece_of : Tag → List Event → Result (List ℕ) Refusal
+piece_of tag inside = if is_text tag then text_of tag inside else Ok []
+
+abbrev pub string_piece : Element → Result (List ℕ) Refusal
+string_piece element = in_element element (piece_of element.tag element.inside)
 
 abbrev pub all_joined : Result (List (List ℕ)) Refusal → Result (List ℕ) Refusal
 all_joined (Ok texts) = Ok (flat_map (λ (text : List ℕ). text) texts)
@@ -61,7 +78,7 @@ all_joined (Err refusal) = Err refusal
 -- the text of a string element, by what stands in it: its outermost texts, those of its
 -- pronunciation left aside
 abbrev pub string_of : List Event → Result (List ℕ) Refusal
-string_of inside = all_joined (all_answers string_text (outermost is_text_or_phonetic inside))
+string_of inside = all_joined (all_answers string_piece (outermost is_text_or_phonetic inside))
 
 abbrev pub is_string : Tag → Bool
 is_string tag = is_named (codes "si" ∷ []) tag
@@ -74,11 +91,14 @@ abbrev pub strings_in : List Event → Result (List (List ℕ)) Refusal
 strings_in inside = all_answers string_element (outermost is_string inside)
 
 -- the end of the part in a text is told as `t`, and elsewhere in a string by the empty text
-abbrev pub end_in_text : Element → Option (List ℕ)
-end_in_text element = if is_text element.tag then Some (codes "t") else Some []
+abbrev pub end_in_piece : Tag → List Event → Option (List ℕ)
+end_in_piece tag inside = if is_text tag then Some (codes "t") else Some []
+
+abbrev pub end_in_piece_element : Element → Option (List ℕ)
+end_in_piece_element element = end_in_piece element.tag element.inside
 
 abbrev pub end_in_string : List Event → Option (List ℕ)
-end_in_string inside = end_among is_text_or_phonetic [] end_in_text inside
+end_in_string inside = end_among is_text_or_phonetic [] end_in_piece_element inside
 
 abbrev pub end_in_string_element : Element → Option (List ℕ)
 end_in_string_element element = end_in_string element.inside
@@ -92,3 +112,24 @@ HasStrings parts path strings =
     MatchOption (part_of parts path) (strings ≡ [])
     (λ _. IsSomeAnd (closed_section_of (codes "sst") path parts)
     (λ inside. strings_in inside ≡ Ok strings))
+
+-- the refusals that reading a string can have, whatever the package tells
+abbrev pub IsStringError : XlsxError → Type 0
+IsStringError Io = ⊤
+IsStringError OutOfMemory = ⊤
+IsStringError (Xml (EndMismatch at)) = ⊤
+IsStringError (Xml (Entity at)) = ⊤
+IsStringError (XmlAttr fault) = ⊤
+IsStringError (XmlEof element) = (element.now ≡ codes "t") ⊎ (element.now ≡ [])
+IsStringError _ = ⊥
+
+-- and those of reading the shared strings
+abbrev pub AreStringsError : XlsxError → Type 0
+AreStringsError Io = ⊤
+AreStringsError OutOfMemory = ⊤
+AreStringsError (Xml (EndMismatch at)) = ⊤
+AreStringsError (Xml (Entity at)) = ⊤
+AreStringsError (XmlAttr fault) = ⊤
+AreStringsError (XmlEof element) =
+    (element.now ≡ codes "sst") ⊎ ((element.now ≡ codes "t") ⊎ (element.now ≡ []))
+AreStringsError _ = ⊥

@@ -1,0 +1,169 @@
+ghost use Rattle.std.specs.Prelude.{◌≡◌, ◌==◌, ◌++◌, List, ℕ, suc, codes, length, true, Ok, string_bytes, OnOk, IfErr};
+ghost use Rattle.std.specs.List.{list_any};
+ghost use Rattle.attr_text.specs.Text.{unescaped};
+ghost use Rattle.part_events.specs.Event.{Tag, start, tag_of};
+ghost use Rattle.part_events.specs.Reading.{reading, open_elements, IsReading, IsAtElement, ReadsPart, Skips, ahead};
+ghost use Rattle.part_events.specs.Section.{content};
+ghost use Rattle.cell_data.specs.declared.error.XlsxError.TheVariants.{Io};
+ghost use Rattle.xlsx_sections.specs.Elements.{ElementReadFails};
+ghost use Rattle.xlsx_sections.specs.PartSection.{always};
+ghost use Rattle.xlsx_strings.specs.Strings.{blanks_kept, spaced, text_of, piece_of, string_of, end_in_piece, end_in_string, IsStringError};
+
+use crate::trim::trimmed;
+use attr_text::{AttrFault, RawAttributes, unescape_hex};
+use cell_data::XlsxError;
+use part_events::{Cursor, Package, StartTag};
+use std::alloc::{AllocError, Global};
+use xlsx_sections::{next_element_in, read_element_text, skip_element_in, start_tag};
+
+/// Whether a text of this start keeps the blanks at its ends.
+fn keeps_blanks(tag: StartTag<'_>) -> Result<bool, AttrFault>
+    ensures { blanks_kept (tag_of tag.entry) ≡ result }
+{
+    match tag.raw_attr("xml:space")? {
+        Some(space) => Ok(space == "preserve"),
+        None => Ok(false),
+    }
+}
+
+/// Whether a byte of the text may begin an escape.
+fn has_underscore(text: &[u8]) -> bool
+    ensures { result ≡ list_any (λ b. b == 95) text.now }
+{
+    text.iter().any(|b| *b == b'_')
+}
+
+/// Appends a text, each `_xHHHH_` of it replaced by the character of its number.
+fn push_unescaped(alloc: Global, out: &mut String, text: &str) -> Result<(), AllocError>
+    ensures { OnOk result (string_bytes out.new ≡ string_bytes out.old ++ unescaped text.now) }
+{
+    if has_underscore(text.as_bytes()) {
+        out.push_str(unescape_hex(alloc, text)?.as_str())?;
+    } else {
+        out.push_str(text)?;
+    }
+    Ok(())
+}
+
+/// Appends what is written in a text, without the blanks at its ends where they aren't kept, and
+/// without escapes.
+fn push_spaced(alloc: Global, out: &mut String, written: &str, kept: bool) -> Result<(), AllocError>
+    ensures { OnOk result (string_bytes out.new
+        ≡ string_bytes out.old ++ unescaped (spaced kept written.now)) }
+{
+    if kept {
+        push_unescaped(alloc, out, written)
+    } else {
+        push_unescaped(alloc, out, trimmed(written))
+    }
+}
+
+/// Appends the text of the element `t` at whose start the package stands, and reads to its end.
+fn read_text<P: Package>(
+    alloc: Global,
+    package: &mut P,
+    cursor: &mut Cursor,
+    out: &mut String,
+    scratch: &mut String,
+) -> Result<(), XlsxError>
+    requires reading { IsReading (reading (P.state «package».old) cursor.old) }
+    requires element { IsAtElement (reading (P.state «package».old) cursor.old) }
+    ensures reads { let old = reading (P.state «package».old) cursor.old in
+        let new = reading (P.state «package».new) cursor.new in
+        ReadsPart Io result old new }
+    ensures depth { OnOk result
+        (length (open_elements cursor.old) ≡ suc (length (open_elements cursor.new))) }
+    ensures skips { let old = reading (P.state «package».old) cursor.old in
+        let new = reading (P.state «package».new) cursor.new in
+        old.source.is_told ≡ true → OnOk result (Skips old new) }
+    ensures text { let old = reading (P.state «package».old) cursor.old in
+        old.source.is_told ≡ true → OnOk result ((tag : Tag) → start tag ≡ old.source.current →
+        (text : List ℕ) × (text_of tag (content 0 (ahead old)) ≡ Ok text)
+        × (string_bytes out.new ≡ string_bytes out.old ++ text)) }
+    ensures err { let old = reading (P.state «package».old) cursor.old in
+        let new = reading (P.state «package».new) cursor.new in
+        IfErr result (λ error. (tag : Tag) → start tag ≡ old.source.current →
+        ElementReadFails (always (codes "t")) (text_of tag) old new error) }
+    ensures kind { IfErr result IsStringError }
+{
+    let kept = keeps_blanks(start_tag(package))?;
+    scratch.clear();
+    read_element_text(package, cursor, scratch, true, "t")?;
+    push_spaced(alloc, out, scratch.as_str(), kept)?;
+    Ok(())
+}
+
+/// Appends what the element at whose start the package stands adds to its string: a text is read,
+/// and what is said of the pronunciation is passed.
+fn read_piece<P: Package>(
+    alloc: Global,
+    package: &mut P,
+    cursor: &mut Cursor,
+    out: &mut String,
+    scratch: &mut String,
+) -> Result<(), XlsxError>
+    requires reading { IsReading (reading (P.state «package».old) cursor.old) }
+    requires element { IsAtElement (reading (P.state «package».old) cursor.old) }
+    ensures reads { let old = reading (P.state «package».old) cursor.old in
+        let new = reading (P.state «package».new) cursor.new in
+        ReadsPart Io result old new }
+    ensures depth { OnOk result
+        (length (open_elements cursor.old) ≡ suc (length (open_elements cursor.new))) }
+    ensures skips { let old = reading (P.state «package».old) cursor.old in
+        let new = reading (P.state «package».new) cursor.new in
+        old.source.is_told ≡ true → OnOk result (Skips old new) }
+    ensures text { let old = reading (P.state «package».old) cursor.old in
+        old.source.is_told ≡ true → OnOk result ((tag : Tag) → start tag ≡ old.source.current →
+        (text : List ℕ) × (piece_of tag (content 0 (ahead old)) ≡ Ok text)
+        × (string_bytes out.new ≡ string_bytes out.old ++ text)) }
+    ensures err { let old = reading (P.state «package».old) cursor.old in
+        let new = reading (P.state «package».new) cursor.new in
+        IfErr result (λ error. (tag : Tag) → start tag ≡ old.source.current →
+        ElementReadFails (end_in_piece tag) (piece_of tag) old new error) }
+    ensures kind { IfErr result IsStringError }
+{
+    if start_tag(package).local_name() == "t" {
+        read_text(alloc, package, cursor, out, scratch)
+    } else {
+        skip_element_in(package, cursor, Some(""))
+    }
+}
+
+/// Appends the text of the string element, an `si` or an `is`, at whose start the package stands,
+/// and reads to its end. The texts of its elements `t` are joined, those of its pronunciation left
+/// aside. `scratch` is overwritten: a caller that reads many strings lends one text to all. (ECMA-376
+/// part 1, section 18.4.8.)
+///
+/// Where the part ends in a `t` the refusal is `XmlEof("t")`, and elsewhere in the string `XmlEof("")`.
+pub fn read_string<P: Package>(
+    alloc: Global,
+    package: &mut P,
+    cursor: &mut Cursor,
+    out: &mut String,
+    scratch: &mut String,
+) -> Result<(), XlsxError>
+    requires reading { IsReading (reading (P.state «package».old) cursor.old) }
+    requires element { IsAtElement (reading (P.state «package».old) cursor.old) }
+    ensures reads { let old = reading (P.state «package».old) cursor.old in
+        let new = reading (P.state «package».new) cursor.new in
+        ReadsPart Io result old new }
+    ensures depth { OnOk result
+        (length (open_elements cursor.old) ≡ suc (length (open_elements cursor.new))) }
+    ensures skips { let old = reading (P.state «package».old) cursor.old in
+        let new = reading (P.state «package».new) cursor.new in
+        old.source.is_told ≡ true → OnOk result (Skips old new) }
+    ensures text { let old = reading (P.state «package».old) cursor.old in
+        old.source.is_told ≡ true → OnOk result ((text : List ℕ)
+        × (string_of (content 0 (ahead old)) ≡ Ok text)
+        × (string_bytes out.new ≡ string_bytes out.old ++ text)) }
+    ensures err { let old = reading (P.state «package».old) cursor.old in
+        let new = reading (P.state «package».new) cursor.new in
+        IfErr result (ElementReadFails end_in_string string_of old new) }
+    ensures kind { IfErr result IsStringError }
+{
+    let base = cursor.depth();
+    'pieces: while let Some(_at) = next_element_in(package, cursor, base, &["t", "rPh"], "")? {
+        read_piece(alloc, package, cursor, out, scratch)?;
+    }
+    Ok(())
+}
