@@ -123,6 +123,10 @@ IsStringError (XmlAttr fault) = ⊤
 IsStringError (XmlEof element) = (element.now ≡ codes "t") ⊎ (element.now ≡ [])
 IsStringError _ = ⊥
 
+-- how the end of the part is told in shared strings
+abbrev pub IsStringsEnd : List ℕ → Type 0
+IsStringsEnd name = (name ≡ codes "sst") ⊎ ((name ≡ codes "t") ⊎ (name ≡ []))
+
 -- and those of reading the shared strings
 abbrev pub AreStringsError : XlsxError → Type 0
 AreStringsError Io = ⊤
@@ -130,6 +134,5 @@ AreStringsError OutOfMemory = ⊤
 AreStringsError (Xml (EndMismatch at)) = ⊤
 AreStringsError (Xml (Entity at)) = ⊤
 AreStringsError (XmlAttr fault) = ⊤
-AreStringsError (XmlEof element) =
-    (element.now ≡ codes "sst") ⊎ ((element.now ≡ codes "t") ⊎ (element.now ≡ []))
+AreStringsError (XmlEof element) = IsStringsEnd element.now
 AreStringsError _ = ⊥
