@@ -3,7 +3,7 @@ use Rattle.std.specs.Prelude.{◌≡◌, ◌⊎◌, ⊤, ℕ, ◌+◌, ◌≤◌
 use Rattle.std.specs.declared.alloc.Global.{Global}
 use Rattle.part_events.specs.Event.{Event}
 use Rattle.part_events.specs.Package.{Part, PackageState, HasCause, KeepsFaults, SameParts, part_of, events_in}
-use Rattle.part_events.specs.declared.fault.XmlFault.TheVariants.{EndMismatch, Unclosed, Entity}
+use Rattle.part_events.specs.declared.fault.XmlFault.TheVariants.{EndMismatch, Entity}
 use Rattle.cell_data.specs.declared.error.XlsxError.{XlsxError}
 use Rattle.cell_data.specs.declared.error.XlsxError.TheVariants.{OutOfMemory, Io, NotBuilt, Xml, XmlAttr, XmlEof, FileNotFound, RelationshipNotFound, Unrecognized}
 use Rattle.xlsx_sections.specs.Elements.{IsInsideRefused}
@@ -47,12 +47,12 @@ listed_sheet sheet = record {
 
 -- these lists and the first year are those of an opening
 pub record HoldsOpening
-    (metadata : Metadata) (part_paths strings : List (String Global)) (is_1904 : Bool)
+    (metadata : Metadata) (part_paths texts : List (String Global)) (is_1904 : Bool)
     (opening : Opening) : Type 0 where
   pub sheets : map listed_sheet metadata.sheets.items ≡ map without_path opening.sheets
   pub paths : map string_bytes part_paths ≡ map (λ (sheet : PlacedSheet). sheet.path) opening.sheets
   pub names : map pair_of metadata.names.items ≡ opening.names
-  pub strings : map string_bytes strings ≡ opening.strings
+  pub strings : map string_bytes texts ≡ opening.strings
   pub epoch : is_1904 ≡ opening.is_1904
 
 -- the package's relationships lead to the workbook at this path

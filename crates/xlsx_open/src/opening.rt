@@ -31,6 +31,12 @@ fn relationships_part(alloc: Global, path: &str) -> Result<String, AllocError>
     Ok(part)
 }
 
+fn strings_part(alloc: Global, path: &str) -> Result<String, AllocError>
+    ensures { IfOk result (λ part. string_bytes part ≡ strings_part path.now) }
+{
+    joined(alloc, folder_of(path), "sharedStrings.xml")
+}
+
 /// Refuses a package that has this part.
 fn refuse_part<P: Package>(package: &mut P, part: &str) -> Result<(), XlsxError>
     ensures uses { let old = P.state «package».old in
@@ -83,7 +89,7 @@ fn read_strings<P: Package>(
         (strings_part path.now) old new) }
     ensures kind { IfErr result IsOpeningError }
 {
-    let part = joined(alloc, folder_of(path), "sharedStrings.xml")?;
+    let part = strings_part(alloc, path)?;
     read_shared_strings(alloc, package, part.as_str())
 }
 
@@ -130,8 +136,12 @@ fn from_contents(
 /// What a workbook without a part of its own opens as.
 fn nothing_opened(alloc: Global, strings: Vec<String>) -> Opened
     ensures { HoldsOpening result.metadata result.paths.items result.strings.items result.is_1904
-        (record { sheets = []; names = []; strings = map string_bytes strings.items;
-        is_1904 = false }) }
+        (record {
+          sheets = [];
+          names = [];
+          strings = map string_bytes strings.items;
+          is_1904 = false;
+        }) }
 {
     Opened {
         metadata: Metadata {
