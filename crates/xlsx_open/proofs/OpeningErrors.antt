@@ -2,10 +2,11 @@
 use Rattle.std.proofs.Common.{◌≡◌, ℕ, List, Option, Result, Err, codes, ap, inl, inr}
 use Rattle.part_events.specs.declared.fault.XmlFault.TheVariants.{EndMismatch, Entity}
 use Rattle.cell_data.specs.declared.error.XlsxError.{XlsxError}
-use Rattle.cell_data.specs.declared.error.XlsxError.TheVariants.{OutOfMemory, Io, Xml, XmlEof}
+use Rattle.cell_data.specs.declared.error.XlsxError.TheVariants.{OutOfMemory, Io, Xml, XmlAttr, XmlEof}
 use Rattle.xlsx_sections.specs.PartSection.{IsStepError}
 use Rattle.xlsx_sections.specs.Refusal.{Refusal, ElementFails, IsDecodeError}
 use Rattle.xlsx_sections.proofs.Refused.{refused_at_weaker}
+use Rattle.xlsx_strings.specs.Strings.{AreStringsError}
 use Rattle.xlsx_open.specs.Opening.{IsOpeningError}
 use Rattle.xlsx_open.specs.Relationships.{Related, some_text}
 use Rattle.xlsx_open.specs.Sheets.{named_sheet}
@@ -23,8 +24,17 @@ pub workbook_step : (error : XlsxError) → IsStepError (codes "workbook") error
 workbook_step OutOfMemory is = tt
 workbook_step Io is = tt
 workbook_step (Xml (EndMismatch at)) is = tt
-workbook_step (XmlEof element) is = inr is
+workbook_step (XmlEof element) is = inr (inl is)
 workbook_step _ is = absurd is
+
+pub strings_step : (error : XlsxError) → AreStringsError error → IsOpeningError error
+strings_step OutOfMemory is = tt
+strings_step Io is = tt
+strings_step (Xml (EndMismatch at)) is = tt
+strings_step (Xml (Entity at)) is = tt
+strings_step (XmlAttr fault) is = tt
+strings_step (XmlEof element) is = inr (inr is)
+strings_step _ is = absurd is
 
 pub decoding : (error : XlsxError) → IsDecodeError error → IsOpeningError error
 decoding OutOfMemory is = tt

@@ -1,15 +1,17 @@
 -- How the readings of a package's parts make an opening.
-use Rattle.std.proofs.Common.{◌≡◌, ◌+◌, ◌≤◌, ℕ, List, [], ◌∷◌, Bool, true, false, Option, Some, None, Result, Ok, Err, map, refl, ◌∙◌, ap, subst, inl, inr, arith, codes, string_bytes, String, Global}
-use Rattle.std.specs.Prelude.{option_and_then, unwrap_or, IsSomeAnd, MatchOption, OnOk}
+use Rattle.std.proofs.Common.{◌≡◌, ◌+◌, ◌≤◌, ℕ, List, [], ◌∷◌, Bool, true, false, Option, Some, None, Result, Ok, Err, map, refl, sym, ◌∙◌, ap, subst, inl, inr, arith, codes, string_bytes, String, Global}
+use Rattle.std.specs.Prelude.{option_and_then, unwrap_or, IsSome, IsSomeAnd, MatchOption, OnOk}
 use Rattle.part_events.specs.Event.{Event}
 use Rattle.part_events.specs.Package.{Part, PackageState, SameParts, UsesPackage, LeavesPackage, Uses, part_of, events_in}
 use Rattle.cell_data.specs.declared.error.XlsxError.{XlsxError}
 use Rattle.cell_data.specs.declared.error.XlsxError.TheVariants.{OutOfMemory, Io, NotBuilt}
-use Rattle.xlsx_sections.specs.PartSection.{PartSection, always, section_in, StartCause, SectionCause, OptionalPartCause, PartFails, closed_section, closed_section_of}
+use Rattle.xlsx_sections.specs.Elements.{IsInsideRefused}
+use Rattle.xlsx_sections.specs.PartSection.{PartSection, always, section_in, StartCause, SectionCause, OptionalPartCause, OptionalPartFails, PartFails, closed_section, closed_section_of}
 use Rattle.xlsx_sections.specs.Refusal.{Refusal}
+use Rattle.xlsx_strings.specs.Strings.{strings_in, end_in_strings, HasStrings}
 use Rattle.xlsx_open.specs.Kept.{pair_of, sheet_of_entry}
-use Rattle.xlsx_open.specs.Opening.{Opening, HoldsOpening, ListedSheet, listed_sheet, without_path, HasPath, HasRelationships, HasWorkbook, HasNothing, IsOpening, OpensAs, OpeningFails, WorkbookCause, WorkbookOpens, WorkbookFails, OpensPackage, FailsToOpen, epoch_or_1900, workbook_events}
-use Rattle.xlsx_open.specs.Paths.{folder_of, workbook_part, relationships_part}
+use Rattle.xlsx_open.specs.Opening.{Opening, HoldsOpening, ListedSheet, listed_sheet, without_path, HasPath, HasWorkbook, HasNothing, IsOpening, OpensAs, OpeningFails, WorkbookCause, WorkbookOpens, WorkbookFails, OpensPackage, FailsToOpen, BookCause, BookOpens, BookFails, UnbuiltFails, epoch_or_1900, book_events}
+use Rattle.xlsx_open.specs.Paths.{folder_of, workbook_part, relationships_part, strings_part, styles_part}
 use Rattle.xlsx_open.specs.Relationships.{Related, IsPathRefused, AreRelationshipsRefused}
 use Rattle.xlsx_open.specs.Sheets.{PlacedSheet}
 use Rattle.xlsx_open.specs.Workbook.{IsContents, AreContentsRefused}
@@ -102,38 +104,40 @@ matched None f Q P is = absurd is
 matched (Some x) f Q P is = is
 
 -- what the contents of a workbook's section open as
-abbrev pub opening_of : WorkbookContents → Opening
-opening_of found = record {
+abbrev pub opening_of : WorkbookContents → List (List ℕ) → Opening
+opening_of found strings = record {
   sheets = map sheet_of_entry found.entries.items;
   names = map pair_of found.names.items;
+  strings = strings;
   is_1904 = unwrap_or found.epoch false;
 }
 
-pub holds_contents : (found : WorkbookContents) (metadata : Metadata) (paths : List (String Global))
-    (is_1904 : Bool) → metadata.sheets.items
+pub holds_contents : (found : WorkbookContents) (metadata : Metadata)
+    (paths strings own : List (String Global)) (is_1904 : Bool) → metadata.sheets.items
     ≡ map (λ (entry : SheetEntry). entry.sheet) found.entries.items → paths
     ≡ map (λ (entry : SheetEntry). entry.path) found.entries.items → metadata.names.items
-    ≡ found.names.items → is_1904 ≡ unwrap_or found.epoch false
-    → HoldsOpening metadata paths is_1904 (opening_of found)
-holds_contents found metadata paths is_1904 sheets places names epoch = record {
+    ≡ found.names.items → own ≡ strings → is_1904 ≡ unwrap_or found.epoch false
+    → HoldsOpening metadata paths own is_1904 (opening_of found (map string_bytes strings))
+holds_contents found metadata paths strings own is_1904 sheets places names same epoch = record {
   sheets = ap (map listed_sheet) sheets ∙ sheets_listed found.entries.items;
   paths = ap (map string_bytes) places ∙ paths_listed found.entries.items;
   names = ap (map pair_of) names;
+  strings = ap (map string_bytes) same;
   epoch = epoch;
 }
 
 pub has_contents : (parts : List Part) (path : List ℕ) (related : List ℕ
-    → Option Related) (found : WorkbookContents)
+    → Option Related) (found : WorkbookContents) (strings : List (List ℕ))
     → IsSomeAnd (closed_section_of (codes "workbook") (workbook_part path) parts)
     (λ inside. IsContents (folder_of path) related inside found)
-    → HasWorkbook parts path related (opening_of found)
-has_contents parts path related found is =
+    → HasWorkbook parts path related (opening_of found strings)
+has_contents parts path related found strings is =
     matched (part_of parts (workbook_part path)) (closed_section (codes "workbook"))
-    (HasNothing (opening_of found))
-    (λ inside. IsOpening (folder_of path) related inside (opening_of found))
+    (HasNothing (opening_of found strings))
+    (λ inside. IsOpening (folder_of path) related inside (opening_of found strings))
     (some_weaker (closed_section_of (codes "workbook") (workbook_part path) parts)
     (λ inside. IsContents (folder_of path) related inside found)
-    (λ inside. IsOpening (folder_of path) related inside (opening_of found))
+    (λ inside. IsOpening (folder_of path) related inside (opening_of found strings))
     (λ inside holds. record {
       sheets = holds.sheets;
       names = holds.names;
@@ -142,9 +146,10 @@ has_contents parts path related found is =
     }) is)
 
 pub has_nothing : (parts : List Part) (path : List ℕ) (related : List ℕ → Option Related)
-    → part_of parts (workbook_part path) ≡ None
-    → HasWorkbook parts path related (record { sheets = []; names = []; is_1904 = false })
-has_nothing parts path related absent =
+    (strings : List (List ℕ)) → part_of parts (workbook_part path) ≡ None
+    → HasWorkbook parts path related
+    (record { sheets = []; names = []; strings = strings; is_1904 = false })
+has_nothing parts path related strings absent =
     rw absent (record { sheets = refl; names = refl; epoch = refl })
 
 start_not_built : (name : List ℕ) (ending : List Event → Option (List ℕ)) (refused : PartSection
@@ -180,39 +185,97 @@ workbook_not_built parts path (inr (related, has, cause)) =
     part_not_built (codes "workbook") (always (codes "workbook"))
     (AreContentsRefused (folder_of path) related) (part_of parts (workbook_part path)) cause
 
--- the workbook is refused
+-- the shared strings are refused
+pub strings_fail : (old new : PackageState) (path : List ℕ) (error : XlsxError)
+    → OptionalPartFails (codes "sst") end_in_strings (IsInsideRefused strings_in)
+    (strings_part path) old new error → BookFails path old new error
+strings_fail old new path Io fails = fails
+strings_fail old new path OutOfMemory fails = tt
+strings_fail old new path NotBuilt fails =
+    λ told. absurd (part_not_built (codes "sst") end_in_strings (IsInsideRefused strings_in)
+    (part_of old.parts (strings_part path)) (fails told))
+strings_fail old new path error fails = λ told. inl (fails told)
+
+-- the workbook has styles, and is refused behind its shared strings
+pub styles_fail : (old mid new : PackageState) (path : List ℕ) (error : XlsxError)
+    → SameParts old mid → mid.faults ≡ old.faults → UnbuiltFails path mid new error
+    → BookFails path old new error
+styles_fail old mid new path Io same faults fails = omega (arith, faults, fails)
+styles_fail old mid new path OutOfMemory same faults fails = tt
+styles_fail old mid new path NotBuilt same faults fails = λ told.
+    subst (λ (parts : List Part). IsSome (part_of parts (styles_part path))) same.parts
+    (fails (same.is_told ∙ told))
+styles_fail old mid new path error same faults fails = absurd fails
+
+-- the workbook is refused behind them
 pub workbook_fails : (old mid new : PackageState) (path : List ℕ) (error : XlsxError)
-    → SameParts old mid → mid.faults ≡ old.faults → (old.is_told ≡ true → HasPath old.parts path)
-    → WorkbookFails path mid new error → OpeningFails old new error
-workbook_fails old mid new path Io same faults found fails = omega (arith, faults, fails)
-workbook_fails old mid new path OutOfMemory same faults found fails = tt
-workbook_fails old mid new path NotBuilt same faults found fails =
+    → SameParts old mid → mid.faults ≡ old.faults → WorkbookFails path mid new error
+    → BookFails path old new error
+workbook_fails old mid new path Io same faults fails = omega (arith, faults, fails)
+workbook_fails old mid new path OutOfMemory same faults fails = tt
+workbook_fails old mid new path NotBuilt same faults fails =
     λ told. absurd (workbook_not_built mid.parts path (fails (same.is_told ∙ told)))
-workbook_fails old mid new path error same faults found fails = λ told.
+workbook_fails old mid new path error same faults fails = λ told.
+    inr (subst (λ (parts : List Part). WorkbookCause parts path error) same.parts
+    (fails (same.is_told ∙ told)))
+
+-- what the package's relationships lead to is refused
+pub book_fails : (old mid new : PackageState) (path : List ℕ) (error : XlsxError)
+    → SameParts old mid → mid.faults ≡ old.faults → (old.is_told ≡ true → HasPath old.parts path)
+    → BookFails path mid new error → OpeningFails old new error
+book_fails old mid new path Io same faults found fails = omega (arith, faults, fails)
+book_fails old mid new path OutOfMemory same faults found fails = tt
+book_fails old mid new path NotBuilt same faults found fails = λ told. (
+  path,
+  found told,
+  subst (λ (parts : List Part). IsSome (part_of parts (styles_part path))) same.parts
+      (fails (same.is_told ∙ told)),
+)
+book_fails old mid new path error same faults found fails = λ told.
     inr (
       path,
       found told,
-      subst (λ (parts : List Part). WorkbookCause parts path error) same.parts
+      subst (λ (parts : List Part). BookCause parts path error) same.parts
           (fails (same.is_told ∙ told)),
     )
 
--- the workbook was opened
-pub opens_as : (old mid : PackageState) (path : List ℕ) (opening : Opening) → SameParts old mid
-    → HasPath old.parts path → WorkbookOpens mid.parts path opening → OpensAs old.parts opening
-opens_as old mid path opening same found opens = record {
-  path = path;
-  related = opens.0;
-  found = found;
-  relationships = subst (λ (parts : List Part). HasRelationships parts path opens.0) same.parts
-      opens.1;
-  workbook = subst (λ (parts : List Part). HasWorkbook parts path opens.0 opening) same.parts
-      opens.2;
-}
+-- the workbook was opened behind its shared strings
+pub book_opens : (old mid : PackageState) (path : List ℕ) (strings : List (List ℕ))
+    (opening : Opening) → SameParts old mid → HasStrings old.parts (strings_part path) strings
+    → opening.strings ≡ strings → WorkbookOpens mid.parts path opening
+    → BookOpens old.parts path opening
+book_opens old mid path strings opening same has own opens = (
+  subst (HasStrings old.parts (strings_part path)) (sym own) has,
+  subst (λ (parts : List Part). WorkbookOpens parts path opening) same.parts opens,
+)
 
--- what is known anyway is known of an answer
-pub on_ok : {A E Fact : Type 0} (answer : Result A E) → Fact → OnOk answer Fact
-on_ok (Ok value) fact = fact
-on_ok (Err error) fact = tt
+pub opens_as : (old mid : PackageState) (path : List ℕ) (opening : Opening) → SameParts old mid
+    → HasPath old.parts path → BookOpens mid.parts path opening → OpensAs old.parts opening
+opens_as old mid path opening same found opens =
+    let here : BookOpens old.parts path opening =
+    subst (λ (parts : List Part). BookOpens parts path opening) same.parts opens in
+    let workbook : WorkbookOpens old.parts path opening = here.1 in
+    record {
+      path = path;
+      related = workbook.0;
+      found = found;
+      relationships = workbook.1;
+      strings = here.0;
+      workbook = workbook.2;
+    }
+
+-- a call behind another, whatever it answers
+pub uses_result : {A : Type 0} {few most : ℕ} {old mid : PackageState} (more : ℕ)
+    (new : PackageState) (result : Result A XlsxError) → few + more ≤ most
+    → UsesPackage few old mid → Uses more Io result mid new → Uses most Io result old new
+uses_result more new (Ok value) less first second = uses_then less first second
+uses_result more new (Err error) less first second = leaves_then less first second
+
+-- what is known of an answer is known in weaker form
+pub on_ok_weaker : {A E First Second : Type 0} (answer : Result A E) → (First → Second)
+    → OnOk answer First → OnOk answer Second
+on_ok_weaker (Ok value) weaker fact = weaker fact
+on_ok_weaker (Err error) weaker fact = tt
 
 -- what opening takes, where its first call was refused, and where it went on
 pub root_left : {error : XlsxError} {old new : PackageState}
@@ -233,10 +296,10 @@ root_then_left first none second = root_left (leaves_then (omega (arith, none)) 
 pub opens_package : {A : Type 0} (result : Result A XlsxError) (old mid new : PackageState)
     (path : List ℕ) → UsesPackage (events_in old.parts (codes "_rels/.rels")) old mid
     → (old.is_told ≡ true → HasPath old.parts path)
-    → Uses (workbook_events mid.parts path) Io result mid new → OpensPackage Io result old new
+    → Uses (book_events mid.parts path) Io result mid new → OpensPackage Io result old new
 opens_package (Ok value) old mid new path first found second =
     let both : UsesPackage
-    (events_in old.parts (codes "_rels/.rels") + workbook_events mid.parts path) old new =
+    (events_in old.parts (codes "_rels/.rels") + book_events mid.parts path) old new =
     uses_then (omega arith) first second in
     record {
       parts = both.parts;
@@ -245,13 +308,13 @@ opens_package (Ok value) old mid new path first found second =
         path,
         found told,
         subst (λ (parts : List Part). new.taken ≤ old.taken +
-            (events_in old.parts (codes "_rels/.rels") + workbook_events parts path))
+            (events_in old.parts (codes "_rels/.rels") + book_events parts path))
             first.parts.parts (both.taken told),
       );
     }
 opens_package (Err error) old mid new path first found second =
     let both : LeavesPackage
-    (events_in old.parts (codes "_rels/.rels") + workbook_events mid.parts path) Io old new
+    (events_in old.parts (codes "_rels/.rels") + book_events mid.parts path) Io old new
     error = leaves_then (omega arith) first second in
     record {
       parts = both.parts;
@@ -260,7 +323,7 @@ opens_package (Err error) old mid new path first found second =
         path,
         found told,
         subst (λ (parts : List Part). new.taken ≤ old.taken +
-            (events_in old.parts (codes "_rels/.rels") + workbook_events parts path))
+            (events_in old.parts (codes "_rels/.rels") + book_events parts path))
             first.parts.parts (both.taken told),
       );
     }

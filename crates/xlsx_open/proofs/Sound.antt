@@ -1,5 +1,5 @@
 -- No cause of a refusal stands where a package opens, and it opens as one workbook.
-use Rattle.std.proofs.Common.{◌≡◌, ℕ, List, [], ◌∷◌, Bool, true, false, Option, Some, None, Ok, Err, refl, sym, ◌∙◌, ap, subst, inl, inr, ◌⊎◌, codes}
+use Rattle.std.proofs.Common.{◌≡◌, ℕ, List, [], true, Option, Some, None, Ok, Err, refl, sym, ◌∙◌, ap, subst, inl, inr, ◌⊎◌, codes}
 use mathlib.Core.Path.{fun_ext}
 use Rattle.std.specs.Prelude.{IsSomeAnd, MatchOption}
 use Rattle.part_events.specs.Event.{Event}
@@ -9,8 +9,10 @@ use Rattle.cell_data.specs.declared.error.XlsxError.TheVariants.{OutOfMemory, Io
 use Rattle.xlsx_sections.specs.PartSection.{PartSection, inside_of, always, closed_section_of}
 use Rattle.xlsx_sections.specs.Refusal.{Refusal}
 use Rattle.xlsx_sections.proofs.Sound.{is_sound_part, no_optional_cause, no_part_cause}
-use Rattle.xlsx_open.specs.Opening.{Opening, HasPath, HasRelationships, HasWorkbook, HasNothing, IsOpening, OpensAs, OpensSoundly, OpeningCause, ContentsCause, WorkbookCause, OpeningFails, SoundFails, epoch_or_1900}
-use Rattle.xlsx_open.specs.Paths.{folder_of, workbook_part, relationships_part}
+use Rattle.xlsx_strings.specs.Strings.{HasStrings}
+use Rattle.xlsx_strings.proofs.Sound.{no_strings_cause}
+use Rattle.xlsx_open.specs.Opening.{Opening, HasPath, HasRelationships, HasWorkbook, HasNothing, IsOpening, OpensAs, OpensSoundly, OpeningCause, ContentsCause, WorkbookCause, BookCause, OpeningFails, SoundFails, epoch_or_1900}
+use Rattle.xlsx_open.specs.Paths.{folder_of, workbook_part, relationships_part, strings_part}
 use Rattle.xlsx_open.specs.Relationships.{Related, path_in, related_in, IsTargetRefused, IsPathRefused, AreRelationshipsRefused}
 use Rattle.xlsx_open.specs.Workbook.{AreContentsRefused}
 
@@ -100,6 +102,15 @@ no_workbook_cause parts path related opening error has workbook
     (subst (λ (r : List ℕ → Option Related). ContentsCause parts path r error)
     (same_related parts path other_related related other_has has) cause)
 
+no_book_cause : (parts : List Part) (path : List ℕ) (related : List ℕ
+    → Option Related) (opening : Opening) (error : XlsxError) → HasRelationships parts path related
+    → HasStrings parts (strings_part path) opening.strings
+    → HasWorkbook parts path related opening → BookCause parts path error → ⊥
+no_book_cause parts path related opening error has strings workbook (inl cause) =
+    no_strings_cause parts (strings_part path) opening.strings error strings cause
+no_book_cause parts path related opening error has strings workbook (inr cause) =
+    no_workbook_cause parts path related opening error has workbook cause
+
 pub no_cause : (parts : List Part) (opening : Opening) (error : XlsxError) → OpensAs parts opening
     → OpeningCause parts error → ⊥
 no_cause parts opening error is (inl cause) =
@@ -109,8 +120,8 @@ no_cause parts opening error is (inl cause) =
     no_part_cause name (codes "_rels/.rels") parts good (always name) IsPathRefused error sound
     (path_never is.path sound.section sound.holds) cause
 no_cause parts opening error is (inr (path, found, cause)) =
-    no_workbook_cause parts is.path is.related opening error is.relationships is.workbook
-    (subst (λ (p : List ℕ). WorkbookCause parts p error)
+    no_book_cause parts is.path is.related opening error is.relationships is.strings is.workbook
+    (subst (λ (p : List ℕ). BookCause parts p error)
     (same_path parts path is.path found is.found) cause)
 
 -- a package that opens is refused only for want of memory, a fault, or what isn't built yet

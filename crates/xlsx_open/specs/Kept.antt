@@ -1,5 +1,5 @@
 -- What is kept of the opening's parts, apart from where its texts lie in memory.
-use Rattle.std.specs.Prelude.{◌≡◌, ℕ, List, Bool, map, Option, option_map, string_bytes, String}
+use Rattle.std.specs.Prelude.{ℕ, List, Option, option_map, string_bytes, String}
 use Rattle.std.specs.BTreeMap.{BTreeMap, get_by_text}
 use Rattle.std.specs.declared.alloc.Global.{Global}
 use Rattle.xlsx_open.specs.Relationships.{Related}

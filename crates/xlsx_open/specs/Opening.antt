@@ -3,11 +3,13 @@ use Rattle.std.specs.Prelude.{◌≡◌, ◌⊎◌, ⊤, ℕ, ◌+◌, ◌≤◌
 use Rattle.std.specs.declared.alloc.Global.{Global}
 use Rattle.part_events.specs.Event.{Event}
 use Rattle.part_events.specs.Package.{Part, PackageState, HasCause, KeepsFaults, SameParts, part_of, events_in}
-use Rattle.part_events.specs.declared.fault.XmlFault.TheVariants.{EndMismatch, Unclosed, Entity}
+use Rattle.part_events.specs.declared.fault.XmlFault.TheVariants.{EndMismatch, Entity}
 use Rattle.cell_data.specs.declared.error.XlsxError.{XlsxError}
 use Rattle.cell_data.specs.declared.error.XlsxError.TheVariants.{OutOfMemory, Io, NotBuilt, Xml, XmlAttr, XmlEof, FileNotFound, RelationshipNotFound, Unrecognized}
+use Rattle.xlsx_sections.specs.Elements.{IsInsideRefused}
 use Rattle.xlsx_sections.specs.PartSection.{always, closed_section_of, PartCause, OptionalPartCause}
 use Rattle.xlsx_sections.specs.Refusal.{Refusal}
+use Rattle.xlsx_strings.specs.Strings.{strings_in, end_in_strings, HasStrings, IsStringsEnd}
 use Rattle.xlsx_open.specs.DefinedNames.{names_in}
 use Rattle.xlsx_open.specs.Kept.{pair_of}
 use Rattle.xlsx_open.specs.Paths.{folder_of, workbook_part, relationships_part, strings_part, styles_part}
@@ -20,11 +22,11 @@ use Rattle.xlsx_open.specs.declared.sheet.SheetType.{SheetType}
 use Rattle.xlsx_open.specs.declared.sheet.SheetVisible.{SheetVisible}
 
 -- what a workbook opens as: its sheets with the paths of their parts, its defined names with their
--- texts, and whether
--- its dates count from 1904
+-- texts, its shared strings, and whether its dates count from 1904
 pub record Opening : Type 0 where
   pub sheets : List PlacedSheet
   pub names : List (List ℕ × List ℕ)
+  pub strings : List (List ℕ)
   pub is_1904 : Bool
 
 -- a sheet as it is listed, without the path of its part
@@ -45,11 +47,12 @@ listed_sheet sheet = record {
 
 -- these lists and the first year are those of an opening
 pub record HoldsOpening
-    (metadata : Metadata) (part_paths : List (String Global)) (is_1904 : Bool)
+    (metadata : Metadata) (part_paths texts : List (String Global)) (is_1904 : Bool)
     (opening : Opening) : Type 0 where
   pub sheets : map listed_sheet metadata.sheets.items ≡ map without_path opening.sheets
   pub paths : map string_bytes part_paths ≡ map (λ (sheet : PlacedSheet). sheet.path) opening.sheets
   pub names : map pair_of metadata.names.items ≡ opening.names
+  pub strings : map string_bytes texts ≡ opening.strings
   pub epoch : is_1904 ≡ opening.is_1904
 
 -- the package's relationships lead to the workbook at this path
@@ -96,6 +99,7 @@ pub record OpensAs (parts : List Part) (opening : Opening) : Type 0 where
   pub related : List ℕ → Option Related
   pub found : HasPath parts path
   pub relationships : HasRelationships parts path related
+  pub strings : HasStrings parts (strings_part path) opening.strings
   pub workbook : HasWorkbook parts path related opening
 
 abbrev pub OpensSoundly : List Part → Type 0
@@ -112,41 +116,44 @@ RelationshipsCause parts path error =
     PartCause (codes "Relationships") (always (codes "Relationships")) AreRelationshipsRefused parts
     (relationships_part path) error
 
+-- why the shared strings can't be read
+abbrev pub StringsCause : List Part → List ℕ → XlsxError → Type 0
+StringsCause parts path error =
+    OptionalPartCause (codes "sst") end_in_strings (IsInsideRefused strings_in)
+    (part_of parts (strings_part path)) error
+
 -- why the workbook's own part can't be read
 abbrev pub ContentsCause : List Part → List ℕ → (List ℕ → Option Related) → XlsxError → Type 0
 ContentsCause parts path related error =
     OptionalPartCause (codes "workbook") (always (codes "workbook"))
     (AreContentsRefused (folder_of path) related) (part_of parts (workbook_part path)) error
 
--- why a workbook can't be opened: by the package's relationships, by the workbook's, or by its own
--- part
+-- why a workbook can't be opened: by its relationships, or by its own part
 abbrev pub WorkbookCause : List Part → List ℕ → XlsxError → Type 0
 WorkbookCause parts path error =
     RelationshipsCause parts path error
     ⊎ ((related : List ℕ → Option Related)
     × HasRelationships parts path related × ContentsCause parts path related error)
 
+-- or by its shared strings
+abbrev pub BookCause : List Part → List ℕ → XlsxError → Type 0
+BookCause parts path error = StringsCause parts path error ⊎ WorkbookCause parts path error
+
+-- or by the package's relationships
 abbrev pub OpeningCause : List Part → XlsxError → Type 0
 OpeningCause parts error =
-    RootCause parts error
-    ⊎ ((path : List ℕ) × HasPath parts path × WorkbookCause parts path error)
+    RootCause parts error ⊎ ((path : List ℕ) × HasPath parts path × BookCause parts path error)
 
--- the workbook has shared strings or styles, which aren't read yet
+-- the workbook has styles, which aren't read yet
 abbrev pub IsNotBuilt : List Part → Type 0
 IsNotBuilt parts =
-    (path : List ℕ) × HasPath parts path
-    × (IsSome (part_of parts (strings_part path)) ⊎ IsSome (part_of parts (styles_part path)))
+    (path : List ℕ) × HasPath parts path × IsSome (part_of parts (styles_part path))
 
--- the parts beside the workbook at this path that aren't read yet are absent
-pub record LacksUnbuilt (path : List ℕ) (parts : List Part) : Type 0 where
-  pub no_strings : part_of parts (strings_part path) ≡ None
-  pub no_styles : part_of parts (styles_part path) ≡ None
-
--- the workbook has no shared strings and no styles
+-- the workbook has no styles
 pub record IsBuilt (parts : List Part) : Type 0 where
   pub path : List ℕ
   pub found : HasPath parts path
-  pub lacks : LacksUnbuilt path parts
+  pub no_styles : part_of parts (styles_part path) ≡ None
 
 -- the refusals that opening can have, whatever the package tells
 abbrev pub IsOpeningError : XlsxError → Type 0
@@ -157,7 +164,8 @@ IsOpeningError (Xml (EndMismatch at)) = ⊤
 IsOpeningError (Xml (Entity at)) = ⊤
 IsOpeningError (XmlAttr fault) = ⊤
 IsOpeningError (XmlEof element) =
-    (element.now ≡ codes "Relationships") ⊎ (element.now ≡ codes "workbook")
+    (element.now ≡ codes "Relationships")
+    ⊎ ((element.now ≡ codes "workbook") ⊎ IsStringsEnd element.now)
 IsOpeningError (FileNotFound path) = ⊤
 IsOpeningError RelationshipNotFound = ⊤
 IsOpeningError (Unrecognized typ val) =
@@ -183,14 +191,17 @@ abbrev pub workbook_events : List Part → List ℕ → ℕ
 workbook_events parts path =
     events_in parts (relationships_part path) + events_in parts (workbook_part path)
 
+-- and its shared strings
+abbrev pub book_events : List Part → List ℕ → ℕ
+book_events parts path = events_in parts (strings_part path) + workbook_events parts path
+
 -- How many events an opening may take: those of the package's relationships, and where these lead
--- to a workbook, those of
--- its relationships and its own part.
+-- to a workbook, those of its shared strings, its relationships and its own part.
 abbrev pub TakesOpening : List Part → ℕ → ℕ → Type 0
 TakesOpening parts before after =
     (after ≤ before + events_in parts (codes "_rels/.rels"))
     ⊎ ((path : List ℕ) × HasPath parts path
-    × (after ≤ before + (events_in parts (codes "_rels/.rels") + workbook_events parts path)))
+    × (after ≤ before + (events_in parts (codes "_rels/.rels") + book_events parts path)))
 
 -- what opening keeps of its package that isn't refused, and what it keeps that is
 pub record OpensFrom (old new : PackageState) : Type 0 where
@@ -217,8 +228,7 @@ abbrev pub UnbuiltFails : List ℕ → PackageState → PackageState → XlsxErr
 UnbuiltFails path old new Io = HasCause old new
 UnbuiltFails path old new OutOfMemory = ⊤
 UnbuiltFails path old new NotBuilt =
-    old.is_told ≡ true →
-    IsSome (part_of old.parts (strings_part path)) ⊎ IsSome (part_of old.parts (styles_part path))
+    old.is_told ≡ true → IsSome (part_of old.parts (styles_part path))
 UnbuiltFails path old new _ = ⊥
 
 -- the workbook at this path opens
@@ -231,3 +241,15 @@ abbrev pub WorkbookFails : List ℕ → PackageState → PackageState → XlsxEr
 WorkbookFails path old new Io = HasCause old new
 WorkbookFails path old new OutOfMemory = ⊤
 WorkbookFails path old new error = old.is_told ≡ true → WorkbookCause old.parts path error
+
+-- the workbook at this path opens, with its shared strings
+abbrev pub BookOpens : List Part → List ℕ → Opening → Type 0
+BookOpens parts path opening =
+    HasStrings parts (strings_part path) opening.strings × WorkbookOpens parts path opening
+
+abbrev pub BookFails : List ℕ → PackageState → PackageState → XlsxError → Type 0
+BookFails path old new Io = HasCause old new
+BookFails path old new OutOfMemory = ⊤
+BookFails path old new NotBuilt =
+    old.is_told ≡ true → IsSome (part_of old.parts (styles_part path))
+BookFails path old new error = old.is_told ≡ true → BookCause old.parts path error

@@ -1,5 +1,5 @@
 -- What is kept of a workbook's section while it is read.
-use Rattle.std.specs.Prelude.{◌≡◌, ◌⊎◌, ⊤, ℕ, suc, List, [], ◌∷◌, length, map, Bool, true, false, Option, Some, Result, Ok, Err}
+use Rattle.std.specs.Prelude.{◌≡◌, ◌⊎◌, ⊤, ℕ, List, length, map, Bool, true, false, Option, Result, Ok, Err}
 use Rattle.part_events.specs.Event.{Event, start, end, leaf}
 use Rattle.part_events.specs.JoinedText.{is_unknown}
 use Rattle.part_events.specs.Section.{content}

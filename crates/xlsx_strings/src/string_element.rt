@@ -131,10 +131,11 @@ fn read_piece<P: Package>(
 
 /// Appends the text of the string element, an `si` or an `is`, at whose start the package stands,
 /// and reads to its end. The texts of its elements `t` are joined, those of its pronunciation left
-/// aside. `scratch` is overwritten: a caller that reads many strings lends one text to all. (ECMA-376
-/// part 1, section 18.4.8.)
+/// aside. `scratch` is overwritten: a caller that reads many strings lends one text to all.
+/// (ECMA-376 part 1, section 18.4.8.)
 ///
-/// Where the part ends in a `t` the refusal is `XmlEof("t")`, and elsewhere in the string `XmlEof("")`.
+/// A part that ends in a `t` is `XmlEof("t")`, and one that ends elsewhere in the string
+/// `XmlEof("")`.
 pub fn read_string<P: Package>(
     alloc: Global,
     package: &mut P,

@@ -1,4 +1,4 @@
-use Rattle.std.proofs.Common.{◌≡◌, ℕ, List, [], true, false, None, Ok, sym, ◌∙◌, ap, subst, codes}
+use Rattle.std.proofs.Common.{◌≡◌, ℕ, List, [], map, false, None, Ok, Vec, String, Global, string_bytes, refl, sym, ◌∙◌, ap, subst, codes}
 use Rattle.std.specs.Prelude.{IsSomeAnd}
 use Rattle.part_events.specs.Package.{Part, part_of}
 use Rattle.xlsx_sections.specs.PartSection.{closed_section_of}
@@ -17,6 +17,7 @@ returns-in-Some-clause-opened g c = λ told.
     let path = c.args.path.now in
     let related = related_by_id c.in_ok-relationships.relationships in
     let found = c.in-Some.contents in
+    let strings = c.args.strings.items in
     let o = c.in_ok-from_contents-in-Some.field-0 in
     let made = c.in_ok-from_contents-in-Some.ensures in
     let same = c.in_ok-relationships.ensures.uses.parts in
@@ -42,10 +43,16 @@ returns-in-Some-clause-opened g c = λ told.
     (λ inside. IsContents c.folder_of.result.now related inside found))
     (c.as_str-2.ensures.value ∙ c.in_ok-part-2.ensures) contents))
     in (
-      opening_of found,
-      holds_contents found o.metadata o.paths.items o.is_1904 made.sheets
-          made.paths made.names made.epoch,
-      (related, has, has_contents old.parts path related found contents_here),
+      opening_of found (map string_bytes strings),
+      holds_contents found o.metadata o.paths.items strings o.strings.items o.is_1904 made.sheets
+          made.paths made.names (ap (λ (own : Vec (String Global) Global). own.items) made.strings)
+          made.epoch,
+      refl,
+      (
+        related,
+        has,
+        has_contents old.parts path related found (map string_bytes strings) contents_here,
+      ),
     )
 
 pub returns-clause-opened : goal.returns-clause-opened
@@ -60,6 +67,7 @@ returns-clause-opened g c = λ told.
     (λ inside. (id : List ℕ) → related_in inside id ≡ Ok (related id))) (c.as_str.ensures.value
     ∙ c.in_ok-part.ensures) (c.in_ok-relationships.ensures.related told)
     in
+    let strings = map string_bytes c.args.strings.items in
     let absent : part_of mid.parts c.as_str-2.result.now ≡ None =
     rw c.in-None.is at (c.in_ok-contents.ensures.contents (same.is_told ∙ told)) in
     let absent_here : part_of old.parts (workbook_part path) ≡ None =
@@ -67,7 +75,8 @@ returns-clause-opened g c = λ told.
     ∙ ap (λ (part : List ℕ). part_of mid.parts part)
     (sym (c.as_str-2.ensures.value ∙ c.in_ok-part-2.ensures)) ∙ absent
     in (
-      record { sheets = []; names = []; is_1904 = false },
+      record { sheets = []; names = []; strings = strings; is_1904 = false },
       c.nothing_opened.ensures,
-      (related, has, has_nothing old.parts path related absent_here),
+      refl,
+      (related, has, has_nothing old.parts path related strings absent_here),
     )

@@ -7,7 +7,7 @@ use Rattle.part_events.specs.Walk.{section_ahead}
 use Rattle.xlsx_sections.specs.PartSection.{always}
 use Rattle.xlsx_sections.specs.Refusal.{Refusal, placed_at}
 use Rattle.xlsx_sections.proofs.Kept.{last_further, last_refused}
-use Rattle.xlsx_sections.proofs.Refused.{event_refused, refused_later}
+use Rattle.xlsx_sections.proofs.Refused.{event_refused}
 use Rattle.xlsx_sections.proofs.SectionsRead.{start_found}
 use Rattle.xlsx_open.specs.Relationships.{target_of, IsTargetRefused}
 use Rattle.xlsx_open.proofs.relationship_parts.path_in.Goals as goal

@@ -1,4 +1,4 @@
-use Rattle.std.proofs.Common.{◌≡◌, ◌-◌, ◌∷◌, [], List, ℕ, Option, Result, Ok, Err, length, codes}
+use Rattle.std.proofs.Common.{◌≡◌, ◌∷◌, [], List, ℕ, Option, Result, Ok, Err, length, codes}
 use Rattle.std.proofs.lemmas.Result.{err_from_is_err_and}
 use Rattle.attr_text.specs.Attributes.{lookup}
 use Rattle.attr_text.specs.declared.fault.AttrFault.{AttrFault}

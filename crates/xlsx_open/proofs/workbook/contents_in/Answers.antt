@@ -1,4 +1,4 @@
-use Rattle.std.proofs.Common.{◌≡◌, ◌∷◌, ◌-◌, ℕ, Some, Ok, Err, length, true, refl, sym, ◌∙◌, ap, inl, inr, arith, rules, codes, option_map, string_bytes}
+use Rattle.std.proofs.Common.{◌≡◌, ◌∷◌, ◌-◌, Ok, Err, length, refl, sym, ◌∙◌, inl, inr, arith, codes, option_map, string_bytes}
 use Rattle.std.proofs.lemmas.Result.{err_from_is_err_and}
 use Rattle.part_events.specs.Event.{event_of, tag_of}
 use Rattle.part_events.specs.Reading.{reading, ahead}

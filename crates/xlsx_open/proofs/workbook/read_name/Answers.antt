@@ -1,4 +1,4 @@
-use Rattle.std.proofs.Common.{◌≡◌, ◌-◌, ◌+◌, ◌<◌, ◌≤◌, ℕ, suc, length, true, false, ◌∷◌, Some, None, Ok, Err, refl, sym, ◌∙◌, ap, inl, inr, arith, rules, codes, option_map, string_bytes}
+use Rattle.std.proofs.Common.{◌≡◌, ◌-◌, ◌+◌, ℕ, length, true, ◌∷◌, Some, None, Ok, Err, refl, sym, ◌∙◌, ap, inl, inr, arith, rules, codes, option_map, string_bytes}
 use Rattle.std.proofs.lemmas.Result.{err_from_is_err_and}
 use Rattle.std.proofs.lemmas.List.{length-append}
 use Rattle.part_events.specs.Event.{event_of}
@@ -7,7 +7,7 @@ use Rattle.part_events.specs.Section.{content}
 use Rattle.part_events.specs.Walk.{inside, section_ahead, TakesLastEnd}
 use Rattle.part_events.proofs.Sections.{goes_on_behind}
 use Rattle.part_events.proofs.Walking.{takes_inside, no_start}
-use Rattle.xlsx_sections.specs.PartSection.{always, Never, KeepsSection, StandsAtEvent}
+use Rattle.xlsx_sections.specs.PartSection.{always, Never, StandsAtEvent}
 use Rattle.xlsx_sections.specs.Refusal.{Refusal}
 use Rattle.xlsx_sections.proofs.Refused.{event_refused, refused_later, refused_outside}
 use Rattle.xlsx_sections.proofs.SectionsRead.{event_inside, section_taken}

@@ -1,4 +1,4 @@
-use Rattle.std.proofs.Common.{◌≡◌, ◌<◌, ◌≤◌, length, true, string_bytes}
+use Rattle.std.proofs.Common.{◌≡◌, length, true, string_bytes}
 use Rattle.std.specs.Prelude.{is_some}
 use Rattle.part_events.specs.Reading.{reading, ahead}
 use Rattle.part_events.specs.Section.{content, behind}
