@@ -1,6 +1,6 @@
 -- The refusals that reading cells can have, whatever the package tells.
 use Rattle.std.specs.Prelude.{◌≡◌, ◌⊎◌, ⊤, ℕ, List, [], codes}
-use Rattle.part_events.specs.declared.fault.XmlFault.TheVariants.{EndMismatch, Entity}
+use Rattle.part_events.specs.declared.fault.XmlFault.TheVariants.{EndMismatch}
 use Rattle.cell_data.specs.declared.error.XlsxError.{XlsxError}
 use Rattle.cell_data.specs.declared.error.XlsxError.TheVariants.{OutOfMemory, Io, Xml, XmlAttr, XmlEof}
 use Rattle.cell_data.specs.declared.error.XlsxError.TheVariants.{Alphanumeric, DimensionCount}
@@ -53,12 +53,3 @@ IsCellError (CellTAttribute typ) = ⊤
 IsCellError (CellError written) = ⊤
 IsCellError (ParseFloat written) = ⊤
 IsCellError _ = ⊥
-
-abbrev pub IsInlineError : XlsxError → Type 0
-IsInlineError OutOfMemory = ⊤
-IsInlineError Io = ⊤
-IsInlineError (Xml (EndMismatch at)) = ⊤
-IsInlineError (Xml (Entity at)) = ⊤
-IsInlineError (XmlAttr fault) = ⊤
-IsInlineError (XmlEof element) = (element.now ≡ codes "t") ⊎ (element.now ≡ [])
-IsInlineError _ = ⊥

@@ -22,8 +22,7 @@ use part_events::{Cursor, Package, StartTag};
 use std::alloc::Global;
 use xlsx_formulas::{Masters, read_formula};
 use xlsx_sections::{next_child_in, skip_element_in, start_tag};
-use xlsx_values::{Book, CellType, read_value};
-use crate::stub::read_inline;
+use xlsx_values::{Book, CellType, read_inline, read_value};
 
 /// What is wanted of each cell beside its position.
 #[derive(Clone, Copy, Debug, PartialEq, Eq)]

@@ -4,4 +4,3 @@
 mod children;
 mod counters;
 mod finding;
-mod stub;

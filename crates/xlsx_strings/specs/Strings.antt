@@ -123,13 +123,10 @@ IsStringError (XmlAttr fault) = ⊤
 IsStringError (XmlEof element) = (element.now ≡ codes "t") ⊎ (element.now ≡ [])
 IsStringError _ = ⊥
 
-<<<<<<< HEAD
-=======
 -- how the end of the part is told in shared strings
 abbrev pub IsStringsEnd : List ℕ → Type 0
 IsStringsEnd name = (name ≡ codes "sst") ⊎ ((name ≡ codes "t") ⊎ (name ≡ []))
 
->>>>>>> 5078d58558cc80738b41d58d178c3d46c0a45ab7
 -- and those of reading the shared strings
 abbrev pub AreStringsError : XlsxError → Type 0
 AreStringsError Io = ⊤
@@ -137,10 +134,5 @@ AreStringsError OutOfMemory = ⊤
 AreStringsError (Xml (EndMismatch at)) = ⊤
 AreStringsError (Xml (Entity at)) = ⊤
 AreStringsError (XmlAttr fault) = ⊤
-<<<<<<< HEAD
-AreStringsError (XmlEof element) =
-    (element.now ≡ codes "sst") ⊎ ((element.now ≡ codes "t") ⊎ (element.now ≡ []))
-=======
 AreStringsError (XmlEof element) = IsStringsEnd element.now
->>>>>>> 5078d58558cc80738b41d58d178c3d46c0a45ab7
 AreStringsError _ = ⊥
