@@ -1,3 +1,4 @@
+pub mod CellsRead
 pub mod ChildrenRead
 pub mod CountersMoved
 pub mod MarksAhead

@@ -2,7 +2,7 @@
 use Rattle.std.specs.Prelude.{◌≡◌, ⊤, ℕ, min, true, List, Option, Some, None, Result, Ok, Err}
 use Rattle.cell_refs.specs.declared.TheConstants.{MAX_ROWS, MAX_COLUMNS}
 use Rattle.cell_data.specs.declared.error.XlsxError.{XlsxError}
-use Rattle.cell_data.specs.declared.error.XlsxError.TheVariants.{XmlAttr, Alphanumeric}
+use Rattle.cell_data.specs.declared.error.XlsxError.TheVariants.{OutOfMemory, XmlAttr, Alphanumeric}
 use Rattle.cell_data.specs.declared.error.XlsxError.TheVariants.{RangeWithoutRowComponent}
 use Rattle.cell_data.specs.declared.error.XlsxError.TheVariants.{RangeWithoutColumnComponent}
 use Rattle.cell_data.specs.declared.error.XlsxError.TheVariants.{ColumnNumberOverflow}
@@ -24,6 +24,11 @@ IsSound {A} answer = (a : A) × (answer ≡ Ok a)
 -- a start is refused, wherever it stands
 abbrev pub IsRefused : (Refusal → Type 0) → XlsxError → Type 0
 IsRefused refused error = (last : ℕ) → RefusedAs last refused error
+
+-- the same, where memory may be wanting too
+abbrev pub IsStartRefused : (Refusal → Type 0) → XlsxError → Type 0
+IsStartRefused refused OutOfMemory = ⊤
+IsStartRefused refused error = IsRefused refused error
 
 -- the event is the start of a row, which is refused
 abbrev pub IsRowRefused : Event → Refusal → Type 0

@@ -44,11 +44,13 @@ abbrev pub reads_children : Wants → Bool
 reads_children wants = wants.values || wants.formulas
 
 -- a call that wants nothing of a cell's children reads none of them, and skips none
-abbrev pub end_in_cell : Wants → Element → Option (List ℕ)
-end_in_cell wants element =
-    if reads_children wants
-    then end_in_children wants (kind_of_cell element.tag) element.inside
+abbrev pub end_in_contents : Wants → Tag → List Event → Option (List ℕ)
+end_in_contents wants tag inside =
+    if reads_children wants then end_in_children wants (kind_of_cell tag) inside
     else Some (codes "c")
+
+abbrev pub end_in_cell : Wants → Element → Option (List ℕ)
+end_in_cell wants element = end_in_contents wants element.tag element.inside
 
 -- the name of the element in which a sheet's data end, or none where that element is skipped
 abbrev pub end_in_data : Wants → List Event → Option (List ℕ)

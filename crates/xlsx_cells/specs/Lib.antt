@@ -6,3 +6,4 @@ pub mod Finding
 pub mod Marks
 pub mod Position
 pub mod Sheet
+pub mod Stream

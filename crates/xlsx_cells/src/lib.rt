@@ -1,6 +1,12 @@
 //! The cells of a worksheet, read as its part's events come.
 #![tactic(auto)]
 
+mod cell_read;
 mod children;
 mod counters;
 mod finding;
+mod sheet_cursor;
+
+pub use cell_read::CellRead;
+pub use children::{Asked, Wants};
+pub use sheet_cursor::SheetCursor;

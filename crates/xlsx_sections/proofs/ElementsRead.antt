@@ -160,6 +160,7 @@ element_found {base = base} {place = place} {tag = tag} {first = first} {old = o
 pub record IsElementPassed
     (wanted : Tag → Bool) (base : ℕ) (tag : Tag) (first old new after : Reading) : Type 0 where
   pub keeps : KeepsElements wanted base first after
+  pub left : first.source.is_told ≡ true → section_ahead base after ≡ section_behind base new
   pub elements :
       first.source.is_told ≡ true →
       outermost wanted (section_ahead base old)
@@ -203,6 +204,7 @@ element_passed {base = base} {tag = tag} {first = first} {old = old} {new = new}
             behind_it (still told) ∙ way.left ∙ sym (found.next told).behind
             ∙ found.before.behind told;
       };
+      left = λ told. left (still told);
       elements = λ told.
           (found.next told).elements
           ∙ ap (λ (events : List Event). element_at base tag new ∷ outermost wanted events)

@@ -1,0 +1,245 @@
+-- How a cell is read, and why it is refused.
+use Rattle.std.proofs.Common.{◌≡◌, ◌<◌, ◌≤◌, ℕ, suc, ◌-◌, List, [], ◌∷◌, ◌++◌, Bool, true, false, Option, Some, None, Result, Ok, Err, refl, sym, ◌∙◌, ap, subst, inl, inr, codes, length, ◌⊎◌, arith, string_bytes}
+use Rattle.std.specs.Prelude.{◌||◌}
+use Rattle.part_events.specs.Event.{Tag, Event, start}
+use Rattle.part_events.specs.Reading.{Reading, ahead}
+use Rattle.part_events.specs.Section.{Element, content, unclosed, is_any}
+use Rattle.part_events.specs.Walk.{element_at, section_behind}
+use Rattle.part_events.specs.declared.fault.XmlFault.TheVariants.{EndMismatch, Unclosed}
+use Rattle.cell_data.specs.declared.error.XlsxError.{XlsxError}
+use Rattle.cell_data.specs.declared.error.XlsxError.TheVariants.{OutOfMemory, Io, Xml, XmlEof}
+use Rattle.cell_data.specs.CellValue.{value_of_data_ref}
+use Rattle.cell_data.specs.declared.format.CellFormat.{CellFormat}
+use Rattle.xlsx_sections.specs.Elements.{end_outside}
+use Rattle.xlsx_sections.specs.PartSection.{PartSection, SectionFails, inside_of, section_left, last_of}
+use Rattle.xlsx_sections.specs.Refusal.{Refusal, in_element, further, events_behind}
+use Rattle.xlsx_sections.proofs.ElementsRead.{IsElementPassed, own_inside}
+use Rattle.xlsx_sections.proofs.Refused.{refused_weaker, refused_by}
+use Rattle.xlsx_values.specs.CellType.{CellKind}
+use Rattle.xlsx_values.specs.Value.{Grounds, cell_value, value_in}
+use Rattle.xlsx_formulas.specs.Formula.{FormulaText, formulas_in, cell_formula, behind_formulas}
+use Rattle.xlsx_formulas.specs.Kept.{AreMasters}
+use Rattle.xlsx_formulas.specs.declared.masters.Masters.{Masters}
+use Rattle.xlsx_cells.specs.Children.{AreChildrenRefused, ReadsFormulas}
+use Rattle.xlsx_cells.specs.Counting.{AreKept, IsStartRefused}
+use Rattle.xlsx_cells.specs.Ends.{reads_children, kind_of_cell, end_in_child_element, end_in_children, end_in_contents}
+use Rattle.xlsx_cells.specs.Finding.{FindsCell, IsTakenRefused, IsMisplaced, BehindRow, marks_left}
+use Rattle.xlsx_cells.specs.Marks.{Mark, row_start, row_end, cell, is_cell, marks, behind_marks}
+use Rattle.xlsx_cells.specs.Position.{row_named, cell_position}
+use Rattle.xlsx_cells.specs.Stream.{IsContentRefused, IsCellRefused, CellFails, TakesCell, IsRead}
+use Rattle.xlsx_cells.specs.declared.cell_read.CellRead.{CellRead}
+use Rattle.xlsx_cells.specs.declared.children.Wants.{Wants}
+use Rattle.xlsx_cells.specs.declared.counters.Counters.{Counters}
+use Rattle.xlsx_cells.proofs.ChildrenRead.{same_tag}
+use Rattle.xlsx_cells.proofs.Refusing.{taken_behind}
+
+-- the start of an element is refused, where memory may be wanting too
+pub started_refused : (base : ℕ) (first : Reading) (ending : List Event → Option (List ℕ))
+    (own : Refusal → Type 0) (refused : PartSection → Refusal → Type 0) (new : Reading)
+    (error : XlsxError)
+    → (first.source.is_told ≡ true → (refusal : Refusal) → own refusal
+    → refused (section_left base first) refusal) → IsStartRefused own error
+    → SectionFails ending refused base first new error
+started_refused base first ending own refused new Io weaker is = absurd (is 0)
+started_refused base first ending own refused new OutOfMemory weaker is = tt
+started_refused base first ending own refused new (Xml (EndMismatch at)) weaker is =
+    absurd (is 0)
+started_refused base first ending own refused new (Xml (Unclosed at)) weaker is = absurd (is 0)
+started_refused base first ending own refused new (XmlEof element) weaker is = absurd (is 0)
+started_refused base first ending own refused new error weaker is = λ told.
+    let last = last_of (section_left base first) in
+    refused_weaker last last (refused (section_left base first)) own error (weaker told) refl
+    (is last)
+
+pub some_wanted : (values formulas : Bool) → (values ≡ true) ⊎ (formulas ≡ true)
+    → (values || formulas) ≡ true
+some_wanted true formulas is = refl
+some_wanted false true is = refl
+some_wanted false false (inl is) = absurd (cc)
+some_wanted false false (inr is) = absurd (cc)
+
+-- where no values are wanted, the type of a cell tells nothing of the part's end
+same_child : (wants : Wants) (first second : CellKind) (element : Element)
+    → wants.values ≡ false
+    → end_in_child_element wants first element ≡ end_in_child_element wants second element
+same_child wants first second element unwanted = rw unwanted refl
+
+same_unclosed : (wants : Wants) (first second : CellKind) (found : Option Element)
+    → wants.values ≡ false
+    → end_outside (codes "c") (end_in_child_element wants first) found
+    ≡ end_outside (codes "c") (end_in_child_element wants second) found
+same_unclosed wants first second None unwanted = refl
+same_unclosed wants first second (Some element) unwanted =
+    same_child wants first second element unwanted
+
+same_end : (values : Bool) (wants : Wants) (first second : CellKind) (inside : List Event)
+    → wants.values ≡ values → (wants.values ≡ true → first ≡ second)
+    → end_in_children wants first inside ≡ end_in_children wants second inside
+same_end true wants first second inside is same =
+    ap (λ (kind : CellKind). end_in_children wants kind inside) (same is)
+same_end false wants first second inside is same =
+    same_unclosed wants first second (unclosed is_any inside) is
+
+pub contents_fail : (wants : Wants) (grounds : Grounds) (format : CellFormat) (kind : CellKind)
+    (tag : Tag) (old new : Reading) (error : XlsxError) → reads_children wants ≡ true
+    → (wants.values ≡ true → kind_of_cell tag ≡ kind)
+    → (wants.values ≡ true → (inside : List Event)
+    → cell_value grounds tag inside ≡ value_in grounds format kind inside)
+    → SectionFails (end_in_children wants kind) (AreChildrenRefused wants grounds format kind)
+    (length old.names) old new error
+    → CellFails wants grounds tag old new error
+contents_fail wants grounds format kind tag old new error some typed valued fails =
+    refused_by (length old.names) old (end_in_children wants kind) (end_in_contents wants tag)
+    (AreChildrenRefused wants grounds format kind) (IsContentRefused wants grounds tag) new error
+    (λ told. rw some (same_end wants.values wants (kind_of_cell tag) kind
+    (inside_of (section_left (length old.names) old)) refl typed))
+    (λ told refusal is. elim is [
+      | inl own ↦ inl (
+        own.0,
+        valued own.0 (inside_of (section_left (length old.names) old)) ∙ own.1,
+      )
+      | inr own ↦ inr own
+    ]) fails
+
+pub started_fail : (wants : Wants) (grounds : Grounds) (tag : Tag) (old new : Reading)
+    (error : XlsxError)
+    → IsStartRefused (λ refusal. (wants.values ≡ true)
+    × ((inside : List Event) → cell_value grounds tag inside ≡ Err refusal)) error
+    → CellFails wants grounds tag old new error
+started_fail wants grounds tag old new error is =
+    started_refused (length old.names) old (end_in_contents wants tag)
+    (λ (refusal : Refusal). (wants.values ≡ true)
+    × ((inside : List Event) → cell_value grounds tag inside ≡ Err refusal))
+    (IsContentRefused wants grounds tag) new error
+    (λ told refusal own. inl
+    (own.0, own.1 (inside_of (section_left (length old.names) old)))) is
+
+row_weaker : {P Q : Type 0} (row : Result (Option ℕ) Refusal) (refusal : Refusal) → (P → Q)
+    → BehindRow row refusal P → BehindRow row refusal Q
+row_weaker (Ok row) refusal weaker is = weaker is
+row_weaker (Err own) refusal weaker is = is
+
+taken_weaker : (after before : List Mark → Element → Refusal → Type 0)
+    → ((marks : List Mark) (element : Element) (refusal : Refusal)
+    → after marks element refusal → before marks element refusal)
+    → (behind marks : List Mark) (refusal : Refusal)
+    → IsTakenRefused after behind marks refusal → IsTakenRefused before behind marks refusal
+taken_weaker after before weaker behind [] refusal is = absurd is
+taken_weaker after before weaker behind (row_start tag ∷ marks) refusal is =
+    row_weaker (row_named tag) refusal
+    (taken_weaker after before weaker (row_start tag ∷ behind) marks refusal) is
+taken_weaker after before weaker behind (row_end ∷ marks) refusal is =
+    taken_weaker after before weaker (row_end ∷ behind) marks refusal is
+taken_weaker after before weaker behind (cell element ∷ marks) refusal is =
+    weaker behind element refusal is
+
+-- a cell that isn't found is a cell that isn't taken
+pub misplaced_cell : (wants : Wants) (grounds : Grounds) (behind marks : List Mark)
+    (refusal : Refusal) → IsTakenRefused IsMisplaced behind marks refusal
+    → IsTakenRefused (IsCellRefused wants grounds) behind marks refusal
+misplaced_cell wants grounds behind marks refusal is =
+    taken_weaker IsMisplaced (IsCellRefused wants grounds) (λ marks element refusal own. inl own)
+    behind marks refusal is
+
+-- the cell that was found is refused
+pub found_cell_refused : (wants : Wants) (grounds : Grounds) (before : List Mark)
+    (position : ℕ × ℕ) (base : ℕ) (old new : Reading) (counters : Counters) (tag : Tag)
+    (refusal : Refusal) → FindsCell before position base old new counters
+    → start tag ≡ new.source.current
+    → IsContentRefused wants grounds tag (section_left (length new.names) new) refusal
+    → IsTakenRefused (IsCellRefused wants grounds) before (marks_left base old)
+    (further (events_behind (element_at base tag new)) refusal)
+found_cell_refused wants grounds before position base old new counters tag refusal finds current
+    is =
+    let same : finds.tag ≡ tag = same_tag (finds.current ∙ sym current) in
+    let element = element_at base tag new in
+    let after = further (events_behind element) refusal in
+    let marks_same : marks_left base old
+    ≡ finds.passed ++ cell element ∷ marks (section_behind base new) =
+    finds.marks ∙ ap (λ (own : Tag). finds.passed ++ cell (element_at base own new)
+    ∷ marks (section_behind base new)) same in
+    let here : IsCellRefused wants grounds (behind_marks finds.passed before) element after =
+    elim is [
+      | inl own ↦ inr (inl (own.0, ap (in_element element) (rw (own_inside new) at own.1)))
+      | inr own ↦ inr (inr (own.0, ap (in_element element) (rw (own_inside new) at own.1)))
+    ] in
+    subst (λ (all : List Mark). IsTakenRefused (IsCellRefused wants grounds) before all after)
+    (sym marks_same)
+    (taken_behind (IsCellRefused wants grounds) finds.passed before
+    (cell element ∷ marks (section_behind base new)) after finds.rows here)
+
+-- the formulas that are kept of a cell, where they are wanted
+record KeptOf
+    (wants : Wants) (earlier : List FormulaText) (position : ℕ × ℕ) (inside : List Event)
+    (masters : Masters) (text : List ℕ) : Type 0 where
+  kept : List FormulaText
+  listed : wants.formulas ≡ true → formulas_in inside ≡ Ok kept
+  found : wants.formulas ≡ true → text ≡ cell_formula earlier position kept
+  none : wants.formulas ≡ false → kept ≡ []
+  groups : AreMasters (behind_formulas kept earlier) masters
+
+kept_of : (formulas : Bool) (wants : Wants) (earlier : List FormulaText) (position : ℕ × ℕ)
+    (inside : List Event) (old new : Masters) (text : List ℕ) → wants.formulas ≡ formulas
+    → AreMasters earlier old
+    → (wants.formulas ≡ true
+    → ReadsFormulas earlier position inside (record { masters = new; text = text }))
+    → (wants.formulas ≡ false → new ≡ old) → KeptOf wants earlier position inside new text
+kept_of true wants earlier position inside old new text is behind reads same =
+    let all = reads is in
+    record {
+      kept = all.kept;
+      listed = λ wanted. all.listed;
+      found = λ wanted. all.text;
+      none = λ unwanted. absurd (let both : true ≡ false = sym is ∙ unwanted in cc);
+      groups = all.masters;
+    }
+kept_of false wants earlier position inside old new text is behind reads same = record {
+  kept = [];
+  listed = λ wanted. absurd (let both : false ≡ true = sym is ∙ wanted in cc);
+  found = λ wanted. absurd (let both : false ≡ true = sym is ∙ wanted in cc);
+  none = λ unwanted. refl;
+  groups = subst (λ (own : Masters). AreMasters earlier own) (sym (same is)) behind;
+}
+
+-- the cell that was found was read
+pub taken_cell : (wants : Wants) (grounds : Grounds) (before : List Mark)
+    (earlier : List FormulaText) (position : ℕ × ℕ) (base : ℕ) (old mid new : Reading)
+    (counters : Counters) (masters after : Masters) (read : CellRead)
+    → (finds : FindsCell before position base old mid counters)
+    → IsElementPassed is_cell base finds.tag old old mid new → old.source.is_told ≡ true
+    → AreMasters earlier masters → read.pos ≡ position
+    → (wants.values ≡ true → cell_value grounds finds.tag (content 0 (ahead mid))
+    ≡ Ok (value_of_data_ref read.value))
+    → (wants.formulas ≡ true → ReadsFormulas earlier position (content 0 (ahead mid))
+    (record { masters = after; text = string_bytes read.formula }))
+    → (wants.formulas ≡ false → after ≡ masters)
+    → (first : Counters)
+    → TakesCell before earlier
+    (record { reading = old; base = base; counters = first; masters = masters })
+    (record { reading = new; base = base; counters = counters; masters = after })
+    (IsRead wants grounds earlier read)
+taken_cell wants grounds before earlier position base old mid new counters masters after read finds
+    passed told behind placed valued reads same first =
+    let element = element_at base finds.tag mid in
+    let all : KeptOf wants earlier position (content 0 (ahead mid)) after
+    (string_bytes read.formula) =
+    kept_of wants.formulas wants earlier position (content 0 (ahead mid)) masters after
+    (string_bytes read.formula) refl behind reads same in
+    record {
+      passed = finds.passed;
+      rows = finds.rows;
+      element = element;
+      kept = all.kept;
+      marks = finds.marks ∙ ap (λ (events : List Event). finds.passed ++ cell element
+          ∷ marks events) (sym (passed.left told));
+      closed = sym (passed.keeps.section.closed told);
+      fact = record {
+        placed = finds.placed ∙ ap Ok (sym placed);
+        valued = valued;
+        listed = all.listed;
+        found = λ wanted. all.found wanted
+            ∙ ap (λ (own : ℕ × ℕ). cell_formula earlier own all.kept) (sym placed);
+        none = all.none;
+      };
+      stands = record { counters = finds.counts; masters = all.groups };
+    }

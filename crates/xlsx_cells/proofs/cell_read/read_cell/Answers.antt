@@ -1,0 +1,46 @@
+use Rattle.std.proofs.Common.{◌≡◌, ◌∙◌, true, sym, subst, inl, inr}
+use Rattle.std.proofs.lemmas.Result.{err_from_is_err_and}
+use Rattle.part_events.specs.Event.{Tag, tag_of}
+use Rattle.part_events.specs.Reading.{reading}
+use Rattle.xlsx_values.specs.Book.{kind_of, grounds_of}
+use Rattle.xlsx_cells.specs.Ends.{reads_children}
+use Rattle.xlsx_cells.specs.Stream.{CellFails}
+use Rattle.xlsx_cells.proofs.CellsRead.{started_fail, contents_fail, some_wanted}
+use Rattle.xlsx_cells.proofs.ChildrenRead.{same_tag}
+use Rattle.xlsx_cells.proofs.cell_read.read_cell.Goals as goal
+use Rattle.xlsx_cells.proofs.cell_read.read_cell.Goals.{else-not-asked-via-then-not-asked+else-not-asked-2, else-not-asked-via-else-not-asked}
+
+pub returns-in_err-start-clause-err : goal.returns-in_err-start-clause-err
+returns-in_err-start-clause-err g c =
+    let old = reading (g.P.Package.state c.args.package.now) c.args.cursor.now in
+    let wants = c.args.asked.wants in
+    let grounds = grounds_of c.args.asked.book in
+    let p = err_from_is_err_and c.from_residual.result c.from_residual.ensures.1 in
+    rw (p.1, p.2) (λ element stands.
+    let same : tag_of c.start_tag.result ≡ element.tag =
+    same_tag (c.start_tag.ensures ∙ sym stands.tag) in
+    subst (λ (tag : Tag). CellFails wants grounds tag old old c.in_err-start.field-0.0) same
+    (started_fail wants grounds (tag_of c.start_tag.result) old old c.in_err-start.field-0.0
+    c.in_err-start.ensures.err))
+
+pub returns-in_err-contents-clause-err : goal.returns-in_err-contents-clause-err
+returns-in_err-contents-clause-err g c =
+    let old = reading (g.P.Package.state c.args.package.now) c.args.cursor.now in
+    let new = reading (g.P.Package.state c.read_children.new.package) c.read_children.new.cursor in
+    let wants = c.args.asked.wants in
+    let grounds = grounds_of c.args.asked.book in
+    let start = c.in_ok-start.start in
+    let tag = tag_of c.start_tag.result in
+    let some : reads_children wants ≡ true = some_wanted wants.values wants.formulas
+    (elim c.else-not-asked.branch [
+      | else-not-asked-via-then-not-asked+else-not-asked-2 w ↦ inr w.if-not-asked-2.false
+      | else-not-asked-via-else-not-asked w ↦ inl w.if-not-asked.false
+    ]) in
+    let p = err_from_is_err_and c.from_residual-in_err-contents.result
+    c.from_residual-in_err-contents.ensures.1 in
+    rw (p.1, p.2) (λ element stands.
+    let same : tag ≡ element.tag = same_tag (c.start_tag.ensures ∙ sym stands.tag) in
+    subst (λ (own : Tag). CellFails wants grounds own old new c.in_err-contents.field-0.0) same
+    (contents_fail wants grounds start.format (kind_of start.typ) tag old new
+    c.in_err-contents.field-0.0 some c.in_ok-start.ensures.typ c.in_ok-start.ensures.value
+    c.in_err-contents.ensures.err))

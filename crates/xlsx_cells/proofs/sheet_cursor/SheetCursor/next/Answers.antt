@@ -1,0 +1,103 @@
+use Rattle.std.proofs.Common.{◌≡◌, ◌++◌, ◌∷◌, ◌-◌, ℕ, List, Option, Some, Ok, true, false, [], length, refl, sym, ◌∙◌, ap, subst, inl, inr, arith, codes, string_bytes, Bool}
+use Rattle.std.proofs.lemmas.Result.{err_from_is_err_and}
+use Rattle.part_events.specs.Event.{Tag, start}
+use Rattle.part_events.specs.Reading.{reading}
+use Rattle.part_events.specs.Section.{Element}
+use Rattle.part_events.specs.Walk.{element_at, section_behind}
+use Rattle.xlsx_sections.specs.Elements.{end_among, KeepsElements, FindsElementIn}
+use Rattle.xlsx_sections.specs.PartSection.{StandsAtStart}
+use Rattle.xlsx_sections.proofs.ElementsRead.{IsElementFound, IsElementPassed, keeps_none, element_found, element_passed, element_refused}
+use Rattle.xlsx_sections.proofs.Refused.{refused_as}
+use Rattle.xlsx_values.specs.Book.{grounds_of}
+use Rattle.xlsx_formulas.specs.Formula.{FormulaText, behind_formulas}
+use Rattle.xlsx_cells.specs.Children.{StandsAt}
+use Rattle.xlsx_cells.specs.Ends.{end_in_cell, end_in_contents, end_in_data}
+use Rattle.xlsx_cells.specs.Finding.{FindsCell, IsStepRefused, IsMisplaced, StandsAtCell, FindsCellElement, Finds, marks_left}
+use Rattle.xlsx_cells.specs.Marks.{Mark, cell, is_cell, marks, behind_marks}
+use Rattle.xlsx_cells.specs.Stream.{stream, IsContentRefused, IsCellRefused, NextCellFails}
+use Rattle.xlsx_cells.proofs.CellsRead.{misplaced_cell, found_cell_refused, taken_cell}
+use Rattle.xlsx_cells.proofs.ChildrenRead.{start_there, same_tag}
+use Rattle.xlsx_cells.proofs.sheet_cursor.SheetCursor.next.Goals as goal
+
+pub returns-in_err-pos-clause-err : goal.returns-in_err-pos-clause-err
+returns-in_err-pos-clause-err g c =
+    let own = c.args.self.now in
+    let old = reading (g.P.Package.state c.args.package.now) own.cursor in
+    let new = reading (g.P.Package.state c.find_cell.new.package) c.find_cell.new.cursor in
+    let wants = c.args.asked.wants in
+    let grounds = grounds_of c.args.asked.book in
+    let p = err_from_is_err_and c.from_residual.result c.from_residual.ensures.1 in
+    rw (p.1, p.2)
+    (refused_as own.base old (end_in_data wants) (IsStepRefused IsMisplaced own.counters)
+    (IsStepRefused (IsCellRefused wants grounds) own.counters) new c.in_err-pos.field-0.0
+    c.requires.reading c.requires.within
+    (λ refusal is before kept. misplaced_cell wants grounds before (marks_left own.base old) refusal
+    (is before kept)) (c.in_err-pos.ensures.err (end_in_cell wants)))
+
+pub returns-in_err-read_cell-clause-err : goal.returns-in_err-read_cell-clause-err
+returns-in_err-read_cell-clause-err g c =
+    let own = c.args.self.now in
+    let base = own.base in
+    let old = reading (g.P.Package.state c.args.package.now) own.cursor in
+    let mid = reading (g.P.Package.state c.find_cell.new.package) c.find_cell.new.cursor in
+    let new = reading (g.P.Package.state c.read_cell.new.package) c.read_cell.new.cursor in
+    let wants = c.args.asked.wants in
+    let grounds = grounds_of c.args.asked.book in
+    let pos = c.in-Some.pos in
+    let stands : StandsAtCell base (Some pos) old mid =
+    rw c.in-Some.is at c.in_ok-pos.ensures.stands in
+    let finds : old.source.is_told ≡ true → FindsElementIn is_cell base (Some (mid.at - 1)) old mid =
+    λ told. rw c.in-Some.is at (c.in_ok-pos.ensures.element told) in
+    let first = start_there mid.source.current (λ (tag : Tag). is_cell tag ≡ true) stands.0.2 in
+    let tag = first.0 in
+    let found : IsElementFound is_cell base tag (mid.at - 1) old old mid =
+    element_found is_cell first.1 (keeps_none is_cell base old c.requires.reading c.requires.within)
+    c.in_ok-pos.ensures.reads stands.0 finds in
+    let element = element_at base tag mid in
+    let stand : StandsAt element mid = record { tag = first.1; inside = refl } in
+    let p = err_from_is_err_and c.from_residual-in_err-read_cell.result
+    c.from_residual-in_err-read_cell.ensures.1 in
+    rw (p.1, p.2)
+    (element_refused (codes "sheetData") (end_in_cell wants) (end_in_contents wants tag)
+    (IsContentRefused wants grounds tag)
+    (IsStepRefused (IsCellRefused wants grounds) own.counters) new
+    c.in_err-read_cell.field-0.0 found (λ told. refl)
+    (λ told refusal is before kept.
+    let there : FindsCell before pos base old mid c.find_cell.new.counters =
+    rw c.in-Some.is at (c.in_ok-pos.ensures.finds told before kept) in
+    found_cell_refused wants grounds before pos base old mid c.find_cell.new.counters tag refusal
+    there first.1 is)
+    (c.in_err-read_cell.ensures.err element stand))
+
+pub returns-clause-takes : goal.returns-clause-takes
+returns-clause-takes g c = λ told before earlier behind.
+    let own = c.args.self.now in
+    let base = own.base in
+    let old = reading (g.P.Package.state c.args.package.now) own.cursor in
+    let mid = reading (g.P.Package.state c.find_cell.new.package) c.find_cell.new.cursor in
+    let new = reading (g.P.Package.state c.read_cell.new.package) c.read_cell.new.cursor in
+    let wants = c.args.asked.wants in
+    let pos = c.in-Some.pos in
+    let stands : StandsAtCell base (Some pos) old mid =
+    rw c.in-Some.is at c.in_ok-pos.ensures.stands in
+    let finds : old.source.is_told ≡ true → FindsElementIn is_cell base (Some (mid.at - 1)) old mid =
+    λ told. rw c.in-Some.is at (c.in_ok-pos.ensures.element told) in
+    let there : FindsCell before pos base old mid c.find_cell.new.counters =
+    rw c.in-Some.is at (c.in_ok-pos.ensures.finds told before behind.counters) in
+    let tag = there.tag in
+    let found : IsElementFound is_cell base tag (mid.at - 1) old old mid =
+    element_found is_cell there.current
+    (keeps_none is_cell base old c.requires.reading c.requires.within)
+    c.in_ok-pos.ensures.reads stands.0 finds in
+    let passed : IsElementPassed is_cell base tag old old mid new =
+    element_passed found c.in_ok-read_cell.ensures.reads c.in_ok-read_cell.ensures.depth
+    c.in_ok-read_cell.ensures.skips in
+    let element = element_at base tag mid in
+    let stand : StandsAt element mid = record { tag = there.current; inside = refl } in
+    let told_mid = found.read.reads.moves.parts.is_told ∙ told in
+    taken_cell wants (grounds_of c.args.asked.book) before earlier pos base old mid new
+    c.find_cell.new.counters own.masters c.read_cell.new.masters c.in_ok-read_cell.field-0
+    there passed told behind.masters c.in_ok-read_cell.ensures.pos
+    (λ wanted. c.in_ok-read_cell.ensures.value told_mid wanted element stand)
+    (λ wanted. c.in_ok-read_cell.ensures.formula told_mid wanted element stand earlier behind.masters)
+    c.in_ok-read_cell.ensures.same own.counters

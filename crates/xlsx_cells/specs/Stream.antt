@@ -1,0 +1,135 @@
+-- A stream of cells: where it stands, and what its steps do.
+use Rattle.std.specs.Prelude.{◌≡◌, ◌⊎◌, ⊤, ℕ, ◌≤◌, List, [], ◌∷◌, ◌++◌, length, Bool, true, false}
+use Rattle.std.specs.Prelude.{Option, Some, None, Result, Ok, Err, string_bytes}
+use Rattle.part_events.specs.Event.{Tag, Event}
+use Rattle.part_events.specs.Package.{PackageState}
+use Rattle.part_events.specs.Reading.{Reading, reading, IsReading}
+use Rattle.part_events.specs.Section.{Element}
+use Rattle.part_events.specs.Walk.{section_ahead, is_closed_ahead}
+use Rattle.cell_data.specs.CellValue.{CellValue, value_of_data_ref}
+use Rattle.cell_data.specs.declared.error.XlsxError.{XlsxError}
+use Rattle.xlsx_sections.specs.PartSection.{PartSection, SectionFails, inside_of}
+use Rattle.xlsx_sections.specs.Refusal.{Refusal, in_element}
+use Rattle.xlsx_values.specs.Value.{Grounds, cell_value}
+use Rattle.xlsx_formulas.specs.Formula.{FormulaText, formulas_in, cell_formula}
+use Rattle.xlsx_formulas.specs.Formula.{behind_formulas}
+use Rattle.xlsx_formulas.specs.Kept.{AreMasters}
+use Rattle.xlsx_formulas.specs.declared.masters.Masters.{Masters}
+use Rattle.xlsx_cells.specs.Counting.{AreKept}
+use Rattle.xlsx_cells.specs.Ends.{end_in_contents, end_in_data}
+use Rattle.xlsx_cells.specs.Finding.{IsStepRefused}
+use Rattle.xlsx_cells.specs.Marks.{Mark, cell, marks, behind_marks}
+use Rattle.xlsx_cells.specs.Position.{cell_position, PassesRows}
+use Rattle.xlsx_cells.specs.declared.children.Wants.{Wants}
+use Rattle.xlsx_cells.specs.declared.counters.Counters.{Counters}
+use Rattle.xlsx_cells.specs.declared.cell_read.CellRead.{CellRead}
+use Rattle.xlsx_cells.specs.declared.sheet_cursor.SheetCursor.{SheetCursor}
+
+-- where a stream stands: its reading, the number of the element of the sheet's data among the open
+-- ones, the counters, and the masters that it keeps
+pub record Stream : Type 0 where
+  pub reading : Reading
+  pub base : ℕ
+  pub counters : Counters
+  pub masters : Masters
+
+abbrev pub stream : PackageState → SheetCursor → Stream
+stream source sheet = record {
+  reading = reading source sheet.cursor;
+  base = sheet.base;
+  counters = sheet.counters;
+  masters = sheet.masters;
+}
+
+-- it stands in the sheet's data, outside cells
+pub record IsStreaming (s : Stream) : Type 0 where
+  pub reading : IsReading s.reading
+  pub within : s.base ≤ length s.reading.names
+
+-- what is ahead of it in the sheet's data, and whether these are closed
+abbrev pub data_ahead : Stream → List Event
+data_ahead s = section_ahead s.base s.reading
+
+abbrev pub marks_ahead : Stream → List Mark
+marks_ahead s = marks (data_ahead s)
+
+abbrev pub are_closed_ahead : Stream → Bool
+are_closed_ahead s = is_closed_ahead s.base s.reading
+
+-- what it keeps is what looking back over these marks and these formulas finds
+pub record StandsBehind (before : List Mark) (earlier : List FormulaText) (s : Stream) : Type 0
+  where
+    pub counters : AreKept before s.counters
+    pub masters : AreMasters earlier s.masters
+
+-- why what stands in a cell is refused
+abbrev pub IsContentRefused : Wants → Grounds → Tag → PartSection → Refusal → Type 0
+IsContentRefused wants grounds tag s refusal =
+    ((wants.values ≡ true) × (cell_value grounds tag (inside_of s) ≡ Err refusal))
+    ⊎ ((wants.formulas ≡ true) × (formulas_in (inside_of s) ≡ Err refusal))
+
+-- when the cell at whose start a reader stands can't be read
+abbrev pub CellFails : Wants → Grounds → Tag → Reading → Reading → XlsxError → Type 0
+CellFails wants grounds tag old new error =
+    SectionFails (end_in_contents wants tag) (IsContentRefused wants grounds tag)
+    (length old.names) old new error
+
+-- why a cell is refused, by the marks before it
+abbrev pub IsCellRefused : Wants → Grounds → List Mark → Element → Refusal → Type 0
+IsCellRefused wants grounds before element refusal =
+    (cell_position before element.tag ≡ Err refusal)
+    ⊎ (((wants.values ≡ true)
+    × (in_element element (cell_value grounds element.tag element.inside) ≡ Err refusal))
+    ⊎ ((wants.formulas ≡ true)
+    × (in_element element (formulas_in element.inside) ≡ Err refusal)))
+
+-- when a step is refused
+abbrev pub NextCellFails : Wants → Grounds → Stream → Stream → XlsxError → Type 0
+NextCellFails wants grounds old new error =
+    SectionFails (end_in_data wants) (IsStepRefused (IsCellRefused wants grounds) old.counters)
+    old.base old.reading new.reading error
+
+-- what is read of a cell, by the marks and the formulas before it: `kept` are its own formulas,
+-- where they are wanted
+pub record IsRead
+    (wants : Wants) (grounds : Grounds) (earlier : List FormulaText) (read : CellRead)
+    (before : List Mark) (element : Element) (kept : List FormulaText) : Type 0 where
+  pub placed : cell_position before element.tag ≡ Ok read.pos
+  pub valued :
+      wants.values ≡ true →
+      cell_value grounds element.tag element.inside ≡ Ok (value_of_data_ref read.value)
+  pub listed : wants.formulas ≡ true → formulas_in element.inside ≡ Ok kept
+  pub found :
+      wants.formulas ≡ true → string_bytes read.formula ≡ cell_formula earlier read.pos kept
+  pub none : wants.formulas ≡ false → kept ≡ []
+
+-- the next cell was taken, of which a fact holds
+pub record TakesCell
+    (before : List Mark) (earlier : List FormulaText) (old new : Stream)
+    (holds : List Mark → Element → List FormulaText → Type 0) : Type 0 where
+  pub passed : List Mark
+  pub rows : PassesRows passed
+  pub element : Element
+  pub kept : List FormulaText
+  pub marks : marks_ahead old ≡ passed ++ cell element ∷ marks_ahead new
+  pub closed : are_closed_ahead old ≡ are_closed_ahead new
+  pub fact : holds (behind_marks passed before) element kept
+  pub stands :
+      StandsBehind (cell element ∷ behind_marks passed before) (behind_formulas kept earlier) new
+
+-- no cell is left, and the sheet's data are closed
+pub record EndsData (old : Stream) : Type 0 where
+  pub rows : PassesRows (marks_ahead old)
+  pub closed : are_closed_ahead old ≡ true
+
+-- what a step answers
+abbrev pub TakesNext :
+    Wants → Grounds → List Mark → List FormulaText → Option CellRead → Stream → Stream → Type 0
+TakesNext wants grounds before earlier None old new = EndsData old
+TakesNext wants grounds before earlier (Some read) old new =
+    TakesCell before earlier old new (IsRead wants grounds earlier read)
+
+-- where it stands then
+abbrev pub StandsAfter : Option CellRead → Stream → Stream → Type 0
+StandsAfter None old new = ⊤
+StandsAfter (Some read) old new = IsStreaming new × (new.base ≡ old.base)

@@ -1,0 +1,61 @@
+ghost use Rattle.std.specs.Prelude.{◌≡◌, List, true, IfOk, OnOk, IfErr};
+ghost use Rattle.part_events.specs.Reading.{ReadsPart};
+ghost use Rattle.cell_data.specs.declared.error.XlsxError.TheVariants.{Io};
+ghost use Rattle.xlsx_values.specs.Book.{grounds_of};
+ghost use Rattle.xlsx_formulas.specs.Formula.{FormulaText};
+ghost use Rattle.xlsx_cells.specs.Errors.{IsCellError};
+ghost use Rattle.xlsx_cells.specs.Marks.{Mark};
+ghost use Rattle.xlsx_cells.specs.Stream.{stream, IsStreaming, StandsBehind, StandsAfter, TakesNext, NextCellFails};
+
+use crate::cell_read::{CellRead, read_cell};
+use crate::children::Asked;
+use crate::counters::Counters;
+use crate::finding::find_cell;
+use cell_data::XlsxError;
+use part_events::{Cursor, Package};
+use xlsx_formulas::Masters;
+
+/// Where reading stands in a sheet's data: behind the cells that were taken.
+#[derive(Drop)]
+pub struct SheetCursor {
+    cursor: Cursor,
+    base: usize,
+    counters: Counters,
+    masters: Masters,
+}
+
+impl SheetCursor {
+    /// Takes the next cell of the sheet's data, with what is asked for. Answers None at the end of the data.
+    pub fn next<P: Package>(
+        &mut self,
+        package: &mut P,
+        asked: Asked<'_>,
+    ) -> Result<Option<CellRead>, XlsxError>
+        requires { IsStreaming (stream (P.state «package».old) self.old) }
+        ensures reads { let old = stream (P.state «package».old) self.old in
+            let new = stream (P.state «package».new) self.new in
+            ReadsPart Io result old.reading new.reading }
+        ensures stands { let old = stream (P.state «package».old) self.old in
+            let new = stream (P.state «package».new) self.new in
+            IfOk result (λ found. StandsAfter found old new) }
+        ensures takes { let old = stream (P.state «package».old) self.old in
+            let new = stream (P.state «package».new) self.new in
+            let wants = asked.entry.wants in
+            let grounds = grounds_of asked.entry.book in
+            old.reading.source.is_told ≡ true → (before : List Mark)
+            (earlier : List FormulaText) → StandsBehind before earlier old →
+            IfOk result (λ found. TakesNext wants grounds before earlier found old new) }
+        ensures err { let old = stream (P.state «package».old) self.old in
+            let new = stream (P.state «package».new) self.new in
+            IfErr result (NextCellFails asked.entry.wants (grounds_of asked.entry.book) old new) }
+        ensures kind { IfErr result IsCellError }
+    {
+        let alloc = self.cursor.alloc();
+        let base = self.base;
+        let Some(pos) = find_cell(package, &mut self.cursor, base, &mut self.counters)? else {
+            return Ok(None);
+        };
+        let masters = &mut self.masters;
+        Ok(Some(read_cell(alloc, package, &mut self.cursor, asked, pos, masters)?))
+    }
+}
