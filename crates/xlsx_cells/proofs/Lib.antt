@@ -1,4 +1,5 @@
 pub mod CountersMoved
+pub mod HeadRead
 pub mod MarksAhead
 pub mod Passing
 pub mod Refusing

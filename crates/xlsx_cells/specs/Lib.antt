@@ -3,6 +3,7 @@ pub mod Counting
 pub mod Ends
 pub mod Errors
 pub mod Finding
+pub mod Head
 pub mod Marks
 pub mod Position
 pub mod Sheet

@@ -4,4 +4,7 @@
 mod children;
 mod counters;
 mod finding;
+mod head;
 mod stub;
+
+pub use head::enter_data;
