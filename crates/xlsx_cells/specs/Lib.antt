@@ -3,7 +3,9 @@ pub mod Counting
 pub mod Ends
 pub mod Errors
 pub mod Finding
+pub mod Head
 pub mod Marks
 pub mod Position
 pub mod Sheet
+pub mod SheetPart
 pub mod Stream

@@ -5,8 +5,12 @@ mod cell_read;
 mod children;
 mod counters;
 mod finding;
+mod head;
+mod sheet_cells;
 mod sheet_cursor;
 
 pub use cell_read::CellRead;
 pub use children::{Asked, Wants};
-pub use sheet_cursor::SheetCursor;
+pub use head::enter_data;
+pub use sheet_cells::{SheetCells, collect};
+pub use sheet_cursor::{SheetCursor, open_data};

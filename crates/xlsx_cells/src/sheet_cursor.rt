@@ -1,4 +1,7 @@
-ghost use Rattle.std.specs.Prelude.{◌≡◌, List, true, IfOk, OnOk, IfErr};
+ghost use Rattle.std.specs.Prelude.{◌≡◌, List, true, None, IfOk, OnOk, IfErr, IfSome, IfNone};
+ghost use Rattle.part_events.specs.Package.{UsesPackage, LeavesPackage, part_of, events_in};
+ghost use Rattle.xlsx_cells.specs.Head.{IsHeadError};
+ghost use Rattle.xlsx_cells.specs.SheetPart.{EntersData, OpenDataFails};
 ghost use Rattle.part_events.specs.Reading.{ReadsPart};
 ghost use Rattle.cell_data.specs.declared.error.XlsxError.TheVariants.{Io};
 ghost use Rattle.xlsx_values.specs.Book.{grounds_of};
@@ -11,6 +14,9 @@ use crate::cell_read::{CellRead, read_cell};
 use crate::children::Asked;
 use crate::counters::Counters;
 use crate::finding::find_cell;
+use crate::head::enter_data;
+use cell_refs::Dimensions;
+use std::alloc::Global;
 use cell_data::XlsxError;
 use part_events::{Cursor, Package};
 use xlsx_formulas::Masters;
@@ -58,4 +64,28 @@ impl SheetCursor {
         let masters = &mut self.masters;
         Ok(Some(read_cell(alloc, package, &mut self.cursor, asked, pos, masters)?))
     }
+}
+
+/// Opens the part of a sheet at this path, and reads on behind the start of its data. Answers where reading stands then, and
+/// the sheet's dimensions; None where there is no such part.
+pub fn open_data<P: Package>(
+    alloc: Global,
+    package: &mut P,
+    path: &str,
+) -> Result<Option<(SheetCursor, Dimensions)>, XlsxError>
+    ensures absent { let old = P.state «package».old in
+        let new = P.state «package».new in
+        IfOk result (λ found. IfNone found (
+        UsesPackage 0 old new × (old.is_told ≡ true → part_of old.parts path.now ≡ None))) }
+    ensures enters { let old = P.state «package».old in
+        IfOk result (λ found. IfSome found (λ entered.
+        EntersData path.now entered.1 old (stream (P.state «package».new) entered.0))) }
+    ensures leaves { let old = P.state «package».old in
+        let new = P.state «package».new in
+        IfErr result (LeavesPackage (events_in old.parts path.now) Io old new) }
+    ensures err { IfErr result
+        (OpenDataFails path.now (P.state «package».old) (P.state «package».new)) }
+    ensures kind { IfErr result IsHeadError }
+{
+    Err(XlsxError::OutOfMemory)
 }

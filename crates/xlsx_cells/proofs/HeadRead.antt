@@ -1,0 +1,248 @@
+-- How the head of a sheet's part is read.
+use Rattle.std.proofs.Common.{◌≡◌, ℕ, List, [], ◌∷◌, Bool, true, false, Option, Some, None, Result}
+use Rattle.std.proofs.Common.{Ok, Err, refl, sym, ◌∙◌, ap, subst, arith, codes}
+use Rattle.std.specs.Prelude.{if◌then◌else◌, option_map, ◌||◌}
+use Rattle.std.specs.Option.{option_or}
+use Rattle.std.specs.Str.{bytes_eq}
+use Rattle.attr_text.specs.Attributes.{local_name_of}
+use Rattle.cell_refs.specs.declared.dimensions.Dimensions.{Dimensions}
+use Rattle.part_events.specs.Event.{Tag, Event, start, end, leaf}
+use Rattle.part_events.specs.Nesting.{whole}
+use Rattle.part_events.specs.Reading.{Reading, ReadsOn, NextFails, BreaksAt, ahead, events_of}
+use Rattle.part_events.specs.Section.{behind_start}
+use Rattle.part_events.specs.declared.fault.StreamError.{StreamError}
+use Rattle.part_events.specs.declared.fault.StreamError.TheVariants as stream
+use Rattle.part_events.specs.declared.fault.XmlFault.TheVariants.{EndMismatch, Unclosed, Entity}
+use Rattle.cell_data.specs.XlsxError.{of_stream}
+use Rattle.cell_data.specs.declared.error.XlsxError.{XlsxError}
+use Rattle.cell_data.specs.declared.error.XlsxError.TheVariants.{OutOfMemory, Io, Xml, XmlEof}
+use Rattle.cell_data.specs.declared.error.XlsxError.TheVariants.{NotAWorksheet}
+use Rattle.xlsx_sections.specs.Answers.{or_earlier, or_later}
+use Rattle.xlsx_sections.specs.Refusal.{Refusal}
+use Rattle.xlsx_sections.proofs.Kept.{or_earlier-or_later, or_earlier-None}
+use Rattle.xlsx_sections.proofs.Refused.{refused_weaker, never_refused}
+use Rattle.xlsx_cells.specs.Counting.{IsRefused}
+use Rattle.xlsx_cells.specs.Head.{is_sheet_data, is_dimension, starts_data, head_starts, area_of}
+use Rattle.xlsx_cells.specs.Head.{dimensions_by, dimensions_in, dimensions_at, first_other}
+use Rattle.xlsx_cells.specs.Head.{other_in, other_at, other_name, IsStartRefused, LacksData}
+use Rattle.xlsx_cells.specs.Head.{HasNoData, HeadCause, HeadFails, IsHeadError}
+use Rattle.xlsx_cells.specs.declared.head.Head.{Head}
+
+-- what is kept of the events before `left`, with what these say, is what all of them say
+pub record KeepsHead (all : List Event) (head : Head) (left : List Event) : Type 0 where
+  pub found : behind_start is_sheet_data left ≡ behind_start is_sheet_data all
+  pub dimensions : or_earlier head.dimensions (dimensions_in left) ≡ dimensions_in all
+  pub other : option_or (other_name head) (other_in left) ≡ other_in all
+
+pub keeps_nothing : (all : List Event) (head : Head) → head.dimensions ≡ None
+    → other_name head ≡ None → KeepsHead all head all
+keeps_nothing all head no_dimensions no_other = record {
+  found = refl;
+  dimensions = rw no_dimensions (or_earlier-None (dimensions_in all));
+  other = rw no_other refl;
+}
+
+-- ---- one event more
+
+found_event : (event : Event) (events : List Event) → starts_data event ≡ false
+    → behind_start is_sheet_data (event ∷ events) ≡ behind_start is_sheet_data events
+found_event (start tag) events none = rw none refl
+found_event (end name) events none = refl
+found_event (leaf kind) events none = refl
+
+dimensions_event : (event : Event) (events : List Event) → starts_data event ≡ false
+    → dimensions_in (event ∷ events) ≡ or_later (dimensions_at event) (dimensions_in events)
+dimensions_event (start tag) events none = rw none refl
+dimensions_event (end name) events none = sym (or_earlier-None (dimensions_in events))
+dimensions_event (leaf kind) events none = sym (or_earlier-None (dimensions_in events))
+
+other_if : (b : Bool) (tag : Tag) (others : Option Tag)
+    → option_map (λ (t : Tag). local_name_of t.name) (if b then others else Some tag)
+    ≡ option_or (if b then None else Some (local_name_of tag.name))
+    (option_map (λ (t : Tag). local_name_of t.name) others)
+other_if true tag others = refl
+other_if false tag others = refl
+
+other_event : (event : Event) (events : List Event) → starts_data event ≡ false
+    → other_in (event ∷ events) ≡ option_or (other_at event) (other_in events)
+other_event (start tag) events none = rw none
+    (other_if (is_dimension tag) tag (first_other (head_starts events)))
+other_event (end name) events none = refl
+other_event (leaf kind) events none = refl
+
+option_or_assoc : {A : Type 0} (a b c : Option A) → option_or (option_or a b) c
+    ≡ option_or a (option_or b c)
+option_or_assoc None b c = refl
+option_or_assoc (Some x) b c = refl
+
+option_or_None : {A : Type 0} (a : Option A) → option_or a None ≡ a
+option_or_None None = refl
+option_or_None (Some x) = refl
+
+pub head_further : {all left events : List Event} {event : Event} {head next : Head}
+    → KeepsHead all head left → left ≡ event ∷ events → starts_data event ≡ false
+    → or_earlier head.dimensions (dimensions_at event) ≡ Ok next.dimensions
+    → other_name next ≡ option_or (other_name head) (other_at event) → KeepsHead all next events
+head_further {events = events} {event = event} {head = head} {next = next} keeps same none
+    dimensions other = record {
+      found = sym (found_event event events none)
+          ∙ ap (behind_start is_sheet_data) (sym same)
+          ∙ keeps.found;
+      dimensions = or_earlier-or_later head.dimensions next.dimensions (dimensions_at event)
+          (dimensions_in events) dimensions
+          ∙ ap (or_earlier head.dimensions)
+          (sym (ap dimensions_in same ∙ dimensions_event event events none))
+          ∙ keeps.dimensions;
+      other = ap (λ (name : Option (List ℕ)). option_or name (other_in events)) other
+          ∙ option_or_assoc (other_name head) (other_at event) (other_in events)
+          ∙ ap (option_or (other_name head))
+          (sym (ap other_in same ∙ other_event event events none))
+          ∙ keeps.other;
+    }
+
+-- ---- the start of the data
+
+found_there : (event : Event) (events : List Event) → starts_data event ≡ true
+    → behind_start is_sheet_data (event ∷ events) ≡ Some events
+found_there (start tag) events is = rw is refl
+found_there (end name) events is = absurd (cc)
+found_there (leaf kind) events is = absurd (cc)
+
+dimensions_there : (event : Event) (events : List Event) → starts_data event ≡ true
+    → dimensions_in (event ∷ events) ≡ Ok None
+dimensions_there (start tag) events is = rw is refl
+dimensions_there (end name) events is = absurd (cc)
+dimensions_there (leaf kind) events is = absurd (cc)
+
+pub data_found : {all left events : List Event} {event : Event} {head : Head}
+    → KeepsHead all head left → left ≡ event ∷ events → starts_data event ≡ true
+    → behind_start is_sheet_data all ≡ Some events
+data_found {events = events} {event = event} keeps same is =
+    sym keeps.found ∙ ap (behind_start is_sheet_data) same ∙ found_there event events is
+
+pub dimensions_found : {all left events : List Event} {event : Event} {head : Head}
+    → KeepsHead all head left → left ≡ event ∷ events → starts_data event ≡ true
+    → dimensions_in all ≡ Ok head.dimensions
+dimensions_found {events = events} {event = event} {head = head} keeps same is =
+    sym keeps.dimensions
+    ∙ ap (or_earlier head.dimensions) (ap dimensions_in same ∙ dimensions_there event events is)
+
+-- ---- refusals
+
+named_dimension : (b : Bool) (tag : Tag) → b ≡ true
+    → (if b || false then area_of tag else Ok None) ≡ area_of tag
+named_dimension true tag is = refl
+named_dimension false tag is = absurd (cc)
+
+-- a start of this name tells the dimensions
+pub tells_dimensions : (tag : Tag) → bytes_eq (local_name_of tag.name) (codes "dimension") ≡ true
+    → dimensions_by tag ≡ area_of tag
+tells_dimensions tag is =
+    named_dimension (bytes_eq (local_name_of tag.name) (codes "dimension")) tag is
+
+pub start_refused : (answer : Result (Option Dimensions) Refusal) (error : XlsxError)
+    → IsRefused (λ (refusal : Refusal). answer ≡ Err refusal) error → IsStartRefused answer error
+start_refused answer OutOfMemory refuses = tt
+start_refused answer error refuses = refuses
+
+pub dimensions_refused : {all left events : List Event} {event : Event} {head : Head}
+    {refusal : Refusal} → KeepsHead all head left → left ≡ event ∷ events
+    → starts_data event ≡ false → dimensions_at event ≡ Err refusal
+    → dimensions_in all ≡ Err refusal
+dimensions_refused {events = events} {event = event} {head = head} keeps same none is =
+    sym keeps.dimensions
+    ∙ ap (or_earlier head.dimensions) (ap dimensions_in same ∙ dimensions_event event events none
+    ∙ ap (λ (answer : Result (Option Dimensions) Refusal). or_later answer (dimensions_in events))
+    is)
+
+-- a start before the data is refused, and so is the head
+pub head_refused : (old new : Reading) (answer : Result (Option Dimensions) Refusal)
+    (error : XlsxError) → IsStartRefused answer error
+    → (old.source.is_told ≡ true → (refusal : Refusal) → answer ≡ Err refusal
+    → dimensions_in (ahead old) ≡ Err refusal) → HeadFails old new error
+head_refused old new answer Io refuses all = absurd (refuses 0)
+head_refused old new answer OutOfMemory refuses all = tt
+head_refused old new answer (Xml (EndMismatch at)) refuses all = absurd (refuses 0)
+head_refused old new answer (XmlEof element) refuses all = absurd (refuses 0)
+head_refused old new answer (NotAWorksheet name) refuses all = absurd (refuses 0)
+head_refused old new answer error refuses all = λ told.
+    refused_weaker 0 0 (λ (refusal : Refusal). dimensions_in (ahead old) ≡ Err refusal)
+    (λ (refusal : Refusal). answer ≡ Err refusal) error (all told) refl (refuses 0)
+
+-- the part ends before the data
+pub head_ends : (old new : Reading) (other : Option (List ℕ)) (error : XlsxError)
+    → LacksData other error
+    → (old.source.is_told ≡ true → (whole (events_of old) ≡ events_of old)
+    × HasNoData (ahead old) × (other ≡ other_in (ahead old))) → HeadFails old new error
+head_ends old new other (XmlEof element) lacks ended = λ told.
+    let is = ended told in
+    (is.0, is.1, subst (λ (name : Option (List ℕ)). LacksData name (XmlEof element)) is.2 lacks)
+head_ends old new other (NotAWorksheet name) lacks ended = λ told.
+    let is = ended told in
+    (is.0, is.1, subst (λ (own : Option (List ℕ)). LacksData own (NotAWorksheet name)) is.2 lacks)
+head_ends old new other _ lacks ended = absurd lacks
+
+pub lacks_kind : (other : Option (List ℕ)) (error : XlsxError) → LacksData other error
+    → IsHeadError error
+lacks_kind other (XmlEof element) lacks = lacks.0
+lacks_kind other (NotAWorksheet name) lacks = tt
+lacks_kind other _ lacks = absurd lacks
+
+-- nothing is ahead of what was kept
+pub no_data : {all left : List Event} {head : Head} → KeepsHead all head left → left ≡ []
+    → HasNoData all
+no_data keeps same = sym keeps.found ∙ ap (behind_start is_sheet_data) same
+
+pub other_kept : {all left : List Event} {head : Head} → KeepsHead all head left → left ≡ []
+    → other_name head ≡ other_in all
+other_kept {head = head} keeps same =
+    sym (option_or_None (other_name head))
+    ∙ ap (λ (events : List Event). option_or (other_name head) (other_in events)) (sym same)
+    ∙ keeps.other
+
+-- the next event can't be taken
+pub next_refused : (old mid new : Reading) (head : Head) (error : StreamError) → ReadsOn old mid
+    → (old.source.is_told ≡ true → KeepsHead (ahead old) head (ahead mid))
+    → NextFails mid new error → HeadFails old new (of_stream error)
+next_refused old mid new head stream.Io reads keeps fails =
+    omega (arith, reads.stays.faults, fails)
+next_refused old mid new head stream.OutOfMemory reads keeps fails = tt
+next_refused old mid new head (stream.Xml (EndMismatch at)) reads keeps fails = λ told.
+    let cause = fails (reads.moves.parts.is_told ∙ told) in (
+      subst (λ (events : List Event). BreaksAt events at)
+          (cause.0.0 ∙ reads.stays.part told) cause.0.1,
+      no_data (keeps told) cause.1,
+    )
+next_refused old mid new head (stream.Xml (Unclosed at)) reads keeps fails = absurd fails
+next_refused old mid new head (stream.Xml (Entity at)) reads keeps fails = absurd fails
+
+pub next_kind : (old new : Reading) (error : StreamError) → NextFails old new error
+    → IsHeadError (of_stream error)
+next_kind old new stream.Io fails = tt
+next_kind old new stream.OutOfMemory fails = tt
+next_kind old new (stream.Xml (EndMismatch at)) fails = tt
+next_kind old new (stream.Xml (Unclosed at)) fails = absurd fails
+next_kind old new (stream.Xml (Entity at)) fails = absurd fails
+
+-- ---- for the reader of a whole part
+
+-- what is ahead of a reader that took nothing of its part
+pub ahead_at_first : (r : Reading) → r.source.past ≡ [] → ahead r ≡ whole (events_of r)
+ahead_at_first r fresh = rw fresh refl
+
+-- a part with a sheet's data, none of whose dimensions are refused, has no cause to be refused
+pub no_head_cause : (events ahead after : List Event) (dimensions : Option Dimensions)
+    (error : XlsxError) → behind_start is_sheet_data ahead ≡ Some after
+    → dimensions_in ahead ≡ Ok dimensions → HeadCause events ahead error → ⊥
+no_head_cause events ahead after dimensions (Xml (EndMismatch at)) found sound cause =
+    let none = cause.1 in
+    absurd (cc)
+no_head_cause events ahead after dimensions (XmlEof element) found sound cause =
+    let none = cause.1 in
+    absurd (cc)
+no_head_cause events ahead after dimensions (NotAWorksheet name) found sound cause =
+    let none = cause.1 in
+    absurd (cc)
+no_head_cause events ahead after dimensions error found sound cause =
+    never_refused 0 (λ (refusal : Refusal). dimensions_in ahead ≡ Err refusal) error
+    (λ refusal is. let other : Ok dimensions ≡ Err refusal = sym sound ∙ is in absurd (cc)) cause

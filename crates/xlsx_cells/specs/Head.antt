@@ -1,0 +1,150 @@
+-- The head of a sheet's part: what stands before the sheet's data, and what it says of the sheet's
+-- dimensions.
+use Rattle.std.specs.Prelude.{◌≡◌, ⊤, ℕ, List, [], ◌∷◌, Bool, false, if◌then◌else◌, codes, Option}
+use Rattle.std.specs.Prelude.{Some, None}
+use Rattle.std.specs.Prelude.{option_map, string_bytes, true, Result, Ok, Err}
+use Rattle.attr_text.specs.Attributes.{value_of, local_name_of}
+use Rattle.attr_text.specs.declared.fault.AttrFault.{AttrFault}
+use Rattle.cell_refs.specs.A1.{area}
+use Rattle.cell_refs.specs.declared.dimensions.Dimensions.{Dimensions}
+use Rattle.part_events.specs.Event.{Tag, Event, start, end, leaf}
+use Rattle.part_events.specs.Nesting.{whole}
+use Rattle.part_events.specs.Package.{HasCause}
+use Rattle.part_events.specs.Reading.{Reading, BreaksAt, ahead, events_of}
+use Rattle.part_events.specs.Section.{behind_start, is_named}
+use Rattle.part_events.specs.declared.fault.XmlFault.TheVariants.{EndMismatch}
+use Rattle.cell_data.specs.declared.error.XlsxError.{XlsxError}
+use Rattle.cell_data.specs.declared.error.XlsxError.TheVariants.{OutOfMemory, Io, Xml, XmlAttr}
+use Rattle.cell_data.specs.declared.error.XlsxError.TheVariants.{XmlEof}
+use Rattle.cell_data.specs.declared.error.XlsxError.TheVariants.{UnexpectedNode, NotAWorksheet}
+use Rattle.cell_data.specs.declared.error.XlsxError.TheVariants.{Alphanumeric, DimensionCount}
+use Rattle.cell_data.specs.declared.error.XlsxError.TheVariants.{RangeWithoutRowComponent}
+use Rattle.cell_data.specs.declared.error.XlsxError.TheVariants.{RangeWithoutColumnComponent}
+use Rattle.cell_data.specs.declared.error.XlsxError.TheVariants.{ColumnNumberOverflow}
+use Rattle.cell_data.specs.declared.error.XlsxError.TheVariants.{RowNumberOverflow}
+use Rattle.xlsx_sections.specs.Answers.{last_answer}
+use Rattle.xlsx_sections.specs.Refusal.{Refusal, RefusedAs, lookup_fault, lacks_area}
+use Rattle.xlsx_cells.specs.Counting.{IsRefused}
+use Rattle.xlsx_cells.specs.Position.{some_placed}
+use Rattle.xlsx_cells.specs.declared.head.Head.{Head}
+
+abbrev pub is_sheet_data : Tag → Bool
+is_sheet_data tag = is_named (codes "sheetData" ∷ []) tag
+
+abbrev pub is_dimension : Tag → Bool
+is_dimension tag = is_named (codes "dimension" ∷ []) tag
+
+-- the event is the start of a sheet's data
+abbrev pub starts_data : Event → Bool
+starts_data (start tag) = is_sheet_data tag
+starts_data (end name) = false
+starts_data (leaf kind) = false
+
+-- the starts before the first start of a sheet's data, or all where there is none
+abbrev pub head_starts : List Event → List Tag
+head_starts [] = []
+head_starts (start tag ∷ events) = if is_sheet_data tag then [] else tag ∷ head_starts events
+head_starts (end name ∷ events) = head_starts events
+head_starts (leaf kind ∷ events) = head_starts events
+
+abbrev pub area_by : Result (Option (List ℕ)) AttrFault → Result (Option Dimensions) Refusal
+area_by (Ok (Some written)) = some_placed (area written)
+area_by (Ok None) = Err lacks_area
+area_by (Err fault) = Err (lookup_fault fault)
+
+-- the area that the start of dimensions names
+abbrev pub area_of : Tag → Result (Option Dimensions) Refusal
+area_of tag = area_by (value_of (codes "ref") tag.attributes)
+
+-- what a start says of the sheet's dimensions, where it is there for that
+abbrev pub dimensions_by : Tag → Result (Option Dimensions) Refusal
+dimensions_by tag = if is_dimension tag then area_of tag else Ok None
+
+-- the last dimensions before the sheet's data
+abbrev pub dimensions_in : List Event → Result (Option Dimensions) Refusal
+dimensions_in events = last_answer dimensions_by (head_starts events)
+
+abbrev pub dimensions_at : Event → Result (Option Dimensions) Refusal
+dimensions_at (start tag) = dimensions_by tag
+dimensions_at (end name) = Ok None
+dimensions_at (leaf kind) = Ok None
+
+-- the dimensions that were found, or both ends at the first cell
+abbrev pub dimensions_or : Option Dimensions → Dimensions
+dimensions_or (Some found) = found
+dimensions_or None = record { start = (0, 0); end = (0, 0) }
+
+-- these are the sheet's dimensions, as its head says them
+abbrev pub AreDimensions : List Event → Dimensions → Type 0
+AreDimensions events area =
+    (found : Option Dimensions) × (dimensions_in events ≡ Ok found) × (area ≡ dimensions_or found)
+
+-- the first start that is no dimension: what the part is, if it is no worksheet
+abbrev pub first_other : List Tag → Option Tag
+first_other [] = None
+first_other (tag ∷ tags) = if is_dimension tag then first_other tags else Some tag
+
+-- its local name
+abbrev pub other_in : List Event → Option (List ℕ)
+other_in events = option_map (λ tag. local_name_of tag.name) (first_other (head_starts events))
+
+abbrev pub other_by : Tag → Option (List ℕ)
+other_by tag = if is_dimension tag then None else Some (local_name_of tag.name)
+
+abbrev pub other_at : Event → Option (List ℕ)
+other_at (start tag) = other_by tag
+other_at (end name) = None
+other_at (leaf kind) = None
+
+-- the name of another start that was kept
+abbrev pub other_name : Head → Option (List ℕ)
+other_name head = option_map string_bytes head.other
+
+-- a start before the data is refused, wherever it stands; want of memory may come at any of them
+abbrev pub IsStartRefused : Result (Option Dimensions) Refusal → XlsxError → Type 0
+IsStartRefused answer OutOfMemory = ⊤
+IsStartRefused answer error = IsRefused (λ refusal. answer ≡ Err refusal) error
+
+-- how a part without a sheet's data is refused, by the name of its first start that is no dimension
+abbrev pub LacksData : Option (List ℕ) → XlsxError → Type 0
+LacksData other (XmlEof element) = (element.now ≡ codes "worksheet") × (other ≡ None)
+LacksData other (NotAWorksheet name) = other ≡ Some (string_bytes name)
+LacksData other _ = ⊥
+
+abbrev pub HasNoData : List Event → Type 0
+HasNoData ahead = behind_start is_sheet_data ahead ≡ None
+
+-- Why the head of a sheet's part can't be read, by all events of the part and by those ahead of the
+-- reader: the nesting breaks or the part ends before the sheet's data, or dimensions are refused.
+abbrev pub HeadCause : List Event → List Event → XlsxError → Type 0
+HeadCause events ahead (Xml (EndMismatch at)) = BreaksAt events at × HasNoData ahead
+HeadCause events ahead (XmlEof element) =
+    (whole events ≡ events) × HasNoData ahead × LacksData (other_in ahead) (XmlEof element)
+HeadCause events ahead (NotAWorksheet name) =
+    (whole events ≡ events) × HasNoData ahead × LacksData (other_in ahead) (NotAWorksheet name)
+HeadCause events ahead error =
+    RefusedAs 0 (λ refusal. dimensions_in ahead ≡ Err refusal) error
+
+-- when the head can't be read; want of memory may come at any time
+abbrev pub HeadFails : Reading → Reading → XlsxError → Type 0
+HeadFails old new Io = HasCause old.source new.source
+HeadFails old new OutOfMemory = ⊤
+HeadFails old new error =
+    old.source.is_told ≡ true → HeadCause (events_of old) (ahead old) error
+
+-- the refusals that reading the head can have, whatever the package tells
+abbrev pub IsHeadError : XlsxError → Type 0
+IsHeadError OutOfMemory = ⊤
+IsHeadError Io = ⊤
+IsHeadError (Xml (EndMismatch at)) = ⊤
+IsHeadError (XmlEof element) = element.now ≡ codes "worksheet"
+IsHeadError (NotAWorksheet name) = ⊤
+IsHeadError (UnexpectedNode node) = node.now ≡ codes "dimension"
+IsHeadError (XmlAttr fault) = ⊤
+IsHeadError (Alphanumeric byte) = ⊤
+IsHeadError RangeWithoutRowComponent = ⊤
+IsHeadError RangeWithoutColumnComponent = ⊤
+IsHeadError ColumnNumberOverflow = ⊤
+IsHeadError RowNumberOverflow = ⊤
+IsHeadError (DimensionCount count) = ⊤
+IsHeadError _ = ⊥

@@ -1,0 +1,132 @@
+-- The part of a sheet: what its data say, and why they can't be read.
+use Rattle.std.specs.Prelude.{◌≡◌, ◌⊎◌, ⊤, ℕ, ◌+◌, ◌≤◌, List, [], ◌∷◌, length, true, codes, Option}
+use Rattle.std.specs.Prelude.{Some, None, Result, Ok, Err, map, string_bytes, IsSomeAnd, String}
+use Rattle.std.specs.declared.alloc.Global.{Global}
+use Rattle.cell_refs.specs.declared.dimensions.Dimensions.{Dimensions}
+use Rattle.part_events.specs.Event.{Event}
+use Rattle.part_events.specs.Nesting.{whole}
+use Rattle.part_events.specs.Package.{PackageState, SameParts, HasCause, part_of, events_in}
+use Rattle.part_events.specs.Reading.{events_of}
+use Rattle.part_events.specs.Section.{Element}
+use Rattle.cell_data.specs.CellValue.{CellValue, value_of_data}
+use Rattle.cell_data.specs.Cells.{cell_entry}
+use Rattle.cell_data.specs.declared.cell.Cell.{Cell}
+use Rattle.cell_data.specs.declared.error.XlsxError.{XlsxError}
+use Rattle.cell_data.specs.declared.error.XlsxError.TheVariants.{OutOfMemory, Io}
+use Rattle.cell_data.specs.declared.value.Data.{Data}
+use Rattle.xlsx_sections.specs.PartSection.{PartSection, SectionCause, SectionFails, section_left}
+use Rattle.xlsx_sections.specs.PartSection.{section_in, inside_of, has_end}
+use Rattle.xlsx_sections.specs.Refusal.{Refusal}
+use Rattle.xlsx_values.specs.Value.{Grounds}
+use Rattle.xlsx_formulas.specs.Formula.{FormulaText}
+use Rattle.xlsx_cells.specs.Ends.{end_in_data}
+use Rattle.xlsx_cells.specs.Head.{dimensions_in, dimensions_or, HeadCause}
+use Rattle.xlsx_cells.specs.Marks.{Mark, row_start, row_end, cell, marks}
+use Rattle.xlsx_cells.specs.Position.{row_named}
+use Rattle.xlsx_cells.specs.Sheet.{values_in, formulas_written, used_values, used_formulas}
+use Rattle.xlsx_cells.specs.Sheet.{formulas_along}
+use Rattle.xlsx_cells.specs.Stream.{Stream, IsStreaming, StandsBehind, IsCellRefused}
+use Rattle.xlsx_cells.specs.declared.children.Wants.{Wants}
+
+-- a mark of a sheet's data is refused, by the marks before it
+abbrev pub IsMarkRefused :
+    (List Mark → Element → Refusal → Type 0) → List Mark → List Mark → Refusal → Type 0
+IsMarkRefused refused before [] refusal = ⊥
+IsMarkRefused refused before (row_start tag ∷ marks) refusal =
+    (row_named tag ≡ Err refusal) ⊎ IsMarkRefused refused (row_start tag ∷ before) marks refusal
+IsMarkRefused refused before (row_end ∷ marks) refusal =
+    IsMarkRefused refused (row_end ∷ before) marks refusal
+IsMarkRefused refused before (cell element ∷ marks) refusal =
+    refused before element refusal ⊎ IsMarkRefused refused (cell element ∷ before) marks refusal
+
+-- why the data of a sheet are refused
+abbrev pub AreDataRefused : Wants → Grounds → PartSection → Refusal → Type 0
+AreDataRefused wants grounds s refusal =
+    IsMarkRefused (IsCellRefused wants grounds) [] (marks (inside_of s)) refusal
+
+abbrev pub DataCause : Wants → Grounds → PartSection → XlsxError → Type 0
+DataCause wants grounds s error =
+    SectionCause (end_in_data wants) (AreDataRefused wants grounds) s error
+
+-- when the rest of a sheet's data can't be read, behind whose start reading stands
+abbrev pub DataFails : Wants → Grounds → Stream → Stream → XlsxError → Type 0
+DataFails wants grounds old new error =
+    SectionFails (end_in_data wants) (AreDataRefused wants grounds) old.base old.reading
+    new.reading error
+
+-- why the part of a sheet can't be read: by its head, or by its data
+abbrev pub SheetPartCause : Wants → Grounds → List Event → XlsxError → Type 0
+SheetPartCause wants grounds events error =
+    HeadCause events (whole events) error
+    ⊎ IsSomeAnd (section_in (codes "sheetData") events)
+    (λ s. DataCause wants grounds s error)
+
+-- the part of a sheet is sound, with what its cells say
+pub record IsSoundSheet
+    (grounds : Grounds) (events : List Event) (values : List ((ℕ × ℕ) × CellValue))
+    (formulas : List ((ℕ × ℕ) × List FormulaText)) : Type 0 where
+  pub section : PartSection
+  pub area : Option Dimensions
+  pub found : section_in (codes "sheetData") events ≡ Some section
+  pub dimensions : dimensions_in (whole events) ≡ Ok area
+  pub closed : has_end section ≡ true
+  pub valued : values_in grounds (inside_of section) ≡ Ok values
+  pub written : formulas_written (inside_of section) ≡ Ok formulas
+
+-- the data of the sheet at a path were entered
+pub record EntersData (path : List ℕ) (area : Dimensions) (old : PackageState) (new : Stream)
+    : Type 0 where
+  pub streaming : IsStreaming new
+  pub fresh : StandsBehind [] [] new
+  pub parts : SameParts old new.reading.source
+  pub faults : new.reading.source.faults ≡ old.faults
+  pub taken :
+      old.is_told ≡ true →
+      new.reading.source.taken + length new.reading.source.rest
+      ≤ old.taken + events_in old.parts path
+  pub part : old.is_told ≡ true → part_of old.parts path ≡ Some (events_of new.reading)
+  pub section :
+      old.is_told ≡ true →
+      section_in (codes "sheetData") (events_of new.reading)
+      ≡ Some (section_left new.base new.reading)
+  pub dimensions :
+      old.is_told ≡ true →
+      (found : Option Dimensions) × (dimensions_in (whole (events_of new.reading)) ≡ Ok found)
+      × (area ≡ dimensions_or found)
+
+-- the head of the part at a path is refused, where there is one
+abbrev pub OptionalHeadCause : Option (List Event) → XlsxError → Type 0
+OptionalHeadCause None error = ⊥
+OptionalHeadCause (Some events) error = HeadCause events (whole events) error
+
+abbrev pub OpenDataFails : List ℕ → PackageState → PackageState → XlsxError → Type 0
+OpenDataFails path old new Io = HasCause old new
+OpenDataFails path old new OutOfMemory = ⊤
+OpenDataFails path old new error =
+    old.is_told ≡ true → OptionalHeadCause (part_of old.parts path) error
+
+-- cells as pairs of a position and what they hold
+abbrev pub value_entry : Cell Data → (ℕ × ℕ) × CellValue
+value_entry own = (own.pos, value_of_data own.val)
+
+abbrev pub value_entries : List (Cell Data) → List ((ℕ × ℕ) × CellValue)
+value_entries cells = map value_entry cells
+
+abbrev pub formula_entry : Cell (String Global) → (ℕ × ℕ) × List ℕ
+formula_entry own = (own.pos, string_bytes own.val)
+
+abbrev pub formula_entries : List (Cell (String Global)) → List ((ℕ × ℕ) × List ℕ)
+formula_entries cells = map formula_entry cells
+
+-- the values that count among those of a sheet's data, with the texts of shared strings
+abbrev pub HoldsValues :
+    Grounds → List Event → List ((ℕ × ℕ) × CellValue) → Type 0
+HoldsValues grounds inside found =
+    (all : List ((ℕ × ℕ) × CellValue)) × (values_in grounds inside ≡ Ok all)
+    × (found ≡ used_values grounds.strings all)
+
+-- and the formulas that count
+abbrev pub HoldsFormulas : List Event → List ((ℕ × ℕ) × List ℕ) → Type 0
+HoldsFormulas inside found =
+    (all : List ((ℕ × ℕ) × List FormulaText)) × (formulas_written inside ≡ Ok all)
+    × (found ≡ used_formulas (formulas_along [] all))

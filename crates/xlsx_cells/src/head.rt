@@ -1,0 +1,148 @@
+ghost use Rattle.std.specs.Prelude.{◌≡◌, ◌<◌, length, true, Some, None, Ok, IfOk, OnOk};
+ghost use Rattle.std.specs.Prelude.{IfErr};
+ghost use Rattle.std.specs.Option.{option_or};
+ghost use Rattle.part_events.specs.Event.{tag_of, event_of};
+ghost use Rattle.part_events.specs.Reading.{reading, open_elements, IsReading, IsAtElement};
+ghost use Rattle.part_events.specs.Reading.{ReadsPart, ahead};
+ghost use Rattle.part_events.specs.Section.{behind_start};
+ghost use Rattle.cell_data.specs.declared.error.XlsxError.TheVariants.{Io};
+ghost use Rattle.xlsx_sections.specs.Answers.{or_earlier};
+ghost use Rattle.xlsx_cells.specs.Counting.{IsRefused};
+ghost use Rattle.xlsx_cells.specs.Head.{is_sheet_data, starts_data, area_of, dimensions_by};
+ghost use Rattle.xlsx_cells.specs.Head.{dimensions_at, AreDimensions, other_by, other_at};
+ghost use Rattle.xlsx_cells.specs.Head.{other_name, IsStartRefused, LacksData, HeadFails};
+ghost use Rattle.xlsx_cells.specs.Head.{IsHeadError};
+
+use attr_text::RawAttributes;
+use cell_data::XlsxError;
+use cell_refs::{Dimensions, get_dimension};
+use part_events::{Cursor, Package, PartEvent, StartTag};
+use std::alloc::Global;
+
+/// Whether an event is the start of a sheet's data.
+fn starts_data(event: PartEvent<'_>) -> bool
+    ensures { result ≡ starts_data (event_of event.entry) }
+{
+    match event {
+        PartEvent::Start(tag) => tag.local_name() == "sheetData",
+        _ => false,
+    }
+}
+
+/// The area that the start of dimensions names.
+fn area_of(tag: StartTag<'_>) -> Result<Dimensions, XlsxError>
+    ensures ok { IfOk result (λ area. area_of (tag_of tag.entry) ≡ Ok (Some area)) }
+    ensures err { IfErr result (IsRefused (λ refusal. area_of (tag_of tag.entry) ≡ Err refusal)) }
+    ensures kind { IfErr result IsHeadError }
+{
+    match tag.raw_attr("ref")? {
+        Some(text) => Ok(get_dimension(text)?),
+        None => Err(XlsxError::UnexpectedNode("dimension")),
+    }
+}
+
+/// What the starts before a sheet's data say.
+#[derive(Debug, Drop)]
+struct Head {
+    dimensions: Option<Dimensions>,
+    /// The local name of the first start that is no dimension.
+    other: Option<String>,
+}
+
+impl Head {
+    fn new() -> Head
+        ensures dimensions { result.dimensions ≡ None }
+        ensures other { other_name result ≡ None }
+    {
+        Head {
+            dimensions: None,
+            other: None,
+        }
+    }
+
+    /// Takes a start that stands before the data.
+    fn take_start(&mut self, alloc: Global, tag: StartTag<'_>) -> Result<(), XlsxError>
+        ensures dimensions { let own = dimensions_by (tag_of tag.entry) in
+            OnOk result (or_earlier self.old.dimensions own ≡ Ok self.new.dimensions) }
+        ensures other { let own = other_by (tag_of tag.entry) in
+            OnOk result (other_name self.new ≡ option_or (other_name self.old) own) }
+        ensures err { IfErr result (IsStartRefused (dimensions_by (tag_of tag.entry))) }
+        ensures kind { IfErr result IsHeadError }
+    {
+        if tag.local_name() == "dimension" {
+            self.dimensions = Some(area_of(tag)?);
+        } else if self.other.is_none() {
+            self.other = Some(String::from_str(alloc, tag.local_name())?);
+        }
+        Ok(())
+    }
+
+    /// Takes an event that stands before the data.
+    fn take(&mut self, alloc: Global, event: PartEvent<'_>) -> Result<(), XlsxError>
+        ensures dimensions { let own = dimensions_at (event_of event.entry) in
+            OnOk result (or_earlier self.old.dimensions own ≡ Ok self.new.dimensions) }
+        ensures other { let own = other_at (event_of event.entry) in
+            OnOk result (other_name self.new ≡ option_or (other_name self.old) own) }
+        ensures err { IfErr result (IsStartRefused (dimensions_at (event_of event.entry))) }
+        ensures kind { IfErr result IsHeadError }
+    {
+        match event {
+            PartEvent::Start(tag) => self.take_start(alloc, tag),
+            PartEvent::End(_)
+            | PartEvent::Text(_)
+            | PartEvent::CharData(_)
+            | PartEvent::EntityRef(_)
+            | PartEvent::Other => Ok(()),
+        }
+    }
+
+    /// The refusal of a part that ends before the data.
+    fn lacks_data(self) -> XlsxError
+        ensures { LacksData (other_name self) result }
+    {
+        match self.other {
+            Some(name) => XlsxError::NotAWorksheet(name),
+            None => XlsxError::XmlEof("worksheet"),
+        }
+    }
+}
+
+/// Reads on behind the first start of a sheet's data (ECMA-376 part 1, 18.3.1.80), and answers the
+/// sheet's dimensions: the area of the last `dimension` (18.3.1.35) before the data, and without
+/// one both ends at row 0 and column 0.
+///
+/// A `dimension` without `ref` is refused as UnexpectedNode, one whose `ref` names no area by the
+/// fault of that text. Where the part ends before the data, the refusal is NotAWorksheet with the
+/// local name of the part's first start that is no `dimension`, and XmlEof where there is none.
+pub fn enter_data<P: Package>(
+    alloc: Global,
+    package: &mut P,
+    cursor: &mut Cursor,
+) -> Result<Dimensions, XlsxError>
+    requires reading { IsReading (reading (P.state «package».old) cursor.old) }
+    ensures reads { let old = reading (P.state «package».old) cursor.old in
+        let new = reading (P.state «package».new) cursor.new in
+        ReadsPart Io result old new }
+    ensures element { OnOk result (IsAtElement (reading (P.state «package».new) cursor.new)) }
+    ensures deep { OnOk result (0 < length (open_elements cursor.new)) }
+    ensures found { let old = reading (P.state «package».old) cursor.old in
+        let new = reading (P.state «package».new) cursor.new in
+        old.source.is_told ≡ true →
+        OnOk result (behind_start is_sheet_data (ahead old) ≡ Some (ahead new)) }
+    ensures dimensions { let old = reading (P.state «package».old) cursor.old in
+        old.source.is_told ≡ true → IfOk result (AreDimensions (ahead old)) }
+    ensures err { let old = reading (P.state «package».old) cursor.old in
+        let new = reading (P.state «package».new) cursor.new in
+        IfErr result (HeadFails old new) }
+    ensures kind { IfErr result IsHeadError }
+{
+    let mut head = Head::new();
+    'events: while cursor.next(package)? {
+        let event = package.event();
+        if starts_data(event) {
+            return Ok(head.dimensions.unwrap_or_default());
+        }
+        head.take(alloc, event)?;
+    }
+    Err(head.lacks_data())
+}
