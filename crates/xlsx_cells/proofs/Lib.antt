@@ -1,5 +1,6 @@
 pub mod CellsRead
 pub mod ChildrenRead
+pub mod Collecting
 pub mod CountersMoved
 pub mod HeadRead
 pub mod MarksAhead
