@@ -6,3 +6,4 @@ pub mod HeadRead
 pub mod MarksAhead
 pub mod Passing
 pub mod Refusing
+pub mod SheetEntered

@@ -87,5 +87,17 @@ pub fn open_data<P: Package>(
         (OpenDataFails path.now (P.state «package».old) (P.state «package».new)) }
     ensures kind { IfErr result IsHeadError }
 {
-    Err(XlsxError::OutOfMemory)
+    if !package.open(path)? {
+        return Ok(None);
+    }
+    let mut cursor = Cursor::new(alloc, package);
+    let dimensions = enter_data(alloc, package, &mut cursor)?;
+    let base = cursor.depth();
+    let sheet = SheetCursor {
+        cursor,
+        base,
+        counters: Counters::new(),
+        masters: Masters::new(alloc),
+    };
+    Ok(Some((sheet, dimensions)))
 }
