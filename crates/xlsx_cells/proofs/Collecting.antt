@@ -263,11 +263,10 @@ pub values_whole : (wants : Wants) (grounds : Grounds) (old now : Stream)
     → HasCollected wants grounds old now values formulas → EndsData now → wants.values ≡ true
     → HoldsValues grounds (data_ahead old) values
 values_whole wants grounds old now values formulas been ends wanted =
-    let so_far = been.valued wanted in
-    (
+    let so_far = been.valued wanted in (
       so_far.passed,
       answers_whole (placed_value grounds) so_far.passed been.before (marks_ahead now) _ ends.rows
-      so_far.all,
+          so_far.all,
       so_far.used,
     )
 
@@ -276,11 +275,10 @@ pub formulas_whole : (wants : Wants) (grounds : Grounds) (old now : Stream)
     → HasCollected wants grounds old now values formulas → EndsData now → wants.formulas ≡ true
     → HoldsFormulas (data_ahead old) formulas
 formulas_whole wants grounds old now values formulas been ends wanted =
-    let so_far = been.listed wanted in
-    (
+    let so_far = been.listed wanted in (
       so_far.passed,
       answers_whole placed_formulas so_far.passed been.before (marks_ahead now) _ ends.rows
-      so_far.all,
+          so_far.all,
       so_far.used,
     )
 

@@ -10,9 +10,9 @@ ghost use Rattle.xlsx_cells.specs.Errors.{IsCellError};
 ghost use Rattle.xlsx_cells.specs.SheetPart.{DataFails, HoldsValues, HoldsFormulas, value_entries, formula_entries};
 ghost use Rattle.xlsx_cells.specs.Stream.{stream, IsStreaming, StandsBehind, data_ahead, are_closed_ahead};
 
+use crate::cell_read::CellRead;
 use crate::children::Asked;
 use crate::sheet_cursor::SheetCursor;
-use crate::cell_read::CellRead;
 use cell_data::{Cell, Data, DataRef, XlsxError};
 use part_events::Package;
 use std::alloc::Global;

@@ -213,8 +213,8 @@ fn open_at<P: Package>(alloc: Global, package: &mut P, path: &str) -> Result<Ope
 /// The workbook of a package.
 ///
 /// The package's relationships lead to it, the last one to an office document with a target being
-/// taken. Relationships of the workbook are by Id, of which the last stands. Each section is read to
-/// its end and no further. (ECMA-376 part 2, section 9.3, and part 1, sections 18.2 and 18.4.)
+/// taken. Relationships of the workbook are by Id, of which the last stands. Each section is read
+/// to its end and no further. (ECMA-376 part 2, section 9.3, and part 1, sections 18.2 and 18.4.)
 ///
 /// The shared strings are read first, and a package with styles is refused as `NotBuilt`.
 pub fn open<P: Package>(alloc: Global, package: &mut P) -> Result<Opened, XlsxError>

@@ -52,7 +52,8 @@ cells-preserved g c =
           let takes : TakesCell been.before been.earlier mid new
           (IsRead wants grounds been.earlier read) =
           rw c.in-Some.is at (c.in_ok-read.ensures.takes
-          (now.keeps.section.reads.moves.parts.is_told ∙ told) been.before been.earlier been.stands) in
+          (now.keeps.section.reads.moves.parts.is_told
+          ∙ told) been.before been.earlier been.stands) in
           rw (c.in_ok-keep_value.ensures.value, c.in_ok-keep_formula.ensures.formula)
           (collected_further wants grounds old mid new (value_entries c.cells.cells.values.items)
           (formula_entries c.cells.cells.formulas.items) read been takes);
