@@ -2,11 +2,13 @@
 #![tactic(auto)]
 
 mod error;
+mod escaping;
 mod input;
 mod listing;
 mod package_text;
 mod program;
 mod run;
+mod sheet_listing;
 mod sink;
 mod source;
 #[cfg(test)]
