@@ -288,8 +288,13 @@ module _ {X : Type 0} where
   no_longer : (p : ℕ × ℕ) (v : Option X) (cells behind : List (Cell X)) →
       Splits p cells v behind → length behind ≤ length cells
   no_longer p v cells behind splits =
-      omega (arith, given_length p v (placed_cells behind), ap length splits.whole,
-      length-map cells cell_entry, length-map behind cell_entry)
+      omega (
+        arith,
+        given_length p v (placed_cells behind),
+        ap length splits.whole,
+        length-map cells cell_entry,
+        length-map behind cell_entry,
+      )
 
   not_below : (p : ℕ × ℕ) (es : List ((ℕ × ℕ) × X)) → IsOfFirst p es →
       below_all position_cmp p es ≡ true → ⊥
@@ -314,9 +319,12 @@ module _ {X : Type 0} where
   first_shorter : (p : ℕ × ℕ) (v : Option X) (cells behind : List (Cell X)) →
       IsOfFirst p (placed_cells cells) → Splits p cells v behind → length behind < length cells
   first_shorter p v cells behind first splits =
-      omega (arith,
-      first_longer p v (placed_cells cells) (placed_cells behind) first splits.whole splits.below,
-      length-map cells cell_entry, length-map behind cell_entry)
+      omega (
+        arith,
+        first_longer p v (placed_cells cells) (placed_cells behind) first splits.whole splits.below,
+        length-map cells cell_entry,
+        length-map behind cell_entry,
+      )
 
 -- each step leaves fewer cells
 pub shorter : {X Y : Type 0} (p : ℕ × ℕ) (v : Option X) (f : Option Y)
@@ -324,10 +332,16 @@ pub shorter : {X Y : Type 0} (p : ℕ × ℕ) (v : Option X) (f : Option Y)
     Splits p values v vs → Splits p formulas f fs →
     length vs + length fs < length values + length formulas
 shorter p v f values vs formulas fs first splits_v splits_f = elim first.is_used [
-  | inl of_values ↦ omega (arith, first_shorter p v values vs of_values splits_v,
-      no_longer p f formulas fs splits_f)
-  | inr of_formulas ↦ omega (arith, first_shorter p f formulas fs of_formulas splits_f,
-      no_longer p v values vs splits_v)
+  | inl of_values ↦ omega (
+    arith,
+    first_shorter p v values vs of_values splits_v,
+    no_longer p f formulas fs splits_f,
+  )
+  | inr of_formulas ↦ omega (
+    arith,
+    first_shorter p f formulas fs of_formulas splits_f,
+    no_longer p v values vs splits_v,
+  )
 ]
 
 order_behind : {X : Type 0} (cell : Cell X) (behind : List (Cell X)) →

@@ -9,6 +9,8 @@ mod package_text;
 mod program;
 mod run;
 mod sheet_listing;
+#[cfg(test)]
+mod sheet_listing_tests;
 mod sink;
 mod source;
 #[cfg(test)]

@@ -141,7 +141,7 @@ fn push_line(
     requires in_rows { position.0 < 1048576 }
     requires in_columns { position.1 < 16384 }
     ensures { let printed = line_of position (value_given (option_copied value.entry))
-            (formula_given (option_copied formula.entry)) in
+        (formula_given (option_copied formula.entry)) in
         OnOk result (string_bytes out.new ≡ string_bytes out.old ++ printed) }
 {
     if !has_value(value) && !has_formula(formula) {
@@ -195,7 +195,7 @@ fn push_lines(
     requires values { AreInOrder values.now }
     requires formulas { AreInOrder formulas.now }
     ensures { let printed = listing (values_in (placed_cells values.now))
-            (formulas_in (placed_cells formulas.now)) in
+        (formulas_in (placed_cells formulas.now)) in
         OnOk result (string_bytes out.new ≡ string_bytes out.old ++ printed) }
 {
     let mut values_left = values;
@@ -218,7 +218,7 @@ pub fn push_listing(
     formulas: &Range<String>,
 ) -> Result<(), AllocError>
     ensures { let printed = listing (values_in (cells_of values.now))
-            (formulas_in (cells_of formulas.now)) in
+        (formulas_in (cells_of formulas.now)) in
         OnOk result (string_bytes out.new ≡ string_bytes out.old ++ printed) }
 {
     push_lines(out, values.used(), formulas.used())
