@@ -1,6 +1,5 @@
 pub mod Escaped
 pub mod Input
-pub mod Listing
 pub mod MemoryForms
 pub mod PackageText
 pub mod Program

@@ -4,7 +4,6 @@
 mod error;
 mod escaping;
 mod input;
-mod listing;
 mod package_text;
 mod program;
 mod run;

@@ -223,3 +223,18 @@ pub fn push_listing(
 {
     push_lines(out, values.used(), formulas.used())
 }
+
+/// The lines of a sheet's values and formulas.
+pub fn listing_of(
+    alloc: Global,
+    values: &Range<Data>,
+    formulas: &Range<String>,
+) -> Result<String, AllocError>
+    ensures { let printed = listing (values_in (cells_of values.now))
+        (formulas_in (cells_of formulas.now)) in
+        IfOk result (λ out. string_bytes out ≡ printed) }
+{
+    let mut out = String::new(alloc);
+    push_listing(&mut out, values, formulas)?;
+    Ok(out)
+}
