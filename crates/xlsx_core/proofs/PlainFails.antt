@@ -6,10 +6,12 @@ use Rattle.part_events.specs.Event.{Event}
 use Rattle.part_events.specs.Package.{Part, PackageState, SameParts, part_of}
 use Rattle.cell_data.specs.declared.error.XlsxError.{XlsxError}
 use Rattle.cell_data.specs.declared.error.XlsxError.TheVariants.{OutOfMemory, Io, NotBuilt, WorksheetNotFound}
+use Rattle.xlsx_sections.specs.Elements.{IsInsideRefused}
 use Rattle.xlsx_sections.specs.PartSection.{PartSection, always, section_in, StartCause, SectionCause, OptionalPartCause}
 use Rattle.xlsx_sections.specs.Refusal.{Refusal}
+use Rattle.xlsx_strings.specs.Strings.{strings_in, end_in_strings}
 use Rattle.xlsx_open.specs.Opening.{Opening, ListedSheet, listed_sheet, without_path, HoldsOpening, OpensAs, IsBuilt, OpeningCause, OpeningFails}
-use Rattle.xlsx_open.specs.Paths.{folder_of, workbook_part, relationships_part}
+use Rattle.xlsx_open.specs.Paths.{folder_of, workbook_part, relationships_part, strings_part}
 use Rattle.xlsx_open.specs.Relationships.{IsPathRefused, AreRelationshipsRefused}
 use Rattle.xlsx_open.specs.Sheets.{PlacedSheet}
 use Rattle.xlsx_open.specs.Workbook.{AreContentsRefused}
@@ -86,9 +88,9 @@ pub record ListsPath (name : List ℕ) (path : Option (List ℕ)) (parts : List 
   pub listed : path ≡ path_named name opening.sheets
   pub opens : OpensAs parts opening
 
-pub lists_path : {metadata : Metadata} {paths : List (String Global)} {is_1904 : Bool}
+pub lists_path : {metadata : Metadata} {paths strings : List (String Global)} {is_1904 : Bool}
     {parts : List Part} (name : List ℕ) (opening : Opening)
-    → HoldsOpening metadata paths is_1904 opening → OpensAs parts opening
+    → HoldsOpening metadata paths strings is_1904 opening → OpensAs parts opening
     → ListsPath name (path_listed name metadata.sheets.items paths) parts
 lists_path {metadata = metadata} {paths = paths} name opening holds opens = record {
   opening = opening;
@@ -179,9 +181,12 @@ opens_without_sheets parts asked (inl cause) =
     part_without_sheets (codes "Relationships") (always (codes "Relationships")) IsPathRefused
     (part_of parts (codes "_rels/.rels")) asked cause
 opens_without_sheets parts asked (inr (path, found, inl cause)) =
+    part_without_sheets (codes "sst") end_in_strings (IsInsideRefused strings_in)
+    (part_of parts (strings_part path)) asked cause
+opens_without_sheets parts asked (inr (path, found, inr (inl cause))) =
     part_without_sheets (codes "Relationships") (always (codes "Relationships"))
     AreRelationshipsRefused (part_of parts (relationships_part path)) asked cause
-opens_without_sheets parts asked (inr (path, found, inr (related, has, cause))) =
+opens_without_sheets parts asked (inr (path, found, inr (inr (related, has, cause)))) =
     part_without_sheets (codes "workbook") (always (codes "workbook"))
     (AreContentsRefused (folder_of path) related) (part_of parts (workbook_part path)) asked cause
 

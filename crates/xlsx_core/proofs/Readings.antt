@@ -6,7 +6,7 @@ use Rattle.part_events.specs.Package.{Part, part_of}
 use Rattle.cell_data.specs.declared.error.XlsxError.{XlsxError}
 use Rattle.cell_data.specs.declared.error.XlsxError.TheVariants.{NotBuilt, WorksheetNotFound}
 use Rattle.xlsx_open.specs.Opening.{Opening, HasRelationships, HasWorkbook, IsOpening, OpensAs, HasNothing, IsBuilt, IsNotBuilt}
-use Rattle.xlsx_open.specs.Paths.{folder_of, workbook_part, strings_part, styles_part}
+use Rattle.xlsx_open.specs.Paths.{folder_of, workbook_part, styles_part}
 use Rattle.xlsx_core.specs.PlainScan.{cells_from, beginning}
 use Rattle.xlsx_core.specs.PlainSheet.{PlainCell, IsPlainSheet}
 use Rattle.xlsx_open.specs.Relationships.{Related}
@@ -81,14 +81,10 @@ never_absent : {A : Type 0} (o : Option A) → o ≡ None → IsSome o → ⊥
 never_absent o none some = let there = rw none at some in absurd cc
 
 built_or_not : (parts : List Part) → IsBuilt parts → IsNotBuilt parts → ⊥
-built_or_not parts built (path, found, inl strings) =
-    never_absent (part_of parts (strings_part path))
-    (ap (λ (p : List ℕ). part_of parts (strings_part p))
-    (same_path parts path built.path found built.found) ∙ built.lacks.no_strings) strings
-built_or_not parts built (path, found, inr styles) =
+built_or_not parts built (path, found, styles) =
     never_absent (part_of parts (styles_part path))
     (ap (λ (p : List ℕ). part_of parts (styles_part p))
-    (same_path parts path built.path found built.found) ∙ built.lacks.no_styles) styles
+    (same_path parts path built.path found built.found) ∙ built.no_styles) styles
 
 other_form_never : (parts : List Part) (name : List ℕ) (cells : List PlainCell)
     → ReadsAs parts name cells → HasOtherForm parts name → ⊥

@@ -301,3 +301,46 @@ fn faults_of_the_package_are_told(rt: HostRuntime) -> Result<(), Fail> {
     }
     Ok(())
 }
+
+#[test]
+fn shared_strings_are_read(rt: HostRuntime) -> Result<(), Fail> {
+    let alloc = rt.alloc();
+    let strings = "<sst><si><t>zero</t></si><si/><si><t>t</t><r><t>wo</t></r></si></sst>";
+    let package = package_of(
+        alloc,
+        &[
+            ROOT,
+            RELATIONSHIPS,
+            WORKBOOK,
+            ("XL\\sharedstrings.xml", strings),
+        ],
+    )?;
+    match Xlsx::new(alloc, package) {
+        Ok(xlsx) => {
+            for (index, want) in [
+                (0, Some("zero")),
+                (1, Some("")),
+                (2, Some("two")),
+                (3, None),
+                (usize::MAX, None),
+            ] {
+                assert_eq!(rt; xlsx.shared_string(index), want, "at {index}");
+            }
+        }
+        Err(failure) => assert_eq!(rt; failure.error.to_string(alloc)?.as_str(), ""),
+    }
+    let package = package_of(
+        alloc,
+        &[
+            ROOT,
+            RELATIONSHIPS,
+            WORKBOOK,
+            ("xl/sharedStrings.xml", "<sst><si><t>a"),
+        ],
+    )?;
+    assert_eq!(rt;
+        told(alloc, package)?.as_str(),
+        "Unexpected end of xml, expecting '</t>'"
+    );
+    Ok(())
+}

@@ -204,7 +204,7 @@ fn the_first_sheet_of_a_name_counts(rt: HostRuntime) -> Result<(), Fail> {
 
 /// Parts that stand before those of the minimal package, and the answer.
 const MORE: [((&str, &str), &str); 15] = [
-    (("xl/sharedStrings.xml", ""), "NotBuilt"),
+    (("xl/sharedStrings.xml", ""), "XmlEof(\"sst\")"),
     (("xl/styles.xml", ""), "NotBuilt"),
     ((r"XL\Styles.xml", "<styleSheet/>"), "NotBuilt"),
     (("sharedStrings.xml", ""), "(0,0:nut)"),

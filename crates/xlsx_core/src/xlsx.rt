@@ -1,4 +1,4 @@
-ghost use Rattle.std.specs.Prelude.{◌≡◌, true, MatchResult, IfOk, OnOk, IfErr};
+ghost use Rattle.std.specs.Prelude.{◌≡◌, true, map, option_map, slice_get, string_bytes, MatchResult, IfOk, OnOk, IfErr};
 ghost use Rattle.part_events.specs.Package.{SameParts, KeepsFaults};
 ghost use Rattle.cell_data.specs.declared.error.XlsxError.TheVariants.{Io};
 ghost use Rattle.xlsx_open.specs.Opening.{Opening, HoldsOpening, OpensAs, OpensSoundly, IsBuilt, IsOpeningError, OpensFrom, FailsToOpen, OpeningFails, SoundFails};
@@ -19,6 +19,7 @@ pub struct Xlsx<P: Package> {
     package: P,
     metadata: Metadata,
     paths: Vec<String>,
+    strings: Vec<String>,
     is_1904: bool,
     alloc: Global,
 }
@@ -37,7 +38,7 @@ impl<P: Package> Xlsx<P> {
     /// The package's relationships lead to the workbook, the last one to an office document with a target being taken.
     /// Relationships of the workbook are by Id, of which the last stands. Each section is read to its end and no further.
     ///
-    /// A package with shared strings or styles is refused as not built yet.
+    /// The shared strings are read first, and a package with styles is refused as not built yet.
     pub fn new(alloc: Global, package: P) -> Result<Xlsx<P>, OpenFailure<P>>
         ensures uses { MatchResult result
             (λ xlsx. OpensFrom (P.state «package») (P.state xlsx.package))
@@ -45,7 +46,7 @@ impl<P: Package> Xlsx<P> {
             FailsToOpen Io (P.state «package») (P.state failure.package) failure.error) }
         ensures opens { let old = P.state «package» in
             old.is_told ≡ true → IfOk result (λ xlsx. (opening : Opening)
-            × HoldsOpening xlsx.metadata xlsx.paths.items xlsx.is_1904 opening
+            × HoldsOpening xlsx.metadata xlsx.paths.items xlsx.strings.items xlsx.is_1904 opening
             × OpensAs old.parts opening) }
         ensures built { (P.state «package»).is_told ≡ true → OnOk result (IsBuilt (P.state «package»).parts) }
         ensures err { IfErr result (λ failure.
@@ -61,6 +62,7 @@ impl<P: Package> Xlsx<P> {
                 package,
                 metadata: opened.metadata,
                 paths: opened.paths,
+                strings: opened.strings,
                 is_1904: opened.is_1904,
                 alloc,
             }),
@@ -72,7 +74,7 @@ impl<P: Package> Xlsx<P> {
     pub(crate) fn thin_cells(&mut self, name: &str) -> Result<Vec<ThinCell>, XlsxError>
         ensures keeps { SameParts (P.state self.old.package) (P.state self.new.package) }
         ensures rest { (self.new.metadata ≡ self.old.metadata) × (self.new.paths ≡ self.old.paths)
-            × (self.new.is_1904 ≡ self.old.is_1904) }
+            × (self.new.strings ≡ self.old.strings) × (self.new.is_1904 ≡ self.old.is_1904) }
         ensures faults { OnOk result ((P.state self.new.package).faults ≡ (P.state self.old.package).faults) }
         ensures cells { let old = P.state self.old.package in
             let path = path_listed name.now self.old.metadata.sheets.items self.old.paths.items in
@@ -100,6 +102,7 @@ impl<P: Package> Xlsx<P> {
             package,
             metadata: _,
             paths: _,
+            strings: _,
             is_1904: _,
             alloc: _,
         } = self;
@@ -111,6 +114,14 @@ impl<P: Package> Xlsx<P> {
         ensures { result ≡ (P.state self.now.package).faults }
     {
         self.package.faults()
+    }
+
+    /// The shared string at this index, counted from 0.
+    pub fn shared_string(&self, index: usize) -> Option<&str>
+        ensures { option_map (λ text. text.now) result
+            ≡ slice_get (map string_bytes self.now.strings.items) index }
+    {
+        Some(self.strings.get(index)?.as_str())
     }
 
     /// Whether dates count from 1904, and not from 1900.
