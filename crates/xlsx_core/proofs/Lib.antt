@@ -1,7 +1,9 @@
 pub mod Fronts
+pub mod LastOfEach
 pub mod PlainFails
 pub mod PlainRead
 pub mod PlainWritten
 pub mod Readings
+pub mod SheetsRead
 pub mod Spelled
 pub mod Taking

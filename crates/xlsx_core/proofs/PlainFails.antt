@@ -18,12 +18,14 @@ use Rattle.xlsx_open.specs.Workbook.{AreContentsRefused}
 use Rattle.xlsx_open.specs.declared.sheet.Metadata.{Metadata}
 use Rattle.xlsx_open.specs.declared.sheet.Sheet.{Sheet}
 use Rattle.xlsx_core.specs.Opened.{path_listed}
-use Rattle.xlsx_core.specs.PlainPart.{CellsFail, OfSheet, HasCells, SheetFails, events_at}
+use Rattle.xlsx_core.specs.PlainPart.{CellsFail, OfSheet, HasCells, SheetFails}
 use Rattle.xlsx_core.specs.PlainScan.{cells_from, beginning}
 use Rattle.xlsx_core.specs.PlainSheet.{PlainCell, IsPlainSheet}
-use Rattle.xlsx_core.specs.ThinReading.{path_named, events_named, ReadsAs, HasOtherForm, ThinFails}
+use Rattle.xlsx_core.specs.SheetReading.{path_named, events_at, events_named}
+use Rattle.xlsx_core.specs.ThinReading.{ReadsAs, HasOtherForm, ThinFails}
 use Rattle.xlsx_core.proofs.PlainRead.{read_sheet}
 use Rattle.xlsx_core.proofs.PlainWritten.{written_sheet}
+use Rattle.xlsx_core.proofs.SheetsRead.{listed_is_named}
 
 -- what was answered of a part that is there
 pub some_there : {A : Type 0} (found : Bool) (asked : Option A) (there : A) → found ≡ true → asked
@@ -59,28 +61,6 @@ some_of : {A : Type 0} (o : Option A) (fact : A → Type 0) → IsSomeAnd o fact
     × (o ≡ Some x) × fact x
 some_of None fact is = absurd is
 some_of (Some x) fact is = (x, refl, is)
-
--- the path that stands in the list of paths is that of the opening
-listed_is_named : (name : List ℕ) (sheets : List Sheet) (paths : List (String Global))
-    (placed : List PlacedSheet) → map listed_sheet sheets ≡ map without_path placed
-    → map string_bytes paths ≡ map (λ (sheet : PlacedSheet). sheet.path) placed
-    → path_listed name sheets paths ≡ path_named name placed
-listed_is_named name [] paths [] listed there = refl
-listed_is_named name [] paths (own ∷ placed) listed there = absurd (cc)
-listed_is_named name (sheet ∷ sheets) paths [] listed there = absurd (cc)
-listed_is_named name (sheet ∷ sheets) [] (own ∷ placed) listed there = absurd (cc)
-listed_is_named name (sheet ∷ sheets) (path ∷ paths) (own ∷ placed) listed there =
-    let head : listed_sheet sheet ≡ without_path own = cc in
-    let named : string_bytes sheet.name ≡ own.name = ap (λ (one : ListedSheet). one.name) head in
-    let others : map listed_sheet sheets ≡ map without_path placed = cc in
-    let here : string_bytes path ≡ own.path = cc in
-    let further : map string_bytes paths ≡ map (λ (one : PlacedSheet). one.path) placed = cc in
-    ap (λ (one : List ℕ). if bytes_eq one name then Some (string_bytes path) else path_listed name
-    sheets paths) named
-    ∙ ap (λ (one : List ℕ). if bytes_eq own.name name then Some one else path_listed name sheets
-    paths) here
-    ∙ ap (λ (rest : Option (List ℕ)). if bytes_eq own.name name then Some own.path else rest)
-    (listed_is_named name sheets paths placed others further)
 
 -- a workbook that opened, in whose lists the sheet of a name has its part at this path
 pub record ListsPath (name : List ℕ) (path : Option (List ℕ)) (parts : List Part) : Type 0 where

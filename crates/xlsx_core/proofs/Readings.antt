@@ -12,7 +12,8 @@ use Rattle.xlsx_core.specs.PlainSheet.{PlainCell, IsPlainSheet}
 use Rattle.xlsx_open.specs.Relationships.{Related}
 use Rattle.xlsx_sections.specs.PartSection.{closed_section_of}
 use Rattle.xlsx_open.specs.Sheets.{PlacedSheet}
-use Rattle.xlsx_core.specs.ThinReading.{events_named, ReadsAs, LacksSheet, HasOtherForm, ThinCause}
+use Rattle.xlsx_core.specs.SheetReading.{events_named, LacksSheet}
+use Rattle.xlsx_core.specs.ThinReading.{ReadsAs, HasOtherForm, ThinCause}
 use Rattle.xlsx_core.proofs.PlainWritten.{written_sheet}
 use Rattle.xlsx_open.proofs.Sound.{both_at, same_path, same_related, no_cause}
 

@@ -6,6 +6,7 @@ use Rattle.cell_data.specs.declared.error.XlsxError.{XlsxError}
 use Rattle.cell_data.specs.declared.error.XlsxError.TheVariants.{OutOfMemory, Io, NotBuilt, WorksheetNotFound}
 use Rattle.xlsx_core.specs.PlainSheet.{PlainCell, IsPlainSheet}
 use Rattle.xlsx_core.specs.PlainScan.{cells_from, beginning}
+use Rattle.xlsx_core.specs.SheetReading.{events_at}
 
 -- why the cells of the open part aren't read
 abbrev pub CellsFail : PackageState → PackageState → XlsxError → Type 0
@@ -13,10 +14,6 @@ CellsFail old new OutOfMemory = ⊤
 CellsFail old new Io = HasCause old new
 CellsFail old new NotBuilt = old.is_told ≡ true → cells_from beginning old.rest ≡ None
 CellsFail old new _ = ⊥
-
--- what stands in the part at a path, where there is one
-abbrev pub events_at : Option (List ℕ) → List Part → Option (List Event)
-events_at path parts = option_and_then (part_of parts) path
 
 -- what is said of the part at a path, which is there
 abbrev pub OfSheet : Option (List ℕ) → List Part → (List Event → Type 0) → Type 0

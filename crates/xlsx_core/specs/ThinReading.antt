@@ -5,20 +5,9 @@ use Rattle.part_events.specs.Event.{Event}
 use Rattle.part_events.specs.Package.{Part, PackageState}
 use Rattle.cell_data.specs.declared.error.XlsxError.{XlsxError}
 use Rattle.cell_data.specs.declared.error.XlsxError.TheVariants.{NotBuilt, WorksheetNotFound}
-use Rattle.xlsx_core.specs.PlainPart.{events_at}
 use Rattle.xlsx_open.specs.Opening.{Opening, OpensAs, IsBuilt, IsNotBuilt, IsOpeningError, OpeningCause, OpeningFails}
 use Rattle.xlsx_core.specs.PlainSheet.{PlainCell, IsPlainSheet}
-use Rattle.xlsx_open.specs.Sheets.{PlacedSheet}
-
--- where the part of the first sheet of this name is
-abbrev pub path_named : List ℕ → List PlacedSheet → Option (List ℕ)
-path_named name [] = None
-path_named name (sheet ∷ sheets) =
-    if bytes_eq sheet.name name then Some sheet.path else path_named name sheets
-
--- what stands in that part
-abbrev pub events_named : List ℕ → List PlacedSheet → List Part → Option (List Event)
-events_named name sheets parts = events_at (path_named name sheets) parts
+use Rattle.xlsx_core.specs.SheetReading.{events_named, LacksSheet}
 
 -- the workbook opens, and its sheet of this name has these cells
 pub record ReadsAs (parts : List Part) (name : List ℕ) (cells : List PlainCell) : Type 0 where
@@ -32,12 +21,6 @@ pub record ReadsAs (parts : List Part) (name : List ℕ) (cells : List PlainCell
 -- the package has a sheet of this name that is read
 abbrev pub IsReadable : List Part → List ℕ → Type 0
 IsReadable parts name = (cells : List PlainCell) × ReadsAs parts name cells
-
--- the workbook opens, and has no sheet of this name, or the sheet has no part
-pub record LacksSheet (parts : List Part) (name : List ℕ) : Type 0 where
-  pub opening : Opening
-  pub opens : OpensAs parts opening
-  pub none : events_named name opening.sheets parts ≡ None
 
 -- the workbook opens, and the part of its sheet of this name isn't in plain form
 pub record HasOtherForm (parts : List Part) (name : List ℕ) : Type 0 where

@@ -1,11 +1,13 @@
 ghost use Rattle.std.specs.Prelude.{◌≡◌, ◌++◌, option_map, option_to_list, true, if◌then◌else◌, Some, None, IfOk, OnOk, IfErr, OnErr};
 ghost use Rattle.part_events.specs.Package.{SameParts, KeepsFaults, HasCause};
 ghost use Rattle.xlsx_core.specs.Opened.{path_listed};
-ghost use Rattle.xlsx_core.specs.PlainPart.{CellsFail, HasCells, SheetFails, events_at};
+ghost use Rattle.xlsx_core.specs.PlainPart.{CellsFail, HasCells, SheetFails};
+ghost use Rattle.xlsx_core.specs.SheetReading.{events_at};
 ghost use Rattle.xlsx_core.specs.PlainScan.{cells_from, beginning};
 ghost use Rattle.cell_data.specs.declared.error.XlsxError.TheVariants.{Io};
 ghost use Rattle.xlsx_core.specs.ThinCell.{cell_of, cells_of};
 
+use crate::placed_sheet::path_named;
 use crate::scan::SheetScan;
 use crate::thin::ThinCell;
 use cell_data::XlsxError;
@@ -41,21 +43,6 @@ fn take_cells<P: Package>(alloc: Global, package: &mut P) -> Result<Vec<ThinCell
     } else {
         Err(XlsxError::NotBuilt)
     }
-}
-
-/// The path of the first sheet of this name.
-fn path_named<'a>(sheets: &[Sheet], paths: &'a [String], name: &str) -> Option<&'a str>
-    ensures { option_map (λ path. path.now) result ≡ path_listed name.now sheets.now paths.now }
-{
-    let mut rest = paths;
-    for sheet in sheets {
-        let (path, others) = rest.split_first()?;
-        if sheet.name.as_str() == name {
-            return Some(path.as_str());
-        }
-        rest = others;
-    }
-    None
 }
 
 /// Opens the part of the first sheet of this name. Answers false where there is no such sheet, or no such part.

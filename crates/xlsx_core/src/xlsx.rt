@@ -4,14 +4,19 @@ ghost use Rattle.cell_data.specs.declared.error.XlsxError.TheVariants.{Io};
 ghost use Rattle.xlsx_open.specs.Opening.{Opening, HoldsOpening, OpensAs, OpensSoundly, IsBuilt, IsOpeningError, OpensFrom, FailsToOpen, OpeningFails, SoundFails};
 ghost use Rattle.xlsx_core.specs.Opened.{path_listed};
 ghost use Rattle.xlsx_core.specs.PlainPart.{HasCells, SheetFails};
+ghost use Rattle.xlsx_core.specs.SheetReading.{grounds_with, PlacedSheetFails, IsPlacedError};
+ghost use Rattle.xlsx_core.specs.SheetReading.{ReadsPlaced};
 ghost use Rattle.xlsx_core.specs.ThinCell.{cells_of};
 
+use crate::placed_sheet::{path_named, read_placed};
 use crate::plain::sheet_cells;
+use crate::sheet_reading::SheetReading;
 use crate::thin::ThinCell;
 use cell_data::XlsxError;
 use part_events::Package;
 use std::alloc::Global;
 use xlsx_open::{Metadata, open};
+use xlsx_values::Book;
 
 /// An open workbook, and the package that it is read from.
 #[derive(Drop)]
@@ -92,6 +97,38 @@ impl<P: Package> Xlsx<P> {
             &self.paths,
             name,
         )
+    }
+
+    /// The values and the formulas of the first sheet of this name.
+    pub(crate) fn sheet(&mut self, name: &str) -> Result<SheetReading, XlsxError>
+        ensures keeps { SameParts (P.state self.old.package) (P.state self.new.package) }
+        ensures rest { (self.new.metadata ≡ self.old.metadata) × (self.new.paths ≡ self.old.paths)
+            × (self.new.strings ≡ self.old.strings) × (self.new.is_1904 ≡ self.old.is_1904) }
+        ensures faults { OnOk result
+            ((P.state self.new.package).faults ≡ (P.state self.old.package).faults) }
+        ensures reads { let old = P.state self.old.package in
+            let path =
+            path_listed name.now self.old.metadata.sheets.items self.old.paths.items in
+            let grounds =
+            grounds_with (map string_bytes self.old.strings.items) self.old.is_1904 in
+            old.is_told ≡ true → IfOk result (ReadsPlaced grounds path old.parts) }
+        ensures err { let path =
+            path_listed name.now self.old.metadata.sheets.items self.old.paths.items in
+            let grounds =
+            grounds_with (map string_bytes self.old.strings.items) self.old.is_1904 in
+            IfErr result (PlacedSheetFails name.now grounds path (P.state self.old.package)
+            (P.state self.new.package)) }
+        ensures counts { IfErr result
+            (KeepsFaults Io (P.state self.old.package) (P.state self.new.package)) }
+        ensures kind { IfErr result (IsPlacedError name.now) }
+    {
+        let path = path_named(&self.metadata.sheets, &self.paths, name);
+        let book = Book {
+            strings: &self.strings,
+            formats: &[],
+            is_1904: self.is_1904,
+        };
+        read_placed(self.alloc, &mut self.package, path, name, book)
     }
 
     /// The package, as it is now.

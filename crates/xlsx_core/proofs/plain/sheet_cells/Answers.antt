@@ -1,8 +1,9 @@
 use Rattle.std.proofs.Common.{◌≡◌, ◌∙◌, Some}
 use Rattle.std.proofs.lemmas.Result.{IfOk-weaker, IfErr-weaker}
 use Rattle.xlsx_core.specs.Opened.{path_listed}
-use Rattle.xlsx_core.specs.PlainPart.{CellsFail, HasCells, SheetFails, events_at}
+use Rattle.xlsx_core.specs.PlainPart.{CellsFail, HasCells, SheetFails}
 use Rattle.xlsx_core.specs.PlainScan.{cells_from, beginning}
+use Rattle.xlsx_core.specs.SheetReading.{events_at}
 use Rattle.xlsx_core.specs.ThinCell.{cells_of}
 use Rattle.xlsx_core.proofs.PlainFails.{some_there, has_cells, sheet_fails}
 use Rattle.xlsx_core.proofs.plain.sheet_cells.Goals as goal

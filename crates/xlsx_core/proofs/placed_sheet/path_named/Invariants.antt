@@ -1,6 +1,6 @@
 use Rattle.std.proofs.Common.{◌≡◌, drop}
 use Rattle.xlsx_core.specs.Opened.{path_listed}
-use Rattle.xlsx_core.proofs.plain.path_named.Given as goal
+use Rattle.xlsx_core.proofs.placed_sheet.path_named.Given as goal
 
 abbrev pub invariant-loop-sheet : goal.invariant-loop-sheet
 invariant-loop-sheet l =

@@ -1,0 +1,222 @@
+-- How a sheet of an open workbook is read, and refusals that are handed on.
+use Rattle.std.proofs.Common.{◌≡◌, ℕ, List, [], ◌∷◌, Bool, true, map, refl, sym, ◌∙◌, ap, subst, arith}
+use Rattle.std.proofs.Common.{inl, inr, Option, Some, None, String, Global, string_bytes}
+use Rattle.std.specs.Prelude.{if◌then◌else◌, IsSomeAnd}
+use Rattle.std.specs.Str.{bytes_eq}
+use Rattle.cell_refs.specs.declared.dimensions.Dimensions.{Dimensions}
+use Rattle.part_events.specs.Event.{Event}
+use Rattle.part_events.specs.Package.{Part, PackageState, SameParts, part_of}
+use Rattle.cell_data.specs.CellValue.{CellValue}
+use Rattle.cell_data.specs.Positions.{last_of_each}
+use Rattle.cell_data.specs.declared.error.XlsxError.{XlsxError}
+use Rattle.cell_data.specs.declared.error.XlsxError.TheVariants.{OutOfMemory, Io, NotBuilt}
+use Rattle.cell_data.specs.declared.error.XlsxError.TheVariants.{WorksheetNotFound}
+use Rattle.xlsx_sections.specs.PartSection.{PartSection, section_left}
+use Rattle.xlsx_values.specs.Value.{Grounds}
+use Rattle.xlsx_cells.specs.Errors.{IsCellError}
+use Rattle.xlsx_cells.specs.SheetPart.{SheetPartCause, DataCause, DataFails, EntersData}
+use Rattle.xlsx_cells.specs.SheetPart.{HoldsValues, HoldsFormulas}
+use Rattle.xlsx_cells.specs.Stream.{Stream, data_ahead, are_closed_ahead}
+use Rattle.xlsx_open.specs.Opening.{Opening, ListedSheet, listed_sheet, without_path}
+use Rattle.xlsx_open.specs.Opening.{HoldsOpening, OpensAs, IsBuilt, IsOpeningError, OpeningFails}
+use Rattle.xlsx_open.specs.Sheets.{PlacedSheet}
+use Rattle.xlsx_open.specs.declared.sheet.Metadata.{Metadata}
+use Rattle.xlsx_open.specs.declared.sheet.Sheet.{Sheet}
+use Rattle.xlsx_core.specs.Opened.{path_listed}
+use Rattle.xlsx_core.specs.SheetReading.{path_named, events_at, events_named, grounds_with}
+use Rattle.xlsx_core.specs.SheetReading.{grounds_by, both_wanted, HoldsSheet, ReadsAs}
+use Rattle.xlsx_core.specs.SheetReading.{SheetFails, PlacedSheetFails}
+
+-- ---- the data of a sheet that was found
+
+abbrev EntersAt : Option (List ℕ) → Dimensions → PackageState → Stream → Type 0
+EntersAt path area old mid = IsSomeAnd path (λ there. EntersData there area old mid)
+
+-- the data were entered, and the rest of them is refused
+pub data_refused : (name : List ℕ) (grounds : Grounds) (path : Option (List ℕ))
+    (area : Dimensions) (old : PackageState) (mid new : Stream) (error : XlsxError)
+    → EntersAt path area old mid → IsCellError error → DataFails both_wanted grounds mid new error
+    → PlacedSheetFails name grounds path old new.reading.source error
+data_refused name grounds None area old mid new error enters kind fails = absurd enters
+data_refused name grounds (Some path) area old mid new Io enters kind fails =
+    omega (arith, enters.faults, fails)
+data_refused name grounds (Some path) area old mid new OutOfMemory enters kind fails = tt
+data_refused name grounds (Some path) area old mid new NotBuilt enters kind fails = absurd kind
+data_refused name grounds (Some path) area old mid new (WorksheetNotFound asked) enters kind
+    fails = absurd kind
+data_refused name grounds (Some path) area old mid new error enters kind fails = λ told.
+    let cause : DataCause both_wanted grounds (section_left mid.base mid.reading) error =
+    fails (enters.parts.is_told ∙ told) in
+    subst (λ (part : Option (List Event)). IsSomeAnd part
+    (λ events. SheetPartCause both_wanted grounds events error)) (sym (enters.part told))
+    (inr (subst (λ (found : Option PartSection). IsSomeAnd found
+    (λ s. DataCause both_wanted grounds s error)) (sym (enters.section told)) cause))
+
+-- the data were read to their end
+pub reads_placed : (grounds : Grounds) (path : Option (List ℕ)) (area : Dimensions)
+    (old : PackageState) (mid : Stream) (values own_values : List ((ℕ × ℕ) × CellValue))
+    (formulas own_formulas : List ((ℕ × ℕ) × List ℕ)) → EntersAt path area old mid
+    → old.is_told ≡ true → are_closed_ahead mid ≡ true
+    → HoldsValues grounds (data_ahead mid) own_values → HoldsFormulas (data_ahead mid) own_formulas
+    → values ≡ last_of_each own_values → formulas ≡ last_of_each own_formulas
+    → IsSomeAnd (events_at path old.parts)
+    (λ events. HoldsSheet grounds events values formulas)
+reads_placed grounds None area old mid values own_values formulas own_formulas enters told closed
+    has_values has_formulas valued listed = absurd enters
+reads_placed grounds (Some path) area old mid values own_values formulas own_formulas enters told
+    closed has_values has_formulas valued listed =
+    let dimensions = enters.dimensions told in
+    subst (λ (part : Option (List Event)). IsSomeAnd part
+    (λ events. HoldsSheet grounds events values formulas)) (sym (enters.part told)) (record {
+      all = has_values.0;
+      written = has_formulas.0;
+      sheet = record {
+        section = section_left mid.base mid.reading;
+        area = dimensions.0;
+        found = enters.section told;
+        dimensions = dimensions.1;
+        closed = closed;
+        valued = has_values.1;
+        written = has_formulas.1;
+      };
+      valued = valued ∙ ap last_of_each has_values.2;
+      listed = listed ∙ ap last_of_each has_formulas.2;
+    })
+
+-- ---- the sheet of a workbook that opens
+
+some_of : {A : Type 0} (o : Option A) (fact : A → Type 0) → IsSomeAnd o fact → (x : A)
+    × (o ≡ Some x) × fact x
+some_of None fact is = absurd is
+some_of (Some x) fact is = (x, refl, is)
+
+-- the path that stands in the list of paths is that of the opening
+pub listed_is_named : (name : List ℕ) (sheets : List Sheet) (paths : List (String Global))
+    (placed : List PlacedSheet) → map listed_sheet sheets ≡ map without_path placed
+    → map string_bytes paths ≡ map (λ (sheet : PlacedSheet). sheet.path) placed
+    → path_listed name sheets paths ≡ path_named name placed
+listed_is_named name [] paths [] listed there = refl
+listed_is_named name [] paths (own ∷ placed) listed there = absurd (cc)
+listed_is_named name (sheet ∷ sheets) paths [] listed there = absurd (cc)
+listed_is_named name (sheet ∷ sheets) [] (own ∷ placed) listed there = absurd (cc)
+listed_is_named name (sheet ∷ sheets) (path ∷ paths) (own ∷ placed) listed there =
+    let head : listed_sheet sheet ≡ without_path own = cc in
+    let named : string_bytes sheet.name ≡ own.name = ap (λ (one : ListedSheet). one.name) head in
+    let others : map listed_sheet sheets ≡ map without_path placed = cc in
+    let here : string_bytes path ≡ own.path = cc in
+    let further : map string_bytes paths ≡ map (λ (one : PlacedSheet). one.path) placed = cc in
+    ap (λ (one : List ℕ). if bytes_eq one name then Some (string_bytes path) else path_listed name
+    sheets paths) named
+    ∙ ap (λ (one : List ℕ). if bytes_eq own.name name then Some one else path_listed name sheets
+    paths) here
+    ∙ ap (λ (rest : Option (List ℕ)). if bytes_eq own.name name then Some own.path else rest)
+    (listed_is_named name sheets paths placed others further)
+
+-- a workbook that opened: in its lists the sheet of a name has its part at this path, and the
+-- values of its cells rest on these grounds
+pub record OpensPlaced
+    (name : List ℕ) (path : Option (List ℕ)) (grounds : Grounds) (parts : List Part) : Type 0 where
+  pub opening : Opening
+  pub opens : OpensAs parts opening
+  pub listed : path ≡ path_named name opening.sheets
+  pub rests : grounds ≡ grounds_by opening
+
+pub opens_placed : {metadata : Metadata} {paths strings : List (String Global)} {is_1904 : Bool}
+    {parts : List Part} (name : List ℕ) (opening : Opening)
+    → HoldsOpening metadata paths strings is_1904 opening → OpensAs parts opening
+    → OpensPlaced name (path_listed name metadata.sheets.items paths)
+    (grounds_with (map string_bytes strings) is_1904) parts
+opens_placed {metadata = metadata} {paths = paths} {strings = strings} {is_1904 = is_1904} name
+    opening holds opens = record {
+      opening = opening;
+      opens = opens;
+      listed = listed_is_named name metadata.sheets.items paths opening.sheets holds.sheets
+          holds.paths;
+      rests = ap (λ (own : List (List ℕ)). grounds_with own is_1904) holds.strings
+          ∙ ap (grounds_with opening.strings) holds.epoch;
+    }
+
+-- what is said of the part of its sheet
+of_opening : (name : List ℕ) (path : Option (List ℕ)) (grounds : Grounds) (parts : List Part)
+    (opens : OpensPlaced name path grounds parts) (fact : Grounds → List Event → Type 0)
+    → IsSomeAnd (events_at path parts) (fact grounds) → (events : List Event)
+    × (events_named name opens.opening.sheets parts ≡ Some events)
+    × fact (grounds_by opens.opening) events
+of_opening name path grounds parts opens fact has =
+    let there = some_of (events_at path parts) (fact grounds) has in (
+      there.0,
+      ap (λ (own : Option (List ℕ)). events_at own parts) (sym opens.listed) ∙ there.1,
+      subst (λ (own : Grounds). fact own there.0) opens.rests there.2,
+    )
+
+pub reads_as : (name : List ℕ) (path : Option (List ℕ)) (grounds : Grounds)
+    (old mid : PackageState) (values : List ((ℕ × ℕ) × CellValue))
+    (formulas : List ((ℕ × ℕ) × List ℕ)) → SameParts old mid
+    → OpensPlaced name path grounds old.parts → IsBuilt old.parts
+    → IsSomeAnd (events_at path mid.parts)
+    (λ events. HoldsSheet grounds events values formulas)
+    → ReadsAs old.parts name values formulas
+reads_as name path grounds old mid values formulas same opens built has =
+    let holds : Grounds → List Event → Type 0 = λ own events.
+    HoldsSheet own events values formulas in
+    let there = of_opening name path grounds old.parts opens holds
+    (subst (λ (parts : List Part). IsSomeAnd (events_at path parts) (holds grounds)) same.parts
+    has) in
+    record {
+      opening = opens.opening;
+      events = there.0;
+      all = there.2.all;
+      written = there.2.written;
+      opens = opens.opens;
+      built = built;
+      found = there.1;
+      sheet = there.2.sheet;
+      valued = there.2.valued;
+      listed = there.2.listed;
+    }
+
+-- a workbook that opens, and whose sheet isn't read
+pub sheet_fails : (name : List ℕ) (path : Option (List ℕ)) (grounds : Grounds)
+    (old mid new : PackageState) (error : XlsxError) → SameParts old mid
+    → mid.faults ≡ old.faults
+    → (old.is_told ≡ true → OpensPlaced name path grounds old.parts)
+    → PlacedSheetFails name grounds path mid new error → SheetFails name old new error
+sheet_fails name path grounds old mid new OutOfMemory same faults opens fails = tt
+sheet_fails name path grounds old mid new Io same faults opens fails = rw faults at fails
+sheet_fails name path grounds old mid new NotBuilt same faults opens fails = absurd fails
+sheet_fails name path grounds old mid new (WorksheetNotFound asked) same faults opens fails =
+    λ told.
+    let none : events_at path old.parts ≡ None =
+    ap (λ (parts : List Part). events_at path parts) (sym same.parts)
+    ∙ fails.1 (same.is_told ∙ told) in
+    let here = opens told in (
+      fails.0,
+      record {
+        opening = here.opening;
+        opens = here.opens;
+        none = ap (λ (own : Option (List ℕ)). events_at own old.parts) (sym here.listed) ∙ none;
+      },
+    )
+sheet_fails name path grounds old mid new error same faults opens fails = λ told.
+    let here = opens told in
+    let fact : Grounds → List Event → Type 0 = λ own events.
+    SheetPartCause both_wanted own events error in
+    let there = of_opening name path grounds old.parts here fact
+    (subst (λ (parts : List Part). IsSomeAnd (events_at path parts) (fact grounds)) same.parts
+    (fails (same.is_told ∙ told))) in
+    inr (record {
+      opening = here.opening;
+      events = there.0;
+      opens = here.opens;
+      found = there.1;
+      cause = there.2;
+    })
+
+-- a workbook that doesn't open
+pub sheet_unopened : (name : List ℕ) (old new : PackageState) (error : XlsxError)
+    → IsOpeningError error → OpeningFails old new error → SheetFails name old new error
+sheet_unopened name old new Io kind fails = fails
+sheet_unopened name old new OutOfMemory kind fails = tt
+sheet_unopened name old new NotBuilt kind fails = fails
+sheet_unopened name old new (WorksheetNotFound asked) kind fails = absurd kind
+sheet_unopened name old new error kind fails = λ told. inl (fails told)

@@ -1,0 +1,45 @@
+use Rattle.std.proofs.Common.{sym, subst, ◌∙◌, map, string_bytes}
+use Rattle.std.proofs.lemmas.Result.{IfOk-weaker, IfErr-weaker}
+use Rattle.xlsx_core.specs.Opened.{path_listed}
+use Rattle.xlsx_core.specs.SheetReading.{grounds_with, value_pairs, formula_pairs, ReadsAs}
+use Rattle.xlsx_core.specs.SheetReading.{ReadsPlaced, SheetFails, PlacedSheetFails}
+use Rattle.xlsx_core.proofs.SheetsRead.{opens_placed, reads_as, sheet_fails}
+use Rattle.xlsx_core.proofs.sheet_reading.read_sheet.Goals as goal
+
+pub returns-in-Ok-clause-reading : goal.returns-in-Ok-clause-reading
+returns-in-Ok-clause-reading g c = λ told.
+    let xlsx = c.in-Ok.xlsx in
+    let old = g.P.Package.state c.args.package in
+    let mid = g.P.Package.state xlsx.package in
+    let name = c.args.name.now in
+    let path = path_listed name xlsx.metadata.sheets.items xlsx.paths.items in
+    let grounds = grounds_with (map string_bytes xlsx.strings.items) xlsx.is_1904 in
+    let opened = c.in-Ok.ensures.opens told in
+    let same = c.in-Ok.ensures.uses.parts in
+    IfOk-weaker c.sheet-result.result (ReadsPlaced grounds path mid.parts)
+    (λ found. ReadsAs old.parts name (value_pairs found.values) (formula_pairs found.formulas))
+    (λ found has. reads_as name path grounds old mid (value_pairs found.values)
+    (formula_pairs found.formulas) same (opens_placed name opened.0 opened.1 opened.2)
+    (c.in-Ok.ensures.built told) has)
+    (c.sheet-result.ensures.reads (same.is_told ∙ told))
+
+pub returns-in-Ok-clause-err : goal.returns-in-Ok-clause-err
+returns-in-Ok-clause-err g c =
+    let xlsx = c.in-Ok.xlsx in
+    let old = g.P.Package.state c.args.package in
+    let mid = g.P.Package.state xlsx.package in
+    let new = g.P.Package.state c.into_package.result in
+    let name = c.args.name.now in
+    let path = path_listed name xlsx.metadata.sheets.items xlsx.paths.items in
+    let grounds = grounds_with (map string_bytes xlsx.strings.items) xlsx.is_1904 in
+    IfErr-weaker c.sheet-result.result
+    (PlacedSheetFails name grounds path mid
+    (g.P.Package.state c.sheet-result.new.self.package))
+    (SheetFails name old new)
+    (λ e fails. sheet_fails name path grounds old mid new e c.in-Ok.ensures.uses.parts
+    c.in-Ok.ensures.uses.faults
+    (λ told. let opened = c.in-Ok.ensures.opens told in
+    opens_placed name opened.0 opened.1 opened.2)
+    (subst (λ there. PlacedSheetFails name grounds path mid (g.P.Package.state there) e)
+    (sym c.into_package.ensures) fails))
+    c.sheet-result.ensures.err

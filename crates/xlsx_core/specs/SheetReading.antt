@@ -1,0 +1,154 @@
+-- The reading of one sheet of a workbook that opens.
+use Rattle.std.specs.Prelude.{◌≡◌, ◌⊎◌, ⊤, ℕ, List, [], ◌∷◌, true, if◌then◌else◌, Option, Some, None}
+use Rattle.std.specs.Prelude.{Bool, map, option_and_then, string_bytes, IsSomeAnd, String}
+use Rattle.std.specs.Str.{bytes_eq}
+use Rattle.std.specs.declared.alloc.Global.{Global}
+use Rattle.part_events.specs.Event.{Event}
+use Rattle.part_events.specs.Package.{Part, PackageState, HasCause, part_of}
+use Rattle.cell_data.specs.CellValue.{CellValue, value_of_data}
+use Rattle.cell_data.specs.Positions.{last_of_each}
+use Rattle.cell_data.specs.Range.{cells_of}
+use Rattle.cell_data.specs.declared.error.XlsxError.{XlsxError}
+use Rattle.cell_data.specs.declared.error.XlsxError.TheVariants.{OutOfMemory, Io, NotBuilt}
+use Rattle.cell_data.specs.declared.error.XlsxError.TheVariants.{WorksheetNotFound}
+use Rattle.cell_data.specs.declared.range.Range.{Range}
+use Rattle.cell_data.specs.declared.value.Data.{Data}
+use Rattle.xlsx_values.specs.Value.{Grounds}
+use Rattle.xlsx_formulas.specs.Formula.{FormulaText}
+use Rattle.xlsx_cells.specs.Errors.{IsCellError}
+use Rattle.xlsx_cells.specs.Head.{IsHeadError}
+use Rattle.xlsx_cells.specs.Sheet.{values_in, formulas_written, used_values, used_formulas}
+use Rattle.xlsx_cells.specs.Sheet.{formulas_along}
+use Rattle.xlsx_cells.specs.SheetPart.{SheetPartCause, IsSoundSheet}
+use Rattle.xlsx_cells.specs.declared.children.Wants.{Wants}
+use Rattle.xlsx_open.specs.Opening.{Opening, OpensAs, IsBuilt, IsNotBuilt, IsOpeningError}
+use Rattle.xlsx_open.specs.Opening.{OpeningCause}
+use Rattle.xlsx_open.specs.Sheets.{PlacedSheet}
+use Rattle.xlsx_core.specs.declared.sheet_reading.SheetReading.{SheetReading}
+
+-- where the part of the first sheet of this name is
+abbrev pub path_named : List ℕ → List PlacedSheet → Option (List ℕ)
+path_named name [] = None
+path_named name (sheet ∷ sheets) =
+    if bytes_eq sheet.name name then Some sheet.path else path_named name sheets
+
+-- what stands in the part at a path, where there is one
+abbrev pub events_at : Option (List ℕ) → List Part → Option (List Event)
+events_at path parts = option_and_then (part_of parts) path
+
+-- what stands in the part of the first sheet of this name
+abbrev pub events_named : List ℕ → List PlacedSheet → List Part → Option (List Event)
+events_named name sheets parts = events_at (path_named name sheets) parts
+
+-- what the values of cells rest on, where styles aren't read
+abbrev pub grounds_with : List (List ℕ) → Bool → Grounds
+grounds_with strings is_1904 = record { strings = strings; formats = []; is_1904 = is_1904 }
+
+abbrev pub grounds_by : Opening → Grounds
+grounds_by opening = grounds_with opening.strings opening.is_1904
+
+-- values and formulas are read together
+abbrev pub both_wanted : Wants
+both_wanted = record { values = true; formulas = true }
+
+-- a position with what something is at it
+abbrev pub with_meaning : {X Y : Type 0} → (X → Y) → (ℕ × ℕ) × X → (ℕ × ℕ) × Y
+with_meaning meaning entry = (entry.0, meaning entry.1)
+
+-- the cells of a range as pairs of a position and what they hold
+abbrev pub value_pairs : Range Data → List ((ℕ × ℕ) × CellValue)
+value_pairs range = map (with_meaning value_of_data) (cells_of range)
+
+abbrev pub formula_pairs : Range (String Global) → List ((ℕ × ℕ) × List ℕ)
+formula_pairs range = map (with_meaning string_bytes) (cells_of range)
+
+-- the part of a sheet is sound, and these are the last value and the last formula at each position
+pub record HoldsSheet
+    (grounds : Grounds) (events : List Event) (values : List ((ℕ × ℕ) × CellValue))
+    (formulas : List ((ℕ × ℕ) × List ℕ)) : Type 0 where
+  pub all : List ((ℕ × ℕ) × CellValue)
+  pub written : List ((ℕ × ℕ) × List FormulaText)
+  pub sheet : IsSoundSheet grounds events all written
+  pub valued : values ≡ last_of_each (used_values grounds.strings all)
+  pub listed : formulas ≡ last_of_each (used_formulas (formulas_along [] written))
+
+-- the workbook opens, and its sheet of this name has these values and these formulas
+pub record ReadsAs
+    (parts : List Part) (name : List ℕ) (values : List ((ℕ × ℕ) × CellValue))
+    (formulas : List ((ℕ × ℕ) × List ℕ)) : Type 0 where
+  pub opening : Opening
+  pub events : List Event
+  pub all : List ((ℕ × ℕ) × CellValue)
+  pub written : List ((ℕ × ℕ) × List FormulaText)
+  pub opens : OpensAs parts opening
+  pub built : IsBuilt parts
+  pub found : events_named name opening.sheets parts ≡ Some events
+  pub sheet : IsSoundSheet (grounds_by opening) events all written
+  pub valued : values ≡ last_of_each (used_values opening.strings all)
+  pub listed : formulas ≡ last_of_each (used_formulas (formulas_along [] written))
+
+-- the package has a sheet of this name that is read
+abbrev pub IsReadable : List Part → List ℕ → Type 0
+IsReadable parts name =
+    (values : List ((ℕ × ℕ) × CellValue)) × (formulas : List ((ℕ × ℕ) × List ℕ))
+    × ReadsAs parts name values formulas
+
+-- the workbook opens, and has no sheet of this name, or the first such sheet has no part
+pub record LacksSheet (parts : List Part) (name : List ℕ) : Type 0 where
+  pub opening : Opening
+  pub opens : OpensAs parts opening
+  pub none : events_named name opening.sheets parts ≡ None
+
+-- the workbook opens, and the part of its sheet of this name can't be read
+pub record HasPartCause (parts : List Part) (name : List ℕ) (error : XlsxError) : Type 0 where
+  pub opening : Opening
+  pub events : List Event
+  pub opens : OpensAs parts opening
+  pub found : events_named name opening.sheets parts ≡ Some events
+  pub cause : SheetPartCause both_wanted (grounds_by opening) events error
+
+-- why the sheet of this name isn't read
+abbrev pub SheetCause : List Part → List ℕ → XlsxError → Type 0
+SheetCause parts name NotBuilt = IsNotBuilt parts
+SheetCause parts name (WorksheetNotFound asked) =
+    (string_bytes asked ≡ name) × LacksSheet parts name
+SheetCause parts name error = OpeningCause parts error ⊎ HasPartCause parts name error
+
+-- when the reading of the sheet of this name is refused; want of memory may come at any time
+abbrev pub SheetFails : List ℕ → PackageState → PackageState → XlsxError → Type 0
+SheetFails name old new Io = HasCause old new
+SheetFails name old new OutOfMemory = ⊤
+SheetFails name old new error = old.is_told ≡ true → SheetCause old.parts name error
+
+-- the refusals that reading a sheet that is found can have, whatever the package tells
+abbrev pub IsPartError : XlsxError → Type 0
+IsPartError error = IsHeadError error ⊎ IsCellError error
+
+-- those that the reading of the sheet of this name can have
+abbrev pub IsSheetError : List ℕ → XlsxError → Type 0
+IsSheetError name (WorksheetNotFound asked) = string_bytes asked ≡ name
+IsSheetError name error = IsOpeningError error ⊎ IsPartError error
+
+-- When a sheet of an open workbook isn't read: it has this name and this path, where it is there.
+abbrev pub PlacedSheetFails :
+    List ℕ → Grounds → Option (List ℕ) → PackageState → PackageState → XlsxError → Type 0
+PlacedSheetFails name grounds path old new Io = HasCause old new
+PlacedSheetFails name grounds path old new OutOfMemory = ⊤
+PlacedSheetFails name grounds path old new NotBuilt = ⊥
+PlacedSheetFails name grounds path old new (WorksheetNotFound asked) =
+    (string_bytes asked ≡ name) × (old.is_told ≡ true → events_at path old.parts ≡ None)
+PlacedSheetFails name grounds path old new error =
+    old.is_told ≡ true →
+    IsSomeAnd (events_at path old.parts)
+    (λ events. SheetPartCause both_wanted grounds events error)
+
+-- the refusals that it can have
+abbrev pub IsPlacedError : List ℕ → XlsxError → Type 0
+IsPlacedError name (WorksheetNotFound asked) = string_bytes asked ≡ name
+IsPlacedError name error = IsPartError error
+
+-- what was read of it, where the package is told
+abbrev pub ReadsPlaced : Grounds → Option (List ℕ) → List Part → SheetReading → Type 0
+ReadsPlaced grounds path parts found =
+    IsSomeAnd (events_at path parts)
+    (λ events. HoldsSheet grounds events (value_pairs found.values) (formula_pairs found.formulas))

@@ -1,0 +1,62 @@
+ghost use Rattle.std.specs.Prelude.{◌≡◌, true, IfOk, OnOk, IfErr};
+ghost use Rattle.part_events.specs.Package.{SameParts, KeepsFaults};
+ghost use Rattle.cell_data.specs.declared.error.XlsxError.TheVariants.{Io};
+ghost use Rattle.xlsx_core.specs.SheetReading.{ReadsAs, SheetFails, IsSheetError};
+ghost use Rattle.xlsx_core.specs.SheetReading.{value_pairs, formula_pairs};
+
+use crate::xlsx::{OpenFailure, Xlsx};
+use cell_data::{Data, Range, XlsxError};
+use part_events::Package;
+use std::alloc::Global;
+
+/// What the cells of a sheet hold, each at its row and column, counted from 0.
+#[derive(Drop)]
+pub struct SheetReading {
+    /// The values, with `Data::Empty` where a cell has none.
+    pub values: Range<Data>,
+    /// The formulas, without `=`, and empty texts where a cell has none.
+    pub formulas: Range<String>,
+}
+
+/// The values and the formulas of a sheet, or why they were not read, with the package that was
+/// handed in.
+#[derive(Drop)]
+pub struct SheetAnswer<P: Package> {
+    pub result: Result<SheetReading, XlsxError>,
+    pub package: P,
+}
+
+/// The values and the formulas of the first sheet of this name, read in one pass over its part
+/// (ECMA-376 part 1, section 18.3.1.80).
+///
+/// Fails as `Xlsx::new` where the workbook doesn't open, and with `WorksheetNotFound` where it has
+/// no sheet of this name or the first such sheet no part. Else the first start, row or cell of the
+/// part that can't be read gives the refusal. The package is handed back, with the same parts.
+pub fn read_sheet<P: Package>(alloc: Global, package: P, name: &str) -> SheetAnswer<P>
+    ensures keeps { SameParts (P.state «package») (P.state result.package) }
+    ensures faults { OnOk result.result
+        ((P.state result.package).faults ≡ (P.state «package»).faults) }
+    ensures reading { (P.state «package»).is_told ≡ true → IfOk result.result (λ found.
+        ReadsAs (P.state «package»).parts name.now (value_pairs found.values)
+        (formula_pairs found.formulas)) }
+    ensures err { IfErr result.result
+        (SheetFails name.now (P.state «package») (P.state result.package)) }
+    ensures counts { IfErr result.result
+        (KeepsFaults Io (P.state «package») (P.state result.package)) }
+    ensures kind { IfErr result.result (IsSheetError name.now) }
+{
+    match Xlsx::new(alloc, package) {
+        Ok(xlsx) => {
+            let mut xlsx = xlsx;
+            let result = xlsx.sheet(name);
+            SheetAnswer {
+                result,
+                package: xlsx.into_package(),
+            }
+        }
+        Err(OpenFailure { error, package }) => SheetAnswer {
+            result: Err(error),
+            package,
+        },
+    }
+}
