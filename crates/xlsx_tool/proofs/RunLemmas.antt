@@ -167,7 +167,7 @@ not_written words name lines old new WriteFault asked read fails = record {
   front = λ told. record {
     parts = read.parts;
     values = read.lists.values;
-  formulas = read.lists.formulas;
+    formulas = read.lists.formulas;
     spells = (read.whole told).0;
     reads = read.lists.reads;
     whole = (read.whole told).1;
@@ -190,7 +190,7 @@ succeeded words name lines old new asked read sent = record {
   reads = λ told. record {
     parts = read.parts;
     values = read.lists.values;
-  formulas = read.lists.formulas;
+    formulas = read.lists.formulas;
     spells = (read.whole told).0;
     reads = read.lists.reads;
     whole = (read.whole told).1;
@@ -294,8 +294,7 @@ is_readable words old new name parts command succeeds =
     let name_is = same_some succeeds.name name (sheet_asked words) succeeds.asked command.asked in
     let package_is = same_package old.source listed.parts parts listed.spells command.spells in
     let named = subst (λ name. ReadsAs listed.parts name listed.values listed.formulas) name_is
-    listed.reads in
-    (
+    listed.reads in (
       listed.values,
       listed.formulas,
       subst (λ parts. ReadsAs parts name listed.values listed.formulas) package_is named,

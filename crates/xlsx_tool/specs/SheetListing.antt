@@ -1,6 +1,6 @@
 -- The lines that `cells` prints of the values and the formulas of a sheet: one for each position
 -- that has a value or a formula, row by row.
-use Rattle.std.specs.Prelude.{◌≡◌, ℕ, ◌<◌, ◌≤◌, Bool, true, false, ◌||◌, ◌++◌, codes, length, map}
+use Rattle.std.specs.Prelude.{◌≡◌, ℕ, ◌<◌, Bool, true, false, ◌||◌, ◌++◌, codes, map}
 use Rattle.std.specs.Prelude.{if◌then◌else◌, List, [], ◌∷◌, Option, Some, None, is_some}
 use Rattle.std.specs.Prelude.{All, String, string_bytes, ◌⊎◌}
 use Rattle.std.specs.Ordering.{is_le}
@@ -11,6 +11,7 @@ use Rattle.std.specs.List.{flat_map}
 use Rattle.std.specs.Option.{option_map, unwrap_or}
 use Rattle.std.specs.declared.alloc.Global.{Global}
 use Rattle.cell_refs.specs.Reference.{reference}
+use Rattle.cell_refs.specs.declared.TheConstants.{MAX_ROWS, MAX_COLUMNS}
 use Rattle.cell_data.specs.CellError.{cell_error_text}
 use Rattle.cell_data.specs.CellValue.{CellValue, nothing, integer, number, text, shared_text, truth}
 use Rattle.cell_data.specs.CellValue.{time, iso_time, failure, value_of_data}
@@ -135,8 +136,8 @@ given position (Some value) = (position, value) ∷ []
 pub record IsFirstOf
     {X Y : Type 0} (values : List (Cell X)) (formulas : List (Cell Y)) (position : ℕ × ℕ)
     : Type 0 where
-  pub in_rows : position.0 < 1048576
-  pub in_columns : position.1 < 16384
+  pub in_rows : position.0 < MAX_ROWS
+  pub in_columns : position.1 < MAX_COLUMNS
   pub before_values : StandsFirst position (placed_cells values)
   pub before_formulas : StandsFirst position (placed_cells formulas)
   pub is_used :

@@ -9,8 +9,8 @@ ghost use Rattle.serde_json.specs.View.{view};
 
 use crate::error::ToolError;
 use crate::input::read_input;
-use crate::sheet_listing::listing_of;
 use crate::package_text::package_from_json;
+use crate::sheet_listing::listing_of;
 use crate::sink::Sink;
 use crate::source::Source;
 use part_events::MemoryPackage;

@@ -1,4 +1,4 @@
-ghost use Rattle.std.specs.Prelude.{◌≡◌, ◌<◌, ◌++◌, [], is_some, IfSome, MatchOption, OnOk};
+ghost use Rattle.std.specs.Prelude.{◌≡◌, ◌<◌, ◌++◌, [], is_some, MatchOption, IfOk, OnOk};
 ghost use Rattle.std.specs.Prelude.{codes, string_bytes};
 ghost use Rattle.std.specs.Fmt.{signed_decimal};
 ghost use Rattle.std.specs.Option.{option_copied};
@@ -13,9 +13,9 @@ ghost use Rattle.xlsx_tool.specs.SheetListing.{StandsFirst, Splits};
 
 use crate::escaping::push_escaped;
 use cell_data::{Cell, Data, ExcelDateTime, ExcelDateTimeType, Range};
-use cell_refs::push_reference;
+use cell_refs::{MAX_COLUMNS, MAX_ROWS, push_reference};
 use itoa::Buffer;
-use std::alloc::AllocError;
+use std::alloc::{AllocError, Global};
 
 fn kind_text(kind: ExcelDateTimeType) -> &'static str
     ensures { result.now ≡ kind_text kind }
@@ -138,8 +138,8 @@ fn push_line(
     value: Option<&Data>,
     formula: Option<&String>,
 ) -> Result<(), AllocError>
-    requires in_rows { position.0 < 1048576 }
-    requires in_columns { position.1 < 16384 }
+    requires in_rows { position.0 < MAX_ROWS }
+    requires in_columns { position.1 < MAX_COLUMNS }
     ensures { let printed = line_of position (value_given (option_copied value.entry))
         (formula_given (option_copied formula.entry)) in
         OnOk result (string_bytes out.new ≡ string_bytes out.old ++ printed) }
@@ -211,7 +211,9 @@ fn push_lines(
 }
 
 /// Appends one line for each position of a sheet that has a value or a formula, row by row
-/// (docs/FORMAT.md). It goes over both ranges once.
+/// (docs/FORMAT.md). It goes over the used cells of both ranges once.
+///
+/// Where memory runs out, some of the lines may have been appended.
 pub fn push_listing(
     out: &mut String,
     values: &Range<Data>,
