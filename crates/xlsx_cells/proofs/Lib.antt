@@ -5,3 +5,4 @@ pub mod HeadRead
 pub mod MarksAhead
 pub mod Passing
 pub mod Refusing
+pub mod SoundSheet

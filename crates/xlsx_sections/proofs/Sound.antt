@@ -61,7 +61,7 @@ is_sound_part name path parts good is =
 both_ends : (s : PartSection) → has_end s ≡ true → has_end s ≡ false → ⊥
 both_ends s closed is_open = cc
 
-no_section_cause : (ending : List Event → Option (List ℕ)) (refused : PartSection → Refusal
+pub no_section_cause : (ending : List Event → Option (List ℕ)) (refused : PartSection → Refusal
     → Type 0) (s : PartSection) (error : XlsxError) → has_end s ≡ true
     → ((refusal : Refusal) → refused s refusal → ⊥) → SectionCause ending refused s error → ⊥
 no_section_cause ending refused s (Xml (EndMismatch at)) closed never cause =
