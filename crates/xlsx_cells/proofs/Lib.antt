@@ -7,3 +7,4 @@ pub mod MarksAhead
 pub mod Passing
 pub mod Refusing
 pub mod SheetEntered
+pub mod SoundSheet

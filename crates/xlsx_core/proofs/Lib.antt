@@ -4,6 +4,7 @@ pub mod PlainFails
 pub mod PlainRead
 pub mod PlainWritten
 pub mod Readings
+pub mod SheetLaws
 pub mod SheetsRead
 pub mod Spelled
 pub mod Taking

@@ -1,7 +1,6 @@
 -- The cells of a sheet that was found, and refusals that are handed on.
-use Rattle.std.proofs.Common.{◌≡◌, ℕ, List, [], ◌∷◌, Bool, true, false, map, refl, sym, ◌∙◌, ap, subst, inl, inr, Option, Some, None, String, Global, codes, string_bytes}
+use Rattle.std.proofs.Common.{◌≡◌, ℕ, List, Bool, true, false, refl, sym, ◌∙◌, ap, subst, inl, inr, Option, Some, None, String, Global, codes}
 use Rattle.std.specs.Prelude.{if◌then◌else◌, IsSomeAnd, MatchOption}
-use Rattle.std.specs.Str.{bytes_eq}
 use Rattle.part_events.specs.Event.{Event}
 use Rattle.part_events.specs.Package.{Part, PackageState, SameParts, part_of}
 use Rattle.cell_data.specs.declared.error.XlsxError.{XlsxError}
@@ -10,13 +9,11 @@ use Rattle.xlsx_sections.specs.Elements.{IsInsideRefused}
 use Rattle.xlsx_sections.specs.PartSection.{PartSection, always, section_in, StartCause, SectionCause, OptionalPartCause}
 use Rattle.xlsx_sections.specs.Refusal.{Refusal}
 use Rattle.xlsx_strings.specs.Strings.{strings_in, end_in_strings}
-use Rattle.xlsx_open.specs.Opening.{Opening, ListedSheet, listed_sheet, without_path, HoldsOpening, OpensAs, IsBuilt, OpeningCause, OpeningFails}
+use Rattle.xlsx_open.specs.Opening.{Opening, HoldsOpening, OpensAs, IsBuilt, OpeningCause, OpeningFails}
 use Rattle.xlsx_open.specs.Paths.{folder_of, workbook_part, relationships_part, strings_part}
 use Rattle.xlsx_open.specs.Relationships.{IsPathRefused, AreRelationshipsRefused}
-use Rattle.xlsx_open.specs.Sheets.{PlacedSheet}
 use Rattle.xlsx_open.specs.Workbook.{AreContentsRefused}
 use Rattle.xlsx_open.specs.declared.sheet.Metadata.{Metadata}
-use Rattle.xlsx_open.specs.declared.sheet.Sheet.{Sheet}
 use Rattle.xlsx_core.specs.Opened.{path_listed}
 use Rattle.xlsx_core.specs.PlainPart.{CellsFail, OfSheet, HasCells, SheetFails}
 use Rattle.xlsx_core.specs.PlainScan.{cells_from, beginning}

@@ -5,7 +5,7 @@ use Rattle.std.specs.Prelude.{if◌then◌else◌, IsSomeAnd}
 use Rattle.std.specs.Str.{bytes_eq}
 use Rattle.cell_refs.specs.declared.dimensions.Dimensions.{Dimensions}
 use Rattle.part_events.specs.Event.{Event}
-use Rattle.part_events.specs.Package.{Part, PackageState, SameParts, part_of}
+use Rattle.part_events.specs.Package.{Part, PackageState, SameParts}
 use Rattle.cell_data.specs.CellValue.{CellValue}
 use Rattle.cell_data.specs.Positions.{last_of_each}
 use Rattle.cell_data.specs.declared.error.XlsxError.{XlsxError}

@@ -1,7 +1,7 @@
 -- The cells of a sheet's part in plain form, and why they aren't read.
-use Rattle.std.specs.Prelude.{◌≡◌, ⊤, ℕ, List, true, Option, None, option_and_then, string_bytes, IsSomeAnd}
+use Rattle.std.specs.Prelude.{◌≡◌, ⊤, ℕ, List, true, Option, None, string_bytes, IsSomeAnd}
 use Rattle.part_events.specs.Event.{Event}
-use Rattle.part_events.specs.Package.{Part, PackageState, HasCause, part_of}
+use Rattle.part_events.specs.Package.{Part, PackageState, HasCause}
 use Rattle.cell_data.specs.declared.error.XlsxError.{XlsxError}
 use Rattle.cell_data.specs.declared.error.XlsxError.TheVariants.{OutOfMemory, Io, NotBuilt, WorksheetNotFound}
 use Rattle.xlsx_core.specs.PlainSheet.{PlainCell, IsPlainSheet}

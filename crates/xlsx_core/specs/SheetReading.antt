@@ -17,7 +17,7 @@ use Rattle.xlsx_values.specs.Value.{Grounds}
 use Rattle.xlsx_formulas.specs.Formula.{FormulaText}
 use Rattle.xlsx_cells.specs.Errors.{IsCellError}
 use Rattle.xlsx_cells.specs.Head.{IsHeadError}
-use Rattle.xlsx_cells.specs.Sheet.{values_in, formulas_written, used_values, used_formulas}
+use Rattle.xlsx_cells.specs.Sheet.{used_values, used_formulas}
 use Rattle.xlsx_cells.specs.Sheet.{formulas_along}
 use Rattle.xlsx_cells.specs.SheetPart.{SheetPartCause, IsSoundSheet}
 use Rattle.xlsx_cells.specs.declared.children.Wants.{Wants}

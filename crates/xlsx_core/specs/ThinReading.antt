@@ -1,6 +1,5 @@
 -- The reading of one worksheet in plain form, of a workbook that opens.
-use Rattle.std.specs.Prelude.{◌≡◌, ◌⊎◌, ℕ, List, [], ◌∷◌, true, if◌then◌else◌, Option, Some, None, string_bytes}
-use Rattle.std.specs.Str.{bytes_eq}
+use Rattle.std.specs.Prelude.{◌≡◌, ◌⊎◌, ℕ, List, true, Some, string_bytes}
 use Rattle.part_events.specs.Event.{Event}
 use Rattle.part_events.specs.Package.{Part, PackageState}
 use Rattle.cell_data.specs.declared.error.XlsxError.{XlsxError}
