@@ -46,37 +46,125 @@ FRAME = [
 ]
 
 
-def cells_of(row):
-    """The cells of a row: reference, formula or None, text."""
-    kind = KINDS[row % len(KINDS)]
-    return [
-        (f"A{row}", None, f"item {row}"),
-        (f"B{row}", f"UPPER(A{row})", f"ITEM {row}"),
-        (f"C{row}", None, kind),
-        (f"D{row}", f'CONCATENATE(A{row},", ",C{row})', f"item {row}, {kind}"),
-    ]
-
-
-def row_events(row):
-    yield start("row", f' r="{row}"')
-    for reference, formula, text in cells_of(row):
-        yield start("c", f' r="{reference}" t="str"')
-        if formula is not None:
-            yield from (start("f"), ["t", formula], end("f"))
-        yield from (start("v"), ["t", text], end("v"))
-        yield end("c")
-    yield end("row")
-
-
 def escaped(text):
     return text.replace("\\", "\\\\").replace("\t", "\\t")
 
 
-def row_lines(row):
-    return "".join(
-        f"{reference}\ts:{escaped(text)}\t{'-' if formula is None else '=' + escaped(formula)}\t-\n"
-        for reference, formula, text in cells_of(row)
-    ).encode()
+def line_of(reference, value="-", formula=None):
+    return f"{reference}\t{value}\t{'-' if formula is None else '=' + escaped(formula)}\t-\n"
+
+
+def cell_events(attributes, *children):
+    """A cell with its children, each the name, the attributes and the events in it."""
+    yield start("c", attributes)
+    for name, own, inside in children:
+        yield from (start(name, own), *inside, end(name))
+    yield end("c")
+
+
+def text_child(name, text, own=""):
+    return name, own, [["t", text]]
+
+
+class Texts:
+    """Texts and formulas, with attributes in any order and spaces between them."""
+
+    frame = FRAME
+
+    def cells_of(self, row):
+        """The cells of a row: reference, formula or None, text."""
+        kind = KINDS[row % len(KINDS)]
+        return [
+            (f"A{row}", None, f"item {row}"),
+            (f"B{row}", f"UPPER(A{row})", f"ITEM {row}"),
+            (f"C{row}", None, kind),
+            (f"D{row}", f'CONCATENATE(A{row},", ",C{row})', f"item {row}, {kind}"),
+        ]
+
+    def row_events(self, row):
+        yield start("row", f'  spans="1:4" r="{row}"')
+        for reference, formula, text in self.cells_of(row):
+            children = [] if formula is None else [text_child("f", formula)]
+            children.append(text_child("v", text))
+            yield from cell_events(f' t = "str"  r="{reference}"', *children)
+        yield end("row")
+
+    def row_lines(self, row):
+        return "".join(
+            line_of(reference, f"s:{escaped(text)}", formula)
+            for reference, formula, text in self.cells_of(row)
+        )
+
+
+class Shared:
+    """Two columns of shared formulas, each with a master for each thousand rows."""
+
+    frame = FRAME
+
+    def row_events(self, row):
+        first = (row - 1) // 1000 * 1000 + 1
+        index = first // 1000
+        yield start("row", f' r="{row}"')
+        for column, group, text in (("B", 0, f"A{first}*2"), ("C", 1, f"SUM($A${first}:A{first})")):
+            own = f' t="shared" si="{2 * index + group}"'
+            if row == first:
+                own += f' ref="{column}{first}:{column}{first + 999}"'
+                child = text_child("f", text, own)
+            else:
+                child = "f", own, []
+            yield from cell_events(f' r="{column}{row}"', child, text_child("v", str(row)))
+        yield end("row")
+
+    def row_lines(self, row):
+        first = (row - 1) // 1000 * 1000 + 1
+        return line_of(f"B{row}", number(row), f"A{row}*2") + line_of(
+            f"C{row}", number(row), f"SUM($A${first}:A{row})"
+        )
+
+
+def number(value):
+    """A whole number as the program prints it."""
+    return f"n:{value}"
+
+
+class Values:
+    """Numbers, truth values, inline strings, and shared strings in a third of the cells."""
+
+    def __init__(self):
+        strings = [start("sst", ' count="20000" uniqueCount="20000"')]
+        for place in range(20_000):
+            strings += [start("si"), start("t"), ["t", self.string(place)], end("t"), end("si")]
+        strings.append(end("sst"))
+        self.frame = [*FRAME, ("xl/sharedStrings.xml", strings)]
+
+    def string(self, place):
+        return f"string number {place}"
+
+    def row_events(self, row):
+        place = row * 7919 % 20_000
+        yield start("row", f' r="{row}"')
+        yield from cell_events(f' r="A{row}"', text_child("v", f"{row}.25"))
+        yield from cell_events(f' r="B{row}" t="s"', text_child("v", str(place)))
+        yield from cell_events(f' r="C{row}" t="b"', text_child("v", str(row % 2)))
+        yield from cell_events(f' r="D{row}" t="n"', text_child("v", str(row)))
+        yield from cell_events(f' r="E{row}" t="s"', text_child("v", str(row % 20_000)))
+        inline = [start("t"), ["t", f"inline {row}"], end("t")]
+        yield from cell_events(f' r="F{row}" t="inlineStr"', ("is", "", inline))
+        yield end("row")
+
+    def row_lines(self, row):
+        place = row * 7919 % 20_000
+        return (
+            line_of(f"A{row}", f"n:{row}.25")
+            + line_of(f"B{row}", f"s:{self.string(place)}")
+            + line_of(f"C{row}", "b:true" if row % 2 else "b:false")
+            + line_of(f"D{row}", number(row))
+            + line_of(f"E{row}", f"s:{self.string(row % 20_000)}")
+            + line_of(f"F{row}", f"s:inline {row}")
+        )
+
+
+MIXES = {"texts": Texts, "shared": Shared, "values": Values}
 
 
 class Listing:
@@ -96,10 +184,10 @@ class Listing:
         self.sum.update(lines)
 
 
-def write_package(path, limit):
+def write_package(path, limit, mix):
     """Writes a package with as many rows as fit into the limit. Answers its size, its rows and its listing."""
     frame = "".join(
-        f"{spelled({'name': name, 'events': events})}," for name, events in FRAME
+        f"{spelled({'name': name, 'events': events})}," for name, events in mix.frame
     )
     front = f'{{"version":1,"parts":[{frame}{{"name":"xl/worksheets/sheet1.xml","events":['
     head = ",".join(map(spelled, [start("worksheet"), start("sheetData")]))
@@ -109,13 +197,13 @@ def write_package(path, limit):
     with open(path, "w", encoding="ascii", newline="") as out:
         out.write(front + head)
         while True:
-            text = "".join("," + spelled(event) for event in row_events(rows + 1))
+            text = "".join("," + spelled(event) for event in mix.row_events(rows + 1))
             if size + len(text) > limit:
                 break
             rows += 1
             size += len(text)
             out.write(text)
-            listing.add(row_lines(rows))
+            listing.add(mix.row_lines(rows).encode())
         out.write(tail)
     if rows == 0:
         sys.exit("cells.py: not one row fits into this size")
@@ -138,11 +226,11 @@ def check(path, listing):
 
 
 class Size:
-    def __init__(self, folder, program, limit):
+    def __init__(self, folder, program, limit, mix):
         self.words = [program, "cells", "S"]
         self.package = os.path.join(folder, f"package-{limit}.json")
         self.lines = os.path.join(folder, f"lines-{limit}.txt")
-        self.size, self.rows, self.listing = write_package(self.package, limit)
+        self.size, self.rows, self.listing = write_package(self.package, limit, mix)
         self.ours, self.json = [], []
 
     def run(self):
@@ -197,6 +285,7 @@ def main():
         default=LIMIT - 1,
         help="the size that the larger text may have (default: just under the program's limit)",
     )
+    parser.add_argument("--mix", choices=MIXES, default="texts", help="what the cells hold")
     add_repeats(parser, 5)
     add_program(parser)
     asked = parser.parse_args()
@@ -204,7 +293,9 @@ def main():
         parser.error(f"--bytes takes 1 to {LIMIT}, and --repeats at least 1")
     program = program_of(asked)
     with tempfile.TemporaryDirectory() as folder:
-        half, whole = Size(folder, program, asked.bytes // 2), Size(folder, program, asked.bytes)
+        mix = MIXES[asked.mix]()
+        half = Size(folder, program, asked.bytes // 2, mix)
+        whole = Size(folder, program, asked.bytes, mix)
         for _ in range(asked.repeats):
             half.run()
             whole.run()

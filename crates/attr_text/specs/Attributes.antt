@@ -41,9 +41,8 @@ abbrev pub is_equals_sign : ℕ → Bool
 is_equals_sign b = b == 61
 
 -- What stands behind the `=` of a key, where `text` is the end of a text of `size` bytes, so that
--- it
--- begins at the place `size - length text`. The value runs to the quote with which it begins, or to
--- the end.
+-- it begins at the place `size - length text`. The value runs to the quote with which it begins, or
+-- to the end.
 abbrev pub front_with_key : ℕ → List ℕ → List ℕ → Front
 front_with_key size key [] = broken (UnquotedValue size)
 front_with_key size key (b ∷ bs) =

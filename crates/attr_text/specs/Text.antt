@@ -65,8 +65,7 @@ onto_character at None rest = Err at
 onto_character at (Some c) rest = onto_text (encode_utf8 c) rest
 
 -- The end `text` of a text of `size` bytes, decoded, where the next `skipped` bytes belong to a
--- reference
--- that was read already.
+-- reference that was read already.
 unfoldable pub decoded_within : ℕ → List ℕ → ℕ → Result (List ℕ) ℕ
 decoded_within size [] skipped = Ok []
 decoded_within size (b ∷ bs) (suc skipped) = decoded_within size bs skipped
@@ -77,14 +76,12 @@ decoded_within size (b ∷ bs) zero =
     else onto_text (b ∷ []) (decoded_within size bs zero)
 
 -- The text with each `&name;` replaced by its character. It is refused at the place of the first
--- `&` that
--- has no later `;`, or a name without a character.
+-- `&` that has no later `;`, or a name without a character.
 unfoldable pub decoded : List ℕ → Result (List ℕ) ℕ
 decoded text = decoded_within (length text) text 0
 
 -- the decoded text behind a front that takes this many bytes and says this; a refusal's place
--- counts
--- from where the front begins
+-- counts from where the front begins
 abbrev pub onto_decoded : List ℕ → ℕ → Result (List ℕ) ℕ → Result (List ℕ) ℕ
 onto_decoded front taken (Ok text) = Ok (front ++ text)
 onto_decoded front taken (Err at) = Err (taken + at)

@@ -1,7 +1,7 @@
 -- The area of cells has each of them, and lies on a sheet where they do.
-use Rattle.std.proofs.Common.{◌≡◌, ℕ, suc, ◌<◌, Bool, true, false, ◌&&◌}
+use Rattle.std.proofs.Common.{◌≡◌, ℕ, zero, suc, ◌<◌, Bool, true, false, ◌&&◌}
 use Rattle.std.proofs.Common.{List, [], ◌∷◌, length, Some, None, Option, refl, sym, ap, ◌∙◌, arith}
-use Rattle.std.proofs.Common.{cond, ◌≤◌}
+use Rattle.std.proofs.Common.{cond, ◌≤◌, get_or}
 use Rattle.std.specs.Prelude.{reverse, nat_le, nat_lt, All}
 use Rattle.std.specs.declared.cmp.Ordering.{Ordering}
 use Rattle.std.specs.declared.cmp.Ordering.TheVariants.{Less, Equal, Greater}
@@ -214,3 +214,40 @@ selected area cells kept rising is =
 pub area_on_sheet : (area : Dimensions) → area.start.0 ≤ area.end.0 → area.start.1 ≤ area.end.1 →
     area.end.0 < 1048576 → area.end.1 < 16384 → is_sheet_area area ≡ true
 area_on_sheet area rows columns in_rows in_columns = grind (arith, nat_tests)
+
+in_sheet : (bounds : Option Dimensions) (k : ℕ × ℕ) → are_sheet_bounds bounds ≡ true →
+    is_in_bounds bounds k ≡ true → (k.0 < 1048576) × (k.1 < 16384)
+in_sheet None k limits inside = absurd (cc)
+in_sheet (Some area) k limits inside =
+    let (rows, columns) =
+    and_both (nat_le area.start.0 k.0 && nat_le k.0 area.end.0)
+    (nat_le area.start.1 k.1 && nat_le k.1 area.end.1) inside in
+    let (top, bottom) = and_both (nat_le area.start.0 k.0) (nat_le k.0 area.end.0) rows in
+    let (left, right) = and_both (nat_le area.start.1 k.1) (nat_le k.1 area.end.1) columns in
+    let (in_rows, in_columns) =
+    and_both (nat_le area.start.0 area.end.0 && nat_lt area.end.0 1048576)
+    (nat_le area.start.1 area.end.1 && nat_lt area.end.1 16384) limits in
+    let (rise, last_row) =
+    and_both (nat_le area.start.0 area.end.0) (nat_lt area.end.0 1048576) in_rows in
+    let (run, last_column) =
+    and_both (nat_le area.start.1 area.end.1) (nat_lt area.end.1 16384) in_columns in
+    (grind (arith, nat_tests, bottom, last_row), grind (arith, nat_tests, right, last_column))
+
+used_at : {X : Type 0} (bounds : Option Dimensions) (cells : List (Cell X)) →
+    are_sheet_bounds bounds ≡ true → lie_inside bounds (placed_cells cells) ≡ true →
+    (k : ℕ) (d : Cell X) → k < length cells → IsInSheet (get_or cells k d)
+used_at bounds [] limits inside k d below = absurd (omega arith)
+used_at bounds (cell ∷ cells) limits inside zero d below =
+    let (own, others) =
+    and_both (is_in_bounds bounds cell.pos) (lie_inside bounds (placed_cells cells)) inside in
+    in_sheet bounds cell.pos limits own
+used_at bounds (cell ∷ cells) limits inside (suc k) d below =
+    let (own, others) =
+    and_both (is_in_bounds bounds cell.pos) (lie_inside bounds (placed_cells cells)) inside in
+    used_at bounds cells limits others k d (omega arith)
+
+-- cells of an area of a sheet lie on the sheet
+pub used_in_sheet : {X : Type 0} (bounds : Option Dimensions) (cells : List (Cell X)) →
+    are_sheet_bounds bounds ≡ true → lie_inside bounds (placed_cells cells) ≡ true →
+    All IsInSheet cells
+used_in_sheet bounds cells limits inside = λ k d below. used_at bounds cells limits inside k d below

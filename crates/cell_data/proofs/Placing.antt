@@ -112,7 +112,7 @@ module _ {X : Type 0} where
   or_found true v o p = refl
   or_found false v o p = refl
 
-  found_in_two : (q : ℕ × ℕ) (es fs : List ((ℕ × ℕ) × X)) →
+  pub found_in_two : (q : ℕ × ℕ) (es fs : List ((ℕ × ℕ) × X)) →
       find position_cmp q (es ++ fs) ≡ option_or (find position_cmp q es) (find position_cmp q fs)
   found_in_two q [] fs = refl
   found_in_two q (e ∷ es) fs =

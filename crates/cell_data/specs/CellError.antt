@@ -1,9 +1,9 @@
--- The error that a text names.
+-- The error that a text names, and the text of an error.
 use Rattle.std.specs.Prelude.{ℕ, if◌then◌else◌, List, codes, Option, Some, None}
 use Rattle.std.specs.Str.{bytes_eq}
 use Rattle.cell_data.specs.declared.value.CellErrorType.{CellErrorType}
 use Rattle.cell_data.specs.declared.value.CellErrorType.TheVariants.{Div0, NA, Name, Null, Num, Ref}
-use Rattle.cell_data.specs.declared.value.CellErrorType.TheVariants.{Value}
+use Rattle.cell_data.specs.declared.value.CellErrorType.TheVariants.{Value, GettingData}
 
 abbrev pub cell_error : List ℕ → Option CellErrorType
 cell_error text =
@@ -15,3 +15,14 @@ cell_error text =
     else (if bytes_eq text (codes "#REF!") then Some Ref
     else (if bytes_eq text (codes "#VALUE!") then Some Value
     else None))))))
+
+-- no text names the error of data that is still being fetched
+abbrev pub cell_error_text : CellErrorType → List ℕ
+cell_error_text Div0 = codes "#DIV/0!"
+cell_error_text NA = codes "#N/A"
+cell_error_text Name = codes "#NAME?"
+cell_error_text Null = codes "#NULL!"
+cell_error_text Num = codes "#NUM!"
+cell_error_text Ref = codes "#REF!"
+cell_error_text Value = codes "#VALUE!"
+cell_error_text GettingData = codes "#DATA!"

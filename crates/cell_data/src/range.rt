@@ -30,7 +30,7 @@ fn is_between(start: (u32, u32), end: (u32, u32), pos: (u32, u32)) -> bool
 }
 
 impl<T> Range<T> {
-    ghost use Rattle.std.specs.Prelude.{◌≡◌, ◌+◌, ◌-◌, ◌<◌, is_none, IfOk, All};
+    ghost use Rattle.std.specs.Prelude.{◌≡◌, ◌+◌, ◌-◌, ◌<◌, is_none, IfOk, All, true};
     ghost use Rattle.std.specs.FinMap.{find};
     ghost use Rattle.std.specs.Option.{option_map, option_copied, unwrap_or};
     ghost use Rattle.cell_data.specs.Range.{cells_of, bounds_of, blank_of, width_of, height_of};
@@ -160,9 +160,11 @@ impl<T> Range<T> {
         Some(self.filled(pos))
     }
 
-    // The used cells, in order.
-    pub(crate) fn used(&self) -> &[Cell<T>]
+    /// The used cells with their positions on the sheet, row by row.
+    pub fn used(&self) -> &[Cell<T>]
         ensures cells { placed_cells result.now ≡ cells_of self.now }
+        ensures rising { is_rising (placed_cells result.now) ≡ true }
+        ensures sheet { All IsInSheet result.now }
         ensures from { IsTrue (lie_from (start_of (bounds_of self.now)) (placed_cells result.now)) }
     {
         &self.cells

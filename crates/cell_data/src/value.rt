@@ -46,6 +46,29 @@ pub enum CellErrorType {
     GettingData,
 }
 
+impl CellErrorType {
+    ghost use Rattle.std.specs.Prelude.{◌≢◌};
+    ghost use Rattle.cell_data.specs.CellError.{cell_error, cell_error_text};
+    ghost use Rattle.cell_data.specs.declared.value.CellErrorType.TheVariants.{GettingData};
+
+    /// The text of the error, as `#DIV/0!`. A cell's error is read from its text.
+    pub fn as_str(self) -> &'static str
+        ensures text { result.now ≡ cell_error_text self }
+        ensures back { self ≢ GettingData → cell_error result.now ≡ Some self }
+    {
+        match self {
+            CellErrorType::Div0 => "#DIV/0!",
+            CellErrorType::NA => "#N/A",
+            CellErrorType::Name => "#NAME?",
+            CellErrorType::Null => "#NULL!",
+            CellErrorType::Num => "#NUM!",
+            CellErrorType::Ref => "#REF!",
+            CellErrorType::Value => "#VALUE!",
+            CellErrorType::GettingData => "#DATA!",
+        }
+    }
+}
+
 /// The text is that of no error that a cell of a worksheet holds.
 #[derive(Debug, Clone, Copy, PartialEq, Eq, Drop, Error)]
 #[error("unknown cell error")]

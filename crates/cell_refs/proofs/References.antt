@@ -72,7 +72,8 @@ pub row_of_reference : (row : ℕ) → row < 1048576 → row_of (row_reference r
 unfolding row_of
 row_of_reference row in_rows =
     let written = row_reference-written row in_rows in
-    ap (λ n. row_from (drop n (row_reference row))) (no_letters (row_reference row) written.are_digits)
+    ap (λ n. row_from (drop n (row_reference row))) (no_letters
+    (row_reference row) written.are_digits)
     ∙ row_from-written (row_reference row) row written
 
 pub ruleset read_back = (corner_of_reference, row_of_reference)

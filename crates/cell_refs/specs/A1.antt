@@ -1,6 +1,5 @@
 -- A1 texts: letters of either case name the column, A = 1 in base 26, and decimal digits behind
--- them
--- the row, counted from 1. Positions are pairs of a row and a column, both counted from 0.
+-- them the row, counted from 1. Positions are pairs of a row and a column, both counted from 0.
 use Rattle.std.specs.Prelude.{ℕ, zero, suc, ◌+◌, ◌-◌, ◌/◌, ◌%◌, ◌≤◌, ◌==◌, nat_lt, not}
 use Rattle.std.specs.Prelude.{if◌then◌else◌, List, [], ◌∷◌, ◌++◌, length, map, drop, find}
 use Rattle.std.specs.Prelude.{take_while, Option, None, Some, Result, Ok, Err}

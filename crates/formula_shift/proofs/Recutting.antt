@@ -82,8 +82,7 @@ group_positive zero c (d ∷ r) = grind arith
 group_positive (suc inner) c (d ∷ r) = grind arith
 
 -- Where a piece's bytes end before one text, they end before any other that begins with a piece of
--- the
--- same kind, or is empty with it. bs are the bytes behind the first.
+-- the same kind, or is empty with it. bs are the bytes behind the first.
 string_keeps : (bs rest rest' : List ℕ) → first_kind rest ≡ first_kind rest' →
     string_length (bs ++ rest) ≡ length bs → string_length (bs ++ rest') ≡ length bs
 unfolding string_length

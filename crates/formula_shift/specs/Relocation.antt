@@ -1,5 +1,5 @@
--- A formula's text moved to another cell: a reference that would leave the worksheet stays, every other
--- one is moved by the offset and spelled anew, and all else stays.
+-- A formula's text moved to another cell: a reference that would leave the worksheet stays, every
+-- other one is moved by the offset and spelled anew, and all else stays.
 use Rattle.std.specs.Prelude.{ℕ, ◌==◌, ◌||◌, ◌&&◌, not, Bool, true, false, if◌then◌else◌, List, []}
 use Rattle.std.specs.Prelude.{◌∷◌, Option, None, Some, option_map, option_and_then, unwrap_or}
 use Rattle.std.specs.Prelude.{option_to_list, IsSome, All, ◌++◌, ℤ, pos, ◌-ℤ◌}
@@ -44,8 +44,7 @@ abbrev pub word_of : Reference → PieceText
 word_of reference = record { kind = word_kind; bytes = spelling reference }
 
 -- a piece moved by an offset, where this byte is behind it: a reference that does not leave the
--- worksheet
--- is spelled anew, all else stays
+-- worksheet is spelled anew, all else stays
 abbrev pub moved_piece : ℤ × ℤ → PieceText → Option ℕ → PieceText
 moved_piece offset piece behind =
     unwrap_or (option_map word_of

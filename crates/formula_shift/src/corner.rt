@@ -34,8 +34,8 @@ pub enum Corner {
 
 impl Corner {
     /// The corner that a text names: letters for a column, a number from 1 for a row, both for a
-    /// cell,
-    /// each with or without a `$` before it. `None` where it names none, or none in a worksheet.
+    /// cell, each with or without a `$` before it. `None` where it names none, or none in a
+    /// worksheet.
     pub fn parse(text: &str) -> Option<Corner>
         ensures value { result ≡ corner_of text.now }
         ensures inside { IfSome result IsCornerInside }

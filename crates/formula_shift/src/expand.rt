@@ -11,9 +11,8 @@ use crate::reference::Reference;
 use std::alloc::{AllocError, Global};
 
 /// The formula of the cell at `start`, a row and a column counted from 0, as it stands in the cell
-/// at
-/// `end`: each reference is moved by the way between them and spelled anew, but one that would leave
-/// the worksheet stays, as all else does.
+/// at `end`: each reference is moved by the way between them and spelled anew, but one that would
+/// leave the worksheet stays, as all else does.
 pub fn expand_shared_formula(
     alloc: Global,
     formula: &str,

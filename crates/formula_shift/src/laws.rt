@@ -50,8 +50,7 @@ pub fn spelling_reads_back()
 {}
 
 /// Where no reference of a text leaves the worksheet from a to b, and none from a to c, expanding
-/// from a
-/// to b and then from b to c gives the expansion from a to c.
+/// from a to b and then from b to c gives the expansion from a to c.
 pub fn expansions_compose()
     ensures { (text : List ℕ) (a b c : ℕ × ℕ) →
         NoneLeaves (offset_between a b) text → NoneLeaves (offset_between a c) text →

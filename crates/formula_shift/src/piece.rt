@@ -36,8 +36,7 @@ impl<'a> Piece<'a> {
 }
 
 /// The pieces of a formula, from the left. Joined they are the formula; one that is not closed runs
-/// to
-/// the formula's end.
+/// to the formula's end.
 #[derive(Clone, Copy, Debug)]
 pub struct Pieces<'a> {
     rest: &'a str,

@@ -39,8 +39,7 @@ is_unknown (leaf (entity_ref name)) = is_none (entity_character name)
 is_unknown (leaf other) = false
 
 -- How many events stand behind the first reference without a character. Where there is one, the
--- joined text is refused
--- there.
+-- joined text is refused there.
 abbrev pub unknown_entity : List Event → Option ℕ
 unknown_entity [] = None
 unknown_entity (event ∷ events) =

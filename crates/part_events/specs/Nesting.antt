@@ -27,8 +27,7 @@ pub record OpenStart : Type 0 where
   pub before : List Event
 
 -- Looking back, the start of the element that is open `outside` levels further out than the
--- innermost one: an end
--- hides the start that comes before it.
+-- innermost one: an end hides the start that comes before it.
 abbrev pub open_start : ℕ → List Event → Option OpenStart
 open_start outside [] = None
 open_start zero (start tag ∷ past) = Some (record { tag = tag; before = past })

@@ -11,8 +11,7 @@ use Rattle.part_events.specs.declared.fault.StreamError.TheVariants.{Io, Xml, Ou
 use Rattle.part_events.specs.declared.fault.XmlFault.TheVariants.{EndMismatch, Unclosed, Entity}
 
 -- what a reader is to its caller: its package, the names of the open elements, the innermost first,
--- how many events of
--- the part it took, whether a call of it was refused, and its allocator
+-- how many events of the part it took, whether a call of it was refused, and its allocator
 pub record Reading : Type 0 where
   pub source : PackageState
   pub names : List (List ℕ)
@@ -86,8 +85,8 @@ pub record OpensReader (old : PackageState) (new : Reading) : Type 0 where
   pub past : old.is_told ≡ true → new.source.past ≡ []
 
 -- What every call keeps: the parts and the allocator are the same, the package's count of taken
--- events rose by those
--- that were taken of the part, up to its last value, and no more were taken than were left.
+-- events rose by those that were taken of the part, up to its last value, and no more were taken
+-- than were left.
 pub record MovesForward (old new : Reading) : Type 0 where
   pub parts : SameParts old.source new.source
   pub alloc : new.alloc ≡ old.alloc

@@ -1,6 +1,5 @@
 -- What stands inside an element, and which elements stand there. These read forward, with the
--- number of elements that
--- are open inside the element.
+-- number of elements that are open inside the element.
 use Rattle.std.specs.Prelude.{ℕ, zero, suc, List, [], ◌∷◌, length, Bool, true, false, if◌then◌else◌, Option, Some, None, option_map}
 use Rattle.std.specs.List.{list_any}
 use Rattle.std.specs.Str.{bytes_eq}
@@ -91,8 +90,7 @@ abbrev pub outermost : (Tag → Bool) → List Event → List Element
 outermost wanted events = outermost_from wanted 0 events
 
 -- The outermost element that passes a test and that no end closes, where `within` elements are open
--- since the start of
--- one of those that pass.
+-- since the start of one of those that pass.
 abbrev pub unclosed_from : (Tag → Bool) → ℕ → List Event → Option Element
 unclosed_from wanted within [] = None
 unclosed_from wanted zero (start tag ∷ events) =

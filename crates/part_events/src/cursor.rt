@@ -37,8 +37,8 @@ impl Cursor {
         }
     }
 
-    /// Takes the next event of the part. Answers false at the part's end. An end has to have the whole name of the
-    /// innermost open element.
+    /// Takes the next event of the part. Answers false at the part's end. An end has to have the
+    /// whole name of the innermost open element.
     pub fn next<P: Package>(&mut self, package: &mut P) -> Result<bool, StreamError>
         requires { IsReading (reading (P.state «package».old) self.old) }
         ensures reads { let old = reading (P.state «package».old) self.old in

@@ -9,8 +9,8 @@ use crate::memory::MemoryPackage;
 use crate::package::{Package, PackageFailed};
 use std::marker::Model;
 
-/// A package in memory some calls of which fail, to try what callers do then. Its calls of `open` and `advance` are
-/// numbered from 0. After a failed call no part is open.
+/// A package in memory some calls of which fail, to try what callers do then. Its calls of `open`
+/// and `advance` are numbered from 0. After a failed call no part is open.
 #[derive(Debug, Drop)]
 pub struct FailingPackage {
     inner: MemoryPackage,
@@ -24,7 +24,13 @@ impl Model for FailingPackage {
 
     ghost Value = { Planned };
 
-    ghost view = { λ a. record { inner = a.inner; calls = a.calls.items; made = a.made; faults = a.faults } };
+    ghost view = { λ a. record {
+      inner = a.inner;
+      calls = a.calls.items;
+      made = a.made;
+      faults =
+          a.faults;
+    } };
 }
 
 impl FailingPackage {
@@ -57,7 +63,8 @@ impl FailingPackage {
         ensures counts { CountsCall (is_err result) self.old self.new }
         ensures rises { self.old.faults ≤ self.new.faults }
         ensures ok { OnOk result (self.new.inner ≡ self.old.inner) }
-        ensures err { OnErr result (self.new.inner ≡ closed self.old.inner.parts self.old.inner.taken) }
+        ensures err { OnErr result (self.new.inner
+            ≡ closed self.old.inner.parts self.old.inner.taken) }
     {
         let number = self.made;
         self.made = self.made.saturating_add(1);
@@ -75,8 +82,11 @@ impl Package for FailingPackage {
 
     fn open(&mut self, name: &str) -> Result<bool, PackageFailed>
         ensures keeps { SameParts (planned_state self.old) (planned_state self.new) }
-        ensures counts { IfOk result (λ found. OpenCounts found (planned_state self.old) (planned_state self.new)) }
-        ensures opens { (planned_state self.old).is_told ≡ true → IfOk result (λ found. Opens name.now found (planned_state self.old) (planned_state self.new)) }
+        ensures counts { IfOk result (λ found. OpenCounts found (planned_state self.old)
+            (planned_state self.new)) }
+        ensures opens { (planned_state self.old).is_told ≡ true
+            → IfOk result (λ found. Opens name.now found (planned_state self.old)
+            (planned_state self.new)) }
         ensures failed { OnErr result (Fails (planned_state self.old) (planned_state self.new)) }
         ensures planned { CountsCall (is_err result) self.old self.new }
     {
@@ -86,8 +96,11 @@ impl Package for FailingPackage {
 
     fn advance(&mut self) -> Result<bool, PackageFailed>
         ensures keeps { SameParts (planned_state self.old) (planned_state self.new) }
-        ensures counts { IfOk result (λ more. AdvanceCounts more (planned_state self.old) (planned_state self.new)) }
-        ensures events { (planned_state self.old).is_told ≡ true → IfOk result (λ more. Advances more (planned_state self.old) (planned_state self.new)) }
+        ensures counts { IfOk result (λ more. AdvanceCounts more (planned_state self.old)
+            (planned_state self.new)) }
+        ensures events { (planned_state self.old).is_told ≡ true
+            → IfOk result (λ more. Advances more (planned_state self.old)
+            (planned_state self.new)) }
         ensures failed { OnErr result (Fails (planned_state self.old) (planned_state self.new)) }
         ensures planned { CountsCall (is_err result) self.old self.new }
     {

@@ -9,7 +9,8 @@ pub fn innermost_open_is_by_depth()
     ensures { InnermostOpenIsByDepth }
 {}
 
-/// Reading forward finds the match of a start: the least end at which the depth is one more than at the start.
+/// Reading forward finds the match of a start: the least end at which the depth is one more than at
+/// the start.
 pub fn content_is_by_match()
     ensures { ContentIsByMatch }
 {}

@@ -40,7 +40,8 @@ impl Model for MemoryPackage {
 
 fn find_part(parts: &[StoredPart], name: &str) -> Option<usize>
     ensures within { IfSome result (λ place. place < length parts.now) }
-    ensures found { IfSome result (λ place. part_of parts.now name.now ≡ Some (part_at parts.now place).events) }
+    ensures found { IfSome result (λ place. part_of parts.now name.now
+        ≡ Some (part_at parts.now place).events) }
     ensures absent { IfNone result (part_of parts.now name.now ≡ None) }
 {
     for (place, part) in parts.iter().enumerate() {
@@ -66,7 +67,8 @@ impl MemoryPackage {
 
     /// Appends an empty part of this name. No part is open afterwards. A refusal changes nothing.
     pub fn add_part(&mut self, name: &str) -> Result<(), AllocError>
-        ensures ok { OnOk result (self.new ≡ closed (self.old.parts ++ record { name = name.now; events = [] } ∷ []) self.old.taken) }
+        ensures ok { OnOk result (self.new ≡ closed (self.old.parts
+            ++ record { name = name.now; events = [] } ∷ []) self.old.taken) }
         ensures err { OnErr result (self.new ≡ self.old) }
     {
         let part = StoredPart::new(self.alloc, name)?;
@@ -78,7 +80,8 @@ impl MemoryPackage {
     /// Appends the event to the last part. No part is open afterwards. A refusal changes nothing.
     pub fn push_event(&mut self, event: PartEvent<'_>) -> Result<(), AllocError>
         requires { 0 < length self.old.parts }
-        ensures ok { OnOk result (self.new ≡ closed (with_event self.old.parts (event_of event.entry)) self.old.taken) }
+        ensures ok { OnOk result (self.new
+            ≡ closed (with_event self.old.parts (event_of event.entry)) self.old.taken) }
         ensures err { OnErr result (self.new ≡ self.old) }
     {
         let last = self.parts.len() - 1;

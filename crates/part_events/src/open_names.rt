@@ -5,7 +5,8 @@ ghost use Rattle.part_events.specs.OpenNames.{is_innermost};
 use std::alloc::{AllocError, Global};
 use std::marker::Model;
 
-/// The names of the open elements. They lie in one text, so that opening an element seldom asks for memory.
+/// The names of the open elements. They lie in one text, so that opening an element seldom asks for
+/// memory.
 #[derive(Debug, Drop)]
 pub struct OpenNames {
     text: Vec<u8>,

@@ -10,25 +10,28 @@ pub struct PackageFailed;
 
 /// Named parts, each a list of markup events, read through one cursor.
 ///
-/// Names are compared with ASCII letters folded and `\` read as `/`, and the first part of a name is found. Whether a
-/// package tells its content to proofs is its own choice; its counts and its current event are always told. No call
-/// changes the parts.
+/// Names are compared with ASCII letters folded and `\` read as `/`, and the first part of a name
+/// is found. Whether a package tells its content to proofs is its own choice; its counts and its
+/// current event are always told. No call changes the parts.
 pub trait Package {
     ghost state: { Self → PackageState };
 
-    /// Opens the part of this name, and stands before its first event. Answers false, and no part is open, where there
-    /// is none.
+    /// Opens the part of this name, and stands before its first event. Answers false, and no part
+    /// is open, where there is none.
     fn open(&mut self, name: &str) -> Result<bool, PackageFailed>
         ensures keeps { SameParts (state self.old) (state self.new) }
         ensures counts { IfOk result (λ found. OpenCounts found (state self.old) (state self.new)) }
-        ensures opens { (state self.old).is_told ≡ true → IfOk result (λ found. Opens name.now found (state self.old) (state self.new)) }
+        ensures opens { (state self.old).is_told ≡ true
+            → IfOk result (λ found. Opens name.now found (state self.old) (state self.new)) }
         ensures failed { OnErr result (Fails (state self.old) (state self.new)) };
 
     /// Takes the next event of the open part. Answers false at its end, or where no part is open.
     fn advance(&mut self) -> Result<bool, PackageFailed>
         ensures keeps { SameParts (state self.old) (state self.new) }
-        ensures counts { IfOk result (λ more. AdvanceCounts more (state self.old) (state self.new)) }
-        ensures events { (state self.old).is_told ≡ true → IfOk result (λ more. Advances more (state self.old) (state self.new)) }
+        ensures counts { IfOk result (λ more. AdvanceCounts more (state self.old)
+            (state self.new)) }
+        ensures events { (state self.old).is_told ≡ true
+            → IfOk result (λ more. Advances more (state self.old) (state self.new)) }
         ensures failed { OnErr result (Fails (state self.old) (state self.new)) };
 
     /// The event that the last call took.

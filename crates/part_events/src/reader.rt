@@ -16,8 +16,8 @@ use std::alloc::Global;
 
 /// Reads a part of a package from its start, and keeps the names of the open elements.
 ///
-/// What it keeps beside the package is a type parameter, so that a caller knows what became of the package once the
-/// reader is gone.
+/// What it keeps beside the package is a type parameter, so that a caller knows what became of the
+/// package once the reader is gone.
 pub struct XlReader<'a, P: Package, C: Drop = Cursor> {
     pub package: &'a mut P,
     /// Where reading stands in the open part of the package.
@@ -40,7 +40,8 @@ impl<'a, P: Package> XlReader<'a, P> {
 
     /// Opens the part of this name. Answers None where there is none.
     ///
-    /// A caller who has to know what became of the package without a reader calls `package.open(name)`, then `over`.
+    /// A caller who has to know what became of the package without a reader calls
+    /// `package.open(name)`, then `over`.
     pub fn open(
         alloc: Global,
         package: &'a mut P,
@@ -88,12 +89,13 @@ impl<'a, P: Package> XlReader<'a, P> {
         (package, cursor)
     }
 
-    /// Takes the next event of the part. Answers false at the part's end. An end has to have the whole name of the
-    /// innermost open element.
+    /// Takes the next event of the part. Answers false at the part's end. An end has to have the
+    /// whole name of the innermost open element.
     pub fn next(&mut self) -> Result<bool, StreamError>
         requires reading { IsReading (reading_by P.state self.old) }
         ensures same_package { SamePackage self.old self.new }
-        ensures reads { Reads Io result (reading_by P.state self.old) (reading_by P.state self.new) }
+        ensures reads { Reads Io result (reading_by P.state self.old)
+            (reading_by P.state self.new) }
         ensures steps { let old = reading_by P.state self.old in
             let new = reading_by P.state self.new in
             IfOk result (λ more. Steps more old new) }
@@ -120,7 +122,8 @@ impl<'a, P: Package> XlReader<'a, P> {
         requires reading { IsReading (reading_by P.state self.old) }
         requires element { IsAtElement (reading_by P.state self.old) }
         ensures same_package { SamePackage self.old self.new }
-        ensures reads { Reads Io result (reading_by P.state self.old) (reading_by P.state self.new) }
+        ensures reads { Reads Io result (reading_by P.state self.old)
+            (reading_by P.state self.new) }
         ensures depth { let old = reading_by P.state self.old in
             let new = reading_by P.state self.new in
             OnOk result (length old.names ≡ suc (length new.names)) }
@@ -134,24 +137,28 @@ impl<'a, P: Package> XlReader<'a, P> {
         self.cursor.skip_element(self.package)
     }
 
-    /// Appends the text of the element at whose start the reader stands: each Text, each CharData where `char_data` says
-    /// so, with their line ends as LF, and the character of each reference. Reads to the element's end, and answers false
-    /// where the part ends before. After a refusal `out` has its old text and that of the events before.
+    /// Appends the text of the element at whose start the reader stands: each Text, each CharData
+    /// where `char_data` says so, with their line ends as LF, and the character of each reference.
+    /// Reads to the element's end, and answers false where the part ends before. After a refusal
+    /// `out` has its old text and that of the events before.
     pub fn read_text(&mut self, out: &mut String, char_data: bool) -> Result<bool, StreamError>
         requires reading { IsReading (reading_by P.state self.old) }
         requires element { IsAtElement (reading_by P.state self.old) }
         ensures same_package { SamePackage self.old self.new }
-        ensures reads { Reads Io result (reading_by P.state self.old) (reading_by P.state self.new) }
+        ensures reads { Reads Io result (reading_by P.state self.old)
+            (reading_by P.state self.new) }
         ensures depth { let old = reading_by P.state self.old in
             let new = reading_by P.state self.new in
             IfOk result (λ closed. closed ≡ true → length old.names ≡ suc (length new.names)) }
         ensures text { let old = reading_by P.state self.old in
             let new = reading_by P.state self.new in
             let texts : List ℕ × List ℕ = (string_bytes out.old, string_bytes out.new) in
-            old.source.is_told ≡ true → IfOk result (λ closed. ReadsText char_data closed texts old new) }
+            old.source.is_told ≡ true → IfOk result
+            (λ closed. ReadsText char_data closed texts old new) }
         ensures front { let old = reading_by P.state self.old in
             let texts : List ℕ × List ℕ = (string_bytes out.old, string_bytes out.new) in
-            old.source.is_told ≡ true → OnErr result (PutsFront char_data (content 0 (ahead old)) texts) }
+            old.source.is_told ≡ true → OnErr result (PutsFront char_data (content 0
+            (ahead old)) texts) }
         ensures err { let old = reading_by P.state self.old in
             let new = reading_by P.state self.new in
             IfErr result (TextFails old new) }
@@ -159,13 +166,14 @@ impl<'a, P: Package> XlReader<'a, P> {
         self.cursor.read_text(self.package, out, char_data)
     }
 
-    /// Takes the next event of the section whose element is number `base` of the open ones, counted from 1. With a `base`
-    /// of 0 the section is the whole part.
+    /// Takes the next event of the section whose element is number `base` of the open ones, counted
+    /// from 1. With a `base` of 0 the section is the whole part.
     pub fn next_inside(&mut self, base: usize) -> Result<Step, StreamError>
         requires reading { IsReading (reading_by P.state self.old) }
         requires within { base ≤ length (reading_by P.state self.old).names }
         ensures same_package { SamePackage self.old self.new }
-        ensures reads { Reads Io result (reading_by P.state self.old) (reading_by P.state self.new) }
+        ensures reads { Reads Io result (reading_by P.state self.old)
+            (reading_by P.state self.new) }
         ensures stands { let old = reading_by P.state self.old in
             let new = reading_by P.state self.new in
             IfOk result (λ step. StandsInside base step old new) }
@@ -179,13 +187,15 @@ impl<'a, P: Package> XlReader<'a, P> {
         self.cursor.next_inside(self.package, base)
     }
 
-    /// Reads on to the next start with one of these local names, at any depth of the section whose element is number
-    /// `base` of the open ones, counted from 1. With a `base` of 0 the whole part is walked over.
+    /// Reads on to the next start with one of these local names, at any depth of the section whose
+    /// element is number `base` of the open ones, counted from 1. With a `base` of 0 the whole part
+    /// is walked over.
     pub fn next_start(&mut self, base: usize, names: &[&str]) -> Result<Step, StreamError>
         requires reading { IsReading (reading_by P.state self.old) }
         requires within { base ≤ length (reading_by P.state self.old).names }
         ensures same_package { SamePackage self.old self.new }
-        ensures reads { Reads Io result (reading_by P.state self.old) (reading_by P.state self.new) }
+        ensures reads { Reads Io result (reading_by P.state self.old)
+            (reading_by P.state self.new) }
         ensures stands { let old = reading_by P.state self.old in
             let new = reading_by P.state self.new in
             let wanted = is_named (map (λ name. name.now) names.now) in
@@ -202,13 +212,15 @@ impl<'a, P: Package> XlReader<'a, P> {
         self.cursor.next_start(self.package, base, names)
     }
 
-    /// Reads on to the next element with one of these local names in such a section. Each element that is found has to
-    /// be read to its end before the next one is asked for, so that those that lie in it are left aside.
+    /// Reads on to the next element with one of these local names in such a section. Each element
+    /// that is found has to be read to its end before the next one is asked for, so that those that
+    /// lie in it are left aside.
     pub fn next_element(&mut self, base: usize, names: &[&str]) -> Result<Step, StreamError>
         requires reading { IsReading (reading_by P.state self.old) }
         requires within { base ≤ length (reading_by P.state self.old).names }
         ensures same_package { SamePackage self.old self.new }
-        ensures reads { Reads Io result (reading_by P.state self.old) (reading_by P.state self.new) }
+        ensures reads { Reads Io result (reading_by P.state self.old)
+            (reading_by P.state self.new) }
         ensures stands { let old = reading_by P.state self.old in
             let new = reading_by P.state self.new in
             let wanted = is_named (map (λ name. name.now) names.now) in
@@ -216,7 +228,8 @@ impl<'a, P: Package> XlReader<'a, P> {
         ensures found { let old = reading_by P.state self.old in
             let new = reading_by P.state self.new in
             let wanted = is_named (map (λ name. name.now) names.now) in
-            old.source.is_told ≡ true → IfOk result (λ step. FindsElement wanted base step old new) }
+            old.source.is_told ≡ true → IfOk result
+            (λ step. FindsElement wanted base step old new) }
         ensures err { let old = reading_by P.state self.old in
             let new = reading_by P.state self.new in
             let wanted = is_named (map (λ name. name.now) names.now) in
@@ -225,19 +238,21 @@ impl<'a, P: Package> XlReader<'a, P> {
         self.cursor.next_element(self.package, base, names)
     }
 
-    /// Reads on to the next child of the element that is number `base` of the open ones. Each child has to be read to its
-    /// end before the next one is asked for.
+    /// Reads on to the next child of the element that is number `base` of the open ones. Each child
+    /// has to be read to its end before the next one is asked for.
     pub fn next_child(&mut self, base: usize) -> Result<Step, StreamError>
         requires reading { IsReading (reading_by P.state self.old) }
         requires within { base ≤ length (reading_by P.state self.old).names }
         ensures same_package { SamePackage self.old self.new }
-        ensures reads { Reads Io result (reading_by P.state self.old) (reading_by P.state self.new) }
+        ensures reads { Reads Io result (reading_by P.state self.old)
+            (reading_by P.state self.new) }
         ensures stands { let old = reading_by P.state self.old in
             let new = reading_by P.state self.new in
             IfOk result (λ step. StandsAt is_any base step old new) }
         ensures found { let old = reading_by P.state self.old in
             let new = reading_by P.state self.new in
-            old.source.is_told ≡ true → IfOk result (λ step. FindsElement is_any base step old new) }
+            old.source.is_told ≡ true → IfOk result
+            (λ step. FindsElement is_any base step old new) }
         ensures err { let old = reading_by P.state self.old in
             let new = reading_by P.state self.new in
             IfErr result (WalkFails is_any base old new) }

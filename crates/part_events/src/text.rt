@@ -12,8 +12,8 @@ use crate::package::Package;
 use crate::walk::Step;
 use attr_text::{TextFault, push_entity, push_line_ends};
 
-/// Appends the text of an event: a Text, or a CharData where `char_data` says so, with its line ends as LF, or the
-/// character of a reference. After a refusal `out` is as it was.
+/// Appends the text of an event: a Text, or a CharData where `char_data` says so, with its line
+/// ends as LF, or the character of a reference. After a refusal `out` is as it was.
 pub fn push_text(out: &mut String, event: PartEvent<'_>, char_data: bool) -> Result<(), TextFault>
     ensures ok { let text = event_text char_data (event_of event.entry) in
         OnOk result (string_bytes out.new ≡ string_bytes out.old ++ text) }
@@ -48,9 +48,10 @@ impl Cursor {
         }
     }
 
-    /// Appends the text of the element at whose start the package stands: each Text, each CharData where `char_data`
-    /// says so, with their line ends as LF, and the character of each reference. Reads to the element's end, and answers
-    /// false where the part ends before. After a refusal `out` has its old text and that of the events before.
+    /// Appends the text of the element at whose start the package stands: each Text, each CharData
+    /// where `char_data` says so, with their line ends as LF, and the character of each reference.
+    /// Reads to the element's end, and answers false where the part ends before. After a refusal
+    /// `out` has its old text and that of the events before.
     pub fn read_text<P: Package>(
         &mut self,
         package: &mut P,
@@ -67,10 +68,12 @@ impl Cursor {
         ensures text { let old = reading (P.state «package».old) self.old in
             let new = reading (P.state «package».new) self.new in
             let texts : List ℕ × List ℕ = (string_bytes out.old, string_bytes out.new) in
-            old.source.is_told ≡ true → IfOk result (λ closed. ReadsText char_data closed texts old new) }
+            old.source.is_told ≡ true → IfOk result
+            (λ closed. ReadsText char_data closed texts old new) }
         ensures front { let old = reading (P.state «package».old) self.old in
             let texts : List ℕ × List ℕ = (string_bytes out.old, string_bytes out.new) in
-            old.source.is_told ≡ true → OnErr result (PutsFront char_data (content 0 (ahead old)) texts) }
+            old.source.is_told ≡ true → OnErr result (PutsFront char_data (content 0
+            (ahead old)) texts) }
         ensures err { let old = reading (P.state «package».old) self.old in
             let new = reading (P.state «package».new) self.new in
             IfErr result (TextFails old new) }

@@ -54,8 +54,8 @@ impl Wanted<'_> {
 }
 
 impl Cursor {
-    /// Takes the next event of the section whose element is number `base` of the open ones, counted from 1. With a `base`
-    /// of 0 the section is the whole part.
+    /// Takes the next event of the section whose element is number `base` of the open ones, counted
+    /// from 1. With a `base` of 0 the section is the whole part.
     pub fn next_inside<P: Package>(
         &mut self,
         package: &mut P,
@@ -85,8 +85,8 @@ impl Cursor {
         Ok(Step::Found)
     }
 
-    /// Reads on to the next wanted start, to the end of the section whose element is number `base` of the open ones,
-    /// or to the part's end. Every walk over a section goes through this loop.
+    /// Reads on to the next wanted start, to the end of the section whose element is number `base`
+    /// of the open ones, or to the part's end. Every walk over a section goes through this loop.
     fn walk<P: Package>(
         &mut self,
         package: &mut P,
@@ -127,8 +127,9 @@ impl Cursor {
         }
     }
 
-    /// Reads on to the next start with one of these local names, at any depth of the section whose element is number
-    /// `base` of the open ones, counted from 1. With a `base` of 0 the whole part is walked over.
+    /// Reads on to the next start with one of these local names, at any depth of the section whose
+    /// element is number `base` of the open ones, counted from 1. With a `base` of 0 the whole part
+    /// is walked over.
     pub fn next_start<P: Package>(
         &mut self,
         package: &mut P,
@@ -156,8 +157,9 @@ impl Cursor {
         self.walk(package, base, Wanted::Named(names))
     }
 
-    /// Reads on to the next element with one of these local names in such a section. Each element that is found has to
-    /// be read to its end before the next one is asked for, so that those that lie in it are left aside.
+    /// Reads on to the next element with one of these local names in such a section. Each element
+    /// that is found has to be read to its end before the next one is asked for, so that those that
+    /// lie in it are left aside.
     pub fn next_element<P: Package>(
         &mut self,
         package: &mut P,
@@ -176,7 +178,8 @@ impl Cursor {
         ensures found { let old = reading (P.state «package».old) self.old in
             let new = reading (P.state «package».new) self.new in
             let wanted = is_named (map (λ name. name.now) names.now) in
-            old.source.is_told ≡ true → IfOk result (λ step. FindsElement wanted base step old new) }
+            old.source.is_told ≡ true → IfOk result
+            (λ step. FindsElement wanted base step old new) }
         ensures err { let old = reading (P.state «package».old) self.old in
             let new = reading (P.state «package».new) self.new in
             let wanted = is_named (map (λ name. name.now) names.now) in
@@ -185,8 +188,8 @@ impl Cursor {
         self.walk(package, base, Wanted::Named(names))
     }
 
-    /// Reads on to the next child of the element that is number `base` of the open ones. Each child has to be read to its
-    /// end before the next one is asked for.
+    /// Reads on to the next child of the element that is number `base` of the open ones. Each child
+    /// has to be read to its end before the next one is asked for.
     pub fn next_child<P: Package>(
         &mut self,
         package: &mut P,
@@ -202,7 +205,8 @@ impl Cursor {
             IfOk result (λ step. StandsAt is_any base step old new) }
         ensures found { let old = reading (P.state «package».old) self.old in
             let new = reading (P.state «package».new) self.new in
-            old.source.is_told ≡ true → IfOk result (λ step. FindsElement is_any base step old new) }
+            old.source.is_told ≡ true → IfOk result
+            (λ step. FindsElement is_any base step old new) }
         ensures err { let old = reading (P.state «package».old) self.old in
             let new = reading (P.state «package».new) self.new in
             IfErr result (WalkFails is_any base old new) }
@@ -217,7 +221,8 @@ impl Cursor {
         ensures reads { let old = reading (P.state «package».old) self.old in
             let new = reading (P.state «package».new) self.new in
             Reads Io result old new }
-        ensures depth { OnOk result (length (open_elements self.old) ≡ suc (length (open_elements self.new))) }
+        ensures depth { OnOk result (length (open_elements self.old)
+            ≡ suc (length (open_elements self.new))) }
         ensures skips { let old = reading (P.state «package».old) self.old in
             let new = reading (P.state «package».new) self.new in
             old.source.is_told ≡ true → OnOk result (Skips old new) }

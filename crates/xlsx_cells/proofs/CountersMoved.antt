@@ -10,47 +10,67 @@ use Rattle.xlsx_cells.specs.Marks.{Mark, row_start, row_end, cell}
 use Rattle.xlsx_cells.specs.Position.{row_named, position_named, row_counter, column_counter, or_further_row, or_further_column, implied_position}
 use Rattle.xlsx_sections.specs.Refusal.{Refusal, misplaced}
 
-or_further_row_more : (ends : ℕ) (named : Result (Option ℕ) Refusal) (less more : ℕ) → more ≡ suc less → or_further_row (suc ends) named more ≡ suc (or_further_row ends named less)
+or_further_row_more : (ends : ℕ) (named : Result (Option ℕ) Refusal) (less more : ℕ) → more
+    ≡ suc less → or_further_row (suc ends) named more ≡ suc (or_further_row ends named less)
 or_further_row_more ends (Ok (Some row)) less more is = omega arith
 or_further_row_more ends (Ok None) less more is = is
 or_further_row_more ends (Err refusal) less more is = is
 
 -- one end more
-pub row_counter_more : (ends : ℕ) (before : List Mark) → row_counter (suc ends) before ≡ suc (row_counter ends before)
+pub row_counter_more : (ends : ℕ) (before : List Mark) → row_counter (suc ends) before
+    ≡ suc (row_counter ends before)
 row_counter_more ends [] = refl
-row_counter_more ends (row_start tag ∷ before) = or_further_row_more ends (row_named tag) (row_counter ends before) (row_counter (suc ends) before) (row_counter_more ends before)
+row_counter_more ends (row_start tag ∷ before) = or_further_row_more ends (row_named tag)
+    (row_counter ends before) (row_counter (suc ends) before) (row_counter_more ends before)
 row_counter_more ends (row_end ∷ before) = row_counter_more (suc ends) before
 row_counter_more ends (cell element ∷ before) = row_counter_more ends before
 
-or_further_column_more : (since : ℕ) (named : Result (Option (ℕ × ℕ)) Refusal) (less more : ℕ) → more ≡ suc less → or_further_column (suc since) named more ≡ suc (or_further_column since named less)
+or_further_column_more : (since : ℕ) (named : Result (Option (ℕ × ℕ)) Refusal) (less more : ℕ)
+    → more ≡ suc less → or_further_column (suc since) named more
+    ≡ suc (or_further_column since named less)
 or_further_column_more since (Ok (Some position)) less more is = omega arith
 or_further_column_more since (Ok None) less more is = is
 or_further_column_more since (Err refusal) less more is = is
 
 -- one cell more
-pub column_counter_more : (since : ℕ) (before : List Mark) → column_counter (suc since) before ≡ suc (column_counter since before)
+pub column_counter_more : (since : ℕ) (before : List Mark) → column_counter (suc since) before
+    ≡ suc (column_counter since before)
 column_counter_more since [] = refl
 column_counter_more since (row_start tag ∷ before) = column_counter_more since before
 column_counter_more since (row_end ∷ before) = refl
-column_counter_more since (cell element ∷ before) = or_further_column_more since (position_named element.tag) (column_counter (suc since) before) (column_counter (suc (suc since)) before) (column_counter_more (suc since) before)
+column_counter_more since (cell element ∷ before) = or_further_column_more since
+    (position_named element.tag) (column_counter (suc since) before) (column_counter (suc
+    (suc since)) before) (column_counter_more (suc since) before)
 
 -- behind the end of a row, the counter of rows that stops at the limit
-pub row_counter_end : (row : ℕ) (before : List Mark) → row ≡ min (row_counter 0 before) MAX_ROWS → min (row + 1) MAX_ROWS ≡ min (row_counter 0 (row_end ∷ before)) MAX_ROWS
+pub row_counter_end : (row : ℕ) (before : List Mark) → row ≡ min (row_counter 0 before) MAX_ROWS
+    → min (row + 1) MAX_ROWS ≡ min (row_counter 0 (row_end ∷ before)) MAX_ROWS
 row_counter_end row before is = omega (arith, is, row_counter_more 0 before)
 
 -- behind a start that names a row
-pub row_counter_named : (row : ℕ) (tag : Tag) (before : List Mark) → row_named tag ≡ Ok (Some row) → row_counter 0 (row_start tag ∷ before) ≡ row
-row_counter_named row tag before is = ap (λ (named : Result (Option ℕ) Refusal). or_further_row 0 named (row_counter 0 before)) is ∙ omega arith
+pub row_counter_named : (row : ℕ) (tag : Tag) (before : List Mark) → row_named tag
+    ≡ Ok (Some row) → row_counter 0 (row_start tag ∷ before) ≡ row
+row_counter_named row tag before is = ap (λ (named : Result
+    (Option ℕ) Refusal). or_further_row 0 named (row_counter 0 before)) is ∙ omega arith
 
-pub row_counter_unnamed : (tag : Tag) (before : List Mark) → row_named tag ≡ Ok None → row_counter 0 (row_start tag ∷ before) ≡ row_counter 0 before
-row_counter_unnamed tag before is = ap (λ (named : Result (Option ℕ) Refusal). or_further_row 0 named (row_counter 0 before)) is
+pub row_counter_unnamed : (tag : Tag) (before : List Mark) → row_named tag ≡ Ok None
+    → row_counter 0 (row_start tag ∷ before) ≡ row_counter 0 before
+row_counter_unnamed tag before is = ap (λ (named : Result
+    (Option ℕ) Refusal). or_further_row 0 named (row_counter 0 before)) is
 
 -- behind a cell that names its position, and behind one that doesn't
-pub column_counter_named : (position : ℕ × ℕ) (element : Element) (before : List Mark) → position_named element.tag ≡ Ok (Some position) → column_counter 0 (cell element ∷ before) ≡ position.1 + 1
-column_counter_named position element before is = ap (λ (named : Result (Option (ℕ × ℕ)) Refusal). or_further_column 0 named (column_counter 1 before)) is ∙ omega arith
+pub column_counter_named : (position : ℕ × ℕ) (element : Element) (before : List Mark)
+    → position_named element.tag ≡ Ok (Some position) → column_counter 0 (cell element ∷ before)
+    ≡ position.1 + 1
+column_counter_named position element before is = ap (λ (named : Result (Option (ℕ
+    × ℕ)) Refusal). or_further_column 0 named (column_counter 1 before)) is ∙ omega arith
 
-pub column_counter_unnamed : (element : Element) (before : List Mark) → position_named element.tag ≡ Ok None → column_counter 0 (cell element ∷ before) ≡ column_counter 0 before + 1
-column_counter_unnamed element before is = ap (λ (named : Result (Option (ℕ × ℕ)) Refusal). or_further_column 0 named (column_counter 1 before)) is ∙ omega (arith, column_counter_more 0 before)
+pub column_counter_unnamed : (element : Element) (before : List Mark)
+    → position_named element.tag ≡ Ok None → column_counter 0 (cell element ∷ before)
+    ≡ column_counter 0 before + 1
+column_counter_unnamed element before is = ap (λ (named : Result (Option (ℕ
+    × ℕ)) Refusal). or_further_column 0 named (column_counter 1 before)) is
+    ∙ omega (arith, column_counter_more 0 before)
 
 by_tests : (wide low : Bool) (first second : ℕ × ℕ) (far_column far_row refusal : Refusal)
     → (if wide then Err far_column else (if low then Err far_row else Ok first)) ≡ Err refusal

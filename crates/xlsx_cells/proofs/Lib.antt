@@ -1,8 +1,10 @@
 pub mod CellsRead
 pub mod ChildrenRead
+pub mod Collecting
 pub mod CountersMoved
 pub mod HeadRead
 pub mod MarksAhead
 pub mod Passing
 pub mod Refusing
+pub mod SheetEntered
 pub mod SoundSheet

@@ -1,6 +1,7 @@
 -- A stream of cells: where it stands, and what its steps do.
-use Rattle.std.specs.Prelude.{◌≡◌, ◌⊎◌, ⊤, ℕ, ◌≤◌, List, [], ◌∷◌, ◌++◌, length, Bool, true, false}
+use Rattle.std.specs.Prelude.{◌≡◌, ◌⊎◌, ⊤, ℕ, ◌≤◌, ◌<◌, List, [], ◌∷◌, ◌++◌, length, Bool, true, false}
 use Rattle.std.specs.Prelude.{Option, Some, None, Result, Ok, Err, string_bytes}
+use Rattle.cell_refs.specs.declared.TheConstants.{MAX_ROWS, MAX_COLUMNS}
 use Rattle.part_events.specs.Event.{Tag, Event}
 use Rattle.part_events.specs.Package.{PackageState}
 use Rattle.part_events.specs.Reading.{Reading, reading, IsReading}
@@ -8,6 +9,7 @@ use Rattle.part_events.specs.Section.{Element}
 use Rattle.part_events.specs.Walk.{section_ahead, is_closed_ahead}
 use Rattle.cell_data.specs.CellValue.{CellValue, value_of_data_ref}
 use Rattle.cell_data.specs.declared.error.XlsxError.{XlsxError}
+use Rattle.xlsx_sections.specs.Elements.{KeepsElements}
 use Rattle.xlsx_sections.specs.PartSection.{PartSection, SectionFails, inside_of}
 use Rattle.xlsx_sections.specs.Refusal.{Refusal, in_element}
 use Rattle.xlsx_values.specs.Value.{Grounds, cell_value}
@@ -18,7 +20,7 @@ use Rattle.xlsx_formulas.specs.declared.masters.Masters.{Masters}
 use Rattle.xlsx_cells.specs.Counting.{AreKept}
 use Rattle.xlsx_cells.specs.Ends.{end_in_contents, end_in_data}
 use Rattle.xlsx_cells.specs.Finding.{IsStepRefused}
-use Rattle.xlsx_cells.specs.Marks.{Mark, cell, marks, behind_marks}
+use Rattle.xlsx_cells.specs.Marks.{Mark, cell, is_cell, marks, behind_marks}
 use Rattle.xlsx_cells.specs.Position.{cell_position, PassesRows}
 use Rattle.xlsx_cells.specs.declared.children.Wants.{Wants}
 use Rattle.xlsx_cells.specs.declared.counters.Counters.{Counters}
@@ -132,4 +134,7 @@ TakesNext wants grounds before earlier (Some read) old new =
 -- where it stands then
 abbrev pub StandsAfter : Option CellRead → Stream → Stream → Type 0
 StandsAfter None old new = ⊤
-StandsAfter (Some read) old new = IsStreaming new × (new.base ≡ old.base)
+StandsAfter (Some read) old new =
+    IsStreaming new × (new.base ≡ old.base) × (old.reading.at < new.reading.at)
+    × KeepsElements is_cell old.base old.reading new.reading
+    × (read.pos.0 < MAX_ROWS) × (read.pos.1 < MAX_COLUMNS)

@@ -32,7 +32,8 @@ pub struct CellRead {
     pub formula: String,
 }
 
-/// What the start of the cell at this position says, by its attributes `r`, `s` and `t`, where its value is wanted.
+/// What the start of the cell at this position says, by its attributes `r`, `s` and `t`, where its
+/// value is wanted.
 fn start_of(
     alloc: Global,
     tag: StartTag<'_>,

@@ -40,7 +40,8 @@ pub struct CellStart {
     pub typ: CellType,
 }
 
-/// What the children of a cell say: of its value the last that counts, and the text of its last formula.
+/// What the children of a cell say: of its value the last that counts, and the text of its last
+/// formula.
 #[derive(Debug, Drop)]
 pub struct CellContents {
     pub value: Option<DataRef>,
@@ -74,7 +75,8 @@ fn child_name(tag: StartTag<'_>) -> ChildName
     }
 }
 
-/// Reads the `f` at whose start the package stands, to its end, and takes its formula where it is wanted.
+/// Reads the `f` at whose start the package stands, to its end, and takes its formula where it is
+/// wanted.
 fn take_formula<P: Package>(
     alloc: Global,
     package: &mut P,
@@ -118,7 +120,8 @@ fn take_formula<P: Package>(
     Ok(())
 }
 
-/// Reads the `v` or the `is` at whose start the package stands, to its end, and keeps its value where it is wanted and counts.
+/// Reads the `v` or the `is` at whose start the package stands, to its end, and keeps its value
+/// where it is wanted and counts.
 fn keep_value<P: Package>(
     alloc: Global,
     package: &mut P,

@@ -55,8 +55,8 @@ fn implied_position(row: u32, column: u32) -> Result<(u32, u32), XlsxError>
     Ok((row, column))
 }
 
-/// Where the next cell stands that names no position, its row and column counted from 0. The counters stop behind the last
-/// row and the last column.
+/// Where the next cell stands that names no position, its row and column counted from 0. The
+/// counters stop behind the last row and the last column.
 #[derive(Clone, Copy, Debug)]
 pub struct Counters {
     row: u32,

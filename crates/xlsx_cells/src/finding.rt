@@ -43,16 +43,15 @@ fn pass(counters: &mut Counters, event: PartEvent<'_>) -> Result<(), XlsxError>
                 counters.end_row();
             }
         }
-        PartEvent::Text(_)
-        | PartEvent::CharData(_)
-        | PartEvent::EntityRef(_)
-        | PartEvent::Other => {}
+        PartEvent::Text(_) | PartEvent::CharData(_) | PartEvent::EntityRef(_) | PartEvent::Other =>
+            {}
     }
     Ok(())
 }
 
-/// Reads on to the start of the next cell of a sheet's data, whose element is number `base` of the open ones, counted from 1.
-/// Answers the cell's position, its row and column counted from 0, and None at the end of the data.
+/// Reads on to the start of the next cell of a sheet's data, whose element is number `base` of the
+/// open ones, counted from 1. Answers the cell's position, its row and column counted from 0, and
+/// None at the end of the data.
 pub fn find_cell<P: Package>(
     package: &mut P,
     cursor: &mut Cursor,

@@ -1,17 +1,22 @@
-ghost use Rattle.std.specs.Prelude.{◌≡◌, [], true, IfOk, OnOk, IfErr, All, map, string_bytes};
+ghost use Rattle.std.specs.Prelude.{◌≡◌, ◌<◌, ◌++◌, [], ◌∷◌, true, IfOk, OnOk, IfErr, All, map, string_bytes};
+ghost use Rattle.cell_refs.specs.declared.TheConstants.{MAX_ROWS, MAX_COLUMNS};
+ghost use Rattle.cell_data.specs.CellValue.{value_of_data_ref};
+ghost use Rattle.xlsx_cells.specs.Sheet.{used_values, used_formulas};
 ghost use Rattle.part_events.specs.Reading.{ReadsPart};
 ghost use Rattle.cell_data.specs.Cells.{IsInSheet};
-ghost use Rattle.cell_data.specs.declared.error.XlsxError.TheVariants.{Io};
+ghost use Rattle.cell_data.specs.declared.error.XlsxError.TheVariants.{Io, OutOfMemory};
 ghost use Rattle.xlsx_values.specs.Book.{grounds_of};
 ghost use Rattle.xlsx_cells.specs.Errors.{IsCellError};
 ghost use Rattle.xlsx_cells.specs.SheetPart.{DataFails, HoldsValues, HoldsFormulas, value_entries, formula_entries};
 ghost use Rattle.xlsx_cells.specs.Stream.{stream, IsStreaming, StandsBehind, data_ahead, are_closed_ahead};
 
+use crate::cell_read::CellRead;
 use crate::children::Asked;
 use crate::sheet_cursor::SheetCursor;
-use cell_data::{Cell, Data, XlsxError};
+use cell_data::{Cell, Data, DataRef, XlsxError};
 use part_events::Package;
 use std::alloc::Global;
+use xlsx_values::to_data;
 
 /// The cells of a sheet's data that hold something, in their order there.
 #[derive(Debug, Drop)]
@@ -20,6 +25,52 @@ pub struct SheetCells {
     pub values: Vec<Cell<Data>>,
     /// Those with a formula, where formulas were asked for.
     pub formulas: Vec<Cell<String>>,
+}
+
+/// Keeps the value of a cell where it holds one.
+fn keep_value(
+    alloc: Global,
+    cells: &mut Vec<Cell<Data>>,
+    pos: (u32, u32),
+    value: DataRef,
+    strings: &[String],
+) -> Result<(), XlsxError>
+    requires row { pos.0 < MAX_ROWS }
+    requires column { pos.1 < MAX_COLUMNS }
+    requires inside { All IsInSheet cells.old.items }
+    ensures value { let found = used_values (map string_bytes strings.now)
+        ((pos, value_of_data_ref value) ∷ []) in
+        OnOk result (value_entries cells.new.items ≡ value_entries cells.old.items ++ found) }
+    ensures inside { OnOk result (All IsInSheet cells.new.items) }
+    ensures err { IfErr result (λ error. error ≡ OutOfMemory) }
+{
+    if matches!(value, DataRef::Empty) {
+        return Ok(());
+    }
+    cells.push(Cell::new(pos, to_data(alloc, value, strings)?))?;
+    Ok(())
+}
+
+/// Keeps the formula of a cell where it has one.
+fn keep_formula(
+    cells: &mut Vec<Cell<String>>,
+    pos: (u32, u32),
+    formula: String,
+) -> Result<(), XlsxError>
+    requires row { pos.0 < MAX_ROWS }
+    requires column { pos.1 < MAX_COLUMNS }
+    requires inside { All IsInSheet cells.old.items }
+    ensures formula { let found = used_formulas ((pos, string_bytes formula) ∷ []) in
+        OnOk result
+        (formula_entries cells.new.items ≡ formula_entries cells.old.items ++ found) }
+    ensures inside { OnOk result (All IsInSheet cells.new.items) }
+    ensures err { IfErr result (λ error. error ≡ OutOfMemory) }
+{
+    if formula.is_empty() {
+        return Ok(());
+    }
+    cells.push(Cell::new(pos, formula))?;
+    Ok(())
 }
 
 /// Reads the rest of a sheet's data, of which nothing was taken yet, to their end.
@@ -51,5 +102,18 @@ pub fn collect<P: Package>(
         IfErr result (DataFails asked.entry.wants (grounds_of asked.entry.book) old new) }
     ensures kind { IfErr result IsCellError }
 {
-    Err(XlsxError::OutOfMemory)
+    let mut cells = SheetCells {
+        values: Vec::new(alloc),
+        formulas: Vec::new(alloc),
+    };
+    'cells: while let Some(read) = sheet.next(package, asked)? {
+        let CellRead {
+            pos,
+            value,
+            formula,
+        } = read;
+        keep_value(alloc, &mut cells.values, pos, value, asked.book.strings)?;
+        keep_formula(&mut cells.formulas, pos, formula)?;
+    }
+    Ok(cells)
 }

@@ -15,10 +15,10 @@ use crate::children::Asked;
 use crate::counters::Counters;
 use crate::finding::find_cell;
 use crate::head::enter_data;
-use cell_refs::Dimensions;
-use std::alloc::Global;
 use cell_data::XlsxError;
+use cell_refs::Dimensions;
 use part_events::{Cursor, Package};
+use std::alloc::Global;
 use xlsx_formulas::Masters;
 
 /// Where reading stands in a sheet's data: behind the cells that were taken.
@@ -31,7 +31,8 @@ pub struct SheetCursor {
 }
 
 impl SheetCursor {
-    /// Takes the next cell of the sheet's data, with what is asked for. Answers None at the end of the data.
+    /// Takes the next cell of the sheet's data, with what is asked for. Answers None at the end of
+    /// the data.
     pub fn next<P: Package>(
         &mut self,
         package: &mut P,
@@ -66,8 +67,8 @@ impl SheetCursor {
     }
 }
 
-/// Opens the part of a sheet at this path, and reads on behind the start of its data. Answers where reading stands then, and
-/// the sheet's dimensions; None where there is no such part.
+/// Opens the part of a sheet at this path, and reads on behind the start of its data. Answers where
+/// reading stands then, and the sheet's dimensions; None where there is no such part.
 pub fn open_data<P: Package>(
     alloc: Global,
     package: &mut P,
@@ -87,5 +88,17 @@ pub fn open_data<P: Package>(
         (OpenDataFails path.now (P.state «package».old) (P.state «package».new)) }
     ensures kind { IfErr result IsHeadError }
 {
-    Err(XlsxError::OutOfMemory)
+    if !package.open(path)? {
+        return Ok(None);
+    }
+    let mut cursor = Cursor::new(alloc, package);
+    let dimensions = enter_data(alloc, package, &mut cursor)?;
+    let base = cursor.depth();
+    let sheet = SheetCursor {
+        cursor,
+        base,
+        counters: Counters::new(),
+        masters: Masters::new(alloc),
+    };
+    Ok(Some((sheet, dimensions)))
 }

@@ -288,11 +288,6 @@ root_left leaves = record {
       λ told. inl (leaves.taken told);
 }
 
-pub root_then_left : {error : XlsxError} {more : ℕ} {old mid new : PackageState}
-    → UsesPackage (events_in old.parts (codes "_rels/.rels")) old mid → more ≡ 0
-    → LeavesPackage more Io mid new error → FailsToOpen Io old new error
-root_then_left first none second = root_left (leaves_then (omega (arith, none)) first second)
-
 pub opens_package : {A : Type 0} (result : Result A XlsxError) (old mid new : PackageState)
     (path : List ℕ) → UsesPackage (events_in old.parts (codes "_rels/.rels")) old mid
     → (old.is_told ≡ true → HasPath old.parts path)

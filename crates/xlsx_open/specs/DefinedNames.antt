@@ -20,8 +20,7 @@ abbrev pub name_by : PlacedTag → Result (Option (List ℕ)) Refusal
 name_by start = name_from start.behind (value_of (codes "name") start.tag.attributes)
 
 -- How many events of a section stand behind one that has `within` behind it in an element. `behind`
--- stand behind the
--- start of the element, and `inside` in it.
+-- stand behind the start of the element, and `inside` in it.
 abbrev pub behind_in_section : List Event → ℕ → ℕ → ℕ
 behind_in_section inside behind within = (behind - length inside) + within
 

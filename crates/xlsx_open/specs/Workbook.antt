@@ -22,8 +22,7 @@ abbrev pub names_of : WorkbookContents → List (List ℕ × List ℕ)
 names_of found = map pair_of found.names.items
 
 -- What is kept at last of sheets and dates, with what the events say that are left, is what was
--- kept at first, with what
--- the events said that were left then.
+-- kept at first, with what the events said that were left then.
 pub record KeepsSheets
     (folder : List ℕ) (related : List ℕ → Option Related)
     (first : WorkbookContents) (events : List Event) (last : WorkbookContents)
@@ -56,8 +55,7 @@ KeepsName name inside behind first last =
     ≡ prepended first (and_others_if (with_text inside behind (Ok name)) others)
 
 -- Why the element of a name is refused, at whose start reading stands: by a sheet or the dates, in
--- the element or behind
--- it, or by its text.
+-- the element or behind it, or by its text.
 abbrev pub IsNameRefused :
     List ℕ → (List ℕ → Option Related) → WorkbookContents → Option (List ℕ) →
     PartSection → Refusal → Type 0

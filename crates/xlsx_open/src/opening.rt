@@ -111,7 +111,8 @@ fn from_contents(
 ) -> Result<Opened, AllocError>
     ensures sheets { IfOk result (λ o.
         o.metadata.sheets.items ≡ map (λ entry. entry.sheet) contents.entries.items) }
-    ensures paths { IfOk result (λ o. o.paths.items ≡ map (λ entry. entry.path) contents.entries.items) }
+    ensures paths { IfOk result (λ o.
+        o.paths.items ≡ map (λ entry. entry.path) contents.entries.items) }
     ensures names { IfOk result (λ o. o.metadata.names.items ≡ contents.names.items) }
     ensures strings { IfOk result (λ o. o.strings ≡ strings) }
     ensures epoch { IfOk result (λ o. o.is_1904 ≡ unwrap_or contents.epoch false) }
@@ -211,9 +212,9 @@ fn open_at<P: Package>(alloc: Global, package: &mut P, path: &str) -> Result<Ope
 
 /// The workbook of a package.
 ///
-/// The package's relationships lead to it, the last one to an office document with a target being taken. Relationships of
-/// the workbook are by Id, of which the last stands. Each section is read to its end and no further. (ECMA-376 part 2,
-/// section 9.3, and part 1, section 18.2.)
+/// The package's relationships lead to it, the last one to an office document with a target being
+/// taken. Relationships of the workbook are by Id, of which the last stands. Each section is read
+/// to its end and no further. (ECMA-376 part 2, section 9.3, and part 1, sections 18.2 and 18.4.)
 ///
 /// The shared strings are read first, and a package with styles is refused as `NotBuilt`.
 pub fn open<P: Package>(alloc: Global, package: &mut P) -> Result<Opened, XlsxError>

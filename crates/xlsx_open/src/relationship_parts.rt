@@ -15,7 +15,8 @@ use std::alloc::Global;
 use std::collections::BTreeMap;
 use xlsx_sections::{enter_part, next_start_in, start_tag};
 
-/// The path of the workbook, in a section of relationships whose element is number `base` of the open ones.
+/// The path of the workbook, in a section of relationships whose element is number `base` of the
+/// open ones.
 #[tactic(auto, using(crate::proofs::OpeningErrors::relationships_step))]
 fn path_in<P: Package>(
     alloc: Global,

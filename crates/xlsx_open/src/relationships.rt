@@ -47,8 +47,8 @@ fn office_target(alloc: Global, tag: StartTag<'_>, at: u64) -> Result<Option<Str
     }
 }
 
-/// Keeps the target, decoded, of a relationship to an office document, in place of an earlier one. The start is event
-/// number `at` of its part.
+/// Keeps the target, decoded, of a relationship to an office document, in place of an earlier one.
+/// The start is event number `at` of its part.
 pub fn keep_target(
     alloc: Global,
     kept: &mut Option<String>,
@@ -105,7 +105,8 @@ pub fn find_relationship<'m>(
     map.get(id)
 }
 
-/// Keeps the relationship of a start by its Id, in place of an earlier one. One without Id is passed over.
+/// Keeps the relationship of a start by its Id, in place of an earlier one. One without Id is
+/// passed over.
 pub fn keep_relationship(
     alloc: Global,
     map: &mut BTreeMap<String, Relationship>,

@@ -72,8 +72,8 @@ fn related_sheet(
     }
 }
 
-/// The sheet of a start, which is event number `at` of its part, in the folder of its workbook and by the workbook's
-/// relationships.
+/// The sheet of a start, which is event number `at` of its part, in the folder of its workbook and
+/// by the workbook's relationships.
 #[tactic(auto, using(crate::proofs::OpeningErrors::decoding))]
 pub fn sheet_of(
     alloc: Global,

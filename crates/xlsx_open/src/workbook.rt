@@ -40,7 +40,8 @@ pub struct SheetPlaces<'a> {
     pub relationships: &'a BTreeMap<String, Relationship>,
 }
 
-/// Takes a start of the section, which is event number `at` of its part: that of a sheet, or of the workbook's properties.
+/// Takes a start of the section, which is event number `at` of its part: that of a sheet, or of the
+/// workbook's properties.
 fn take_start(
     alloc: Global,
     found: &mut WorkbookContents,
@@ -165,8 +166,9 @@ fn push_name(
     Ok(())
 }
 
-/// Reads on to the end of a defined name, at whose start reading stands, in the section whose element is number `base` of
-/// the open ones. Takes the starts inside it, and keeps its text where it has a name.
+/// Reads on to the end of a defined name, at whose start reading stands, in the section whose
+/// element is number `base` of the open ones. Takes the starts inside it, and keeps its text where
+/// it has a name.
 #[tactic(auto, using(crate::proofs::OpeningErrors::workbook_step))]
 fn read_name<P: Package>(
     alloc: Global,
@@ -185,7 +187,8 @@ fn read_name<P: Package>(
     ensures section { let old = reading (P.state «package».old) cursor.old in
         let new = reading (P.state «package».new) cursor.new in
         OnOk result (KeepsSection base old new) }
-    ensures depth { OnOk result (length (open_elements cursor.old) ≡ suc (length (open_elements cursor.new))) }
+    ensures depth { OnOk result (length (open_elements cursor.old)
+        ≡ suc (length (open_elements cursor.new))) }
     ensures skips { let old = reading (P.state «package».old) cursor.old in
         let new = reading (P.state «package».new) cursor.new in
         old.source.is_told ≡ true → OnOk result (Skips old new) }
@@ -230,7 +233,8 @@ fn name_start(event: PartEvent<'_>) -> Option<StartTag<'_>>
     }
 }
 
-/// What a workbook's section holds whose element is number `base` of the open ones, behind whose start reading stands.
+/// What a workbook's section holds whose element is number `base` of the open ones, behind whose
+/// start reading stands.
 #[tactic(auto, using(crate::proofs::OpeningErrors::workbook_step))]
 fn contents_in<P: Package>(
     alloc: Global,

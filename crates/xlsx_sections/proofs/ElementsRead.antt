@@ -177,23 +177,26 @@ element_passed {base = base} {tag = tag} {first = first} {old = old} {new = new}
     let way = goes_on base new found.deep in
     let left : new.source.is_told ≡ true → section_ahead base after ≡ section_behind base new =
     λ told. ap (λ (n : ℕ). content n (ahead after)) (omega (arith, names))
-        ∙ ap (content (inside base new - 1)) (skips told).ahead in
+    ∙ ap (content (inside base new - 1)) (skips told).ahead in
     let closed : new.source.is_told ≡ true → is_closed_ahead base after ≡ is_closed_ahead base new =
     λ told. ap (λ (n : ℕ). is_closed n (ahead after)) (omega (arith, names))
-        ∙ ap (is_closed (inside base new - 1)) (skips told).ahead ∙ sym way.closed in
+    ∙ ap (is_closed (inside base new - 1)) (skips told).ahead ∙ sym way.closed in
     let behind_it : new.source.is_told ≡ true → behind_section base after
     ≡ behind_section base new =
     λ told. ap (λ (n : ℕ). behind n (ahead after)) (omega (arith, names))
-        ∙ ap (behind (inside base new - 1)) (skips told).ahead ∙ sym way.left in
+    ∙ ap (behind (inside base new - 1)) (skips told).ahead ∙ sym way.left in
     record {
       keeps = record {
         section = section_further found.read reads (omega (arith, names, found.deep))
-            (λ told. (closed told, omega (
-              arith,
-              way.size (skips told).closed,
-              (skips told).size,
-              ap length (left told),
-            )));
+            (λ told. (
+              closed told,
+              omega (
+                arith,
+                way.size (skips told).closed,
+                (skips told).size,
+                ap length (left told),
+              ),
+            ));
         unclosed = λ told.
             let next = found.next told in
             ap (unclosed wanted) (left (still told))
@@ -270,18 +273,16 @@ element_refused name inner ending after before last OutOfMemory found ends weake
 element_refused {base = base} {tag = tag} {first = first} {old = old} {new = new} {wanted =
     wanted} name inner ending after before last (Xml (EndMismatch at)) found ends weaker fails =
     λ told.
-    let cause = fails (found.read.reads.moves.parts.is_told ∙ told) in
-    (
+    let cause = fails (found.read.reads.moves.parts.is_told ∙ told) in (
       subst (λ (events : List Event). BreaksAt events at) (found.read.reads.stays.part told)
-      cause.0,
+          cause.0,
       is_open told found cause.1,
     )
 element_refused {base = base} {tag = tag} {first = first} {old = old} {new = new} {wanted =
     wanted} name inner ending after before last (Xml (Unclosed at)) found ends weaker fails =
     λ told.
     let cause = fails (found.read.reads.moves.parts.is_told ∙ told) in
-    let same = found.read.reads.stays.part told in
-    (
+    let same = found.read.reads.stays.part told in (
       (
         subst (λ (events : List Event). whole events ≡ events) same cause.0.0,
         is_open told found cause.0.1,
@@ -294,8 +295,7 @@ element_refused {base = base} {tag = tag} {first = first} {old = old} {new = new
     wanted} name inner ending after before last (XmlEof element) found ends weaker fails =
     λ told.
     let cause = fails (found.read.reads.moves.parts.is_told ∙ told) in
-    let same = found.read.reads.stays.part told in
-    (
+    let same = found.read.reads.stays.part told in (
       (
         subst (λ (events : List Event). whole events ≡ events) same cause.0.0,
         is_open told found cause.0.1,

@@ -25,8 +25,8 @@ use Rattle.xlsx_sections.specs.Refusal.{misplaced, lacks_area, stray_child, lack
 use Rattle.xlsx_sections.specs.Refusal.{wrong_index, lacks_string, wrong_truth, wrong_error}
 use Rattle.xlsx_sections.specs.Refusal.{wrong_number, wrong_type}
 
--- what is refused in a list of events is refused in a longer one, `more` events of which stand behind
--- the shorter one, and whose end has the number `last`
+-- what is refused in a list of events is refused in a longer one, `more` events of which stand
+-- behind the shorter one, and whose end has the number `last`
 pub refused_further : (inner more last : ℕ) (before after : Refusal → Type 0) (error : XlsxError)
     → ((refusal : Refusal) → after refusal → before (further more refusal)) → inner + more ≡ last
     → RefusedAs inner after error → RefusedAs last before error

@@ -28,8 +28,7 @@ pub text_refused : (name : List ℕ) (data_too : Bool) (old new : Reading) (erro
 text_refused name data_too old new stream.Io fails = fails
 text_refused name data_too old new stream.OutOfMemory fails = tt
 text_refused name data_too old new (stream.Xml (EndMismatch at)) fails = λ told.
-    let cause = fails told in
-    (
+    let cause = fails told in (
       subst (λ (events : List Event). BreaksAt events at) cause.0.0 cause.0.1,
       own_end old ∙ cause.1,
     )
@@ -37,8 +36,7 @@ text_refused name data_too old new (stream.Xml (Unclosed at)) fails = absurd fai
 text_refused name data_too old new (stream.Xml (Entity at)) fails = λ told.
     let inside = content 0 (ahead old) in
     let found = unknown_there at (old.at + length inside) (joined_text data_too inside)
-    (unknown_entity inside) (fails told).2 in
-    (
+    (unknown_entity inside) (fails told).2 in (
       found.0,
       found.1 ∙ ap (λ (events : List Event). old.at + length events) (sym (own_inside old)),
       ap (element_text data_too) (own_inside old) ∙ found.2,

@@ -12,8 +12,8 @@ use Rattle.cell_data.specs.declared.error.XlsxError.TheVariants.{OutOfMemory, Io
 use Rattle.xlsx_sections.specs.Refusal.{Refusal, RefusedAs}
 
 -- What is left of a section: all events of its part, the number of the first event that is left,
--- how many elements are open
--- in the section, and what is ahead, up to the first end that breaks the nesting.
+-- how many elements are open in the section, and what is ahead, up to the first end that breaks the
+-- nesting.
 pub record PartSection : Type 0 where
   pub events : List Event
   pub first : ℕ

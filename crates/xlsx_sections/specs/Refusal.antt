@@ -82,8 +82,7 @@ RefusedAs last refused (ParseFloat written) = refused (wrong_number (string_byte
 RefusedAs last refused _ = ⊥
 
 -- An error tells of a refusal at event number `at` of its part, behind which `behind` events of the
--- section stand. Want of
--- memory may come at any event.
+-- section stand. Want of memory may come at any event.
 abbrev pub RefusedAt : (Refusal → Type 0) → ℕ → ℕ → XlsxError → Type 0
 RefusedAt refused at behind OutOfMemory = ⊤
 RefusedAt refused at behind error = RefusedAs (at + suc behind) refused error

@@ -6,9 +6,11 @@ use cell_data::XlsxError;
 use part_events::XmlFault;
 use std::alloc::Global;
 
-/// A text of the attributes of a start, which is event number `at` of its part, counted from 0, decoded.
+/// A text of the attributes of a start, which is event number `at` of its part, counted from 0,
+/// decoded.
 pub fn decode_at(alloc: Global, text: &str, at: u64) -> Result<String, XlsxError>
-    ensures ok { IfOk result (λ out. (behind : ℕ) → decoded_at behind text.now ≡ Ok (string_bytes out)) }
+    ensures ok { IfOk result (λ out. (behind : ℕ) → decoded_at behind text.now
+        ≡ Ok (string_bytes out)) }
     ensures err { IfErr result (λ error. (behind : ℕ) →
         ElementFails (decoded_at behind text.now) at behind error) }
     ensures kind { IfErr result IsDecodeError }

@@ -10,8 +10,9 @@ ghost use Rattle.xlsx_sections.specs.PartSection.{always, Never, IsStepError, Se
 use cell_data::XlsxError;
 use part_events::{Cursor, Package, Step, XmlFault};
 
-/// Reads on to the next element with one of these local names in a section, whose element is number `base` of the open
-/// ones, counted from 1. Answers the number of its start in the part, counted from 0, and None at the section's end.
+/// Reads on to the next element with one of these local names in a section, whose element is number
+/// `base` of the open ones, counted from 1. Answers the number of its start in the part, counted
+/// from 0, and None at the section's end.
 ///
 /// An element that is found has to be read to its end before the next one is asked for.
 pub fn next_element_in<P: Package>(
@@ -33,7 +34,8 @@ pub fn next_element_in<P: Package>(
     ensures found { let old = reading (P.state «package».old) cursor.old in
         let new = reading (P.state «package».new) cursor.new in
         let wanted = is_named (map (λ name. name.now) names.now) in
-        old.source.is_told ≡ true → IfOk result (λ found. FindsElementIn wanted base found old new) }
+        old.source.is_told ≡ true → IfOk result
+        (λ found. FindsElementIn wanted base found old new) }
     ensures err { let old = reading (P.state «package».old) cursor.old in
         let new = reading (P.state «package».new) cursor.new in
         let wanted = is_named (map (λ name. name.now) names.now) in
@@ -48,8 +50,8 @@ pub fn next_element_in<P: Package>(
     }
 }
 
-/// Reads on to the next child of an element, which is number `base` of the open ones, counted from 1. Answers the number of
-/// its start in the part, counted from 0, and None at the element's end.
+/// Reads on to the next child of an element, which is number `base` of the open ones, counted from
+/// 1. Answers the number of its start in the part, counted from 0, and None at the element's end.
 ///
 /// A child that is found has to be read to its end before the next one is asked for.
 pub fn next_child_in<P: Package>(
@@ -68,7 +70,8 @@ pub fn next_child_in<P: Package>(
         IfOk result (λ found. StandsAtStart is_any base found old new) }
     ensures found { let old = reading (P.state «package».old) cursor.old in
         let new = reading (P.state «package».new) cursor.new in
-        old.source.is_told ≡ true → IfOk result (λ found. FindsElementIn is_any base found old new) }
+        old.source.is_told ≡ true → IfOk result
+        (λ found. FindsElementIn is_any base found old new) }
     ensures err { let old = reading (P.state «package».old) cursor.old in
         let new = reading (P.state «package».new) cursor.new in
         IfErr result (λ error. (inner : Element → Option (List ℕ)) →
@@ -82,8 +85,9 @@ pub fn next_child_in<P: Package>(
     }
 }
 
-/// Appends the text of the element of this name at whose start the package stands: each Text, each CharData where
-/// `char_data` says so, with their line ends as LF, and the character of each reference. Reads to the element's end.
+/// Appends the text of the element of this name at whose start the package stands: each Text, each
+/// CharData where `char_data` says so, with their line ends as LF, and the character of each
+/// reference. Reads to the element's end.
 pub fn read_element_text<P: Package>(
     package: &mut P,
     cursor: &mut Cursor,
@@ -96,7 +100,8 @@ pub fn read_element_text<P: Package>(
     ensures reads { let old = reading (P.state «package».old) cursor.old in
         let new = reading (P.state «package».new) cursor.new in
         ReadsPart Io result old new }
-    ensures depth { OnOk result (length (open_elements cursor.old) ≡ suc (length (open_elements cursor.new))) }
+    ensures depth { OnOk result (length (open_elements cursor.old)
+        ≡ suc (length (open_elements cursor.new))) }
     ensures skips { let old = reading (P.state «package».old) cursor.old in
         let new = reading (P.state «package».new) cursor.new in
         old.source.is_told ≡ true → OnOk result (Skips old new) }
@@ -117,8 +122,9 @@ pub fn read_element_text<P: Package>(
     Ok(())
 }
 
-/// Reads on to the end of the element that is number `base` of the open ones, counted from 1. Where the part ends before,
-/// the refusal tells this name, and without one the number of the part's events.
+/// Reads on to the end of the element that is number `base` of the open ones, counted from 1. Where
+/// the part ends before, the refusal tells this name, and without one the number of the part's
+/// events.
 pub fn read_to_end<P: Package>(
     package: &mut P,
     cursor: &mut Cursor,
@@ -150,8 +156,8 @@ pub fn read_to_end<P: Package>(
     }
 }
 
-/// Reads to the end of the element at whose start the package stands. Where the part ends before, the refusal tells this
-/// name, and without one the number of the part's events.
+/// Reads to the end of the element at whose start the package stands. Where the part ends before,
+/// the refusal tells this name, and without one the number of the part's events.
 pub fn skip_element_in<P: Package>(
     package: &mut P,
     cursor: &mut Cursor,
@@ -162,7 +168,8 @@ pub fn skip_element_in<P: Package>(
     ensures reads { let old = reading (P.state «package».old) cursor.old in
         let new = reading (P.state «package».new) cursor.new in
         ReadsPart Io result old new }
-    ensures depth { OnOk result (length (open_elements cursor.old) ≡ suc (length (open_elements cursor.new))) }
+    ensures depth { OnOk result (length (open_elements cursor.old)
+        ≡ suc (length (open_elements cursor.new))) }
     ensures skips { let old = reading (P.state «package».old) cursor.old in
         let new = reading (P.state «package».new) cursor.new in
         old.source.is_told ≡ true → OnOk result (Skips old new) }

@@ -9,7 +9,8 @@ fn are_digits(text: &[u8]) -> bool
     text.iter().all(|b| b.is_ascii_digit())
 }
 
-/// The number that a text of digits alone writes, where it fits 64 bits. Leading zeros are accepted.
+/// The number that a text of digits alone writes, where it fits 64 bits. Leading zeros are
+/// accepted.
 pub fn number_text(text: &str) -> Option<u64>
     ensures { result ≡ number_text text.now }
 {

@@ -49,8 +49,9 @@ pub fn enter<P: Package>(
     }
 }
 
-/// Reads on to the next start of this local name in a section, whose element is number `base` of the open ones, counted
-/// from 1. Answers the number of the start in its part, counted from 0, and None at the section's end.
+/// Reads on to the next start of this local name in a section, whose element is number `base` of
+/// the open ones, counted from 1. Answers the number of the start in its part, counted from 0, and
+/// None at the section's end.
 pub fn next_start_in<P: Package>(
     package: &mut P,
     cursor: &mut Cursor,
@@ -82,8 +83,9 @@ pub fn next_start_in<P: Package>(
     }
 }
 
-/// Takes the next event of a section, whose element is number `base` of the open ones, counted from 1. Answers the number
-/// of the event in its part, counted from 0, and None where that was the section's end.
+/// Takes the next event of a section, whose element is number `base` of the open ones, counted from
+/// 1. Answers the number of the event in its part, counted from 0, and None where that was the
+/// section's end.
 pub fn next_event_in<P: Package>(
     package: &mut P,
     cursor: &mut Cursor,
@@ -113,8 +115,8 @@ pub fn next_event_in<P: Package>(
     }
 }
 
-/// Opens the part at this path, and reads on behind the start of its first section of this local name. Answers where reading
-/// stands then, and None where there is no such part.
+/// Opens the part at this path, and reads on behind the start of its first section of this local
+/// name. Answers where reading stands then, and None where there is no such part.
 pub fn enter_part<P: Package>(
     alloc: Global,
     package: &mut P,
@@ -131,7 +133,8 @@ pub fn enter_part<P: Package>(
     ensures leaves { let old = P.state «package».old in
         let new = P.state «package».new in
         IfErr result (LeavesPackage (events_in old.parts path.now) Io old new) }
-    ensures err { IfErr result (EnterFails name.now path.now (P.state «package».old) (P.state «package».new)) }
+    ensures err { IfErr result (EnterFails name.now path.now (P.state «package».old)
+        (P.state «package».new)) }
     ensures kind { IfErr result (IsStepError name.now) }
 {
     if !package.open(path)? {

@@ -3,16 +3,14 @@ use Rattle.std.proofs.Common.{◌≡◌, ℕ, List, [], ◌∷◌, ◌++◌, len
 use Rattle.std.proofs.Common.{subst, append_assoc}
 use Rattle.std.proofs.Common.{true≢false, true, arith, Option, Some, None}
 use Rattle.std.specs.Prelude.{◌≢◌, Result, Ok, Err, IfOk, IfErr, OnOk}
-use Rattle.std.specs.List.{AllByRecursion}
 use Rattle.std.proofs.lemmas.List.{take-append-drop, length-append}
 use Rattle.part_events.specs.Memory.{Contents, state_of}
 use Rattle.part_events.specs.Package.{Part}
-use Rattle.xlsx_core.specs.PlainSheet.{PlainCell, PlainRow, IsPlainCell, IsPlainRow, all_cells}
-use Rattle.xlsx_core.specs.ThinReading.{ReadsAs, ThinCause, ThinFails}
+use Rattle.xlsx_core.specs.SheetReading.{ReadsAs, IsReadable, SheetCause, SheetFails}
+use Rattle.cell_data.specs.CellValue.{CellValue}
 use Rattle.cell_data.specs.declared.error.XlsxError.{XlsxError}
 use Rattle.cell_data.specs.declared.error.XlsxError.TheVariants as workbook
 use Rattle.xlsx_tool.specs.Input.{InputRead, InputFails}
-use Rattle.xlsx_tool.specs.Listing.{IsInWorksheet}
 use Rattle.xlsx_tool.specs.PackageText.{package_in}
 use Rattle.xlsx_tool.specs.Run.{Streams, sheet_asked, Spells, Succeeds, HasPackageCause}
 use Rattle.xlsx_tool.specs.Run.{ReadingFails, Refuses}
@@ -40,39 +38,10 @@ err_at {A = A} {E = E} result e P is holds = subst (λ (r : Result A E). IfErr r
 
 -- ---- the lines of a sheet
 
-inside-append :
-    (xs ys : List PlainCell)
-    → AllByRecursion IsInWorksheet xs → AllByRecursion IsInWorksheet ys
-    → AllByRecursion IsInWorksheet (xs ++ ys)
-inside-append [] ys first second = second
-inside-append (x ∷ xs) ys first second = (first.0, inside-append xs ys first.1 second)
-
-inside-cells :
-    (cells : List PlainCell) → AllByRecursion IsPlainCell cells → AllByRecursion IsInWorksheet cells
-inside-cells [] plain = tt
-inside-cells (cell ∷ cells) plain =
-    ((plain.0.in_rows, plain.0.in_columns), inside-cells cells plain.1)
-
-inside-rows :
-    (rows : List PlainRow)
-    → AllByRecursion IsPlainRow rows → AllByRecursion IsInWorksheet (all_cells rows)
-inside-rows [] plain = tt
-inside-rows (row ∷ rows) plain =
-    let first = inside-cells row.cells plain.0.cells in
-    inside-append row.cells (all_cells rows) first (inside-rows rows plain.1)
-
--- the cells that were read lie inside their sheet
-pub read_inside :
-    (parts : List Part) (name : List ℕ) (cells : List PlainCell)
-    → ReadsAs parts name cells → AllByRecursion IsInWorksheet cells
-read_inside parts name cells reads =
-    let sheet = reads.plain in
-    rw sheet.same (inside-rows sheet.rows sheet.plain)
-
 -- why a sheet of a package in memory isn't read is why its lines aren't had
 pub workbook_fails :
     (name : List ℕ) (old new : Contents) (error : XlsxError)
-    → ThinFails name (state_of old) (state_of new) error
+    → SheetFails name (state_of old) (state_of new) error
     → LinesFail old.parts name (of_workbook error)
 workbook_fails name old new workbook.Io fails = absurd (omega (arith, fails))
 workbook_fails name old new workbook.OutOfMemory fails = tt
@@ -197,7 +166,8 @@ not_written words name lines old new WriteFault asked read fails = record {
   cause = fails.0;
   front = λ told. record {
     parts = read.parts;
-    cells = read.lists.cells;
+    values = read.lists.values;
+    formulas = read.lists.formulas;
     spells = (read.whole told).0;
     reads = read.lists.reads;
     whole = (read.whole told).1;
@@ -219,7 +189,8 @@ succeeded words name lines old new asked read sent = record {
   faults = record { source_faults = read.faults; sink_faults = sent.faults };
   reads = λ told. record {
     parts = read.parts;
-    cells = read.lists.cells;
+    values = read.lists.values;
+    formulas = read.lists.formulas;
     spells = (read.whole told).0;
     reads = read.lists.reads;
     whole = (read.whole told).1;
@@ -249,8 +220,9 @@ same_some x y found first second = ap (some_of x) (sym first ∙ second)
 -- a sheet that is read isn't refused, as each is
 abbrev pub NeverBoth : Type 0
 NeverBoth =
-    (parts : List Part) (name : List ℕ) (cells : List PlainCell) (error : XlsxError)
-    → ReadsAs parts name cells → ThinCause parts name error → ⊥
+    (parts : List Part) (name : List ℕ) (values : List ((ℕ × ℕ) × CellValue)) (formulas : List ((ℕ × ℕ) × List ℕ))
+    (error : XlsxError)
+    → ReadsAs parts name values formulas → SheetCause parts name error → ⊥
 
 -- the words are a command on the package that the source spells
 record IsCommand
@@ -269,58 +241,64 @@ same_package source parts others first second =
 -- a sheet that is read has no cause of a refusal in its package
 no_package_cause :
     NeverBoth → (words : List (List ℕ)) (source : SourceState) (name asked : List ℕ)
-    (parts : List Part) (cells : List PlainCell) (error : XlsxError)
-    → IsCommand words source name parts → ReadsAs parts name cells
+    (parts : List Part) (values : List ((ℕ × ℕ) × CellValue)) (formulas : List ((ℕ × ℕ) × List ℕ))
+    (error : XlsxError)
+    → IsCommand words source name parts → ReadsAs parts name values formulas
     → sheet_asked words ≡ Some asked → HasPackageCause asked source error → ⊥
-no_package_cause never words source name asked parts cells error command reads same cause =
+no_package_cause never words source name asked parts values formulas error command reads same cause =
     let name_is = same_some asked name (sheet_asked words) same command.asked in
     let package_is =
     same_package source cause.parts parts (cause.spells command.is_told) command.spells
     in
-    let named = subst (λ (name : List ℕ). ThinCause cause.parts name error) name_is cause.cause in
-    never parts name cells error reads
-    (subst (λ (parts : List Part). ThinCause parts name error) package_is named)
+    let named = subst (λ (name : List ℕ). SheetCause cause.parts name error) name_is cause.cause in
+    never parts name values formulas error reads
+    (subst (λ (parts : List Part). SheetCause parts name error) package_is named)
 
 -- a package whose sheet is read was not refused for any cause of its own
 not_refused :
     NeverBoth → (words : List (List ℕ)) (old new : Streams) (name : List ℕ)
-    (parts : List Part) (cells : List PlainCell) (error : ToolError)
-    → IsCommand words old.source name parts → ReadsAs parts name cells
+    (parts : List Part) (values : List ((ℕ × ℕ) × CellValue)) (formulas : List ((ℕ × ℕ) × List ℕ))
+    (error : ToolError)
+    → IsCommand words old.source name parts → ReadsAs parts name values formulas
     → (error ≢ OutOfMemory) × (error ≢ ReadFault) × (error ≢ WriteFault)
     → Refuses words old new error → ⊥
-not_refused never words old new name parts cells Usage command reads own refuses =
+not_refused never words old new name parts values formulas Usage command reads own refuses =
     not_some name (sheet_asked words) command.asked refuses.0
-not_refused never words old new name parts cells ReadFault command reads own refuses =
+not_refused never words old new name parts values formulas ReadFault command reads own refuses =
     own.1 refl
-not_refused never words old new name parts cells InputTooLarge command reads own refuses =
+not_refused never words old new name parts values formulas InputTooLarge command reads own refuses =
     let took = refuses.cause.1 command.is_told in
     let long = length-append took.taken new.source.left in
     omega (arith, took.many, command.spells.fits, ap length took.from, long)
-not_refused never words old new name parts cells NotAPackage command reads own refuses =
+not_refused never words old new name parts values formulas NotAPackage command reads own refuses =
     let none = (refuses.cause.1 command.is_told).spelled in
     not_some parts (package_in old.source.left) command.spells.spelled none
-not_refused never words old new name parts cells NotBuilt command reads own refuses =
-    no_package_cause never words old.source name refuses.name parts cells workbook.NotBuilt
+not_refused never words old new name parts values formulas NotBuilt command reads own refuses =
+    no_package_cause never words old.source name refuses.name parts values formulas workbook.NotBuilt
     command reads refuses.asked refuses.cause.1
-not_refused never words old new name parts cells (Workbook error) command reads own refuses =
-    no_package_cause never words old.source name refuses.name parts cells error
+not_refused never words old new name parts values formulas (Workbook error) command reads own refuses =
+    no_package_cause never words old.source name refuses.name parts values formulas error
     command reads refuses.asked refuses.cause.2
-not_refused never words old new name parts cells WriteFault command reads own refuses =
+not_refused never words old new name parts values formulas WriteFault command reads own refuses =
     own.2 refl
-not_refused never words old new name parts cells OutOfMemory command reads own refuses =
+not_refused never words old new name parts values formulas OutOfMemory command reads own refuses =
     own.0 refl
 
 -- a sheet whose lines were written is read
 is_readable :
     (words : List (List ℕ)) (old new : Streams) (name : List ℕ) (parts : List Part)
     → IsCommand words old.source name parts → Succeeds words old new
-    → (cells : List PlainCell) × ReadsAs parts name cells
+    → IsReadable parts name
 is_readable words old new name parts command succeeds =
     let listed = succeeds.reads command.is_told in
     let name_is = same_some succeeds.name name (sheet_asked words) succeeds.asked command.asked in
     let package_is = same_package old.source listed.parts parts listed.spells command.spells in
-    let named = subst (λ name. ReadsAs listed.parts name listed.cells) name_is listed.reads in
-    (listed.cells, subst (λ parts. ReadsAs parts name listed.cells) package_is named)
+    let named = subst (λ name. ReadsAs listed.parts name listed.values listed.formulas) name_is
+    listed.reads in (
+      listed.values,
+      listed.formulas,
+      subst (λ parts. ReadsAs parts name listed.values listed.formulas) package_is named,
+    )
 
 pub answers :
     NeverBoth → (words : List (List ℕ)) (old new : Streams) (result : Result (Unit {0}) ToolError)
@@ -342,7 +320,7 @@ answers never words old new (Err error) told ok err = record {
       in (
         λ is_ok. absurd (true≢false (sym is_ok)),
         λ readable. absurd (
-            not_refused never words old new name parts readable.0 error command readable.1
+            not_refused never words old new name parts readable.0 readable.1 error command readable.2
             (λ is. memory (ap Err is), λ is. read (ap Err is), λ is. write (ap Err is)) err
             ),
       )

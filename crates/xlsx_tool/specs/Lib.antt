@@ -1,9 +1,10 @@
+pub mod Escaped
 pub mod Input
-pub mod Listing
 pub mod MemoryForms
 pub mod PackageText
 pub mod Program
 pub mod Run
+pub mod SheetListing
 pub mod Sink
 pub mod Source
 pub mod Status

@@ -6,12 +6,12 @@ use Rattle.std.specs.Str.{bytes_eq}
 use Rattle.std.specs.declared.alloc.Global.{Global}
 use Rattle.part_events.specs.Memory.{Contents, closed}
 use Rattle.part_events.specs.Package.{Part, RisesByOne}
-use Rattle.xlsx_core.specs.PlainSheet.{PlainCell}
-use Rattle.xlsx_core.specs.ThinReading.{ReadsAs, IsReadable, ThinCause}
+use Rattle.xlsx_core.specs.SheetReading.{ReadsAs, IsReadable, SheetCause}
+use Rattle.cell_data.specs.CellValue.{CellValue}
 use Rattle.cell_data.specs.declared.error.XlsxError.{XlsxError}
 use Rattle.cell_data.specs.declared.error.XlsxError.TheVariants as workbook
 use Rattle.xlsx_tool.specs.Input.{TookTooMany, longest_input}
-use Rattle.xlsx_tool.specs.Listing.{listing}
+use Rattle.xlsx_tool.specs.SheetListing.{listing}
 use Rattle.xlsx_tool.specs.PackageText.{package_in}
 use Rattle.xlsx_tool.specs.Sink.{SinkState}
 use Rattle.xlsx_tool.specs.Source.{SourceState}
@@ -50,11 +50,12 @@ pub record Spells (input : List ℕ) (parts : List Part) : Type 0 where
 -- the input is a package whose sheet of this name is read, and its lines are written
 pub record ListsSheet (name : List ℕ) (old new : Streams) : Type 0 where
   pub parts : List Part
-  pub cells : List PlainCell
+  pub values : List ((ℕ × ℕ) × CellValue)
+  pub formulas : List ((ℕ × ℕ) × List ℕ)
   pub spells : Spells old.source.left parts
-  pub reads : ReadsAs parts name cells
+  pub reads : ReadsAs parts name values formulas
   pub whole : new.source.left ≡ []
-  pub written : old.sink.is_told ≡ true → new.sink.written ≡ old.sink.written ++ listing cells
+  pub written : old.sink.is_told ≡ true → new.sink.written ≡ old.sink.written ++ listing values formulas
 
 -- a run that answers Ok
 pub record Succeeds (words : List (List ℕ)) (old new : Streams) : Type 0 where
@@ -71,19 +72,20 @@ pub record IsNoPackage (source : SourceState) : Type 0 where
 -- the input is a package in which this refusal of the asked sheet has its cause
 pub record HasPackageCause (name : List ℕ) (source : SourceState) (error : XlsxError) : Type 0 where
   pub parts : List Part
-  pub cause : ThinCause parts name error
+  pub cause : SheetCause parts name error
   pub spells : source.is_told ≡ true → Spells source.left parts
 
 -- the input is read, and what was written is a front of its lines
 pub record WroteFront (name : List ℕ) (old new : Streams) : Type 0 where
   pub parts : List Part
-  pub cells : List PlainCell
+  pub values : List ((ℕ × ℕ) × CellValue)
+  pub formulas : List ((ℕ × ℕ) × List ℕ)
   pub spells : Spells old.source.left parts
-  pub reads : ReadsAs parts name cells
+  pub reads : ReadsAs parts name values formulas
   pub whole : new.source.left ≡ []
   pub front : List ℕ
   pub behind : List ℕ
-  pub lines : listing cells ≡ front ++ behind
+  pub lines : listing values formulas ≡ front ++ behind
   pub written : old.sink.is_told ≡ true → new.sink.written ≡ old.sink.written ++ front
 
 -- why a command's lines were not had
@@ -146,13 +148,14 @@ NoPackage spelled _ = ⊥
 
 -- these are the lines of the sheet of this name
 pub record ListsLines (parts : List Part) (name lines : List ℕ) : Type 0 where
-  pub cells : List PlainCell
-  pub reads : ReadsAs parts name cells
-  pub listed : lines ≡ listing cells
+  pub values : List ((ℕ × ℕ) × CellValue)
+  pub formulas : List ((ℕ × ℕ) × List ℕ)
+  pub reads : ReadsAs parts name values formulas
+  pub listed : lines ≡ listing values formulas
 
 abbrev pub LinesFail : List Part → List ℕ → ToolError → Type 0
-LinesFail parts name NotBuilt = ThinCause parts name workbook.NotBuilt
-LinesFail parts name (Workbook error) = (error ≢ workbook.NotBuilt) × ThinCause parts name error
+LinesFail parts name NotBuilt = SheetCause parts name workbook.NotBuilt
+LinesFail parts name (Workbook error) = (error ≢ workbook.NotBuilt) × SheetCause parts name error
 LinesFail parts name OutOfMemory = Unit {0}
 LinesFail parts name _ = ⊥
 

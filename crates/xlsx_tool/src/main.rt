@@ -2,11 +2,14 @@
 #![tactic(auto)]
 
 mod error;
+mod escaping;
 mod input;
-mod listing;
 mod package_text;
 mod program;
 mod run;
+mod sheet_listing;
+#[cfg(test)]
+mod sheet_listing_tests;
 mod sink;
 mod source;
 #[cfg(test)]

@@ -9,14 +9,14 @@ ghost use Rattle.serde_json.specs.View.{view};
 
 use crate::error::ToolError;
 use crate::input::read_input;
-use crate::listing::listing_of;
 use crate::package_text::package_from_json;
+use crate::sheet_listing::listing_of;
 use crate::sink::Sink;
 use crate::source::Source;
 use part_events::MemoryPackage;
 use serde_json::Value;
 use std::alloc::Global;
-use xlsx_core::{ThinAnswer, read_thin, readable_sheets_are_not_refused};
+use xlsx_core::{SheetAnswer, read_sheet, readable_sheets_are_not_refused};
 
 /// The name in the words `cells NAME`.
 fn sheet_asked(words: &[String]) -> Option<&str>
@@ -70,11 +70,11 @@ fn lines_of(alloc: Global, package: MemoryPackage, name: &str) -> Result<String,
     ensures ok { IfOk result (λ out. ListsLines «package».parts name.now (string_bytes out)) }
     ensures err { IfErr result (LinesFail «package».parts name.now) }
 {
-    let ThinAnswer { result, package } = read_thin(alloc, package, name);
+    let SheetAnswer { result, package } = read_sheet(alloc, package, name);
     // What is read needs the package no more.
     drop(package);
-    let cells = result?;
-    Ok(listing_of(alloc, &cells)?)
+    let reading = result?;
+    Ok(listing_of(alloc, &reading.values, &reading.formulas)?)
 }
 
 /// The lines of the sheet of this name, of the package that the source spells.

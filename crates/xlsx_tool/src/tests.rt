@@ -38,16 +38,29 @@ pub const NUTS: &str = r#",["s","row"," r=\"1\""],
 ["s","c"," r=\"B1\" t=\"str\""],["s","f",""],["t","UPPER(A1)"],["e","f"],
 ["s","v",""],["t","NUT"],["e","v"],["e","c"],["e","row"]"#;
 
-/// A cell without a type.
-const UNTYPED: &str = r#",["s","row"," r=\"1\""],["s","c"," r=\"A1\""],
-["s","v",""],["t","nut"],["e","v"],["e","c"],["e","row"]"#;
+/// A number, a text without a type, a shared formula and one that is derived from it.
+const MIXED: &str = r#",["s","row"," r=\"1\""],["s","c"," r=\"A1\""],["s","v",""],["t","-0.50"],
+["e","v"],["e","c"],["s","c",""],["s","v",""],["t","nut"],["e","v"],["e","c"],
+["s","c"," r=\"C1\""],["s","f"," t=\"shared\" ref=\"B1:C3\" si=\"7\""],["t","A1"],["e","f"],
+["e","c"],["e","row"],["s","row",""],["s","c"," r=\"C2\""],
+["s","f"," t=\"shared\" si=\"7\""],["e","f"],["e","c"],["e","row"]"#;
+
+const MIXED_LINES: &str = "A1\tn:-0.5\t-\t-\nB1\ts:nut\t-\t-\nC1\t-\t=A1\t-\nC2\t-\t=B2\t-\n";
+
+/// A part of styles, behind the sheet's.
+const STYLES: &str = r#",["e","sheetData"],["e","worksheet"]]},
+{"name":"xl/styles.xml","events":[]}]}"#;
 
 pub const NUTS_LINES: &str = "A1\ts:nut\t-\t-\nB1\ts:NUT\t=UPPER(A1)\t-\n";
 
 /// A package of one sheet `S` with these events inside its `sheetData`.
 pub fn package_of(alloc: Global, inside: &str) -> Result<String, Fail> {
+    package_with(alloc, inside, BACK)
+}
+
+fn package_with(alloc: Global, inside: &str, back: &str) -> Result<String, Fail> {
     let opening = format!(in alloc; "{FRONT}{TYPES}/officeDocument{MIDDLE}{TYPES}/worksheet")?;
-    Ok(format!(in alloc; "{opening}{SHEET}{inside}{BACK}")?)
+    Ok(format!(in alloc; "{opening}{SHEET}{inside}{back}")?)
 }
 
 /// What a run answers, and what it has written.
@@ -103,13 +116,15 @@ fn run_on(alloc: Global, words: &[&str], input: &[u8], setting: Setting) -> Resu
 }
 
 #[test]
-fn a_plain_sheet_is_listed(rt: HostRuntime) -> Result<(), Fail> {
-    let input = package_of(rt.alloc(), NUTS)?;
-    for piece in [1, 2, 3, 1_000] {
-        let setting = Setting { piece, ..EASY };
-        let told = run_on(rt.alloc(), &["cells", "S"], input.as_bytes(), setting)?;
-        assert_eq!(rt; told.result, Ok(()));
-        assert_eq!(rt; told.written.as_str(), NUTS_LINES);
+fn a_sheet_is_listed(rt: HostRuntime) -> Result<(), Fail> {
+    for (inside, lines) in [(NUTS, NUTS_LINES), (MIXED, MIXED_LINES), ("", "")] {
+        let input = package_of(rt.alloc(), inside)?;
+        for piece in [1, 2, 3, 1_000] {
+            let setting = Setting { piece, ..EASY };
+            let told = run_on(rt.alloc(), &["cells", "S"], input.as_bytes(), setting)?;
+            assert_eq!(rt; told.result, Ok(()));
+            assert_eq!(rt; told.written.as_str(), lines);
+        }
     }
     Ok(())
 }
@@ -126,7 +141,7 @@ fn refusal_of(alloc: Global, told: &Answer) -> Result<(u8, String), Fail> {
 fn each_refusal_has_its_cause(rt: HostRuntime) -> Result<(), Fail> {
     let alloc = rt.alloc();
     let nuts = package_of(alloc, NUTS)?;
-    let untyped = package_of(alloc, UNTYPED)?;
+    let styled = package_with(alloc, NUTS, STYLES)?;
     let cells: &[&str] = &["cells", "S"];
     let table: [(&[&str], &str, u8, &str); 8] = [
         (cells, "", 5, "not a package"),
@@ -141,7 +156,7 @@ fn each_refusal_has_its_cause(rt: HostRuntime) -> Result<(), Fail> {
         (&["cells"], nuts.as_str(), 2, "usage"),
         (&["cells", "S", "S"], nuts.as_str(), 2, "usage"),
         (&["cells", "X"], nuts.as_str(), 6, "Worksheet 'X' not found"),
-        (cells, untyped.as_str(), 9, "not built yet"),
+        (cells, styled.as_str(), 9, "not built yet"),
     ];
     for (words, input, status, text) in table {
         let told = run_on(alloc, words, input.as_bytes(), EASY)?;

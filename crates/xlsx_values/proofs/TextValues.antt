@@ -1,5 +1,6 @@
 -- How the texts of values are read.
-use Rattle.std.proofs.Common.{◌≡◌, ◌↔◌, ℕ, ◌≤◌, List, [], ◌∷◌, length, Bool, false, None, Err, Global, String, map, refl, sym, ◌∙◌, ap, string_bytes}
+use Rattle.std.proofs.Common.{◌≡◌, ◌↔◌, ℕ, ◌≤◌, List, [], ◌∷◌, length, Bool, false, None, Err}
+use Rattle.std.proofs.Common.{Global, String, map, refl, sym, ◌∙◌, ap, string_bytes}
 use Rattle.std.specs.Prelude.{◌==◌, IsTrue, unwrap_or, slice_get, option_map}
 use Rattle.std.specs.Str.{str_eq_ignore_ascii_case, str_to_ascii_lowercase, trim}
 use Rattle.std.specs.Char.{to_ascii_lowercase}

@@ -1,5 +1,6 @@
 -- How the value of a cell is read, and how one that is refused makes its element refused.
-use Rattle.std.proofs.Common.{◌≡◌, ℕ, ◌+◌, ◌-◌, ◌<◌, List, [], ◌∷◌, length, true, false, None, Ok, Err, sym, ◌∙◌, ap, arith, codes}
+use Rattle.std.proofs.Common.{◌≡◌, ℕ, ◌+◌, ◌-◌, ◌<◌, List, [], ◌∷◌, length, true, false, None, Ok}
+use Rattle.std.proofs.Common.{Err, sym, ◌∙◌, ap, arith, codes}
 use Rattle.part_events.specs.Event.{Event}
 use Rattle.part_events.specs.Nesting.{starts_in, ends_in}
 use Rattle.part_events.specs.Reading.{Reading, IsReading, IsAtElement, ahead}

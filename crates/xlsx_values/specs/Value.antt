@@ -6,7 +6,8 @@ use Rattle.std.specs.Str.{bytes_eq, str_to_ascii_lowercase, trim}
 use Rattle.attr_text.specs.Attributes.{lookup}
 use Rattle.attr_text.specs.Text.{unescaped}
 use Rattle.attr_text.specs.declared.fault.AttrFault.{AttrFault}
-use Rattle.part_events.specs.Event.{Tag, Event, start, end, leaf, text, char_data, entity_ref, other}
+use Rattle.part_events.specs.Event.{Tag, Event, start, end, leaf, text, char_data, entity_ref}
+use Rattle.part_events.specs.Event.{other}
 use Rattle.part_events.specs.Section.{Element, children, is_named}
 use Rattle.cell_data.specs.CellError.{cell_error}
 use Rattle.cell_data.specs.CellValue as value

@@ -16,8 +16,9 @@ pub struct Book<'a> {
     pub is_1904: bool,
 }
 
-/// What the number format of a cell's style makes of a number, by the text of the cell's `s`, where it has one. A text that
-/// is no number is that of the first style.
+/// What the number format of a cell's style makes of a number, by the text of the cell's `s`, where
+/// it has one. A text that is no number is that of the first style. Without a text, and past the
+/// styles, a number stays one.
 pub fn format_of_style(formats: &[CellFormat], style: Option<&str>) -> CellFormat
     ensures { result ≡ format_of formats.now (option_copied style.entry) }
 {

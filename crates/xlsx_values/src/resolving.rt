@@ -14,8 +14,8 @@ fn text_at(strings: &[String], place: usize) -> &str
     }
 }
 
-/// The value by itself, with a copy of the shared string in place of its place. A place past the strings, which no cell is
-/// read with, has the empty text.
+/// The value by itself, with a copy of the shared string in place of its place. A place past the
+/// strings, which no cell is read with, has the empty text.
 pub fn to_data(alloc: Global, value: DataRef, strings: &[String]) -> Result<Data, AllocError>
     ensures { IfOk result (λ own. value_of_data own
         ≡ resolved (map string_bytes strings.now) (value_of_data_ref value)) }

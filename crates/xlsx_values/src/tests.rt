@@ -1,4 +1,4 @@
-use crate::{Book, cell_type, format_of_style, read_value, to_data};
+use crate::{Book, cell_type, format_of_style, read_inline, read_value, to_data};
 use cell_data::{CellErrorType, CellFormat, Data, DataRef, ExcelDateTimeType, XlsxError};
 use part_events::{Cursor, FailingPackage, MemoryPackage, Package, PartEvent, StartTag};
 use std::alloc::{AllocError, Global};
@@ -124,8 +124,8 @@ fn told<P: Package>(
     }
 }
 
-/// A type, and what is told of a `v` in which the first event is an empty text, the text 1, a reference to `&`, the
-/// character data 1, or a comment.
+/// A type, and what is told of a `v` in which the first event is an empty text, the text 1, a
+/// reference to `&`, the character data 1, or a comment.
 const FIRST: [(Option<&str>, &str, &str, &str, &str, &str); 10] = [
     (None, "empty", "n:1", "empty", "empty", "empty"),
     (Some("n"), "empty", "n:1", "empty", "empty", "empty"),
@@ -379,5 +379,56 @@ fn elements_are_refused_and_planned_calls_fail(rt: HostRuntime) -> Result<(), Fa
         let found = told(alloc, &mut package, &strings, None, typ)?;
         assert_eq!(rt; found.as_str(), whole, "{typ:?}");
     }
+    Ok(())
+}
+
+// Reads the first `is` of a part.
+fn read_string_part<P: Package>(
+    alloc: Global,
+    package: &mut P,
+) -> Result<Option<DataRef>, XlsxError> {
+    if !package.open("part")? {
+        return Ok(None);
+    }
+    let mut cursor = Cursor::new(alloc, package);
+    enter(package, &mut cursor, "is")?;
+    Ok(Some(read_inline(alloc, package, &mut cursor)?))
+}
+
+// What an `is` says, or the text of its refusal.
+fn told_string<P: Package>(alloc: Global, package: &mut P) -> Result<String, AllocError> {
+    match read_string_part(alloc, package) {
+        Ok(Some(value)) => text_of(alloc, &to_data(alloc, value, &[])?),
+        Ok(None) => String::from_str(alloc, "no part"),
+        Err(error) => error.to_string(alloc),
+    }
+}
+
+#[test]
+fn strings_in_cells_are_read(rt: HostRuntime) -> Result<(), Fail> {
+    let alloc = rt.alloc();
+    let kept = PartEvent::Start(StartTag {
+        name: "t",
+        attributes: " xml:space=\"preserve\"",
+    });
+    let inside = [
+        start("is"),
+        start("t"),
+        PartEvent::Text("Hi "),
+        PartEvent::End("t"),
+        kept,
+        PartEvent::Text(" you"),
+        PartEvent::End("t"),
+        start("rPh"),
+        start("t"),
+        PartEvent::Text("no"),
+        PartEvent::End("t"),
+        PartEvent::End("rPh"),
+        PartEvent::End("is"),
+        WHOLE,
+    ];
+    let mut package = held_package(&rt, alloc, &inside)?;
+    let found = told_string(alloc, &mut package)?;
+    assert_eq!(rt; found.as_str(), "s:Hi you");
     Ok(())
 }

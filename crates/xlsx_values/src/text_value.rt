@@ -5,7 +5,9 @@ ghost use Rattle.cell_data.specs.CellValue.{value_of_data_ref};
 ghost use Rattle.cell_data.specs.Decimal.{number_of};
 ghost use Rattle.xlsx_sections.specs.Refusal.{ElementFails};
 ghost use Rattle.xlsx_values.specs.Book.{kind_of, grounds_of, IsTextValueError};
-ghost use Rattle.xlsx_values.specs.Value.{shared_value, lower_truth, truth_value, error_value, formatted, number_value, value_of_first, value_of_joined, of_first, first_text};
+ghost use Rattle.xlsx_values.specs.Value.{shared_value, lower_truth, truth_value, error_value};
+ghost use Rattle.xlsx_values.specs.Value.{formatted, number_value, value_of_first, value_of_joined};
+ghost use Rattle.xlsx_values.specs.Value.{of_first, first_text};
 
 use crate::book::Book;
 use crate::types::CellType;
@@ -105,8 +107,8 @@ fn formatted(is_1904: bool, format: CellFormat, number: Decimal) -> DataRef
     })
 }
 
-/// The value of the text of a number, which is typed as one, or has no type. One that has none is itself the value, where it
-/// is no number.
+/// The value of the text of a number, which is typed as one, or has no type. One that has none is
+/// itself the value, where it is no number.
 fn number_value(
     alloc: Global,
     is_1904: bool,
@@ -130,7 +132,8 @@ fn number_value(
     }
 }
 
-/// The value of the text of a `v` whose text is one event, by the type of its cell. Other types have none.
+/// The value of the text of a `v` whose text is one event, by the type of its cell. Other types
+/// have none.
 pub(crate) fn value_of_text(
     alloc: Global,
     book: Book<'_>,
@@ -165,12 +168,12 @@ pub(crate) fn value_of_event(
     typ: &CellType,
     event: PartEvent<'_>,
 ) -> Result<DataRef, XlsxError>
-    ensures ok { let answer = of_first (value_of_first (grounds_of book.entry) format (kind_of typ.now)) in
+    ensures ok { let read = value_of_first (grounds_of book.entry) format (kind_of typ.now) in
         IfOk result (λ own. (others : List Event) →
-        answer (first_text (event_of event.entry ∷ others)) ≡ Ok (value_of_data_ref own)) }
-    ensures err { let answer = of_first (value_of_first (grounds_of book.entry) format (kind_of typ.now)) in
+        of_first read (first_text (event_of event.entry ∷ others)) ≡ Ok (value_of_data_ref own)) }
+    ensures err { let read = value_of_first (grounds_of book.entry) format (kind_of typ.now) in
         IfErr result (λ error. (at behind : ℕ) (others : List Event) →
-        ElementFails (answer (first_text (event_of event.entry ∷ others))) at behind error) }
+        ElementFails (of_first read (first_text (event_of event.entry ∷ others))) at behind error) }
     ensures kind { IfErr result IsTextValueError }
 {
     match event {

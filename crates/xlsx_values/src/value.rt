@@ -1,5 +1,7 @@
-ghost use Rattle.std.specs.Prelude.{◌≡◌, ℕ, suc, length, true, Ok, Some, codes, option_map, IfOk, OnOk, IfErr};
-ghost use Rattle.part_events.specs.Reading.{reading, open_elements, IsReading, IsAtElement, ReadsPart, Skips, ahead};
+ghost use Rattle.std.specs.Prelude.{◌≡◌, ℕ, suc, length, true, Ok, Some, codes, option_map};
+ghost use Rattle.std.specs.Prelude.{IfOk, OnOk, IfErr};
+ghost use Rattle.part_events.specs.Reading.{reading, open_elements, IsReading, IsAtElement};
+ghost use Rattle.part_events.specs.Reading.{ReadsPart, Skips, ahead};
 ghost use Rattle.part_events.specs.Section.{content};
 ghost use Rattle.cell_data.specs.CellValue.{value_of_data_ref};
 ghost use Rattle.cell_data.specs.declared.error.XlsxError.TheVariants.{Io};
@@ -7,7 +9,8 @@ ghost use Rattle.xlsx_sections.specs.Elements.{ElementReadFails};
 ghost use Rattle.xlsx_sections.specs.PartSection.{always};
 ghost use Rattle.xlsx_strings.specs.Strings.{end_in_string, IsStringError};
 ghost use Rattle.xlsx_values.specs.Book.{kind_of, grounds_of, IsValueError};
-ghost use Rattle.xlsx_values.specs.Value.{first_value, joined_value, value_element, inline_value, end_in_first, end_in_value};
+ghost use Rattle.xlsx_values.specs.Value.{first_value, joined_value, value_element, inline_value};
+ghost use Rattle.xlsx_values.specs.Value.{end_in_first, end_in_value};
 
 use crate::book::Book;
 use crate::text_value::{value_of_event, value_of_joined};
@@ -33,7 +36,8 @@ fn read_first<P: Package>(
     ensures reads { let old = reading (P.state «package».old) cursor.old in
         let new = reading (P.state «package».new) cursor.new in
         ReadsPart Io result old new }
-    ensures depth { OnOk result (length (open_elements cursor.old) ≡ suc (length (open_elements cursor.new))) }
+    ensures depth { OnOk result
+        (length (open_elements cursor.old) ≡ suc (length (open_elements cursor.new))) }
     ensures skips { let old = reading (P.state «package».old) cursor.old in
         let new = reading (P.state «package».new) cursor.new in
         old.source.is_told ≡ true → OnOk result (Skips old new) }
@@ -71,7 +75,8 @@ fn read_joined<P: Package>(
     ensures reads { let old = reading (P.state «package».old) cursor.old in
         let new = reading (P.state «package».new) cursor.new in
         ReadsPart Io result old new }
-    ensures depth { OnOk result (length (open_elements cursor.old) ≡ suc (length (open_elements cursor.new))) }
+    ensures depth { OnOk result
+        (length (open_elements cursor.old) ≡ suc (length (open_elements cursor.new))) }
     ensures skips { let old = reading (P.state «package».old) cursor.old in
         let new = reading (P.state «package».new) cursor.new in
         old.source.is_told ≡ true → OnOk result (Skips old new) }
@@ -89,8 +94,16 @@ fn read_joined<P: Package>(
     value_of_joined(alloc, typ, text)
 }
 
-/// The value of the `v` at whose start the package stands, in a cell of this type, whose style has this format. There is none
-/// under an inline type. Reads to its end.
+/// The value of the `v` at whose start the package stands, in a cell of this type, whose style has
+/// this format (ECMA-376 part 1, section 18.3.1.96). There is none under an inline type. Reads to
+/// its end.
+///
+/// # Errors
+///
+/// The text is none of the type (`Unexpected` for the place of a shared string, `Unrecognized`,
+/// `CellError`, `ParseFloat`), or the type is unknown (`CellTAttribute`); a reference in it has no
+/// character, its nesting breaks, or the part ends in it (`Xml`, `XmlEof`); the package fails
+/// (`Io`); and want of memory.
 #[tactic(auto, using(crate::proofs::ValuesRead::value_errors))]
 pub fn read_value<P: Package>(
     alloc: Global,
@@ -105,7 +118,8 @@ pub fn read_value<P: Package>(
     ensures reads { let old = reading (P.state «package».old) cursor.old in
         let new = reading (P.state «package».new) cursor.new in
         ReadsPart Io result old new }
-    ensures depth { OnOk result (length (open_elements cursor.old) ≡ suc (length (open_elements cursor.new))) }
+    ensures depth { OnOk result
+        (length (open_elements cursor.old) ≡ suc (length (open_elements cursor.new))) }
     ensures skips { let old = reading (P.state «package».old) cursor.old in
         let new = reading (P.state «package».new) cursor.new in
         old.source.is_told ≡ true → OnOk result (Skips old new) }
@@ -136,7 +150,14 @@ pub fn read_value<P: Package>(
     }
 }
 
-/// The value of the `is` at whose start the package stands: its text. Reads to its end.
+/// The value of the `is` at whose start the package stands, which is its text (ECMA-376 part 1,
+/// section 18.3.1.53). Reads to its end.
+///
+/// # Errors
+///
+/// A lookup of its attributes is refused (`XmlAttr`), a reference in it has no character, its
+/// nesting breaks, or the part ends in it (`Xml`, `XmlEof`); the package fails (`Io`); and want of
+/// memory.
 pub fn read_inline<P: Package>(
     alloc: Global,
     package: &mut P,
@@ -147,7 +168,8 @@ pub fn read_inline<P: Package>(
     ensures reads { let old = reading (P.state «package».old) cursor.old in
         let new = reading (P.state «package».new) cursor.new in
         ReadsPart Io result old new }
-    ensures depth { OnOk result (length (open_elements cursor.old) ≡ suc (length (open_elements cursor.new))) }
+    ensures depth { OnOk result
+        (length (open_elements cursor.old) ≡ suc (length (open_elements cursor.new))) }
     ensures skips { let old = reading (P.state «package».old) cursor.old in
         let new = reading (P.state «package».new) cursor.new in
         old.source.is_told ≡ true → OnOk result (Skips old new) }

@@ -15,6 +15,9 @@ returns-in-Stray-clause-err g c = λ element stands told.
     same_tag (c.start_tag.ensures ∙ sym stands.tag) in
     let named : IsNamedAs Stray element.tag =
     subst (λ (tag : Tag). IsNamedAs Stray tag) same (rw c.in-Stray.is at c.child_name.ensures) in
-    inr (refl, stray_refused c.args.asked.wants (grounds_of c.args.asked.book)
-    c.args.start.now.format (kind_of c.args.start.now.typ) element.tag
-    (section_left (length old.names) old) named c.requires.wanted)
+    inr (
+      refl,
+      stray_refused c.args.asked.wants (grounds_of c.args.asked.book)
+          c.args.start.now.format (kind_of c.args.start.now.typ) element.tag
+          (section_left (length old.names) old) named c.requires.wanted,
+    )

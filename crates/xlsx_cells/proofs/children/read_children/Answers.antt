@@ -139,13 +139,13 @@ returns-in_err-read_child-clause-err g c =
       | inl own ↦ inl (
         own.0,
         ap or_nothing (last_refused (child_value grounds format kind)
-        (value_kept c.children.contents.value) (found.next told).elements
-        (ap (in_element element) (rw (own_inside at) at own.1)) (now.value told own.0)),
+            (value_kept c.children.contents.value) (found.next told).elements
+            (ap (in_element element) (rw (own_inside at) at own.1)) (now.value told own.0)),
       )
       | inr own ↦ inr (
         own.0,
         formulas_refused (now.listed told own.0) (found.next told).elements
-        (ap (in_element element) (rw (own_inside at) at own.1)),
+            (ap (in_element element) (rw (own_inside at) at own.1)),
       )
     ])
     (c.in_err-read_child.ensures.err element stand)))
@@ -163,5 +163,6 @@ returns-clause-formula g c = λ told wanted earlier kept.
     let behind : FormulaStep =
     record { masters = c.children.masters; text = string_bytes c.children.contents.formula } in
     let none : inside base old ≡ 0 = omega (arith, now.base) in
-    subst (λ (n : ℕ). ReadsFormulas earlier c.args.start.now.pos (content n (ahead old)) behind) none
+    subst (λ (n : ℕ). ReadsFormulas earlier c.args.start.now.pos (content n
+    (ahead old)) behind) none
     (formulas_whole behind (now.formulas told wanted earlier kept) closes.elements)

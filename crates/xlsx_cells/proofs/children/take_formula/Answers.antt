@@ -13,7 +13,8 @@ returns-in_err-formula-clause-err g c =
     let p = err_from_is_err_and c.from_residual.result c.from_residual.ensures.1 in
     rw (p.1, p.2) (λ grounds format kind element stands named.
     formula_fails c.args.wants grounds format kind element.tag old new c.in_err-formula.field-0.0
-    named (is_wanted c.args.wants.formulas c.if-not-wants.false) (c.in_err-formula.ensures.err element.tag stands.tag))
+    named (is_wanted c.args.wants.formulas c.if-not-wants.false)
+    (c.in_err-formula.ensures.err element.tag stands.tag))
 
 pub returns-clause-formula : goal.returns-clause-formula
 returns-clause-formula g c = λ told wanted element stands named.

@@ -26,12 +26,13 @@ returns-in-Ended-clause-err g c = λ inner told.
     let new = reading (g.P.Package.state c.next_inside.new.«package») c.next_inside.new.self in
     let now = c.events.invariant in
     let ends : StepsInside c.args.base Ended mid new =
-    rw c.in-Ended.is at (c.in_ok-next_inside.ensures.inside (now.section.reads.moves.parts.is_told ∙ told)) in
+    rw c.in-Ended.is at (c.in_ok-next_inside.ensures.inside
+    (now.section.reads.moves.parts.is_told ∙ told)) in
     let none : unclosed is_cell (section_ahead c.args.base old) ≡ None =
-    (now.same told).unclosed ∙ ap (unclosed is_cell) ends.events in
-    (
+    (now.same told).unclosed ∙ ap (unclosed is_cell) ends.events in (
       (
-        whole_at_end (reads_further now.section.reads c.in_ok-next_inside.ensures.reads) ends.steps.1 told,
+        whole_at_end
+            (reads_further now.section.reads c.in_ok-next_inside.ensures.reads) ends.steps.1 told,
         sym (now.section.closed told) ∙ ends.closed,
       ),
       ap (end_outside (codes "sheetData") inner) none,
@@ -80,7 +81,8 @@ returns-in_err-pass-clause-err g c =
     → section_ahead base mid ≡ event ∷ section_ahead base new = λ told.
     (steps told).events
     ∙ ap (λ (first : Event). first ∷ section_ahead base new) (sym c.event-event.ensures) in
-    let p = err_from_is_err_and c.from_residual-in_err-pass.result c.from_residual-in_err-pass.ensures.1 in
+    let p = err_from_is_err_and c.from_residual-in_err-pass.result
+    c.from_residual-in_err-pass.ensures.1 in
     rw (p.1, p.2)
     (λ inner. start_refused base old (end_among is_cell (codes "sheetData") inner)
     (IsRowRefused event) (IsStepRefused IsMisplaced c.args.counters.now) new
@@ -112,7 +114,8 @@ returns-in_err-place-clause-err g c =
     let steps : mid.source.is_told ≡ true → StepsInside base Found mid new =
     λ told. rw c.in-Found.is at (c.in_ok-next_inside.ensures.inside told) in
     let current : start tag ≡ new.source.current = sym first.0 ∙ c.event-event.ensures in
-    let p = err_from_is_err_and c.from_residual-in_err-place.result c.from_residual-in_err-place.ensures.1 in
+    let p = err_from_is_err_and c.from_residual-in_err-place.result
+    c.from_residual-in_err-place.ensures.1 in
     rw (p.1, p.2)
     (λ inner. start_refused base old (end_among is_cell (codes "sheetData") inner)
     (λ (refusal : Refusal). (before : List Mark) → AreKept before c.events.counters
@@ -142,7 +145,8 @@ returns-in-Some-clause-element g c = λ told.
     let stands : StandsInside base Found mid new =
     rw c.in-Found.is at c.in_ok-next_inside.ensures.stands in
     let steps : StepsInside base Found mid new =
-    rw c.in-Found.is at (c.in_ok-next_inside.ensures.inside (now.section.reads.moves.parts.is_told ∙ told)) in
+    rw c.in-Found.is at (c.in_ok-next_inside.ensures.inside
+    (now.section.reads.moves.parts.is_told ∙ told)) in
     let current : start tag ≡ new.source.current = sym first.0 ∙ c.event-event.ensures in
     rw (← current)
     (element_later is_cell base tag old mid new (now.same told)
@@ -162,7 +166,8 @@ returns-in-Some-clause-finds g c = λ told before kept.
     let stands : StandsInside base Found mid new =
     rw c.in-Found.is at c.in_ok-next_inside.ensures.stands in
     let steps : StepsInside base Found mid new =
-    rw c.in-Found.is at (c.in_ok-next_inside.ensures.inside (now.section.reads.moves.parts.is_told ∙ told)) in
+    rw c.in-Found.is at (c.in_ok-next_inside.ensures.inside
+    (now.section.reads.moves.parts.is_told ∙ told)) in
     let current : start tag ≡ new.source.current = sym first.0 ∙ c.event-event.ensures in
     record {
       passed = been.passed;

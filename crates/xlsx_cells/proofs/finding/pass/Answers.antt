@@ -21,4 +21,8 @@ returns-in_err-start_row-in-Start-clause-err c =
     (is_refused_weaker (λ (refusal : Refusal). row_named tag ≡ Err refusal)
     (λ (refusal : Refusal). (is_row tag ≡ true) × (row_named tag ≡ Err refusal))
     c.in_err-start_row-in-Start.field-0.0
-    (λ refusal is. (ap (λ (b : Bool). b || false) named, is)) c.in_err-start_row-in-Start.ensures.err)
+    (λ refusal is. (
+      ap (λ
+          (b : Bool). b || false) named,
+      is,
+    )) c.in_err-start_row-in-Start.ensures.err)

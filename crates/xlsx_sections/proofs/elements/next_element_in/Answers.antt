@@ -5,8 +5,7 @@ use Rattle.xlsx_sections.proofs.elements.next_element_in.Goals as goal
 
 pub returns-in-Ended-clause-err : goal.returns-in-Ended-clause-err
 returns-in-Ended-clause-err g c = λ inner told.
-    let ends = rw c.in-Ended.is at (c.in_ok-next_element.ensures.found told) in
-    (
+    let ends = rw c.in-Ended.is at (c.in_ok-next_element.ensures.found told) in (
       (whole_at_end c.in_ok-next_element.ensures.reads ends.at_end told, ends.closed),
       ap (end_outside c.args.section.now inner) ends.unclosed,
     )

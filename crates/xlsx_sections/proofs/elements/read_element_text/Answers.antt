@@ -20,8 +20,7 @@ pub returns-then-not-branch-clause-err : goal.returns-then-not-branch-clause-err
 returns-then-not-branch-clause-err g c = λ told.
     let old = reading (g.P.Package.state c.args.package.now) c.args.cursor.now in
     let text = c.in_ok-read_text.ensures.text told in
-    let open_still = c.if-not-branch.true in
-    (
+    let open_still = c.if-not-branch.true in (
       (
         whole_at_end c.in_ok-read_text.ensures.reads (text.at_end open_still) told,
         own_end old ∙ text.closed ∙ open_still,

@@ -46,7 +46,8 @@ returns-in_err-read_cell-clause-err g c =
     let pos = c.in-Some.pos in
     let stands : StandsAtCell base (Some pos) old mid =
     rw c.in-Some.is at c.in_ok-pos.ensures.stands in
-    let finds : old.source.is_told ≡ true → FindsElementIn is_cell base (Some (mid.at - 1)) old mid =
+    let finds : old.source.is_told ≡ true
+    → FindsElementIn is_cell base (Some (mid.at - 1)) old mid =
     λ told. rw c.in-Some.is at (c.in_ok-pos.ensures.element told) in
     let first = start_there mid.source.current (λ (tag : Tag). is_cell tag ≡ true) stands.0.2 in
     let tag = first.0 in
@@ -80,7 +81,8 @@ returns-clause-takes g c = λ told before earlier behind.
     let pos = c.in-Some.pos in
     let stands : StandsAtCell base (Some pos) old mid =
     rw c.in-Some.is at c.in_ok-pos.ensures.stands in
-    let finds : old.source.is_told ≡ true → FindsElementIn is_cell base (Some (mid.at - 1)) old mid =
+    let finds : old.source.is_told ≡ true
+    → FindsElementIn is_cell base (Some (mid.at - 1)) old mid =
     λ told. rw c.in-Some.is at (c.in_ok-pos.ensures.element told) in
     let there : FindsCell before pos base old mid c.find_cell.new.counters =
     rw c.in-Some.is at (c.in_ok-pos.ensures.finds told before behind.counters) in
@@ -99,5 +101,38 @@ returns-clause-takes g c = λ told before earlier behind.
     c.find_cell.new.counters own.masters c.read_cell.new.masters c.in_ok-read_cell.field-0
     there passed told behind.masters c.in_ok-read_cell.ensures.pos
     (λ wanted. c.in_ok-read_cell.ensures.value told_mid wanted element stand)
-    (λ wanted. c.in_ok-read_cell.ensures.formula told_mid wanted element stand earlier behind.masters)
+    (λ wanted. c.in_ok-read_cell.ensures.formula told_mid wanted element stand earlier
+    behind.masters)
     c.in_ok-read_cell.ensures.same own.counters
+
+pub returns-clause-stands : goal.returns-clause-stands
+returns-clause-stands g c =
+    let own = c.args.self.now in
+    let base = own.base in
+    let old = reading (g.P.Package.state c.args.package.now) own.cursor in
+    let mid = reading (g.P.Package.state c.find_cell.new.package) c.find_cell.new.cursor in
+    let new = reading (g.P.Package.state c.read_cell.new.package) c.read_cell.new.cursor in
+    let pos = c.in-Some.pos in
+    let stands : StandsAtCell base (Some pos) old mid =
+    rw c.in-Some.is at c.in_ok-pos.ensures.stands in
+    let finds : old.source.is_told ≡ true
+    → FindsElementIn is_cell base (Some (mid.at - 1)) old mid =
+    λ told. rw c.in-Some.is at (c.in_ok-pos.ensures.element told) in
+    let first = start_there mid.source.current (λ (tag : Tag). is_cell tag ≡ true) stands.0.2 in
+    let found : IsElementFound is_cell base first.0 (mid.at - 1) old old mid =
+    element_found is_cell first.1 (keeps_none is_cell base old c.requires.reading c.requires.within)
+    c.in_ok-pos.ensures.reads stands.0 finds in
+    let passed : IsElementPassed is_cell base first.0 old old mid new =
+    element_passed found c.in_ok-read_cell.ensures.reads c.in_ok-read_cell.ensures.depth
+    c.in_ok-read_cell.ensures.skips in
+    let placed = c.in_ok-read_cell.ensures.pos in (
+      record {
+        reading = passed.keeps.section.reads.stays.reading;
+        within = passed.keeps.section.within;
+      },
+      refl,
+      omega (arith, stands.0.3, stands.0.4, c.in_ok-read_cell.ensures.reads.moves.forward),
+      passed.keeps,
+      rw placed stands.1,
+      rw placed stands.2,
+    )

@@ -1,9 +1,9 @@
 use Rattle.std.proofs.Common.{◌≡◌, ◌∙◌, ap}
 use Rattle.std.specs.List.{prefix_len}
 use Rattle.std.proofs.lemmas.Str.{IsUtf8-drop}
-use Rattle.xlsx_tool.specs.Listing.{is_unescaped}
-use Rattle.xlsx_tool.proofs.ListingLemmas.{escaped_front, starts_escaped, unescaped_boundary}
-use Rattle.xlsx_tool.proofs.listing.split_unescaped.Goals as goal
+use Rattle.xlsx_tool.specs.Escaped.{is_unescaped}
+use Rattle.xlsx_tool.proofs.EscapedLemmas.{escaped_front, starts_escaped, unescaped_boundary}
+use Rattle.xlsx_tool.proofs.escaping.split_unescaped.Goals as goal
 
 pub split_at-requires : goal.split_at-requires
 split_at-requires c =

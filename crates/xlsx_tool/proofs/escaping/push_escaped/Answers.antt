@@ -1,8 +1,8 @@
 use Rattle.std.proofs.Common.{◌<◌, length, arith}
 use Rattle.std.proofs.lemmas.Bool.Decides.{nat_tests}
 use Rattle.std.proofs.lemmas.Str.{IsCharBoundary-after_ascii}
-use Rattle.xlsx_tool.proofs.ListingLemmas.{first_special}
-use Rattle.xlsx_tool.proofs.listing.push_escaped.Goals as goal
+use Rattle.xlsx_tool.proofs.EscapedLemmas.{first_special}
+use Rattle.xlsx_tool.proofs.escaping.push_escaped.Goals as goal
 
 pub range_from-rest-requires : goal.range_from-rest-requires
 range_from-rest-requires c =

@@ -10,7 +10,7 @@ use Rattle.std.proofs.lemmas.Bool.Decides.{nat_tests}
 use Rattle.std.proofs.lemmas.List.{drop_more, length-take}
 use Rattle.std.proofs.lemmas.List.Folds.{length-prefix_len}
 use Rattle.std.proofs.lemmas.Str.{IsCharBoundary-before_ascii, IsCharBoundary-end}
-use Rattle.xlsx_tool.specs.Listing.{escaped, escaped_byte, is_unescaped, StartsEscaped}
+use Rattle.xlsx_tool.specs.Escaped.{escaped, escaped_byte, is_unescaped, StartsEscaped}
 
 by_tests :
     (a b c d : Bool) (w x y z v : List ℕ)

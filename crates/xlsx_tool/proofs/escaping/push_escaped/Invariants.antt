@@ -1,7 +1,7 @@
 use Rattle.std.proofs.Common.{◌≡◌, ◌++◌, length, string_bytes}
 use Rattle.std.specs.Str.{IsUtf8}
-use Rattle.xlsx_tool.specs.Listing.{escaped}
-use Rattle.xlsx_tool.proofs.listing.push_escaped.Given as goal
+use Rattle.xlsx_tool.specs.Escaped.{escaped}
+use Rattle.xlsx_tool.proofs.escaping.push_escaped.Given as goal
 
 abbrev pub invariant-pieces : goal.invariant-pieces
 invariant-pieces l =

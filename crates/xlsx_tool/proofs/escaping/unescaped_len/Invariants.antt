@@ -1,7 +1,7 @@
 use Rattle.std.proofs.Common.{◌≡◌, ◌+◌, drop}
 use Rattle.std.specs.List.{prefix_len}
-use Rattle.xlsx_tool.specs.Listing.{is_unescaped}
-use Rattle.xlsx_tool.proofs.listing.unescaped_len.Given as goal
+use Rattle.xlsx_tool.specs.Escaped.{is_unescaped}
+use Rattle.xlsx_tool.proofs.escaping.unescaped_len.Given as goal
 
 abbrev pub invariant-loop-place : goal.invariant-loop-place
 invariant-loop-place l =

@@ -1,0 +1,315 @@
+-- How the cells of a sheet's data are collected.
+use Rattle.std.proofs.Common.{◌≡◌, ℕ, List, [], ◌∷◌, ◌++◌, append_assoc, append-nil, Bool, true, false, Option, Result, Ok, Err, refl, sym, ◌∙◌, ap, subst, inl, inr, ◌⊎◌, string_bytes, codes}
+use Rattle.std.specs.Prelude.{if◌then◌else◌}
+use Rattle.part_events.specs.Event.{Tag, Event}
+use Rattle.part_events.specs.Reading.{Reading}
+use Rattle.part_events.specs.Section.{Element}
+use Rattle.part_events.specs.Walk.{section_ahead}
+use Rattle.cell_data.specs.declared.error.XlsxError.{XlsxError}
+use Rattle.cell_data.specs.CellValue.{CellValue, value_of_data_ref}
+use Rattle.xlsx_sections.specs.Answers.{prepended, and_others}
+use Rattle.xlsx_sections.specs.Elements.{KeepsElements, end_outside}
+use Rattle.xlsx_sections.specs.PartSection.{SectionFails}
+use Rattle.xlsx_sections.specs.Refusal.{Refusal, in_element}
+use Rattle.xlsx_sections.proofs.Kept.{prepended-and_others, prepended-nil}
+use Rattle.xlsx_sections.proofs.Refused.{refused_later}
+use Rattle.xlsx_sections.proofs.SectionsRead.{keeps_further}
+use Rattle.xlsx_values.specs.Value.{Grounds, cell_value}
+use Rattle.xlsx_formulas.specs.Formula.{FormulaText, formulas_in, cell_formula, behind_formulas}
+use Rattle.xlsx_cells.specs.Counting.{AreKept}
+use Rattle.xlsx_cells.specs.Ends.{end_in_cell, end_in_data}
+use Rattle.xlsx_cells.specs.Finding.{BehindRow, IsTakenRefused, IsStepRefused}
+use Rattle.xlsx_cells.specs.Marks.{Mark, row_start, row_end, cell, is_cell, marks, behind_marks}
+use Rattle.xlsx_cells.specs.Position.{row_named, cell_position, PassesRows}
+use Rattle.xlsx_cells.specs.Sheet.{behind_row, answers_from, at_position, placed_value, placed_formulas, values_in, formulas_written, formulas_along, is_nothing, is_empty, used_values, used_formulas}
+use Rattle.xlsx_cells.specs.SheetPart.{IsMarkRefused, AreDataRefused, DataFails, HoldsValues, HoldsFormulas}
+use Rattle.xlsx_cells.specs.Stream.{Stream, StandsBehind, IsCellRefused, IsRead, TakesCell, EndsData, NextCellFails, marks_ahead, data_ahead}
+use Rattle.xlsx_cells.specs.declared.cell_read.CellRead.{CellRead}
+use Rattle.xlsx_cells.specs.declared.children.Wants.{Wants}
+
+-- rows that were passed have no answer
+answers_passed : {A : Type 0} (answer : List Mark → Element → Result A Refusal)
+    (passed before marks : List Mark) → PassesRows passed
+    → answers_from answer before (passed ++ marks)
+    ≡ answers_from answer (behind_marks passed before) marks
+answers_passed answer [] before marks rows = refl
+answers_passed answer (row_start tag ∷ passed) before marks rows =
+    ap (λ (row : Result (Option ℕ) Refusal). behind_row row
+    (answers_from answer (row_start tag ∷ before) (passed ++ marks))) rows.0.1
+    ∙ answers_passed answer passed (row_start tag ∷ before) marks rows.1
+answers_passed answer (row_end ∷ passed) before marks rows =
+    answers_passed answer passed (row_end ∷ before) marks rows
+answers_passed answer (cell element ∷ passed) before marks rows = absurd rows
+
+no_answers : {A : Type 0} (answer : List Mark → Element → Result A Refusal)
+    (passed before : List Mark) → PassesRows passed → answers_from answer before passed ≡ Ok []
+no_answers answer [] before rows = refl
+no_answers answer (row_start tag ∷ passed) before rows =
+    ap (λ (row : Result (Option ℕ) Refusal). behind_row row
+    (answers_from answer (row_start tag ∷ before) passed)) rows.0.1
+    ∙ no_answers answer passed (row_start tag ∷ before) rows.1
+no_answers answer (row_end ∷ passed) before rows =
+    no_answers answer passed (row_end ∷ before) rows
+no_answers answer (cell element ∷ passed) before rows = absurd rows
+
+-- the answer of a cell that was taken is kept
+answer_kept : {A : Type 0} (answer : List Mark → Element → Result A Refusal) (kept : List A)
+    (own : A) (passed before others all : List Mark) (element : Element)
+    (whole : Result (List A) Refusal) → PassesRows passed
+    → all ≡ passed ++ cell element ∷ others
+    → answer (behind_marks passed before) element ≡ Ok own
+    → prepended kept (answers_from answer before all) ≡ whole
+    → prepended (kept ++ own ∷ [])
+    (answers_from answer (cell element ∷ behind_marks passed before) others) ≡ whole
+answer_kept answer kept own passed before others all element whole rows same is holds =
+    let behind = behind_marks passed before in
+    prepended-and_others kept own (answer behind element)
+    (answers_from answer (cell element ∷ behind) others) is
+    ∙ ap (prepended kept) (sym (answers_passed answer passed before (cell element ∷ others) rows))
+    ∙ ap (λ (own_marks : List Mark). prepended kept (answers_from answer before own_marks))
+    (sym same) ∙ holds
+
+answers_whole : {A : Type 0} (answer : List Mark → Element → Result A Refusal) (kept : List A)
+    (before all : List Mark) (whole : Result (List A) Refusal) → PassesRows all
+    → prepended kept (answers_from answer before all) ≡ whole → whole ≡ Ok kept
+answers_whole answer kept before all whole rows holds =
+    sym holds ∙ ap (prepended kept) (no_answers answer all before rows) ∙ ap Ok (append-nil kept)
+
+-- what stands before a cell, behind others with their formulas
+abbrev pub behind_cells :
+    List ((ℕ × ℕ) × List FormulaText) → List FormulaText → List FormulaText
+behind_cells [] earlier = earlier
+behind_cells (first ∷ others) earlier = behind_cells others (behind_formulas first.1 earlier)
+
+behind_cells_further : (passed : List ((ℕ × ℕ) × List FormulaText)) (earlier : List FormulaText)
+    (own : (ℕ × ℕ) × List FormulaText)
+    → behind_cells (passed ++ own ∷ []) earlier
+    ≡ behind_formulas own.1 (behind_cells passed earlier)
+behind_cells_further [] earlier own = refl
+behind_cells_further (first ∷ others) earlier own =
+    behind_cells_further others (behind_formulas first.1 earlier) own
+
+along_further : (passed : List ((ℕ × ℕ) × List FormulaText)) (earlier : List FormulaText)
+    (own : (ℕ × ℕ) × List FormulaText)
+    → formulas_along earlier (passed ++ own ∷ [])
+    ≡ formulas_along earlier passed
+    ++ (own.0, cell_formula (behind_cells passed earlier) own.0 own.1) ∷ []
+along_further [] earlier own = refl
+along_further (first ∷ others) earlier own =
+    ap (λ (rest : List ((ℕ × ℕ) × List ℕ)).
+    (first.0, cell_formula earlier first.0 first.1) ∷ rest)
+    (along_further others (behind_formulas first.1 earlier) own)
+
+used_value_if : {A : Type 0} (b : Bool) (own : A) (first second : List A)
+    → (if b then first ++ second else own ∷ (first ++ second))
+    ≡ (if b then first else own ∷ first) ++ second
+used_value_if true own first second = refl
+used_value_if false own first second = refl
+
+used_values_further : (strings : List (List ℕ)) (passed others : List ((ℕ × ℕ) × CellValue))
+    → used_values strings (passed ++ others)
+    ≡ used_values strings passed ++ used_values strings others
+used_values_further strings [] others = refl
+used_values_further strings (first ∷ passed) others =
+    rw (used_values_further strings passed others)
+    (used_value_if (is_nothing first.1) _ (used_values strings passed)
+    (used_values strings others))
+
+used_formulas_further : (passed others : List ((ℕ × ℕ) × List ℕ))
+    → used_formulas (passed ++ others) ≡ used_formulas passed ++ used_formulas others
+used_formulas_further [] others = refl
+used_formulas_further (first ∷ passed) others =
+    rw (used_formulas_further passed others)
+    (used_value_if (is_empty first.1) first (used_formulas passed) (used_formulas others))
+
+-- what is refused behind rows that were passed
+mark_refused_behind : (refused : List Mark → Element → Refusal → Type 0)
+    (passed before marks : List Mark) (refusal : Refusal) → PassesRows passed
+    → IsMarkRefused refused (behind_marks passed before) marks refusal
+    → IsMarkRefused refused before (passed ++ marks) refusal
+mark_refused_behind refused [] before marks refusal rows is = is
+mark_refused_behind refused (row_start tag ∷ passed) before marks refusal rows is =
+    inr (mark_refused_behind refused passed (row_start tag ∷ before) marks refusal rows.1 is)
+mark_refused_behind refused (row_end ∷ passed) before marks refusal rows is =
+    mark_refused_behind refused passed (row_end ∷ before) marks refusal rows is
+mark_refused_behind refused (cell element ∷ passed) before marks refusal rows is = absurd rows
+
+by_row : {P Q : Type 0} (tag : Tag) (row : Result (Option ℕ) Refusal) (refusal : Refusal)
+    → row_named tag ≡ row → (P → Q) → BehindRow row refusal P
+    → (row_named tag ≡ Err refusal) ⊎ Q
+by_row tag (Ok row) refusal same further is = inr (further is)
+by_row tag (Err own) refusal same further is = inl (same ∙ ap Err is)
+
+-- a mark that a step takes is one of the marks
+pub taken_is_mark : (refused : List Mark → Element → Refusal → Type 0) (before marks : List Mark)
+    (refusal : Refusal) → IsTakenRefused refused before marks refusal
+    → IsMarkRefused refused before marks refusal
+taken_is_mark refused before [] refusal is = absurd is
+taken_is_mark refused before (row_start tag ∷ marks) refusal is =
+    by_row tag (row_named tag) refusal refl
+    (taken_is_mark refused (row_start tag ∷ before) marks refusal) is
+taken_is_mark refused before (row_end ∷ marks) refusal is =
+    taken_is_mark refused (row_end ∷ before) marks refusal is
+taken_is_mark refused before (cell element ∷ marks) refusal is = inl is
+
+-- the values so far, where they are wanted
+pub record ValuesSoFar
+    (grounds : Grounds) (before : List Mark) (old now : Stream)
+    (values : List ((ℕ × ℕ) × CellValue)) : Type 0 where
+  pub passed : List ((ℕ × ℕ) × CellValue)
+  pub all :
+      prepended passed (answers_from (placed_value grounds) before (marks_ahead now))
+      ≡ values_in grounds (data_ahead old)
+  pub used : values ≡ used_values grounds.strings passed
+
+-- and the formulas
+pub record FormulasSoFar
+    (before : List Mark) (earlier : List FormulaText) (old now : Stream)
+    (formulas : List ((ℕ × ℕ) × List ℕ)) : Type 0 where
+  pub passed : List ((ℕ × ℕ) × List FormulaText)
+  pub all :
+      prepended passed (answers_from placed_formulas before (marks_ahead now))
+      ≡ formulas_written (data_ahead old)
+  pub behind : earlier ≡ behind_cells passed []
+  pub used : formulas ≡ used_formulas (formulas_along [] passed)
+
+-- the cells of a sheet's data were collected up to here
+pub record HasCollected
+    (wants : Wants) (grounds : Grounds) (old now : Stream)
+    (values : List ((ℕ × ℕ) × CellValue)) (formulas : List ((ℕ × ℕ) × List ℕ)) : Type 0 where
+  pub before : List Mark
+  pub earlier : List FormulaText
+  pub stands : StandsBehind before earlier now
+  pub valued : wants.values ≡ true → ValuesSoFar grounds before old now values
+  pub listed : wants.formulas ≡ true → FormulasSoFar before earlier old now formulas
+  pub refused :
+      (refusal : Refusal) →
+      IsMarkRefused (IsCellRefused wants grounds) before (marks_ahead now) refusal →
+      IsMarkRefused (IsCellRefused wants grounds) [] (marks_ahead old) refusal
+
+pub collected_none : (wants : Wants) (grounds : Grounds) (old : Stream) → StandsBehind [] [] old
+    → HasCollected wants grounds old old [] []
+collected_none wants grounds old fresh = record {
+  before = [];
+  earlier = [];
+  stands = fresh;
+  valued = λ wanted. record { passed = []; all = prepended-nil _; used = refl };
+  listed = λ wanted. record { passed = []; all = prepended-nil _; behind = refl; used = refl };
+  refused = λ refusal is. is;
+}
+
+-- one cell more
+pub collected_further : (wants : Wants) (grounds : Grounds) (old mid new : Stream)
+    (values : List ((ℕ × ℕ) × CellValue)) (formulas : List ((ℕ × ℕ) × List ℕ)) (read : CellRead)
+    → (been : HasCollected wants grounds old mid values formulas)
+    → TakesCell been.before been.earlier mid new (IsRead wants grounds been.earlier read)
+    → HasCollected wants grounds old new
+    (values ++ used_values grounds.strings ((read.pos, value_of_data_ref read.value) ∷ []))
+    (formulas ++ used_formulas ((read.pos, string_bytes read.formula) ∷ []))
+collected_further wants grounds old mid new values formulas read been takes =
+    let behind = behind_marks takes.passed been.before in
+    let element = takes.element in
+    let value = value_of_data_ref read.value in
+    record {
+      before = cell element ∷ behind;
+      earlier = behind_formulas takes.kept been.earlier;
+      stands = takes.stands;
+      valued = λ wanted.
+          let so_far = been.valued wanted in
+          let answer : placed_value grounds behind element ≡ Ok (read.pos, value) =
+          rw (takes.fact.placed, takes.fact.valued wanted) refl in
+          record {
+            passed = so_far.passed ++ (read.pos, value) ∷ [];
+            all = answer_kept (placed_value grounds) so_far.passed (read.pos, value) takes.passed
+                been.before (marks_ahead new) (marks_ahead mid) element _ takes.rows takes.marks
+                answer so_far.all;
+            used = ap (λ (own : List ((ℕ × ℕ) × CellValue)). own
+                ++ used_values grounds.strings ((read.pos, value) ∷ [])) so_far.used
+                ∙ sym (used_values_further grounds.strings so_far.passed ((read.pos, value) ∷ []));
+          };
+      listed = λ wanted.
+          let so_far = been.listed wanted in
+          let own : (ℕ × ℕ) × List FormulaText = (read.pos, takes.kept) in
+          let answer : placed_formulas behind element ≡ Ok own =
+          rw (takes.fact.placed, takes.fact.listed wanted) refl in
+          let text : string_bytes read.formula
+          ≡ cell_formula (behind_cells so_far.passed []) read.pos takes.kept =
+          takes.fact.found wanted
+          ∙ ap (λ (all : List FormulaText). cell_formula all read.pos takes.kept) so_far.behind in
+          record {
+            passed = so_far.passed ++ own ∷ [];
+            all = answer_kept placed_formulas so_far.passed own takes.passed
+                been.before (marks_ahead new) (marks_ahead mid) element _ takes.rows takes.marks
+                answer so_far.all;
+            behind = ap (behind_formulas takes.kept) so_far.behind
+                ∙ sym (behind_cells_further so_far.passed [] own);
+            used = ap (λ (all : List ((ℕ × ℕ) × List ℕ)). all
+                ++ used_formulas ((read.pos, string_bytes read.formula) ∷ [])) so_far.used
+                ∙ ap (λ (formula : List ℕ). used_formulas (formulas_along [] so_far.passed)
+                ++ used_formulas ((read.pos, formula) ∷ [])) text
+                ∙ sym (used_formulas_further (formulas_along [] so_far.passed)
+                ((read.pos, cell_formula (behind_cells so_far.passed []) read.pos takes.kept) ∷ []))
+                ∙ ap used_formulas (sym (along_further so_far.passed [] own));
+          };
+      refused = λ refusal is. been.refused refusal
+          (subst (λ (all : List Mark). IsMarkRefused (IsCellRefused wants grounds) been.before all
+          refusal) (sym takes.marks)
+          (mark_refused_behind (IsCellRefused wants grounds) takes.passed been.before
+          (cell element ∷ marks_ahead new) refusal takes.rows (inr is)));
+    }
+
+pub values_whole : (wants : Wants) (grounds : Grounds) (old now : Stream)
+    (values : List ((ℕ × ℕ) × CellValue)) (formulas : List ((ℕ × ℕ) × List ℕ))
+    → HasCollected wants grounds old now values formulas → EndsData now → wants.values ≡ true
+    → HoldsValues grounds (data_ahead old) values
+values_whole wants grounds old now values formulas been ends wanted =
+    let so_far = been.valued wanted in (
+      so_far.passed,
+      answers_whole (placed_value grounds) so_far.passed been.before (marks_ahead now) _ ends.rows
+          so_far.all,
+      so_far.used,
+    )
+
+pub formulas_whole : (wants : Wants) (grounds : Grounds) (old now : Stream)
+    (values : List ((ℕ × ℕ) × CellValue)) (formulas : List ((ℕ × ℕ) × List ℕ))
+    → HasCollected wants grounds old now values formulas → EndsData now → wants.formulas ≡ true
+    → HoldsFormulas (data_ahead old) formulas
+formulas_whole wants grounds old now values formulas been ends wanted =
+    let so_far = been.listed wanted in (
+      so_far.passed,
+      answers_whole placed_formulas so_far.passed been.before (marks_ahead now) _ ends.rows
+          so_far.all,
+      so_far.used,
+    )
+
+pub keeps_on : {wanted : Tag → Bool} {base : ℕ} {first mid last : Reading}
+    → KeepsElements wanted base first mid → KeepsElements wanted base mid last
+    → KeepsElements wanted base first last
+keeps_on before after = record {
+  section = keeps_further before.section after.section;
+  unclosed = λ told.
+      after.unclosed (before.section.reads.moves.parts.is_told ∙ told) ∙ before.unclosed told;
+  behind = λ told.
+      after.behind (before.section.reads.moves.parts.is_told ∙ told) ∙ before.behind told;
+}
+
+-- a step is refused, and so are the data
+pub step_refused : (wants : Wants) (grounds : Grounds) (old mid new : Stream) (error : XlsxError)
+    → mid.base ≡ old.base → KeepsElements is_cell old.base old.reading mid.reading
+    → (old.reading.source.is_told ≡ true
+    → (refusal : Refusal) → ((before : List Mark) → AreKept before mid.counters
+    → IsTakenRefused (IsCellRefused wants grounds) before (marks_ahead mid) refusal)
+    → IsMarkRefused (IsCellRefused wants grounds) [] (marks_ahead old) refusal)
+    → NextCellFails wants grounds mid new error → DataFails wants grounds old new error
+step_refused wants grounds old mid new error same keeps weaker fails =
+    let refused = IsStepRefused (IsCellRefused wants grounds) mid.counters in
+    let here : SectionFails (end_in_data wants) refused old.base mid.reading new.reading error =
+    subst (λ (n : ℕ). SectionFails (end_in_data wants) refused n mid.reading new.reading error) same
+    fails in
+    refused_later old.base old.reading mid.reading (end_in_data wants) refused
+    (AreDataRefused wants grounds) new.reading error keeps.section
+    (λ told. ap (end_outside (codes "sheetData") (end_in_cell wants)) (keeps.unclosed told))
+    (λ told refusal is. weaker told refusal (λ before kept.
+    subst (λ (n : ℕ). IsTakenRefused (IsCellRefused wants grounds) before
+    (marks (section_ahead n mid.reading)) refusal) (sym same) (is before kept)))
+    here

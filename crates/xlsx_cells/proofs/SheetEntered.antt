@@ -1,0 +1,58 @@
+-- How the data of a sheet are entered, and why they can't be.
+use Rattle.std.proofs.Common.{◌≡◌, ◌≤◌, ℕ, List, [], length, true, Bool, Some, None, Option, refl, sym, ◌∙◌, ap, subst, codes, arith}
+use Rattle.cell_refs.specs.declared.dimensions.Dimensions.{Dimensions}
+use Rattle.part_events.specs.Event.{Event}
+use Rattle.part_events.specs.Nesting.{whole}
+use Rattle.part_events.specs.Package.{PackageState, part_of}
+use Rattle.part_events.specs.Reading.{Reading, ahead, events_of}
+use Rattle.cell_data.specs.declared.error.XlsxError.{XlsxError}
+use Rattle.cell_data.specs.declared.error.XlsxError.TheVariants.{OutOfMemory, Io}
+use Rattle.xlsx_sections.specs.PartSection.{EntersSection, section_left, section_in}
+use Rattle.xlsx_formulas.specs.Kept.{AreMasters}
+use Rattle.xlsx_formulas.specs.declared.masters.Masters.{Masters}
+use Rattle.xlsx_cells.specs.Counting.{AreKept}
+use Rattle.xlsx_cells.specs.Head.{AreDimensions, HeadCause, HeadFails}
+use Rattle.xlsx_cells.specs.SheetPart.{EntersData, OptionalHeadCause, OpenDataFails}
+use Rattle.xlsx_cells.specs.Stream.{Stream}
+use Rattle.xlsx_cells.specs.declared.counters.Counters.{Counters}
+use Rattle.xlsx_cells.proofs.HeadRead.{ahead_at_first}
+
+pub data_entered : {path : List ℕ} {area : Dimensions} {old : PackageState} (opened : Reading)
+    (new : Stream) → EntersSection (codes "sheetData") path old new.reading
+    → new.base ≡ length new.reading.names → AreKept [] new.counters → AreMasters [] new.masters
+    → (old.is_told ≡ true → opened.source.past ≡ [])
+    → (old.is_told ≡ true → events_of new.reading ≡ events_of opened)
+    → (old.is_told ≡ true → AreDimensions (ahead opened) area) → EntersData path area old new
+data_entered {area = area} opened new enters base kept groups fresh same dimensions =
+    record {
+      streaming = record { reading = enters.reading; within = omega (arith, base) };
+      fresh = record { counters = kept; masters = groups };
+      parts = enters.parts;
+      faults = enters.faults;
+      taken = enters.taken;
+      part = enters.part;
+      section = λ told. subst (λ (n : ℕ).
+          section_in (codes "sheetData") (events_of new.reading)
+          ≡ Some (section_left n new.reading)) (sym base) (enters.section told);
+      dimensions = λ told. subst (λ (events : List Event). AreDimensions events area)
+          (ahead_at_first opened (fresh told) ∙ ap whole (sym (same told))) (dimensions told);
+    }
+
+head_refused : (part : Option (List Event)) (events left : List Event) (error : XlsxError)
+    → part ≡ Some events → left ≡ whole events → HeadCause events left error
+    → OptionalHeadCause part error
+head_refused None events left error is same cause = absurd (cc)
+head_refused (Some own) events left error is same cause =
+    let there : own ≡ events = cc in
+    rw there (rw same at cause)
+
+pub open_refused : (path : List ℕ) (old : PackageState) (opened new : Reading) (error : XlsxError)
+    → (old.is_told ≡ true → opened.source.is_told ≡ true)
+    → (old.is_told ≡ true → part_of old.parts path ≡ Some (events_of opened))
+    → (old.is_told ≡ true → opened.source.past ≡ []) → opened.source.faults ≡ old.faults
+    → HeadFails opened new error → OpenDataFails path old new.source error
+open_refused path old opened new Io still part fresh faults fails = omega (arith, faults, fails)
+open_refused path old opened new OutOfMemory still part fresh faults fails = tt
+open_refused path old opened new error still part fresh faults fails = λ told.
+    head_refused (part_of old.parts path) (events_of opened) (ahead opened) error (part told)
+    (ahead_at_first opened (fresh told)) (fails (still told))

@@ -1,0 +1,28 @@
+use Rattle.std.proofs.Common.{◌≡◌, true}
+use Rattle.std.specs.Prelude.{All}
+use Rattle.cell_data.specs.Cells.{IsInSheet}
+use Rattle.xlsx_sections.specs.Elements.{KeepsElements}
+use Rattle.xlsx_values.specs.Book.{grounds_of}
+use Rattle.xlsx_cells.specs.Marks.{is_cell}
+use Rattle.xlsx_cells.specs.SheetPart.{value_entries, formula_entries}
+use Rattle.xlsx_cells.specs.Stream.{stream, IsStreaming}
+use Rattle.xlsx_cells.proofs.Collecting.{HasCollected}
+use Rattle.xlsx_cells.proofs.sheet_cells.collect.Given as goal
+
+abbrev pub invariant-cells : goal.invariant-cells
+invariant-cells g l =
+    let old = stream (g.P.Package.state l.fn.«package») l.fn.sheet in
+    let now = stream (g.P.Package.state l.«package») l.sheet in
+    record {
+      base : now.base ≡ old.base;
+      keeps : KeepsElements is_cell old.base old.reading now.reading;
+      streaming : IsStreaming now;
+      values_inside : All IsInSheet l.cells.values.items;
+      formulas_inside : All IsInSheet l.cells.formulas.items;
+      collected : old.reading.source.is_told ≡ true →
+          HasCollected l.asked.wants (grounds_of l.asked.book) old now
+          (value_entries l.cells.values.items) (formula_entries l.cells.formulas.items);
+    }
+
+abbrev pub decreases-cells : goal.decreases-cells
+decreases-cells g l = (g.P.Package.state l.«package»).left

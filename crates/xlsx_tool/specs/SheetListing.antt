@@ -1,0 +1,153 @@
+-- The lines that `cells` prints of the values and the formulas of a sheet: one for each position
+-- that has a value or a formula, row by row.
+use Rattle.std.specs.Prelude.{◌≡◌, ℕ, ◌<◌, Bool, true, false, ◌||◌, ◌++◌, codes, map}
+use Rattle.std.specs.Prelude.{if◌then◌else◌, List, [], ◌∷◌, Option, Some, None, is_some}
+use Rattle.std.specs.Prelude.{All, String, string_bytes, ◌⊎◌}
+use Rattle.std.specs.Ordering.{is_le}
+use Rattle.std.specs.FinMap.{find, from_entries, keys}
+use Rattle.std.specs.FinMap.Entries.{below_all}
+use Rattle.std.specs.Fmt.{signed_decimal}
+use Rattle.std.specs.List.{flat_map}
+use Rattle.std.specs.Option.{option_map, unwrap_or}
+use Rattle.std.specs.declared.alloc.Global.{Global}
+use Rattle.cell_refs.specs.Reference.{reference}
+use Rattle.cell_refs.specs.declared.TheConstants.{MAX_ROWS, MAX_COLUMNS}
+use Rattle.cell_data.specs.CellError.{cell_error_text}
+use Rattle.cell_data.specs.CellValue.{CellValue, nothing, integer, number, text, shared_text, truth}
+use Rattle.cell_data.specs.CellValue.{time, iso_time, failure, value_of_data}
+use Rattle.cell_data.specs.Cells.{placed_cells, IsInSheet}
+use Rattle.cell_data.specs.Decimals.{printed}
+use Rattle.cell_data.specs.Positions.{position_cmp, is_rising}
+use Rattle.cell_data.specs.declared.cell.Cell.{Cell}
+use Rattle.cell_data.specs.declared.value.Data.{Data}
+use Rattle.cell_data.specs.declared.value.ExcelDateTimeType.{ExcelDateTimeType}
+use Rattle.cell_data.specs.declared.value.ExcelDateTimeType.TheVariants.{DateTime, TimeDelta}
+use Rattle.xlsx_tool.specs.Escaped.{escaped}
+
+abbrev pub truth_text : Bool → List ℕ
+truth_text true = codes "b:true"
+truth_text false = codes "b:false"
+
+-- what a number of days counts
+abbrev pub kind_text : ExcelDateTimeType → List ℕ
+kind_text DateTime = codes " date"
+kind_text TimeDelta = codes " duration"
+
+-- the year that days are counted from
+abbrev pub calendar_text : Bool → List ℕ
+calendar_text true = codes " 1904"
+calendar_text false = codes " 1900"
+
+-- a value as it is printed, its kind first
+abbrev pub value_text : CellValue → Option (List ℕ)
+value_text nothing = None
+value_text (integer n) = Some (codes "n:" ++ signed_decimal n)
+value_text (number decimal) = Some (codes "n:" ++ printed decimal)
+value_text (text bytes) = Some (codes "s:" ++ escaped bytes)
+-- it is no value before its text is known
+value_text (shared_text place) = None
+value_text (truth holds) = Some (truth_text holds)
+value_text (time days kind is_1904) =
+    Some (codes "t:" ++ (printed days ++ (kind_text kind ++ calendar_text is_1904)))
+value_text (iso_time bytes) = Some (codes "i:" ++ escaped bytes)
+value_text (failure error) = Some (codes "e:" ++ cell_error_text error)
+
+-- an empty text is no formula
+abbrev pub formula_text : List ℕ → Option (List ℕ)
+formula_text [] = None
+formula_text (byte ∷ bytes) = Some (codes "=" ++ escaped (byte ∷ bytes))
+
+-- `-` where there is nothing
+abbrev pub field : Option (List ℕ) → List ℕ
+field content = unwrap_or content (codes "-")
+
+-- the fields of a position, with tabs between them: fills are none yet
+abbrev pub line : ℕ × ℕ → Option (List ℕ) → Option (List ℕ) → List ℕ
+line position value formula =
+    reference position
+    ++ (codes "\t" ++ (field value ++ (codes "\t" ++ (field formula ++ codes "\t-\n"))))
+
+-- the line of a position, where it has a value or a formula
+abbrev pub line_of : ℕ × ℕ → CellValue → List ℕ → List ℕ
+line_of position value formula =
+    if is_some (value_text value) || is_some (formula_text formula)
+    then line position (value_text value) (formula_text formula) else []
+
+abbrev pub value_at : ℕ × ℕ → List ((ℕ × ℕ) × CellValue) → CellValue
+value_at position values = unwrap_or (find position_cmp position values) nothing
+
+abbrev pub formula_at : ℕ × ℕ → List ((ℕ × ℕ) × List ℕ) → List ℕ
+formula_at position formulas = unwrap_or (find position_cmp position formulas) []
+
+-- the positions alone, as entries of a map
+abbrev pub used : {X : Type 0} → List ((ℕ × ℕ) × X) → List ((ℕ × ℕ) × Unit {0})
+used cells = map (λ cell. (cell.0, tt)) cells
+
+-- the positions that are in one list or the other, each once, row by row
+abbrev pub used_positions :
+    {X Y : Type 0} → List ((ℕ × ℕ) × X) → List ((ℕ × ℕ) × Y) → List (ℕ × ℕ)
+used_positions values formulas =
+    keys (from_entries {R = position_cmp} (used values ++ used formulas))
+
+-- the lines of a sheet's values and formulas
+unfoldable pub listing : List ((ℕ × ℕ) × CellValue) → List ((ℕ × ℕ) × List ℕ) → List ℕ
+listing values formulas =
+    flat_map
+    (λ position. line_of position (value_at position values) (formula_at position formulas))
+    (used_positions values formulas)
+
+-- ---- the cells of ranges
+
+abbrev pub values_in : List ((ℕ × ℕ) × Data) → List ((ℕ × ℕ) × CellValue)
+values_in cells = map (λ cell. (cell.0, value_of_data cell.1)) cells
+
+abbrev pub formulas_in : List ((ℕ × ℕ) × String Global) → List ((ℕ × ℕ) × List ℕ)
+formulas_in cells = map (λ cell. (cell.0, string_bytes cell.1)) cells
+
+abbrev pub value_given : Option Data → CellValue
+value_given value = unwrap_or (option_map value_of_data value) nothing
+
+abbrev pub formula_given : Option (String Global) → List ℕ
+formula_given formula = unwrap_or (option_map string_bytes formula) []
+
+-- ---- the steps through two lists
+
+-- cells row by row, on a sheet
+pub record AreInOrder {X : Type 0} (cells : List (Cell X)) : Type 0 where
+  pub rising : is_rising (placed_cells cells) ≡ true
+  pub sheet : All IsInSheet cells
+
+-- no cell stands before the position
+abbrev pub StandsFirst : {X : Type 0} → ℕ × ℕ → List ((ℕ × ℕ) × X) → Type 0
+StandsFirst position [] = Unit {0}
+StandsFirst position (cell ∷ cells) = is_le (position_cmp position cell.0) ≡ true
+
+-- the first cell stands at the position
+abbrev pub IsOfFirst : {X : Type 0} → ℕ × ℕ → List ((ℕ × ℕ) × X) → Type 0
+IsOfFirst position [] = ⊥
+IsOfFirst position (cell ∷ cells) = cell.0 ≡ position
+
+-- a cell at the position, or none
+abbrev pub given : {X : Type 0} → ℕ × ℕ → Option X → List ((ℕ × ℕ) × X)
+given position None = []
+given position (Some value) = (position, value) ∷ []
+
+-- the first position that one list or the other has
+pub record IsFirstOf
+    {X Y : Type 0} (values : List (Cell X)) (formulas : List (Cell Y)) (position : ℕ × ℕ)
+    : Type 0 where
+  pub in_rows : position.0 < MAX_ROWS
+  pub in_columns : position.1 < MAX_COLUMNS
+  pub before_values : StandsFirst position (placed_cells values)
+  pub before_formulas : StandsFirst position (placed_cells formulas)
+  pub is_used :
+      IsOfFirst position (placed_cells values)
+      ⊎ IsOfFirst position (placed_cells formulas)
+
+-- the cell at the position and the ones behind it
+pub record Splits
+    {X : Type 0} (position : ℕ × ℕ) (cells : List (Cell X)) (value : Option X)
+    (behind : List (Cell X)) : Type 0 where
+  pub whole : placed_cells cells ≡ given position value ++ placed_cells behind
+  pub below : below_all position_cmp position (placed_cells behind) ≡ true
+  pub order : AreInOrder behind
