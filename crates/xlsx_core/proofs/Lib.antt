@@ -1,10 +1,3 @@
-pub mod Fronts
 pub mod LastOfEach
-pub mod PlainFails
-pub mod PlainRead
-pub mod PlainWritten
-pub mod Readings
 pub mod SheetLaws
 pub mod SheetsRead
-pub mod Spelled
-pub mod Taking

@@ -3,15 +3,11 @@ ghost use Rattle.part_events.specs.Package.{SameParts, KeepsFaults};
 ghost use Rattle.cell_data.specs.declared.error.XlsxError.TheVariants.{Io};
 ghost use Rattle.xlsx_open.specs.Opening.{Opening, HoldsOpening, OpensAs, OpensSoundly, IsBuilt, IsOpeningError, OpensFrom, FailsToOpen, OpeningFails, SoundFails};
 ghost use Rattle.xlsx_core.specs.Opened.{path_listed};
-ghost use Rattle.xlsx_core.specs.PlainPart.{HasCells, SheetFails};
 ghost use Rattle.xlsx_core.specs.SheetReading.{grounds_with, PlacedSheetFails, IsPlacedError};
 ghost use Rattle.xlsx_core.specs.SheetReading.{ReadsPlaced};
-ghost use Rattle.xlsx_core.specs.ThinCell.{cells_of};
 
 use crate::placed_sheet::{path_named, read_placed};
-use crate::plain::sheet_cells;
 use crate::sheet_reading::SheetReading;
-use crate::thin::ThinCell;
 use cell_data::XlsxError;
 use part_events::Package;
 use std::alloc::Global;
@@ -73,30 +69,6 @@ impl<P: Package> Xlsx<P> {
             }),
             Err(error) => Err(OpenFailure { error, package }),
         }
-    }
-
-    /// The cells, in order, of the first sheet of this name, where its part is in plain form.
-    pub(crate) fn thin_cells(&mut self, name: &str) -> Result<Vec<ThinCell>, XlsxError>
-        ensures keeps { SameParts (P.state self.old.package) (P.state self.new.package) }
-        ensures rest { (self.new.metadata ≡ self.old.metadata) × (self.new.paths ≡ self.old.paths)
-            × (self.new.strings ≡ self.old.strings) × (self.new.is_1904 ≡ self.old.is_1904) }
-        ensures faults { OnOk result ((P.state self.new.package).faults ≡ (P.state self.old.package).faults) }
-        ensures cells { let old = P.state self.old.package in
-            let path = path_listed name.now self.old.metadata.sheets.items self.old.paths.items in
-            old.is_told ≡ true → IfOk result (λ cells.
-            HasCells path old.parts (cells_of cells.items)) }
-        ensures err { let path = path_listed name.now self.old.metadata.sheets.items self.old.paths.items in
-            IfErr result
-            (SheetFails name.now path (P.state self.old.package) (P.state self.new.package)) }
-        ensures counts { IfErr result (KeepsFaults Io (P.state self.old.package) (P.state self.new.package)) }
-    {
-        sheet_cells(
-            self.alloc,
-            &mut self.package,
-            &self.metadata.sheets,
-            &self.paths,
-            name,
-        )
     }
 
     /// The values and the formulas of the first sheet of this name.
