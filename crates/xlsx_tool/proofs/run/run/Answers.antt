@@ -15,6 +15,6 @@ returns-clause-exact g c = λ told. (
       sink = g.K.Sink.state call.new.sink;
     }
     in
-    let never = c.readable_sheets_are_not_refused.ensures.sheets in
+    let never = c.readable_sheets_are_not_refused.ensures.never in
     answers never (texts c.args.words.now) old new call.result told call.ensures.ok call.ensures.err
     )
