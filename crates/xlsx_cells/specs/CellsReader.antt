@@ -1,5 +1,5 @@
 -- The reader of a sheet's cells: where it stands, and what its calls do.
-use Rattle.std.specs.Prelude.{◌≡◌, ⊤, ℕ, ◌<◌, ◌≤◌, List, [], length, map, Bool, true, false}
+use Rattle.std.specs.Prelude.{◌≡◌, ⊤, ℕ, ◌<◌, ◌≤◌, List, [], length, map, Bool, ◌||◌, true, false}
 use Rattle.std.specs.Prelude.{codes, Option, Some, None, Ok, String, string_bytes}
 use Rattle.std.specs.Borrow.{GName}
 use Rattle.std.specs.declared.alloc.Global.{Global}
@@ -81,6 +81,10 @@ FlowFails wants grounds old new Failed = old.is_failed ≡ true
 FlowFails wants grounds old new error =
     (old.is_failed ≡ false) × (old.is_done ≡ false)
     × NextCellFails wants grounds old.stream new.stream error
+
+-- behind the end of the data and behind a refusal nothing is read
+abbrev pub RestsAtEnd : Flow → Flow → Type 0
+RestsAtEnd old new = (old.is_failed || old.is_done) ≡ true → new.stream ≡ old.stream
 
 -- the refusals that it can have, whatever the package tells
 abbrev pub IsFlowError : XlsxError → Type 0

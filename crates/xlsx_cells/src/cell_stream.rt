@@ -4,7 +4,7 @@ ghost use Rattle.cell_data.specs.declared.error.XlsxError.TheVariants.{Io, Faile
 ghost use Rattle.xlsx_values.specs.Book.{grounds_of};
 ghost use Rattle.xlsx_formulas.specs.Formula.{FormulaText};
 ghost use Rattle.xlsx_cells.specs.CellsReader.{flow, IsFlowing, FlowsTo, TakesFrom, FlowFails};
-ghost use Rattle.xlsx_cells.specs.CellsReader.{IsFlowError};
+ghost use Rattle.xlsx_cells.specs.CellsReader.{RestsAtEnd, IsFlowError};
 ghost use Rattle.xlsx_cells.specs.Marks.{Mark};
 ghost use Rattle.xlsx_cells.specs.Stream.{StandsBehind};
 
@@ -47,6 +47,8 @@ impl CellStream {
         ensures reads { let old = flow (P.state «package».old) self.old in
             let new = flow (P.state «package».new) self.new in
             ReadsPart Io result old.stream.reading new.stream.reading }
+        ensures rests { RestsAtEnd (flow (P.state «package».old) self.old)
+            (flow (P.state «package».new) self.new) }
         ensures stands { let old = flow (P.state «package».old) self.old in
             let new = flow (P.state «package».new) self.new in
             IfOk result (λ found. FlowsTo found old new) }

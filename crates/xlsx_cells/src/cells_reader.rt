@@ -50,7 +50,8 @@ impl<'a, P: Package> XlsxCellReader<'a, P> {
     ghost use Rattle.xlsx_cells.specs.CellsReader.{flow_by, reference_of, grounds_by, area_by};
     ghost use Rattle.xlsx_cells.specs.CellsReader.{IsFlowing, IsFlowError, KeepsHold, EntersCells};
     ghost use Rattle.xlsx_cells.specs.CellsReader.{EnterFails, CellTo, TakesValue, TakesFormula};
-    ghost use Rattle.xlsx_cells.specs.CellsReader.{FlowFails, values_alone, formulas_alone};
+    ghost use Rattle.xlsx_cells.specs.CellsReader.{FlowFails, RestsAtEnd, values_alone};
+    ghost use Rattle.xlsx_cells.specs.CellsReader.{formulas_alone};
 
     /// A reader of the cells of the part that `xml` reads, of which it has taken nothing yet. It
     /// reads on behind the first start of the sheet's data. The values of cells rest on the shared
@@ -153,6 +154,7 @@ impl<'a, P: Package> XlsxCellReader<'a, P> {
         ensures reads { let old = flow_by P.state self.old in
             let new = flow_by P.state self.new in
             ReadsPart Io result old.stream.reading new.stream.reading }
+        ensures rests { RestsAtEnd (flow_by P.state self.old) (flow_by P.state self.new) }
         ensures stands { let old = flow_by P.state self.old in
             let new = flow_by P.state self.new in
             IfOk result (λ found. CellTo found old new) }
@@ -196,6 +198,7 @@ impl<'a, P: Package> XlsxCellReader<'a, P> {
         ensures reads { let old = flow_by P.state self.old in
             let new = flow_by P.state self.new in
             ReadsPart Io result old.stream.reading new.stream.reading }
+        ensures rests { RestsAtEnd (flow_by P.state self.old) (flow_by P.state self.new) }
         ensures stands { let old = flow_by P.state self.old in
             let new = flow_by P.state self.new in
             IfOk result (λ found. CellTo found old new) }

@@ -1,4 +1,5 @@
-ghost use Rattle.std.specs.Prelude.{◌≡◌, List, [], length, true, None, IfOk, OnOk, IfErr, IfSome, IfNone};
+ghost use Rattle.std.specs.Prelude.{◌≡◌, List, [], length, true, None, IfOk, OnOk, IfErr};
+ghost use Rattle.std.specs.Prelude.{IfSome, IfNone};
 ghost use Rattle.part_events.specs.Package.{UsesPackage, LeavesPackage, part_of, events_in};
 ghost use Rattle.xlsx_cells.specs.Head.{IsHeadError};
 ghost use Rattle.xlsx_cells.specs.SheetPart.{EntersData, OpenDataFails};
