@@ -2,6 +2,7 @@ pub mod CellsRead
 pub mod ChildrenRead
 pub mod Collecting
 pub mod CountersMoved
+pub mod Flowing
 pub mod HeadRead
 pub mod MarksAhead
 pub mod Passing

@@ -1,3 +1,4 @@
+pub mod CellsReader
 pub mod Children
 pub mod Counting
 pub mod Ends

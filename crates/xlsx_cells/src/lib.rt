@@ -2,14 +2,20 @@
 #![tactic(auto)]
 
 mod cell_read;
+mod cell_stream;
+mod cells_reader;
 mod children;
 mod counters;
 mod finding;
 mod head;
+#[cfg(test)]
+mod reader_tests;
 mod sheet_cells;
 mod sheet_cursor;
 
 pub use cell_read::CellRead;
+pub use cell_stream::CellStream;
+pub use cells_reader::XlsxCellReader;
 pub use children::{Asked, Wants};
 pub use head::enter_data;
 pub use sheet_cells::{SheetCells, collect};

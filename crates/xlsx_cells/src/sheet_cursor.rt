@@ -1,11 +1,14 @@
-ghost use Rattle.std.specs.Prelude.{◌≡◌, List, true, None, IfOk, OnOk, IfErr, IfSome, IfNone};
+ghost use Rattle.std.specs.Prelude.{◌≡◌, List, [], length, true, None, IfOk, OnOk, IfErr};
+ghost use Rattle.std.specs.Prelude.{IfSome, IfNone};
 ghost use Rattle.part_events.specs.Package.{UsesPackage, LeavesPackage, part_of, events_in};
 ghost use Rattle.xlsx_cells.specs.Head.{IsHeadError};
 ghost use Rattle.xlsx_cells.specs.SheetPart.{EntersData, OpenDataFails};
-ghost use Rattle.part_events.specs.Reading.{ReadsPart};
+ghost use Rattle.part_events.specs.Reading.{ReadsPart, open_elements};
 ghost use Rattle.cell_data.specs.declared.error.XlsxError.TheVariants.{Io};
 ghost use Rattle.xlsx_values.specs.Book.{grounds_of};
 ghost use Rattle.xlsx_formulas.specs.Formula.{FormulaText};
+ghost use Rattle.xlsx_formulas.specs.Kept.{AreMasters};
+ghost use Rattle.xlsx_cells.specs.Counting.{AreKept};
 ghost use Rattle.xlsx_cells.specs.Errors.{IsCellError};
 ghost use Rattle.xlsx_cells.specs.Marks.{Mark};
 ghost use Rattle.xlsx_cells.specs.Stream.{stream, IsStreaming, StandsBehind, StandsAfter, TakesNext, NextCellFails};
@@ -31,6 +34,22 @@ pub struct SheetCursor {
 }
 
 impl SheetCursor {
+    /// Reading that stands behind the start of a sheet's data.
+    pub(crate) fn new(alloc: Global, cursor: Cursor) -> SheetCursor
+        ensures cursor { result.cursor ≡ cursor }
+        ensures base { result.base ≡ length (open_elements cursor) }
+        ensures counters { AreKept [] result.counters }
+        ensures masters { AreMasters [] result.masters }
+    {
+        let base = cursor.depth();
+        SheetCursor {
+            cursor,
+            base,
+            counters: Counters::new(),
+            masters: Masters::new(alloc),
+        }
+    }
+
     /// Takes the next cell of the sheet's data, with what is asked for. Answers None at the end of
     /// the data.
     pub fn next<P: Package>(

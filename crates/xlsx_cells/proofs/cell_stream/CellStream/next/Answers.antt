@@ -1,0 +1,16 @@
+use Rattle.xlsx_values.specs.Book.{grounds_of}
+use Rattle.xlsx_cells.specs.CellsReader.{flow}
+use Rattle.xlsx_cells.proofs.Flowing.{taken_from}
+use Rattle.xlsx_cells.proofs.cell_stream.CellStream.next.Goals as goal
+
+pub returns-in-Ok-Some-clause-takes : goal.returns-in-Ok-Some-clause-takes
+returns-in-Ok-Some-clause-takes g c = λ told before earlier kept.
+    taken_from c.args.asked.wants (grounds_of c.args.asked.book) before earlier
+    (flow (g.P.Package.state c.args.package.now) c.args.self.now) _ c.next-outcome.result
+    (c.next-outcome.ensures.takes told before earlier kept)
+
+pub returns-in-Ok-None-clause-takes : goal.returns-in-Ok-None-clause-takes
+returns-in-Ok-None-clause-takes g c = λ told before earlier kept.
+    taken_from c.args.asked.wants (grounds_of c.args.asked.book) before earlier
+    (flow (g.P.Package.state c.args.package.now) c.args.self.now) _ c.next-outcome.result
+    (c.next-outcome.ensures.takes told before earlier kept)

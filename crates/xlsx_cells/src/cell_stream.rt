@@ -1,0 +1,83 @@
+ghost use Rattle.std.specs.Prelude.{◌≡◌, List, true, false, is_err, IfOk, IfErr};
+ghost use Rattle.part_events.specs.Reading.{ReadsPart};
+ghost use Rattle.cell_data.specs.declared.error.XlsxError.TheVariants.{Io, Failed};
+ghost use Rattle.xlsx_values.specs.Book.{grounds_of};
+ghost use Rattle.xlsx_formulas.specs.Formula.{FormulaText};
+ghost use Rattle.xlsx_cells.specs.CellsReader.{flow, IsFlowing, FlowsTo, TakesFrom, FlowFails};
+ghost use Rattle.xlsx_cells.specs.CellsReader.{RestsAtEnd, IsFlowError};
+ghost use Rattle.xlsx_cells.specs.Marks.{Mark};
+ghost use Rattle.xlsx_cells.specs.Stream.{StandsBehind};
+
+use crate::cell_read::CellRead;
+use crate::children::Asked;
+use crate::sheet_cursor::SheetCursor;
+use cell_data::XlsxError;
+use part_events::Package;
+
+/// Where reading stands in a sheet's data, and whether these have ended or a call was refused.
+#[derive(Drop)]
+pub struct CellStream {
+    sheet: SheetCursor,
+    done: bool,
+    failed: bool,
+}
+
+impl CellStream {
+    pub fn new(sheet: SheetCursor) -> CellStream
+        ensures sheet { result.sheet ≡ sheet }
+        ensures done { result.done ≡ false }
+        ensures failed { result.failed ≡ false }
+    {
+        CellStream {
+            sheet,
+            done: false,
+            failed: false,
+        }
+    }
+
+    /// Takes the next cell, with what is asked for. Answers None at the end of the data and from
+    /// then on, and `Failed` after a refusal.
+    pub fn next<P: Package>(
+        &mut self,
+        package: &mut P,
+        asked: Asked<'_>,
+    ) -> Result<Option<CellRead>, XlsxError>
+        requires { IsFlowing (flow (P.state «package».old) self.old) }
+        ensures flowing { IsFlowing (flow (P.state «package».new) self.new) }
+        ensures reads { let old = flow (P.state «package».old) self.old in
+            let new = flow (P.state «package».new) self.new in
+            ReadsPart Io result old.stream.reading new.stream.reading }
+        ensures rests { RestsAtEnd (flow (P.state «package».old) self.old)
+            (flow (P.state «package».new) self.new) }
+        ensures stands { let old = flow (P.state «package».old) self.old in
+            let new = flow (P.state «package».new) self.new in
+            IfOk result (λ found. FlowsTo found old new) }
+        ensures takes { let old = flow (P.state «package».old) self.old in
+            let new = flow (P.state «package».new) self.new in
+            let wants = asked.entry.wants in
+            let grounds = grounds_of asked.entry.book in
+            old.stream.reading.source.is_told ≡ true → (before : List Mark)
+            (earlier : List FormulaText) → StandsBehind before earlier old.stream →
+            IfOk result (λ found. TakesFrom wants grounds before earlier found old new) }
+        ensures err { let old = flow (P.state «package».old) self.old in
+            let new = flow (P.state «package».new) self.new in
+            IfErr result (FlowFails asked.entry.wants (grounds_of asked.entry.book) old new) }
+        ensures kind { IfErr result IsFlowError }
+        ensures after { self.old.failed ≡ true → IfErr result (λ error. error ≡ Failed) }
+        ensures failed { self.new.failed ≡ is_err result }
+    {
+        if self.failed {
+            return Err(XlsxError::Failed);
+        }
+        if self.done {
+            return Ok(None);
+        }
+        let outcome = self.sheet.next(package, asked);
+        match &outcome {
+            Ok(Some(_)) => {}
+            Ok(None) => self.done = true,
+            Err(_) => self.failed = true,
+        }
+        outcome
+    }
+}

@@ -1,0 +1,233 @@
+ghost use Rattle.std.specs.Prelude.{◌≡◌, List, map, string_bytes, true, false, is_err, IfOk, IfErr};
+ghost use Rattle.part_events.specs.Reader as xml_reader;
+ghost use Rattle.part_events.specs.Reading.{ReadsPart, IsReading};
+ghost use Rattle.cell_data.specs.declared.error.XlsxError.TheVariants.{Io, Failed};
+ghost use Rattle.xlsx_formulas.specs.Formula.{FormulaText};
+ghost use Rattle.xlsx_cells.specs.Head.{IsHeadError};
+ghost use Rattle.xlsx_cells.specs.Marks.{Mark};
+ghost use Rattle.xlsx_cells.specs.Stream.{stream, StandsBehind, IsStreaming};
+
+use crate::cell_read::CellRead;
+use crate::cell_stream::CellStream;
+use crate::children::{Asked, Wants};
+use crate::head::enter_data;
+use crate::sheet_cursor::SheetCursor;
+use cell_data::{Cell, CellFormat, DataRef, XlsxError};
+use cell_refs::Dimensions;
+use part_events::{Package, XlReader};
+use std::alloc::Global;
+use xlsx_values::Book;
+
+/// Reads the cells of a sheet, in the order of its data (ECMA-376 part 1, 18.3.1.80).
+///
+/// What it keeps beside what it borrows is a type parameter, so that a caller knows what became of
+/// the package once the reader is gone.
+pub struct XlsxCellReader<'a, P: Package, S: Drop = CellStream> {
+    package: &'a mut P,
+    strings: &'a [String],
+    formats: &'a [CellFormat],
+    is_1904: bool,
+    dimensions: Dimensions,
+    stream: S,
+}
+
+impl<P: Package, S: Drop> Drop for XlsxCellReader<'_, P, S> {
+    fn drop(self)
+        ensures { self.exit.0.now ≡ self.entry.package.now }
+    {
+        let XlsxCellReader {
+            package: _,
+            strings: _,
+            formats: _,
+            is_1904: _,
+            dimensions: _,
+            stream: _,
+        } = self;
+    }
+}
+
+impl<'a, P: Package> XlsxCellReader<'a, P> {
+    ghost use Rattle.xlsx_cells.specs.CellsReader.{flow_by, reference_of, grounds_by, area_by};
+    ghost use Rattle.xlsx_cells.specs.CellsReader.{IsFlowing, IsFlowError, KeepsHold, EntersCells};
+    ghost use Rattle.xlsx_cells.specs.CellsReader.{EnterFails, CellTo, TakesValue, TakesFormula};
+    ghost use Rattle.xlsx_cells.specs.CellsReader.{FlowFails, RestsAtEnd, values_alone};
+    ghost use Rattle.xlsx_cells.specs.CellsReader.{formulas_alone};
+
+    /// A reader of the cells of the part that `xml` reads, of which it has taken nothing yet. It
+    /// reads on behind the first start of the sheet's data. The values of cells rest on the shared
+    /// strings by their places, on the number formats by the numbers of the styles, and on whether
+    /// dates count from 1904.
+    ///
+    /// A `dimension` without `ref` is refused as UnexpectedNode, one whose `ref` names no area by
+    /// the fault of that text. Where the part ends before the data, the refusal is NotAWorksheet
+    /// with the local name of the part's first start that is no `dimension`, and XmlEof where there
+    /// is none.
+    pub fn new(
+        alloc: Global,
+        xml: XlReader<'a, P>,
+        strings: &'a [String],
+        formats: &'a [CellFormat],
+        is_1904: bool,
+    ) -> Result<XlsxCellReader<'a, P>, XlsxError>
+        requires reading { IsReading (xml_reader.reading_by P.state xml) }
+        requires first { (xml_reader.reading_by P.state xml).at ≡ 0 }
+        ensures same_reference { IfOk result (λ reader.
+            reference_of reader ≡ xml_reader.reference_of xml.entry) }
+        ensures grounds { IfOk result (λ reader. grounds_by reader ≡ (record {
+          strings = map string_bytes strings.now;
+          formats = formats.now;
+          is_1904 = is_1904;
+        })) }
+        ensures enters { IfOk result (λ reader. EntersCells (area_by reader)
+            (xml_reader.reading_by P.state xml.entry) (flow_by P.state reader)) }
+        ensures err { IfErr result (EnterFails (xml_reader.reading_by P.state xml.entry)) }
+        ensures kind { IfErr result IsHeadError }
+    {
+        let (package, mut cursor) = xml.into_parts();
+        let dimensions = enter_data(alloc, package, &mut cursor)?;
+        let sheet = SheetCursor::new(alloc, cursor);
+        Ok(XlsxCellReader {
+            package,
+            strings,
+            formats,
+            is_1904,
+            dimensions,
+            stream: CellStream::new(sheet),
+        })
+    }
+
+    /// A reader of the cells of a sheet with these dimensions, that goes on where reading stands.
+    pub fn resume(
+        package: &'a mut P,
+        strings: &'a [String],
+        formats: &'a [CellFormat],
+        is_1904: bool,
+        sheet: SheetCursor,
+        dimensions: Dimensions,
+    ) -> XlsxCellReader<'a, P>
+        requires { IsStreaming (stream (P.state «package».old) sheet) }
+        ensures same_reference { reference_of result ≡ «package».entry.ghost_name }
+        ensures same { result.package.now ≡ «package».old }
+        ensures grounds { grounds_by result ≡ (record {
+          strings = map string_bytes strings.now;
+          formats = formats.now;
+          is_1904 = is_1904;
+        }) }
+        ensures dimensions { area_by result ≡ dimensions }
+        ensures stream { (flow_by P.state result).stream ≡ stream (P.state «package».old) sheet }
+        ensures going { ((flow_by P.state result).is_done ≡ false)
+            × ((flow_by P.state result).is_failed ≡ false) }
+        ensures flowing { IsFlowing (flow_by P.state result) }
+    {
+        XlsxCellReader {
+            package,
+            strings,
+            formats,
+            is_1904,
+            dimensions,
+            stream: CellStream::new(sheet),
+        }
+    }
+
+    /// The area of the last `dimension` (18.3.1.35) before the sheet's data, and without one both
+    /// ends at row 0 and column 0. Rows and columns count from 0.
+    pub fn dimensions(&self) -> Dimensions
+        ensures { result ≡ area_by self.now }
+    {
+        self.dimensions
+    }
+
+    /// How often a call of the package failed.
+    pub fn faults(&self) -> u64
+        ensures { result ≡ (flow_by P.state self.now).stream.reading.source.faults }
+    {
+        self.package.faults()
+    }
+
+    /// Takes the next cell (18.3.1.4), and answers its position and its value. A shared string is
+    /// its place. Answers None at the end of the sheet's data and from then on, and after a refusal
+    /// the refusal `Failed`. The formula of a cell that is taken so is no other cell's master.
+    pub fn next_cell(&mut self) -> Result<Option<Cell<DataRef>>, XlsxError>
+        requires { IsFlowing (flow_by P.state self.old) }
+        ensures hold { KeepsHold self.old self.new }
+        ensures flowing { IsFlowing (flow_by P.state self.new) }
+        ensures reads { let old = flow_by P.state self.old in
+            let new = flow_by P.state self.new in
+            ReadsPart Io result old.stream.reading new.stream.reading }
+        ensures rests { RestsAtEnd (flow_by P.state self.old) (flow_by P.state self.new) }
+        ensures stands { let old = flow_by P.state self.old in
+            let new = flow_by P.state self.new in
+            IfOk result (λ found. CellTo found old new) }
+        ensures takes { let old = flow_by P.state self.old in
+            let new = flow_by P.state self.new in
+            let grounds = grounds_by self.old in
+            old.stream.reading.source.is_told ≡ true → (before : List Mark)
+            (earlier : List FormulaText) → StandsBehind before earlier old.stream →
+            IfOk result (λ found. TakesValue grounds before earlier found old new) }
+        ensures err { let old = flow_by P.state self.old in
+            let new = flow_by P.state self.new in
+            IfErr result (FlowFails values_alone (grounds_by self.old) old new) }
+        ensures kind { IfErr result IsFlowError }
+        ensures after { (flow_by P.state self.old).is_failed ≡ true →
+            IfErr result (λ error. error ≡ Failed) }
+        ensures failed { (flow_by P.state self.new).is_failed ≡ is_err result }
+    {
+        let wants = Wants {
+            values: true,
+            formulas: false,
+        };
+        let book = Book {
+            strings: self.strings,
+            formats: self.formats,
+            is_1904: self.is_1904,
+        };
+        let Some(read) = self.stream.next(self.package, Asked { wants, book })? else {
+            return Ok(None);
+        };
+        let CellRead { pos, value, .. } = read;
+        Ok(Some(Cell::new(pos, value)))
+    }
+
+    /// Takes the next cell, and answers its position and its formula (18.3.1.40), empty where it
+    /// has none. A formula of a group is that of its master, moved to the cell. Answers None at the
+    /// end of the sheet's data and from then on, and after a refusal the refusal `Failed`.
+    pub fn next_formula(&mut self) -> Result<Option<Cell<String>>, XlsxError>
+        requires { IsFlowing (flow_by P.state self.old) }
+        ensures hold { KeepsHold self.old self.new }
+        ensures flowing { IsFlowing (flow_by P.state self.new) }
+        ensures reads { let old = flow_by P.state self.old in
+            let new = flow_by P.state self.new in
+            ReadsPart Io result old.stream.reading new.stream.reading }
+        ensures rests { RestsAtEnd (flow_by P.state self.old) (flow_by P.state self.new) }
+        ensures stands { let old = flow_by P.state self.old in
+            let new = flow_by P.state self.new in
+            IfOk result (λ found. CellTo found old new) }
+        ensures takes { let old = flow_by P.state self.old in
+            let new = flow_by P.state self.new in
+            old.stream.reading.source.is_told ≡ true → (before : List Mark)
+            (earlier : List FormulaText) → StandsBehind before earlier old.stream →
+            IfOk result (λ found. TakesFormula before earlier found old new) }
+        ensures err { let old = flow_by P.state self.old in
+            let new = flow_by P.state self.new in
+            IfErr result (FlowFails formulas_alone (grounds_by self.old) old new) }
+        ensures kind { IfErr result IsFlowError }
+        ensures after { (flow_by P.state self.old).is_failed ≡ true →
+            IfErr result (λ error. error ≡ Failed) }
+        ensures failed { (flow_by P.state self.new).is_failed ≡ is_err result }
+    {
+        let wants = Wants {
+            values: false,
+            formulas: true,
+        };
+        let book = Book {
+            strings: self.strings,
+            formats: self.formats,
+            is_1904: self.is_1904,
+        };
+        let Some(read) = self.stream.next(self.package, Asked { wants, book })? else {
+            return Ok(None);
+        };
+        let CellRead { pos, formula, .. } = read;
+        Ok(Some(Cell::new(pos, formula)))
+    }
+}
