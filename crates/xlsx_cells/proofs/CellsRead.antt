@@ -1,5 +1,5 @@
 -- How a cell is read, and why it is refused.
-use Rattle.std.proofs.Common.{◌≡◌, ◌<◌, ◌≤◌, ℕ, suc, ◌-◌, List, [], ◌∷◌, ◌++◌, Bool, true, false, Option, Some, None, Result, Ok, Err, refl, sym, ◌∙◌, ap, subst, inl, inr, codes, length, ◌⊎◌, arith, string_bytes}
+use Rattle.std.proofs.Common.{◌≡◌, ℕ, List, [], ◌∷◌, ◌++◌, Bool, true, false, Option, Some, None, Result, Ok, Err, refl, sym, ◌∙◌, ap, subst, inl, inr, codes, length, ◌⊎◌, string_bytes}
 use Rattle.std.specs.Prelude.{◌||◌}
 use Rattle.part_events.specs.Event.{Tag, Event, start}
 use Rattle.part_events.specs.Reading.{Reading, ahead}
@@ -21,11 +21,11 @@ use Rattle.xlsx_formulas.specs.Formula.{FormulaText, formulas_in, cell_formula, 
 use Rattle.xlsx_formulas.specs.Kept.{AreMasters}
 use Rattle.xlsx_formulas.specs.declared.masters.Masters.{Masters}
 use Rattle.xlsx_cells.specs.Children.{AreChildrenRefused, ReadsFormulas}
-use Rattle.xlsx_cells.specs.Counting.{AreKept, IsStartRefused}
+use Rattle.xlsx_cells.specs.Counting.{IsStartRefused}
 use Rattle.xlsx_cells.specs.Ends.{reads_children, kind_of_cell, end_in_child_element, end_in_children, end_in_contents}
 use Rattle.xlsx_cells.specs.Finding.{FindsCell, IsTakenRefused, IsMisplaced, BehindRow, marks_left}
 use Rattle.xlsx_cells.specs.Marks.{Mark, row_start, row_end, cell, is_cell, marks, behind_marks}
-use Rattle.xlsx_cells.specs.Position.{row_named, cell_position}
+use Rattle.xlsx_cells.specs.Position.{row_named}
 use Rattle.xlsx_cells.specs.Stream.{IsContentRefused, IsCellRefused, CellFails, TakesCell, IsRead}
 use Rattle.xlsx_cells.specs.declared.cell_read.CellRead.{CellRead}
 use Rattle.xlsx_cells.specs.declared.children.Wants.{Wants}

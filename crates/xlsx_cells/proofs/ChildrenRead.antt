@@ -1,5 +1,5 @@
 -- How the children of a cell are read, and why they are refused.
-use Rattle.std.proofs.Common.{◌≡◌, ℕ, List, [], ◌∷◌, ◌++◌, Bool, true, false, Option, Some, None, Result, Ok, Err, refl, sym, ◌∙◌, ap, subst, inl, inr, codes, length, ◌⊎◌}
+use Rattle.std.proofs.Common.{◌≡◌, ℕ, List, [], ◌∷◌, ◌++◌, Bool, true, false, Option, Some, None, Result, Ok, Err, refl, ◌∙◌, ap, inl, inr, codes, length, ◌⊎◌}
 use Rattle.std.specs.Prelude.{not, ◌||◌}
 use Rattle.part_events.specs.Event.{Tag, Event, start, end, leaf, IsStartAnd}
 use Rattle.part_events.specs.Reading.{Reading, ReadsOn, LeavesPart}
@@ -19,7 +19,7 @@ use Rattle.xlsx_values.specs.CellType.{CellKind}
 use Rattle.xlsx_values.specs.Value.{Grounds, value_element, inline_value, said_value, some_value, end_in_value}
 use Rattle.xlsx_formulas.specs.Formula.{FormulaText, formula_text, said_formula, some_formula, child_formula, formulas_in}
 use Rattle.xlsx_formulas.proofs.Cells.{KeepsFormulas, some_passed, some_taken, some_refused, child_kept, formula_kept, formulas_read}
-use Rattle.xlsx_cells.specs.Children.{StandsAt, IsNamedAs, IsChildRefused, ChildFails, FormulaStep, StepsFormula, ReadsFormula, ReadsFormulas}
+use Rattle.xlsx_cells.specs.Children.{IsNamedAs, IsChildRefused, ChildFails, FormulaStep, StepsFormula, ReadsFormula, ReadsFormulas}
 use Rattle.xlsx_cells.specs.Ends.{reads_children, end_in_child}
 use Rattle.xlsx_cells.specs.declared.children.ChildName.TheVariants.{Formula, Value, Inline, Stray}
 use Rattle.xlsx_cells.specs.declared.children.Wants.{Wants}

@@ -1,27 +1,27 @@
 -- How the cells of a sheet's data are collected.
-use Rattle.std.proofs.Common.{◌≡◌, ℕ, List, [], ◌∷◌, ◌++◌, append_assoc, append-nil, Bool, true, false, Option, Result, Ok, Err, refl, sym, ◌∙◌, ap, subst, inl, inr, ◌⊎◌, string_bytes, codes}
+use Rattle.std.proofs.Common.{◌≡◌, ℕ, List, [], ◌∷◌, ◌++◌, append-nil, Bool, true, false, Option, Result, Ok, Err, refl, sym, ◌∙◌, ap, subst, inl, inr, ◌⊎◌, string_bytes, codes}
 use Rattle.std.specs.Prelude.{if◌then◌else◌}
-use Rattle.part_events.specs.Event.{Tag, Event}
+use Rattle.part_events.specs.Event.{Tag}
 use Rattle.part_events.specs.Reading.{Reading}
 use Rattle.part_events.specs.Section.{Element}
 use Rattle.part_events.specs.Walk.{section_ahead}
 use Rattle.cell_data.specs.declared.error.XlsxError.{XlsxError}
 use Rattle.cell_data.specs.CellValue.{CellValue, value_of_data_ref}
-use Rattle.xlsx_sections.specs.Answers.{prepended, and_others}
+use Rattle.xlsx_sections.specs.Answers.{prepended}
 use Rattle.xlsx_sections.specs.Elements.{KeepsElements, end_outside}
 use Rattle.xlsx_sections.specs.PartSection.{SectionFails}
-use Rattle.xlsx_sections.specs.Refusal.{Refusal, in_element}
+use Rattle.xlsx_sections.specs.Refusal.{Refusal}
 use Rattle.xlsx_sections.proofs.Kept.{prepended-and_others, prepended-nil}
 use Rattle.xlsx_sections.proofs.Refused.{refused_later}
 use Rattle.xlsx_sections.proofs.SectionsRead.{keeps_further}
-use Rattle.xlsx_values.specs.Value.{Grounds, cell_value}
-use Rattle.xlsx_formulas.specs.Formula.{FormulaText, formulas_in, cell_formula, behind_formulas}
+use Rattle.xlsx_values.specs.Value.{Grounds}
+use Rattle.xlsx_formulas.specs.Formula.{FormulaText, cell_formula, behind_formulas}
 use Rattle.xlsx_cells.specs.Counting.{AreKept}
 use Rattle.xlsx_cells.specs.Ends.{end_in_cell, end_in_data}
 use Rattle.xlsx_cells.specs.Finding.{BehindRow, IsTakenRefused, IsStepRefused}
 use Rattle.xlsx_cells.specs.Marks.{Mark, row_start, row_end, cell, is_cell, marks, behind_marks}
-use Rattle.xlsx_cells.specs.Position.{row_named, cell_position, PassesRows}
-use Rattle.xlsx_cells.specs.Sheet.{behind_row, answers_from, at_position, placed_value, placed_formulas, values_in, formulas_written, formulas_along, is_nothing, is_empty, used_values, used_formulas}
+use Rattle.xlsx_cells.specs.Position.{row_named, PassesRows}
+use Rattle.xlsx_cells.specs.Sheet.{behind_row, answers_from, placed_value, placed_formulas, values_in, formulas_written, formulas_along, is_nothing, is_empty, used_values, used_formulas}
 use Rattle.xlsx_cells.specs.SheetPart.{IsMarkRefused, AreDataRefused, DataFails, HoldsValues, HoldsFormulas}
 use Rattle.xlsx_cells.specs.Stream.{Stream, StandsBehind, IsCellRefused, IsRead, TakesCell, EndsData, NextCellFails, marks_ahead, data_ahead}
 use Rattle.xlsx_cells.specs.declared.cell_read.CellRead.{CellRead}

@@ -1,8 +1,8 @@
 -- The marks ahead, from one event to the next, and behind a cell.
-use Rattle.std.proofs.Common.{◌≡◌, ℕ, zero, suc, ◌+◌, List, [], ◌∷◌, ◌++◌, length, Bool, true, false, Option, Some, None, refl, sym, ◌∙◌, ap, subst, arith}
+use Rattle.std.proofs.Common.{◌≡◌, ℕ, zero, suc, ◌+◌, List, [], ◌∷◌, ◌++◌, length, Bool, true, false, Some, None, refl, ◌∙◌, ap, arith}
 use Rattle.std.specs.Prelude.{if◌then◌else◌}
 use Rattle.part_events.specs.Event.{Tag, Event, start, end, leaf}
-use Rattle.part_events.specs.Section.{Element, element_of, content, behind, outermost_from, unclosed, unclosed_from}
+use Rattle.part_events.specs.Section.{Element, element_of, content, behind, outermost_from, unclosed}
 use Rattle.part_events.proofs.Sections.{content-content}
 use Rattle.xlsx_cells.specs.Marks.{Mark, row_start, row_end, cell, cells, is_cell, is_row, is_row_name, marks_from, marks, cell_start, marks_of, behind_marks}
 

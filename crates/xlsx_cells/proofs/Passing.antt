@@ -1,19 +1,17 @@
 -- How the marks of a sheet's data are passed.
-use Rattle.std.proofs.Common.{◌≡◌, ◌≤◌, ◌<◌, ℕ, suc, ◌+◌, ◌-◌, List, [], ◌∷◌, ◌++◌, length, append_assoc, Bool, true, false, Option, Some, None, Result, Ok, Err, refl, sym, ◌∙◌, ap, subst, inl, inr, arith, codes}
+use Rattle.std.proofs.Common.{◌≡◌, ◌≤◌, ◌<◌, ℕ, suc, ◌-◌, List, [], ◌∷◌, ◌++◌, length, append_assoc, Bool, true, false, Option, Some, None, refl, sym, ◌∙◌, ap, subst, arith}
 use Rattle.std.specs.Prelude.{if◌then◌else◌}
-use Rattle.part_events.specs.Event.{Tag, Event, start, end, leaf, IsStartAnd}
-use Rattle.part_events.specs.Reading.{Reading, ReadsOn, names_behind, TakesEvent, StepsAhead, ahead}
+use Rattle.part_events.specs.Event.{Tag, Event, start, end, leaf}
+use Rattle.part_events.specs.Reading.{Reading, ReadsOn, names_behind, ahead}
 use Rattle.part_events.specs.Section.{Element, content, outermost, starts_by, behind_start, unclosed}
-use Rattle.part_events.specs.Walk.{inside, element_at, section_ahead, section_behind, is_closed_ahead, behind_section, section_end, StandsInside, StepsInside, TakesInside, SameAhead, IsNextElement}
+use Rattle.part_events.specs.Walk.{inside, element_at, section_ahead, section_behind, StandsInside, StepsInside, TakesInside, SameAhead}
 use Rattle.part_events.specs.declared.walk.Step.TheVariants.{Found}
-use Rattle.part_events.proofs.Walking.{next_element, element_later}
-use Rattle.xlsx_sections.specs.PartSection.{KeepsSection, section_left, last_of}
-use Rattle.xlsx_sections.specs.Refusal.{Refusal}
+use Rattle.xlsx_sections.specs.PartSection.{KeepsSection}
 use Rattle.xlsx_sections.proofs.SectionsRead.{section_further}
-use Rattle.xlsx_cells.specs.Counting.{AreKept, IsRowRefused}
-use Rattle.xlsx_cells.specs.Finding.{FindsCell, FindsNone, IsTakenRefused, IsMisplaced, BehindRow, marks_left}
-use Rattle.xlsx_cells.specs.Marks.{Mark, row_start, row_end, cell, is_cell, is_row, marks, cell_start, marks_of, behind_marks}
-use Rattle.xlsx_cells.specs.Position.{row_named, cell_position, PassesRows}
+use Rattle.xlsx_cells.specs.Counting.{AreKept}
+use Rattle.xlsx_cells.specs.Finding.{marks_left}
+use Rattle.xlsx_cells.specs.Marks.{Mark, row_start, row_end, cell, is_cell, marks, cell_start, marks_of, behind_marks}
+use Rattle.xlsx_cells.specs.Position.{PassesRows}
 use Rattle.xlsx_cells.specs.declared.counters.Counters.{Counters}
 use Rattle.xlsx_cells.proofs.MarksAhead.{marks_cell, marks_event, unclosed_event, no_cell_start, behind_append}
 

@@ -1,5 +1,5 @@
 -- How the refusals of marks pass on to their section.
-use Rattle.std.proofs.Common.{◌≡◌, ℕ, List, [], ◌∷◌, ◌++◌, Bool, true, false, Option, Ok, Err, refl, sym, subst}
+use Rattle.std.proofs.Common.{◌≡◌, ℕ, List, [], ◌∷◌, ◌++◌, Bool, true, false, Option, Err, refl}
 use Rattle.std.specs.Prelude.{if◌then◌else◌}
 use Rattle.part_events.specs.Event.{Tag, Event, start, end, leaf}
 use Rattle.part_events.specs.Reading.{Reading}
@@ -11,7 +11,7 @@ use Rattle.xlsx_sections.specs.PartSection.{PartSection, SectionFails, section_l
 use Rattle.xlsx_sections.specs.Refusal.{Refusal}
 use Rattle.xlsx_sections.proofs.Refused.{refused_weaker}
 use Rattle.xlsx_cells.specs.Counting.{IsRefused, IsRowRefused}
-use Rattle.xlsx_cells.specs.Finding.{BehindRow, IsTakenRefused}
+use Rattle.xlsx_cells.specs.Finding.{IsTakenRefused}
 use Rattle.xlsx_cells.specs.Marks.{Mark, row_start, row_end, cell, is_row, marks_of, behind_marks}
 use Rattle.xlsx_cells.specs.Position.{row_named, PassesRows}
 

@@ -1,5 +1,5 @@
 -- How the data of a sheet are entered, and why they can't be.
-use Rattle.std.proofs.Common.{◌≡◌, ◌≤◌, ℕ, List, [], length, true, Bool, Some, None, Option, refl, sym, ◌∙◌, ap, subst, codes, arith}
+use Rattle.std.proofs.Common.{◌≡◌, ℕ, List, [], length, true, Some, None, Option, sym, ◌∙◌, ap, subst, codes, arith}
 use Rattle.cell_refs.specs.declared.dimensions.Dimensions.{Dimensions}
 use Rattle.part_events.specs.Event.{Event}
 use Rattle.part_events.specs.Nesting.{whole}
@@ -9,12 +9,10 @@ use Rattle.cell_data.specs.declared.error.XlsxError.{XlsxError}
 use Rattle.cell_data.specs.declared.error.XlsxError.TheVariants.{OutOfMemory, Io}
 use Rattle.xlsx_sections.specs.PartSection.{EntersSection, section_left, section_in}
 use Rattle.xlsx_formulas.specs.Kept.{AreMasters}
-use Rattle.xlsx_formulas.specs.declared.masters.Masters.{Masters}
 use Rattle.xlsx_cells.specs.Counting.{AreKept}
 use Rattle.xlsx_cells.specs.Head.{AreDimensions, HeadCause, HeadFails}
 use Rattle.xlsx_cells.specs.SheetPart.{EntersData, OptionalHeadCause, OpenDataFails}
 use Rattle.xlsx_cells.specs.Stream.{Stream}
-use Rattle.xlsx_cells.specs.declared.counters.Counters.{Counters}
 use Rattle.xlsx_cells.proofs.HeadRead.{ahead_at_first}
 
 pub data_entered : {path : List ℕ} {area : Dimensions} {old : PackageState} (opened : Reading)

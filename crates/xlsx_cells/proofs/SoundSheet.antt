@@ -1,22 +1,20 @@
 -- A sound sheet has no cause to be refused.
-use Rattle.std.proofs.Common.{◌≡◌, ℕ, List, [], ◌∷◌, Bool, true, false, Option, Some, None, Result}
-use Rattle.std.proofs.Common.{Ok, Err, refl, sym, ◌∙◌, subst, inl, inr, ◌⊎◌, codes}
+use Rattle.std.proofs.Common.{◌≡◌, ℕ, List, [], ◌∷◌, true, Option, Some, None, Result}
+use Rattle.std.proofs.Common.{Ok, Err, refl, sym, ◌∙◌, subst, inl, inr, codes}
 use Rattle.std.specs.Prelude.{option_map, IsSomeAnd}
-use Rattle.cell_refs.specs.declared.dimensions.Dimensions.{Dimensions}
 use Rattle.part_events.specs.Event.{Event}
 use Rattle.part_events.specs.Nesting.{whole}
 use Rattle.part_events.specs.Section.{Element, behind_start, is_named}
 use Rattle.cell_data.specs.CellValue.{CellValue}
 use Rattle.cell_data.specs.declared.error.XlsxError.{XlsxError}
 use Rattle.xlsx_sections.specs.Answers.{and_others, with_first}
-use Rattle.xlsx_sections.specs.PartSection.{PartSection, inside_of, has_end, section_in}
+use Rattle.xlsx_sections.specs.PartSection.{PartSection, inside_of, has_end}
 use Rattle.xlsx_sections.specs.PartSection.{section_behind}
 use Rattle.xlsx_sections.specs.Refusal.{Refusal, in_element}
 use Rattle.xlsx_sections.proofs.Sound.{no_section_cause}
 use Rattle.xlsx_values.specs.Value.{Grounds, cell_value}
 use Rattle.xlsx_formulas.specs.Formula.{FormulaText, formulas_in}
 use Rattle.xlsx_cells.specs.Ends.{end_in_data}
-use Rattle.xlsx_cells.specs.Head.{HeadCause}
 use Rattle.xlsx_cells.specs.Marks.{Mark, row_start, row_end, cell, marks}
 use Rattle.xlsx_cells.specs.Position.{row_named, cell_position}
 use Rattle.xlsx_cells.specs.Sheet.{behind_row, answers_from, at_position, placed_value}

@@ -1,6 +1,6 @@
 -- How the children of a cell are read.
-use Rattle.std.specs.Prelude.{◌≡◌, ◌⊎◌, ⊤, ℕ, List, [], ◌∷◌, length, true, false, Bool, Option, Some}
-use Rattle.std.specs.Prelude.{None, option_map, Result, Ok, Err, codes}
+use Rattle.std.specs.Prelude.{◌≡◌, ◌⊎◌, ℕ, List, [], ◌∷◌, length, true, false, Bool, Option, Some}
+use Rattle.std.specs.Prelude.{None, option_map, Ok, Err, codes}
 use Rattle.part_events.specs.Event.{Tag, Event, start}
 use Rattle.part_events.specs.Reading.{Reading, ahead}
 use Rattle.part_events.specs.Section.{Element, content, is_named}

@@ -1,5 +1,5 @@
 -- The counters of rows and columns, by the marks before them.
-use Rattle.std.specs.Prelude.{◌≡◌, ⊤, ℕ, min, true, List, Option, Some, None, Result, Ok, Err}
+use Rattle.std.specs.Prelude.{◌≡◌, ⊤, ℕ, min, true, List, Result, Ok, Err}
 use Rattle.cell_refs.specs.declared.TheConstants.{MAX_ROWS, MAX_COLUMNS}
 use Rattle.cell_data.specs.declared.error.XlsxError.{XlsxError}
 use Rattle.cell_data.specs.declared.error.XlsxError.TheVariants.{OutOfMemory, XmlAttr, Alphanumeric}

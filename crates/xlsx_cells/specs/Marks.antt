@@ -1,6 +1,6 @@
 -- What counts in a sheet's data: its cells, and the rows round them.
-use Rattle.std.specs.Prelude.{◌≡◌, ℕ, zero, suc, List, [], ◌∷◌, Bool, if◌then◌else◌, codes, Option, Some}
-use Rattle.std.specs.Prelude.{None, Result, Ok}
+use Rattle.std.specs.Prelude.{ℕ, zero, suc, List, [], ◌∷◌, Bool, if◌then◌else◌, codes, Option, Some}
+use Rattle.std.specs.Prelude.{None}
 use Rattle.std.specs.Str.{bytes_eq}
 use Rattle.attr_text.specs.Attributes.{local_name_of}
 use Rattle.part_events.specs.Event.{Tag, Event, start, end, leaf}

@@ -1,6 +1,6 @@
 -- What a sheet's data say.
-use Rattle.std.specs.Prelude.{ℕ, List, [], ◌∷◌, ◌++◌, Bool, true, false, if◌then◌else◌, Result, Ok, Err}
-use Rattle.std.specs.Prelude.{Option, Some, None}
+use Rattle.std.specs.Prelude.{ℕ, List, [], ◌∷◌, Bool, true, false, if◌then◌else◌, Result, Ok, Err}
+use Rattle.std.specs.Prelude.{Option}
 use Rattle.part_events.specs.Event.{Event}
 use Rattle.part_events.specs.Section.{Element}
 use Rattle.cell_data.specs.CellValue as value

@@ -1,6 +1,6 @@
 -- The part of a sheet: what its data say, and why they can't be read.
 use Rattle.std.specs.Prelude.{◌≡◌, ◌⊎◌, ⊤, ℕ, ◌+◌, ◌≤◌, List, [], ◌∷◌, length, true, codes, Option}
-use Rattle.std.specs.Prelude.{Some, None, Result, Ok, Err, map, string_bytes, IsSomeAnd, String}
+use Rattle.std.specs.Prelude.{Some, None, Ok, Err, map, string_bytes, IsSomeAnd, String}
 use Rattle.std.specs.declared.alloc.Global.{Global}
 use Rattle.cell_refs.specs.declared.dimensions.Dimensions.{Dimensions}
 use Rattle.part_events.specs.Event.{Event}
@@ -9,7 +9,6 @@ use Rattle.part_events.specs.Package.{PackageState, SameParts, HasCause, part_of
 use Rattle.part_events.specs.Reading.{events_of}
 use Rattle.part_events.specs.Section.{Element}
 use Rattle.cell_data.specs.CellValue.{CellValue, value_of_data}
-use Rattle.cell_data.specs.Cells.{cell_entry}
 use Rattle.cell_data.specs.declared.cell.Cell.{Cell}
 use Rattle.cell_data.specs.declared.error.XlsxError.{XlsxError}
 use Rattle.cell_data.specs.declared.error.XlsxError.TheVariants.{OutOfMemory, Io}

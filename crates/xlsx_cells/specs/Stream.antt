@@ -1,13 +1,13 @@
 -- A stream of cells: where it stands, and what its steps do.
 use Rattle.std.specs.Prelude.{◌≡◌, ◌⊎◌, ⊤, ℕ, ◌≤◌, ◌<◌, List, [], ◌∷◌, ◌++◌, length, Bool, true, false}
-use Rattle.std.specs.Prelude.{Option, Some, None, Result, Ok, Err, string_bytes}
+use Rattle.std.specs.Prelude.{Option, Some, None, Ok, Err, string_bytes}
 use Rattle.cell_refs.specs.declared.TheConstants.{MAX_ROWS, MAX_COLUMNS}
 use Rattle.part_events.specs.Event.{Tag, Event}
 use Rattle.part_events.specs.Package.{PackageState}
 use Rattle.part_events.specs.Reading.{Reading, reading, IsReading}
 use Rattle.part_events.specs.Section.{Element}
 use Rattle.part_events.specs.Walk.{section_ahead, is_closed_ahead}
-use Rattle.cell_data.specs.CellValue.{CellValue, value_of_data_ref}
+use Rattle.cell_data.specs.CellValue.{value_of_data_ref}
 use Rattle.cell_data.specs.declared.error.XlsxError.{XlsxError}
 use Rattle.xlsx_sections.specs.Elements.{KeepsElements}
 use Rattle.xlsx_sections.specs.PartSection.{PartSection, SectionFails, inside_of}

@@ -1,4 +1,4 @@
-ghost use Rattle.std.specs.Prelude.{◌≡◌, List, true, false, is_err, IfOk, IfErr};
+ghost use Rattle.std.specs.Prelude.{◌≡◌, List, true, false, is_err, IfOk, IfErr, IsErrAnd};
 ghost use Rattle.part_events.specs.Reading.{ReadsPart};
 ghost use Rattle.cell_data.specs.declared.error.XlsxError.TheVariants.{Io, Failed};
 ghost use Rattle.xlsx_values.specs.Book.{grounds_of};
@@ -63,7 +63,7 @@ impl CellStream {
             let new = flow (P.state «package».new) self.new in
             IfErr result (FlowFails asked.entry.wants (grounds_of asked.entry.book) old new) }
         ensures kind { IfErr result IsFlowError }
-        ensures after { self.old.failed ≡ true → IfErr result (λ error. error ≡ Failed) }
+        ensures after { self.old.failed ≡ true → IsErrAnd result (λ error. error ≡ Failed) }
         ensures failed { self.new.failed ≡ is_err result }
     {
         if self.failed {

@@ -1,4 +1,5 @@
-ghost use Rattle.std.specs.Prelude.{◌≡◌, List, map, string_bytes, true, false, is_err, IfOk, IfErr};
+ghost use Rattle.std.specs.Prelude.{◌≡◌, List, map, string_bytes, true, false, is_err};
+ghost use Rattle.std.specs.Prelude.{IfOk, IfErr, IsErrAnd};
 ghost use Rattle.part_events.specs.Reader as xml_reader;
 ghost use Rattle.part_events.specs.Reading.{ReadsPart, IsReading};
 ghost use Rattle.cell_data.specs.declared.error.XlsxError.TheVariants.{Io, Failed};
@@ -169,7 +170,7 @@ impl<'a, P: Package> XlsxCellReader<'a, P> {
             IfErr result (FlowFails values_alone (grounds_by self.old) old new) }
         ensures kind { IfErr result IsFlowError }
         ensures after { (flow_by P.state self.old).is_failed ≡ true →
-            IfErr result (λ error. error ≡ Failed) }
+            IsErrAnd result (λ error. error ≡ Failed) }
         ensures failed { (flow_by P.state self.new).is_failed ≡ is_err result }
     {
         let wants = Wants {
@@ -212,7 +213,7 @@ impl<'a, P: Package> XlsxCellReader<'a, P> {
             IfErr result (FlowFails formulas_alone (grounds_by self.old) old new) }
         ensures kind { IfErr result IsFlowError }
         ensures after { (flow_by P.state self.old).is_failed ≡ true →
-            IfErr result (λ error. error ≡ Failed) }
+            IsErrAnd result (λ error. error ≡ Failed) }
         ensures failed { (flow_by P.state self.new).is_failed ≡ is_err result }
     {
         let wants = Wants {

@@ -1,9 +1,6 @@
-use Rattle.std.proofs.Common.{◌≡◌, ◌∙◌, true, sym}
 use Rattle.std.proofs.lemmas.Result.{err_from_is_err_and}
 use Rattle.part_events.specs.Reading.{reading}
 use Rattle.xlsx_values.specs.Book.{kind_of, grounds_of}
-use Rattle.xlsx_cells.specs.Children.{IsNamedAs, value_name}
-use Rattle.xlsx_cells.specs.declared.children.ChildName.TheVariants.{Value, Inline}
 use Rattle.xlsx_cells.proofs.ChildrenRead.{value_fails}
 use Rattle.xlsx_cells.proofs.children.keep_value.Goals as goal
 

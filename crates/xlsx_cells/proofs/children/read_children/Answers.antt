@@ -1,19 +1,17 @@
-use Rattle.std.proofs.Common.{◌≡◌, ◌≤◌, ℕ, List, length, true, Some, None, Option, Err, Ok, refl, sym, ◌∙◌, ap, subst, inl, inr, arith, codes, string_bytes}
+use Rattle.std.proofs.Common.{◌≡◌, ℕ, true, Some, None, refl, ◌∙◌, ap, subst, inl, inr, arith, codes, string_bytes}
 use Rattle.std.proofs.lemmas.Result.{err_from_is_err_and}
-use Rattle.part_events.specs.Event.{Tag, start}
+use Rattle.part_events.specs.Event.{Tag}
 use Rattle.part_events.specs.Reading.{reading, ahead}
-use Rattle.part_events.specs.Section.{Element, content, children, is_any}
-use Rattle.part_events.specs.Walk.{inside, section_ahead, element_at}
-use Rattle.xlsx_sections.specs.Answers.{last_answer}
+use Rattle.part_events.specs.Section.{content, is_any}
+use Rattle.part_events.specs.Walk.{inside, element_at}
 use Rattle.xlsx_sections.specs.Elements.{end_outside, FindsElementIn}
-use Rattle.xlsx_sections.specs.PartSection.{Never, SectionFails, StandsAtStart, section_left}
-use Rattle.xlsx_sections.specs.Refusal.{Refusal, in_element}
-use Rattle.xlsx_sections.proofs.ElementsRead.{IsElementFound, IsElementPassed, keeps_none, element_found, element_passed, element_refused, own_inside}
+use Rattle.xlsx_sections.specs.PartSection.{Never, SectionFails, StandsAtStart}
+use Rattle.xlsx_sections.specs.Refusal.{in_element}
+use Rattle.xlsx_sections.proofs.ElementsRead.{IsElementFound, IsElementPassed, element_found, element_passed, element_refused, own_inside}
 use Rattle.xlsx_sections.proofs.Kept.{last_further, last_refused}
 use Rattle.xlsx_sections.proofs.Refused.{refused_later}
 use Rattle.xlsx_values.specs.Book.{kind_of, grounds_of}
 use Rattle.xlsx_values.specs.Value.{child_value, said_value, or_nothing}
-use Rattle.xlsx_formulas.specs.Formula.{said_formula}
 use Rattle.xlsx_cells.specs.Children.{StandsAt, FormulaStep, ReadsFormulas, value_kept, IsChildRefused, AreChildrenRefused}
 use Rattle.xlsx_cells.specs.Ends.{end_in_child, end_in_child_element, end_in_children}
 use Rattle.xlsx_cells.proofs.ChildrenRead.{start_there, leaves_further, or_earlier_in_element, listed_further, formulas_further, formulas_refused, formulas_whole}

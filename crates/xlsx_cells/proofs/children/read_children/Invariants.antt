@@ -1,8 +1,8 @@
 use Rattle.std.proofs.Common.{◌≡◌, List, true, false, length, string_bytes}
-use Rattle.part_events.specs.Reading.{reading, open_elements, ahead}
-use Rattle.part_events.specs.Section.{content, children, is_any}
+use Rattle.part_events.specs.Reading.{reading, open_elements}
+use Rattle.part_events.specs.Section.{children, is_any}
 use Rattle.part_events.specs.Walk.{section_ahead}
-use Rattle.xlsx_sections.specs.Answers.{or_earlier, last_answer, some_answers}
+use Rattle.xlsx_sections.specs.Answers.{or_earlier, last_answer}
 use Rattle.xlsx_sections.specs.Elements.{KeepsElements}
 use Rattle.xlsx_values.specs.Book.{kind_of, grounds_of}
 use Rattle.xlsx_values.specs.Value.{child_value}

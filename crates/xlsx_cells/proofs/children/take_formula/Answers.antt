@@ -1,4 +1,4 @@
-use Rattle.std.proofs.Common.{◌≡◌, ◌∙◌, Some, Ok, true, sym, ap, string_bytes}
+use Rattle.std.proofs.Common.{◌≡◌, Some, Ok, ap}
 use Rattle.std.proofs.lemmas.Result.{err_from_is_err_and}
 use Rattle.part_events.specs.Reading.{reading}
 use Rattle.xlsx_formulas.specs.Formula.{some_formula, formula_text}

@@ -1,9 +1,9 @@
-use Rattle.std.proofs.Common.{◌≡◌, ◌∷◌, ◌++◌, ◌∙◌, List, ℕ, Option, Some, None, Err, true, sym, ap, subst, refl, arith, codes}
+use Rattle.std.proofs.Common.{◌≡◌, ◌∷◌, ◌++◌, ◌∙◌, List, None, Err, true, sym, ap, subst, refl, codes}
 use Rattle.std.proofs.lemmas.Result.{err_from_is_err_and}
 use Rattle.std.specs.Prelude.{option_map}
 use Rattle.part_events.specs.Event.{Event, event_of, tag_of, start}
 use Rattle.part_events.specs.Reading.{reading}
-use Rattle.part_events.specs.Section.{Element, unclosed}
+use Rattle.part_events.specs.Section.{unclosed}
 use Rattle.part_events.specs.Walk.{StandsInside, StepsInside, section_ahead, element_at}
 use Rattle.part_events.specs.declared.walk.Step.TheVariants.{Found, Ended}
 use Rattle.part_events.proofs.Onward.{whole_at_end, reads_further}

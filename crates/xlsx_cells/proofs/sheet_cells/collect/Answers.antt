@@ -1,15 +1,12 @@
-use Rattle.std.proofs.Common.{◌≡◌, ◌++◌, ◌∷◌, [], ℕ, List, Option, Some, None, true, sym, ◌∙◌, ap, subst, string_bytes, map}
+use Rattle.std.proofs.Common.{◌≡◌, ℕ, Some, true, sym, ◌∙◌, subst}
 use Rattle.std.proofs.lemmas.Result.{err_from_is_err_and}
 use Rattle.part_events.specs.Walk.{is_closed_ahead}
-use Rattle.cell_data.specs.CellValue.{CellValue, value_of_data_ref}
 use Rattle.xlsx_sections.specs.Elements.{KeepsElements}
 use Rattle.xlsx_values.specs.Book.{grounds_of}
 use Rattle.xlsx_cells.specs.Marks.{is_cell}
-use Rattle.xlsx_cells.specs.Sheet.{used_values, used_formulas}
 use Rattle.xlsx_cells.specs.SheetPart.{value_entries, formula_entries}
-use Rattle.xlsx_cells.specs.Stream.{Stream, stream, StandsAfter, EndsData, TakesCell, IsRead, IsCellRefused, marks_ahead}
-use Rattle.xlsx_cells.specs.declared.cell_read.CellRead.{CellRead}
-use Rattle.xlsx_cells.proofs.Collecting.{HasCollected, collected_further, values_whole, formulas_whole, taken_is_mark, keeps_on, step_refused}
+use Rattle.xlsx_cells.specs.Stream.{stream, StandsAfter, EndsData, TakesCell, IsRead, IsCellRefused, marks_ahead}
+use Rattle.xlsx_cells.proofs.Collecting.{collected_further, values_whole, formulas_whole, taken_is_mark, keeps_on, step_refused}
 use Rattle.xlsx_cells.proofs.sheet_cells.collect.Goals as goal
 
 pub returns-in_err-read-clause-err : goal.returns-in_err-read-clause-err

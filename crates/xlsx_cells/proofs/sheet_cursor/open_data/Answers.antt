@@ -1,4 +1,4 @@
-use Rattle.std.proofs.Common.{◌≡◌, true, ◌∙◌, sym}
+use Rattle.std.proofs.Common.{◌≡◌, true, ◌∙◌}
 use Rattle.part_events.specs.Package.{Opens}
 use Rattle.part_events.specs.Reading.{reading}
 use Rattle.xlsx_sections.proofs.SectionsRead.{section_entered}

@@ -1,22 +1,19 @@
-use Rattle.std.proofs.Common.{◌≡◌, ◌++◌, ◌∷◌, ◌-◌, ℕ, List, Option, Some, Ok, true, false, [], length, refl, sym, ◌∙◌, ap, subst, inl, inr, arith, codes, string_bytes, Bool}
+use Rattle.std.proofs.Common.{◌≡◌, ◌-◌, Some, true, refl, ◌∙◌, arith, codes}
 use Rattle.std.proofs.lemmas.Result.{err_from_is_err_and}
-use Rattle.part_events.specs.Event.{Tag, start}
+use Rattle.part_events.specs.Event.{Tag}
 use Rattle.part_events.specs.Reading.{reading}
-use Rattle.part_events.specs.Section.{Element}
-use Rattle.part_events.specs.Walk.{element_at, section_behind}
-use Rattle.xlsx_sections.specs.Elements.{end_among, KeepsElements, FindsElementIn}
-use Rattle.xlsx_sections.specs.PartSection.{StandsAtStart}
+use Rattle.part_events.specs.Walk.{element_at}
+use Rattle.xlsx_sections.specs.Elements.{FindsElementIn}
 use Rattle.xlsx_sections.proofs.ElementsRead.{IsElementFound, IsElementPassed, keeps_none, element_found, element_passed, element_refused}
 use Rattle.xlsx_sections.proofs.Refused.{refused_as}
 use Rattle.xlsx_values.specs.Book.{grounds_of}
-use Rattle.xlsx_formulas.specs.Formula.{FormulaText, behind_formulas}
 use Rattle.xlsx_cells.specs.Children.{StandsAt}
 use Rattle.xlsx_cells.specs.Ends.{end_in_cell, end_in_contents, end_in_data}
-use Rattle.xlsx_cells.specs.Finding.{FindsCell, IsStepRefused, IsMisplaced, StandsAtCell, FindsCellElement, Finds, marks_left}
-use Rattle.xlsx_cells.specs.Marks.{Mark, cell, is_cell, marks, behind_marks}
-use Rattle.xlsx_cells.specs.Stream.{stream, IsContentRefused, IsCellRefused, NextCellFails}
+use Rattle.xlsx_cells.specs.Finding.{FindsCell, IsStepRefused, IsMisplaced, StandsAtCell, marks_left}
+use Rattle.xlsx_cells.specs.Marks.{is_cell}
+use Rattle.xlsx_cells.specs.Stream.{IsContentRefused, IsCellRefused}
 use Rattle.xlsx_cells.proofs.CellsRead.{misplaced_cell, found_cell_refused, taken_cell}
-use Rattle.xlsx_cells.proofs.ChildrenRead.{start_there, same_tag}
+use Rattle.xlsx_cells.proofs.ChildrenRead.{start_there}
 use Rattle.xlsx_cells.proofs.sheet_cursor.SheetCursor.next.Goals as goal
 
 pub returns-in_err-pos-clause-err : goal.returns-in_err-pos-clause-err
