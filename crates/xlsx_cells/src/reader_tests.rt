@@ -1,4 +1,7 @@
-use crate::XlsxCellReader;
+ghost use Rattle.std.specs.Prelude.{◌≡◌, OnOk};
+ghost use Rattle.part_events.specs.Package.{SameParts};
+
+use crate::{XlsxCellReader, open_data};
 use cell_data::{Cell, DataRef, XlsxError};
 use part_events::{FailingPackage, MemoryPackage, Package, PartEvent, StartTag, XlReader};
 use std::alloc::{AllocError, Global};
@@ -115,6 +118,22 @@ fn told<P: Package>(alloc: Global, package: &mut P, calls: &[Call]) -> Result<St
     Ok(out)
 }
 
+// How many cells the sheet at this path has, as a reader counts them that goes on behind its head.
+fn count_cells<P: Package>(alloc: Global, package: &mut P, path: &str) -> Result<u64, XlsxError>
+    ensures keeps { SameParts (P.state «package».old) (P.state «package».new) }
+    ensures faults { OnOk result ((P.state «package».new).faults ≡ (P.state «package».old).faults) }
+{
+    let Some((sheet, dimensions)) = open_data(alloc, package, path)? else {
+        return Ok(0);
+    };
+    let mut reader = XlsxCellReader::resume(package, &[], &[], false, sheet, dimensions);
+    let mut count = 0u64;
+    'cells: while let Some(_cell) = reader.next_cell()? {
+        count = count.saturating_add(1);
+    }
+    Ok(count)
+}
+
 // These calls over a sheet with these data answer this.
 fn assert_told(
     rt: &impl Abort,
@@ -162,6 +181,8 @@ fn values_and_formulas_are_asked_for_in_turn(rt: HostRuntime) -> Result<(), Fail
     )?;
     let last = [Call::Formula, Call::Value, Call::Value];
     assert_told(&rt, alloc, &cells, &last, "(0,0) =B1; (1,0) empty; none; ")?;
+    let mut package = sheet_of(&rt, alloc, &cells)?;
+    assert_eq!(rt; count_cells(alloc, &mut package, "sheet")?, 2);
     Ok(())
 }
 
