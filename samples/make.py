@@ -14,7 +14,7 @@ from openpyxl.styles.colors import Color
 HERE = pathlib.Path(__file__).resolve().parent
 sys.path.insert(0, str(HERE.parent / "tools"))
 
-from fixtures import archive, with_rows
+from fixtures import MIXED, MIXED_LINES, archive
 
 MADE = datetime.datetime(2024, 1, 2, 3, 4, 5)
 
@@ -26,14 +26,10 @@ def written(name, **options):
     return book
 
 
-def plain_form():
-    """The plain form: texts and formulas alone, in a workbook without strings and styles."""
-    rows = (
-        '<row r="1"><c r="A1" t="str"><v>nut</v></c>'
-        '<c r="B1" t="str"><f>UPPER(A1)</f><v>NUT</v></c></row>'
-        '<row r="3"><c r="A3" t="str"></c><c r="C3" t="str"><v>a\tb\\c\nd\u00e9</v></c></row>'
-    )
-    (HERE / "plain_form.xlsx").write_bytes(archive(with_rows(rows)))
+def values_and_formulas():
+    """Values of every kind but dates, and formulas, in a workbook without styles."""
+    (HERE / "values_and_formulas.xlsx").write_bytes(archive(MIXED))
+    (HERE / "values_and_formulas.lines").write_bytes(MIXED_LINES)
 
 
 def shared_formulas():
@@ -138,7 +134,7 @@ def tables_links_and_merges():
 
 
 def main():
-    plain_form()
+    values_and_formulas()
     shared_formulas()
     dates()
     rich_text()

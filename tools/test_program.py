@@ -13,7 +13,7 @@ import termios
 import time
 import unittest
 
-from fixtures import LINES, MINIMAL, package_text, with_rows
+from fixtures import LINES, MINIMAL, MIXED, MIXED_LINES, package_text, with_rows
 
 TOP = pathlib.Path(__file__).resolve().parent.parent
 FORMAT = (TOP / "docs" / "FORMAT.md").read_text(encoding="utf-8")
@@ -156,13 +156,21 @@ class Edge:
             no_workbook(b"Unrecognized sheet:state: none"),
         )
 
+    def test_values_and_formulas(self):
+        self.assertEqual(self.run_on(package_text(MIXED)), (0, MIXED_LINES, b""))
+
+    def test_cells_that_are_refused(self):
+        for cell, text in (
+            ('<c t="b"><v>00</v></c>', b"Unrecognized boolean cell value: 00"),
+            ('<c t="e"><v>#NUT</v></c>', b"Unsupported cell error value '#NUT'"),
+            ('<c t="x"><v>1</v></c>', b"Unknown cell 't' attribute: \"x\""),
+            ('<c r="XFD1"/><c/>', b"column number overflow"),
+        ):
+            self.assertEqual(self.run_on(package_text(with_rows(cell))), no_workbook(text), cell)
+
     def test_what_is_not_built_yet(self):
         self.assertEqual(
-            self.run_on(package_text({**MINIMAL, "xl/sharedStrings.xml": "<sst/>"})), refusal(9)
-        )
-        self.assertEqual(
-            self.run_on(package_text(with_rows('<row r="1"><c r="A1"><v>1</v></c></row>'))),
-            refusal(9),
+            self.run_on(package_text({**MINIMAL, "xl/styles.xml": "<styleSheet/>"})), refusal(9)
         )
 
     def test_want_of_memory(self):

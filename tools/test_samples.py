@@ -97,14 +97,14 @@ class Samples(unittest.TestCase):
         for path in WORKBOOKS:
             self.assertLess(len(package_text(path)), LIMIT)
 
-    def test_the_plain_form_gives_its_lines(self):
+    def test_values_and_formulas_give_their_lines(self):
         ran = subprocess.run(
             [OUT / "xlsx_tool", "cells", "S"],
-            input=package_text(SAMPLES / "plain_form.xlsx"),
+            input=package_text(SAMPLES / "values_and_formulas.xlsx"),
             stdout=subprocess.PIPE,
             stderr=subprocess.PIPE,
         )
-        wanted = (SAMPLES / "plain_form.lines").read_bytes()
+        wanted = (SAMPLES / "values_and_formulas.lines").read_bytes()
         self.assertEqual((ran.returncode, ran.stdout, ran.stderr), (0, wanted, b""))
 
 
