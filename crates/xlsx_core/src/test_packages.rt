@@ -40,7 +40,8 @@ fn push(package: &mut MemoryPackage, event: PartEvent<'_>) -> Result<(), Fail> {
     Ok(())
 }
 
-/// The event of a tag that begins with `!`: what has no other spelling here. Any name but these two is a reference's.
+/// The event of a tag that begins with `!`: what has no other spelling here. Any name but these two
+/// is a reference's.
 fn special_event(name: &str) -> PartEvent<'_> {
     if name.is_empty() {
         PartEvent::Other

@@ -1,7 +1,10 @@
-ghost use Rattle.std.specs.Prelude.{◌≡◌, true, map, option_map, slice_get, string_bytes, MatchResult, IfOk, OnOk, IfErr};
+ghost use Rattle.std.specs.Prelude.{◌≡◌, true, map, option_map, slice_get, string_bytes};
+ghost use Rattle.std.specs.Prelude.{MatchResult, IfOk, OnOk, IfErr};
 ghost use Rattle.part_events.specs.Package.{SameParts, KeepsFaults};
 ghost use Rattle.cell_data.specs.declared.error.XlsxError.TheVariants.{Io};
-ghost use Rattle.xlsx_open.specs.Opening.{Opening, HoldsOpening, OpensAs, OpensSoundly, IsBuilt, IsOpeningError, OpensFrom, FailsToOpen, OpeningFails, SoundFails};
+ghost use Rattle.xlsx_open.specs.Opening.{Opening, HoldsOpening, OpensAs, OpensSoundly, IsBuilt};
+ghost use Rattle.xlsx_open.specs.Opening.{IsOpeningError, OpensFrom, FailsToOpen, OpeningFails};
+ghost use Rattle.xlsx_open.specs.Opening.{SoundFails};
 ghost use Rattle.xlsx_core.specs.Opened.{path_listed};
 ghost use Rattle.xlsx_core.specs.SheetReading.{grounds_with, PlacedSheetFails, IsPlacedError};
 ghost use Rattle.xlsx_core.specs.SheetReading.{ReadsPlaced};
@@ -33,11 +36,12 @@ pub struct OpenFailure<P: Package> {
 }
 
 impl<P: Package> Xlsx<P> {
-    /// Opens the workbook of a package, as ECMA-376 part 2, section 9.3 (relationships) and part 1, section 18.2
-    /// (workbook) have it. A refusal hands the package back, with the same parts.
+    /// Opens the workbook of a package, as ECMA-376 part 2, section 9.3 (relationships) and part 1,
+    /// section 18.2 (workbook) have it. A refusal hands the package back, with the same parts.
     ///
-    /// The package's relationships lead to the workbook, the last one to an office document with a target being taken.
-    /// Relationships of the workbook are by Id, of which the last stands. Each section is read to its end and no further.
+    /// The package's relationships lead to the workbook, the last one to an office document with a
+    /// target being taken. Relationships of the workbook are by Id, of which the last stands. Each
+    /// section is read to its end and no further.
     ///
     /// The shared strings are read first, and a package with styles is refused as not built yet.
     pub fn new(alloc: Global, package: P) -> Result<Xlsx<P>, OpenFailure<P>>
@@ -49,7 +53,8 @@ impl<P: Package> Xlsx<P> {
             old.is_told ≡ true → IfOk result (λ xlsx. (opening : Opening)
             × HoldsOpening xlsx.metadata xlsx.paths.items xlsx.strings.items xlsx.is_1904 opening
             × OpensAs old.parts opening) }
-        ensures built { (P.state «package»).is_told ≡ true → OnOk result (IsBuilt (P.state «package»).parts) }
+        ensures built { let old = P.state «package» in
+            old.is_told ≡ true → OnOk result (IsBuilt old.parts) }
         ensures err { IfErr result (λ failure.
             OpeningFails (P.state «package») (P.state failure.package) failure.error) }
         ensures kind { IfErr result (λ failure. IsOpeningError failure.error) }
