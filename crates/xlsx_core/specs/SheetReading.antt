@@ -1,7 +1,6 @@
 -- The reading of one sheet of a workbook that opens.
 use Rattle.std.specs.Prelude.{◌≡◌, ◌⊎◌, ⊤, ℕ, List, [], ◌∷◌, true, if◌then◌else◌, Option, Some}
-use Rattle.std.specs.Prelude.{None}
-use Rattle.std.specs.Prelude.{Bool, map, option_and_then, string_bytes, IsSomeAnd, String}
+use Rattle.std.specs.Prelude.{None, Bool, map, option_and_then, string_bytes, IsSomeAnd, String}
 use Rattle.std.specs.Str.{bytes_eq}
 use Rattle.std.specs.declared.alloc.Global.{Global}
 use Rattle.part_events.specs.Event.{Event}
