@@ -62,7 +62,7 @@ impl<'a, P: Package> XlsxCellReader<'a, P> {
     /// A `dimension` without `ref` is refused as UnexpectedNode, one whose `ref` names no area by
     /// the fault of that text. Where the part ends before the data, the refusal is NotAWorksheet
     /// with the local name of the part's first start that is no `dimension`, and XmlEof where there
-    /// is none.
+    /// is none; where the nesting breaks before, it is Xml with the number of the end.
     pub fn new(
         alloc: Global,
         xml: XlReader<'a, P>,
@@ -145,9 +145,15 @@ impl<'a, P: Package> XlsxCellReader<'a, P> {
         self.package.faults()
     }
 
-    /// Takes the next cell (18.3.1.4), and answers its position and its value. A shared string is
-    /// its place. Answers None at the end of the sheet's data and from then on, and after a refusal
-    /// the refusal `Failed`. The formula of a cell that is taken so is no other cell's master.
+    /// Takes the next cell (18.3.1.4), and answers its position, counted from 0, and its value. A
+    /// shared string is its place. Answers None at the end of the sheet's data and from then on.
+    /// The formula of a cell that is taken so is no other cell's master.
+    ///
+    /// An `r` that names nothing is refused by the fault of its text, a cell without one past the
+    /// last row or column as RowNumberOverflow or ColumnNumberOverflow, a child other than `v`, `f`
+    /// and `is` as UnexpectedNode. A value is refused as CellTAttribute, ParseFloat, CellError,
+    /// Unrecognized or Unexpected, by its type. Where the part ends before the data do, the refusal
+    /// is XmlEof with the name of an open element, or Xml. After a refusal it is Failed.
     pub fn next_cell(&mut self) -> Result<Option<Cell<DataRef>>, XlsxError>
         requires { IsFlowing (flow_by P.state self.old) }
         ensures hold { KeepsHold self.old self.new }
@@ -189,9 +195,13 @@ impl<'a, P: Package> XlsxCellReader<'a, P> {
         Ok(Some(Cell::new(pos, value)))
     }
 
-    /// Takes the next cell, and answers its position and its formula (18.3.1.40), empty where it
-    /// has none. A formula of a group is that of its master, moved to the cell. Answers None at the
-    /// end of the sheet's data and from then on, and after a refusal the refusal `Failed`.
+    /// Takes the next cell, and answers its position, counted from 0, and its formula (18.3.1.40),
+    /// empty where it has none. A formula of a group is that of its master, moved to the cell.
+    /// Answers None at the end of the sheet's data and from then on.
+    ///
+    /// Positions, children and the end of the part are refused as by `next_cell`; values are not
+    /// read. An `si` that is missing or no number is refused as Unexpected, the `ref` of a master
+    /// by the fault of its text. After a refusal the refusal is Failed.
     pub fn next_formula(&mut self) -> Result<Option<Cell<String>>, XlsxError>
         requires { IsFlowing (flow_by P.state self.old) }
         ensures hold { KeepsHold self.old self.new }

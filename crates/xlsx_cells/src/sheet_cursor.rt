@@ -11,7 +11,8 @@ ghost use Rattle.xlsx_formulas.specs.Kept.{AreMasters};
 ghost use Rattle.xlsx_cells.specs.Counting.{AreKept};
 ghost use Rattle.xlsx_cells.specs.Errors.{IsCellError};
 ghost use Rattle.xlsx_cells.specs.Marks.{Mark};
-ghost use Rattle.xlsx_cells.specs.Stream.{stream, IsStreaming, StandsBehind, StandsAfter, TakesNext, NextCellFails};
+ghost use Rattle.xlsx_cells.specs.Stream.{stream, IsStreaming, StandsBehind, StandsAfter};
+ghost use Rattle.xlsx_cells.specs.Stream.{TakesNext, NextCellFails};
 
 use crate::cell_read::{CellRead, read_cell};
 use crate::children::Asked;
@@ -112,12 +113,6 @@ pub fn open_data<P: Package>(
     }
     let mut cursor = Cursor::new(alloc, package);
     let dimensions = enter_data(alloc, package, &mut cursor)?;
-    let base = cursor.depth();
-    let sheet = SheetCursor {
-        cursor,
-        base,
-        counters: Counters::new(),
-        masters: Masters::new(alloc),
-    };
+    let sheet = SheetCursor::new(alloc, cursor);
     Ok(Some((sheet, dimensions)))
 }
