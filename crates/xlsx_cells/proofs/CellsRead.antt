@@ -1,5 +1,7 @@
 -- How a cell is read, and why it is refused.
-use Rattle.std.proofs.Common.{◌≡◌, ℕ, List, [], ◌∷◌, ◌++◌, Bool, true, false, Option, Some, None, Result, Ok, Err, refl, sym, ◌∙◌, ap, subst, inl, inr, codes, length, ◌⊎◌, string_bytes}
+use Rattle.std.proofs.Common.{◌≡◌, ℕ, List, [], ◌∷◌, ◌++◌, Bool, true, false, Option, Some, None}
+use Rattle.std.proofs.Common.{Result, Ok, Err, refl, sym, ◌∙◌, ap, subst, inl, inr, codes, length}
+use Rattle.std.proofs.Common.{◌⊎◌, string_bytes}
 use Rattle.std.specs.Prelude.{◌||◌}
 use Rattle.part_events.specs.Event.{Tag, Event, start}
 use Rattle.part_events.specs.Reading.{Reading, ahead}
@@ -11,7 +13,8 @@ use Rattle.cell_data.specs.declared.error.XlsxError.TheVariants.{OutOfMemory, Io
 use Rattle.cell_data.specs.CellValue.{value_of_data_ref}
 use Rattle.cell_data.specs.declared.format.CellFormat.{CellFormat}
 use Rattle.xlsx_sections.specs.Elements.{end_outside}
-use Rattle.xlsx_sections.specs.PartSection.{PartSection, SectionFails, inside_of, section_left, last_of}
+use Rattle.xlsx_sections.specs.PartSection.{PartSection, SectionFails, inside_of, section_left}
+use Rattle.xlsx_sections.specs.PartSection.{last_of}
 use Rattle.xlsx_sections.specs.Refusal.{Refusal, in_element, further, events_behind}
 use Rattle.xlsx_sections.proofs.ElementsRead.{IsElementPassed, own_inside}
 use Rattle.xlsx_sections.proofs.Refused.{refused_weaker, refused_by}
@@ -22,7 +25,8 @@ use Rattle.xlsx_formulas.specs.Kept.{AreMasters}
 use Rattle.xlsx_formulas.specs.declared.masters.Masters.{Masters}
 use Rattle.xlsx_cells.specs.Children.{AreChildrenRefused, ReadsFormulas}
 use Rattle.xlsx_cells.specs.Counting.{IsStartRefused}
-use Rattle.xlsx_cells.specs.Ends.{reads_children, kind_of_cell, end_in_child_element, end_in_children, end_in_contents}
+use Rattle.xlsx_cells.specs.Ends.{reads_children, kind_of_cell, end_in_child_element}
+use Rattle.xlsx_cells.specs.Ends.{end_in_children, end_in_contents}
 use Rattle.xlsx_cells.specs.Finding.{FindsCell, IsTakenRefused, IsMisplaced, BehindRow, marks_left}
 use Rattle.xlsx_cells.specs.Marks.{Mark, row_start, row_end, cell, is_cell, marks, behind_marks}
 use Rattle.xlsx_cells.specs.Position.{row_named}

@@ -1,5 +1,6 @@
 -- How the children of a cell are read, and why they are refused.
-use Rattle.std.proofs.Common.{◌≡◌, ℕ, List, [], ◌∷◌, ◌++◌, Bool, true, false, Option, Some, None, Result, Ok, Err, refl, ◌∙◌, ap, inl, inr, codes, length, ◌⊎◌}
+use Rattle.std.proofs.Common.{◌≡◌, ℕ, List, [], ◌∷◌, ◌++◌, Bool, true, false, Option, Some, None}
+use Rattle.std.proofs.Common.{Result, Ok, Err, refl, ◌∙◌, ap, inl, inr, codes, length, ◌⊎◌}
 use Rattle.std.specs.Prelude.{not, ◌||◌}
 use Rattle.part_events.specs.Event.{Tag, Event, start, end, leaf, IsStartAnd}
 use Rattle.part_events.specs.Reading.{Reading, ReadsOn, LeavesPart}
@@ -10,16 +11,21 @@ use Rattle.cell_data.specs.declared.format.CellFormat.{CellFormat}
 use Rattle.cell_data.specs.CellValue.{CellValue}
 use Rattle.xlsx_sections.specs.Answers.{or_earlier, some_answers, prepended}
 use Rattle.xlsx_sections.specs.Elements.{ElementReadFails, IsInsideRefused, named_end}
-use Rattle.xlsx_sections.specs.PartSection.{PartSection, SectionFails, Never, always, inside_of, section_left}
+use Rattle.xlsx_sections.specs.PartSection.{PartSection, SectionFails, Never, always, inside_of}
+use Rattle.xlsx_sections.specs.PartSection.{section_left}
 use Rattle.xlsx_sections.specs.Refusal.{Refusal, stray_child, in_element}
 use Rattle.xlsx_sections.proofs.Kept.{prepended-nil}
 use Rattle.xlsx_sections.proofs.Refused.{refused_by}
 use Rattle.xlsx_strings.specs.Strings.{end_in_string}
 use Rattle.xlsx_values.specs.CellType.{CellKind}
-use Rattle.xlsx_values.specs.Value.{Grounds, value_element, inline_value, said_value, some_value, end_in_value}
-use Rattle.xlsx_formulas.specs.Formula.{FormulaText, formula_text, said_formula, some_formula, child_formula, formulas_in}
-use Rattle.xlsx_formulas.proofs.Cells.{KeepsFormulas, some_passed, some_taken, some_refused, child_kept, formula_kept, formulas_read}
-use Rattle.xlsx_cells.specs.Children.{IsNamedAs, IsChildRefused, ChildFails, FormulaStep, StepsFormula, ReadsFormula, ReadsFormulas}
+use Rattle.xlsx_values.specs.Value.{Grounds, value_element, inline_value, said_value, some_value}
+use Rattle.xlsx_values.specs.Value.{end_in_value}
+use Rattle.xlsx_formulas.specs.Formula.{FormulaText, formula_text, said_formula, some_formula}
+use Rattle.xlsx_formulas.specs.Formula.{child_formula, formulas_in}
+use Rattle.xlsx_formulas.proofs.Cells.{KeepsFormulas, some_passed, some_taken, some_refused}
+use Rattle.xlsx_formulas.proofs.Cells.{child_kept, formula_kept, formulas_read}
+use Rattle.xlsx_cells.specs.Children.{IsNamedAs, IsChildRefused, ChildFails, FormulaStep}
+use Rattle.xlsx_cells.specs.Children.{StepsFormula, ReadsFormula, ReadsFormulas}
 use Rattle.xlsx_cells.specs.Ends.{reads_children, end_in_child}
 use Rattle.xlsx_cells.specs.declared.children.ChildName.TheVariants.{Formula, Value, Inline, Stray}
 use Rattle.xlsx_cells.specs.declared.children.Wants.{Wants}

@@ -1,5 +1,7 @@
 -- How the cells of a sheet's data are collected.
-use Rattle.std.proofs.Common.{◌≡◌, ℕ, List, [], ◌∷◌, ◌++◌, append-nil, Bool, true, false, Option, Result, Ok, Err, refl, sym, ◌∙◌, ap, subst, inl, inr, ◌⊎◌, string_bytes, codes}
+use Rattle.std.proofs.Common.{◌≡◌, ℕ, List, [], ◌∷◌, ◌++◌, append-nil, Bool, true, false, Option}
+use Rattle.std.proofs.Common.{Result, Ok, Err, refl, sym, ◌∙◌, ap, subst, inl, inr, ◌⊎◌}
+use Rattle.std.proofs.Common.{string_bytes, codes}
 use Rattle.std.specs.Prelude.{if◌then◌else◌}
 use Rattle.part_events.specs.Event.{Tag}
 use Rattle.part_events.specs.Reading.{Reading}
@@ -21,9 +23,13 @@ use Rattle.xlsx_cells.specs.Ends.{end_in_cell, end_in_data}
 use Rattle.xlsx_cells.specs.Finding.{BehindRow, IsTakenRefused, IsStepRefused}
 use Rattle.xlsx_cells.specs.Marks.{Mark, row_start, row_end, cell, is_cell, marks, behind_marks}
 use Rattle.xlsx_cells.specs.Position.{row_named, PassesRows}
-use Rattle.xlsx_cells.specs.Sheet.{behind_row, answers_from, placed_value, placed_formulas, values_in, formulas_written, formulas_along, is_nothing, is_empty, used_values, used_formulas}
-use Rattle.xlsx_cells.specs.SheetPart.{IsMarkRefused, AreDataRefused, DataFails, HoldsValues, HoldsFormulas}
-use Rattle.xlsx_cells.specs.Stream.{Stream, StandsBehind, IsCellRefused, IsRead, TakesCell, EndsData, NextCellFails, marks_ahead, data_ahead}
+use Rattle.xlsx_cells.specs.Sheet.{behind_row, answers_from, placed_value, placed_formulas}
+use Rattle.xlsx_cells.specs.Sheet.{values_in, formulas_written, formulas_along, is_nothing}
+use Rattle.xlsx_cells.specs.Sheet.{is_empty, used_values, used_formulas}
+use Rattle.xlsx_cells.specs.SheetPart.{IsMarkRefused, AreDataRefused, DataFails, HoldsValues}
+use Rattle.xlsx_cells.specs.SheetPart.{HoldsFormulas}
+use Rattle.xlsx_cells.specs.Stream.{Stream, StandsBehind, IsCellRefused, IsRead, TakesCell}
+use Rattle.xlsx_cells.specs.Stream.{EndsData, NextCellFails, marks_ahead, data_ahead}
 use Rattle.xlsx_cells.specs.declared.cell_read.CellRead.{CellRead}
 use Rattle.xlsx_cells.specs.declared.children.Wants.{Wants}
 

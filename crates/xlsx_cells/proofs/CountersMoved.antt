@@ -1,5 +1,6 @@
 -- The counters from one mark to the next.
-use Rattle.std.proofs.Common.{◌≡◌, ℕ, suc, ◌+◌, List, [], ◌∷◌, refl, ◌∙◌, ap, Option, Some, None, Result, Ok, Err, arith}
+use Rattle.std.proofs.Common.{◌≡◌, ℕ, suc, ◌+◌, List, [], ◌∷◌, refl, ◌∙◌, ap, Option, Some, None}
+use Rattle.std.proofs.Common.{Result, Ok, Err, arith}
 use Rattle.std.proofs.lemmas.Bool.Decides.{nat_tests}
 use Rattle.std.specs.Prelude.{min, nat_le, Bool, true, false, if◌then◌else◌}
 use Rattle.cell_refs.specs.declared.TheConstants.{MAX_ROWS, MAX_COLUMNS}
@@ -7,7 +8,8 @@ use Rattle.cell_refs.specs.declared.error.RefError.TheVariants as ref
 use Rattle.part_events.specs.Event.{Tag}
 use Rattle.part_events.specs.Section.{Element}
 use Rattle.xlsx_cells.specs.Marks.{Mark, row_start, row_end, cell}
-use Rattle.xlsx_cells.specs.Position.{row_named, position_named, row_counter, column_counter, or_further_row, or_further_column, implied_position}
+use Rattle.xlsx_cells.specs.Position.{row_named, position_named, row_counter, column_counter}
+use Rattle.xlsx_cells.specs.Position.{or_further_row, or_further_column, implied_position}
 use Rattle.xlsx_sections.specs.Refusal.{Refusal, misplaced}
 
 or_further_row_more : (ends : ℕ) (named : Result (Option ℕ) Refusal) (less more : ℕ) → more

@@ -22,9 +22,10 @@ use Rattle.xlsx_sections.specs.Refusal.{Refusal}
 use Rattle.xlsx_sections.proofs.Kept.{or_earlier-or_later, or_earlier-None}
 use Rattle.xlsx_sections.proofs.Refused.{refused_weaker, never_refused}
 use Rattle.xlsx_cells.specs.Counting.{IsRefused}
-use Rattle.xlsx_cells.specs.Head.{is_sheet_data, is_dimension, starts_data, head_starts, area_of}
+use Rattle.xlsx_cells.specs.Head.{is_sheet_data, is_dimension, starts_data, head_starts}
+use Rattle.xlsx_cells.specs.Head.{dimension_area}
 use Rattle.xlsx_cells.specs.Head.{dimensions_by, dimensions_in, dimensions_at, first_other}
-use Rattle.xlsx_cells.specs.Head.{other_in, other_at, other_name, IsStartRefused, LacksData}
+use Rattle.xlsx_cells.specs.Head.{other_in, other_at, other_name, IsHeadStartRefused, LacksData}
 use Rattle.xlsx_cells.specs.Head.{HasNoData, HeadCause, HeadFails, IsHeadError}
 use Rattle.xlsx_cells.specs.declared.head.Head.{Head}
 
@@ -130,18 +131,19 @@ dimensions_found {events = events} {event = event} {head = head} keeps same is =
 -- ---- refusals
 
 named_dimension : (b : Bool) (tag : Tag) → b ≡ true
-    → (if b || false then area_of tag else Ok None) ≡ area_of tag
+    → (if b || false then dimension_area tag else Ok None) ≡ dimension_area tag
 named_dimension true tag is = refl
 named_dimension false tag is = absurd (cc)
 
 -- a start of this name tells the dimensions
 pub tells_dimensions : (tag : Tag) → bytes_eq (local_name_of tag.name) (codes "dimension") ≡ true
-    → dimensions_by tag ≡ area_of tag
+    → dimensions_by tag ≡ dimension_area tag
 tells_dimensions tag is =
     named_dimension (bytes_eq (local_name_of tag.name) (codes "dimension")) tag is
 
 pub start_refused : (answer : Result (Option Dimensions) Refusal) (error : XlsxError)
-    → IsRefused (λ (refusal : Refusal). answer ≡ Err refusal) error → IsStartRefused answer error
+    → IsRefused (λ (refusal : Refusal). answer ≡ Err refusal) error
+    → IsHeadStartRefused answer error
 start_refused answer OutOfMemory refuses = tt
 start_refused answer error refuses = refuses
 
@@ -157,7 +159,7 @@ dimensions_refused {events = events} {event = event} {head = head} keeps same no
 
 -- a start before the data is refused, and so is the head
 pub head_refused : (old new : Reading) (answer : Result (Option Dimensions) Refusal)
-    (error : XlsxError) → IsStartRefused answer error
+    (error : XlsxError) → IsHeadStartRefused answer error
     → (old.source.is_told ≡ true → (refusal : Refusal) → answer ≡ Err refusal
     → dimensions_in (ahead old) ≡ Err refusal) → HeadFails old new error
 head_refused old new answer Io refuses all = absurd (refuses 0)

@@ -1,10 +1,14 @@
 -- The marks ahead, from one event to the next, and behind a cell.
-use Rattle.std.proofs.Common.{◌≡◌, ℕ, zero, suc, ◌+◌, List, [], ◌∷◌, ◌++◌, length, Bool, true, false, Some, None, refl, ◌∙◌, ap, arith}
+use Rattle.std.proofs.Common.{◌≡◌, ℕ, zero, suc, ◌+◌, List, [], ◌∷◌, ◌++◌, length, Bool, true}
+use Rattle.std.proofs.Common.{false, Some, None, refl, ◌∙◌, ap, arith}
 use Rattle.std.specs.Prelude.{if◌then◌else◌}
 use Rattle.part_events.specs.Event.{Tag, Event, start, end, leaf}
-use Rattle.part_events.specs.Section.{Element, element_of, content, behind, outermost_from, unclosed}
+use Rattle.part_events.specs.Section.{Element, element_of, content, behind, outermost_from}
+use Rattle.part_events.specs.Section.{unclosed}
 use Rattle.part_events.proofs.Sections.{content-content}
-use Rattle.xlsx_cells.specs.Marks.{Mark, row_start, row_end, cell, cells, is_cell, is_row, is_row_name, marks_from, marks, cell_start, marks_of, behind_marks}
+use Rattle.xlsx_cells.specs.Marks.{Mark, row_start, row_end, cell, cells, is_cell, is_row}
+use Rattle.xlsx_cells.specs.Marks.{is_row_name, marks_from, marks, cell_start, marks_of}
+use Rattle.xlsx_cells.specs.Marks.{behind_marks}
 
 -- the marks of a section behind an element that lies in it
 pub marks_behind : (inner outer within : ℕ) (events : List Event) → within ≡ inner + suc outer

@@ -1,19 +1,25 @@
 -- How the marks of a sheet's data are passed.
-use Rattle.std.proofs.Common.{◌≡◌, ◌≤◌, ◌<◌, ℕ, suc, ◌-◌, List, [], ◌∷◌, ◌++◌, length, append_assoc, Bool, true, false, Option, Some, None, refl, sym, ◌∙◌, ap, subst, arith}
+use Rattle.std.proofs.Common.{◌≡◌, ◌≤◌, ◌<◌, ℕ, suc, ◌-◌, List, [], ◌∷◌, ◌++◌, length, append_assoc}
+use Rattle.std.proofs.Common.{Bool, true, false, Option, Some, None, refl, sym, ◌∙◌, ap, subst}
+use Rattle.std.proofs.Common.{arith}
 use Rattle.std.specs.Prelude.{if◌then◌else◌}
 use Rattle.part_events.specs.Event.{Tag, Event, start, end, leaf}
 use Rattle.part_events.specs.Reading.{Reading, ReadsOn, names_behind, ahead}
-use Rattle.part_events.specs.Section.{Element, content, outermost, starts_by, behind_start, unclosed}
-use Rattle.part_events.specs.Walk.{inside, element_at, section_ahead, section_behind, StandsInside, StepsInside, TakesInside, SameAhead}
+use Rattle.part_events.specs.Section.{Element, content, outermost, starts_by, behind_start}
+use Rattle.part_events.specs.Section.{unclosed}
+use Rattle.part_events.specs.Walk.{inside, element_at, section_ahead, section_behind, StandsInside}
+use Rattle.part_events.specs.Walk.{StepsInside, TakesInside, SameAhead}
 use Rattle.part_events.specs.declared.walk.Step.TheVariants.{Found}
 use Rattle.xlsx_sections.specs.PartSection.{KeepsSection}
 use Rattle.xlsx_sections.proofs.SectionsRead.{section_further}
 use Rattle.xlsx_cells.specs.Counting.{AreKept}
 use Rattle.xlsx_cells.specs.Finding.{marks_left}
-use Rattle.xlsx_cells.specs.Marks.{Mark, row_start, row_end, cell, is_cell, marks, cell_start, marks_of, behind_marks}
+use Rattle.xlsx_cells.specs.Marks.{Mark, row_start, row_end, cell, is_cell, marks, cell_start}
+use Rattle.xlsx_cells.specs.Marks.{marks_of, behind_marks}
 use Rattle.xlsx_cells.specs.Position.{PassesRows}
 use Rattle.xlsx_cells.specs.declared.counters.Counters.{Counters}
-use Rattle.xlsx_cells.proofs.MarksAhead.{marks_cell, marks_event, unclosed_event, no_cell_start, behind_append}
+use Rattle.xlsx_cells.proofs.MarksAhead.{marks_cell, marks_event, unclosed_event, no_cell_start}
+use Rattle.xlsx_cells.proofs.MarksAhead.{behind_append}
 
 -- some marks were passed, none of them a cell
 pub record HasPassed

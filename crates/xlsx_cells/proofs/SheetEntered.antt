@@ -1,5 +1,6 @@
 -- How the data of a sheet are entered, and why they can't be.
-use Rattle.std.proofs.Common.{◌≡◌, ℕ, List, [], length, true, Some, None, Option, sym, ◌∙◌, ap, subst, codes, arith}
+use Rattle.std.proofs.Common.{◌≡◌, ℕ, List, [], length, true, Some, None, Option, sym, ◌∙◌, ap}
+use Rattle.std.proofs.Common.{subst, codes, arith}
 use Rattle.cell_refs.specs.declared.dimensions.Dimensions.{Dimensions}
 use Rattle.part_events.specs.Event.{Event}
 use Rattle.part_events.specs.Nesting.{whole}

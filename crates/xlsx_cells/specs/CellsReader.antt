@@ -98,8 +98,8 @@ flow_by state reader = flow (state reader.package.now) reader.stream
 abbrev pub reference_of : {P : Type 0} → XlsxCellReader P CellStream → GName
 reference_of reader = reader.package.ghost_name
 
-abbrev pub area_by : {P : Type 0} → XlsxCellReader P CellStream → Dimensions
-area_by reader = reader.dimensions
+abbrev pub area_held : {P : Type 0} → XlsxCellReader P CellStream → Dimensions
+area_held reader = reader.dimensions
 
 -- what the values of its cells rest on
 abbrev pub grounds_by : {P : Type 0} → XlsxCellReader P CellStream → Grounds
@@ -113,7 +113,7 @@ grounds_by reader = record {
 pub record KeepsHold {P : Type 0} (old new : XlsxCellReader P CellStream) : Type 0 where
   pub same_reference : reference_of new ≡ reference_of old
   pub grounds : grounds_by new ≡ grounds_by old
-  pub dimensions : area_by new ≡ area_by old
+  pub dimensions : area_held new ≡ area_held old
 
 -- the sheet's data were entered, by a reader that had taken nothing of their part
 pub record EntersCells (area : Dimensions) (old : Reading) (new : Flow) : Type 0 where
@@ -129,10 +129,10 @@ pub record EntersCells (area : Dimensions) (old : Reading) (new : Flow) : Type 0
   pub dimensions : old.source.is_told ≡ true → AreDimensions (whole (events_of old)) area
 
 -- when they can't be entered: nothing is said of the package then, which nobody holds
-abbrev pub EnterFails : Reading → XlsxError → Type 0
-EnterFails old Io = ⊤
-EnterFails old OutOfMemory = ⊤
-EnterFails old error =
+abbrev pub EnterCellsFails : Reading → XlsxError → Type 0
+EnterCellsFails old Io = ⊤
+EnterCellsFails old OutOfMemory = ⊤
+EnterCellsFails old error =
     old.source.is_told ≡ true → HeadCause (events_of old) (whole (events_of old)) error
 
 abbrev pub values_alone : Wants
@@ -154,10 +154,10 @@ pub record IsValued
   pub valued : cell_value grounds element.tag element.inside ≡ Ok (value_of_data_ref own.val)
   pub none : kept ≡ []
 
-abbrev pub TakesValue :
+abbrev pub TakesCellValue :
     Grounds → List Mark → List FormulaText → Option (Cell DataRef) → Flow → Flow → Type 0
-TakesValue grounds before earlier None old new = EndsFlow old
-TakesValue grounds before earlier (Some own) old new =
+TakesCellValue grounds before earlier None old new = EndsFlow old
+TakesCellValue grounds before earlier (Some own) old new =
     TakesCell before earlier old.stream new.stream (IsValued grounds own)
 
 -- the position and the formula of a cell, by the marks and the formulas before it
@@ -168,8 +168,8 @@ pub record IsFormula
   pub listed : formulas_in element.inside ≡ Ok kept
   pub found : string_bytes own.val ≡ cell_formula earlier own.pos kept
 
-abbrev pub TakesFormula :
+abbrev pub TakesCellFormula :
     List Mark → List FormulaText → Option (Cell (String Global)) → Flow → Flow → Type 0
-TakesFormula before earlier None old new = EndsFlow old
-TakesFormula before earlier (Some own) old new =
+TakesCellFormula before earlier None old new = EndsFlow old
+TakesCellFormula before earlier (Some own) old new =
     TakesCell before earlier old.stream new.stream (IsFormula earlier own)

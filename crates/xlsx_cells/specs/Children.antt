@@ -22,7 +22,7 @@ use Rattle.xlsx_cells.specs.declared.children.ChildName.{ChildName}
 use Rattle.xlsx_cells.specs.declared.children.ChildName.TheVariants.{Formula, Value, Inline, Stray}
 
 -- an element, at whose start a reader stands
-pub record StandsAt (element : Element) (r : Reading) : Type 0 where
+pub record StandsAtElement (element : Element) (r : Reading) : Type 0 where
   pub tag : start element.tag ≡ r.source.current
   pub inside : element.inside ≡ content 0 (ahead r)
 

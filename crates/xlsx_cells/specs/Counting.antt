@@ -18,8 +18,8 @@ pub record AreKept (before : List Mark) (counters : Counters) : Type 0 where
   pub row : counters.row ≡ min (row_counter 0 before) MAX_ROWS
   pub column : counters.column ≡ min (column_counter 0 before) MAX_COLUMNS
 
-abbrev pub IsSound : {A : Type 0} → Result A Refusal → Type 0
-IsSound {A} answer = (a : A) × (answer ≡ Ok a)
+abbrev pub IsGiven : {A : Type 0} → Result A Refusal → Type 0
+IsGiven {A} answer = (a : A) × (answer ≡ Ok a)
 
 -- a start is refused, wherever it stands
 abbrev pub IsRefused : (Refusal → Type 0) → XlsxError → Type 0

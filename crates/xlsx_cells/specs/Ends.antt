@@ -1,5 +1,6 @@
 -- Where the part of a sheet ends in its data, as a refusal tells it.
-use Rattle.std.specs.Prelude.{ℕ, List, [], ◌∷◌, Bool, ◌||◌, if◌then◌else◌, codes, Option, Some, None, Result}
+use Rattle.std.specs.Prelude.{ℕ, List, [], ◌∷◌, Bool, ◌||◌, if◌then◌else◌, codes, Option, Some}
+use Rattle.std.specs.Prelude.{None, Result}
 use Rattle.std.specs.Prelude.{Ok, Err}
 use Rattle.attr_text.specs.Attributes.{lookup}
 use Rattle.attr_text.specs.declared.fault.AttrFault.{AttrFault}

@@ -47,18 +47,18 @@ head_starts (start tag ∷ events) = if is_sheet_data tag then [] else tag ∷ h
 head_starts (end name ∷ events) = head_starts events
 head_starts (leaf kind ∷ events) = head_starts events
 
-abbrev pub area_by : Result (Option (List ℕ)) AttrFault → Result (Option Dimensions) Refusal
-area_by (Ok (Some written)) = some_placed (area written)
-area_by (Ok None) = Err lacks_area
-area_by (Err fault) = Err (lookup_fault fault)
+abbrev pub area_looked_up : Result (Option (List ℕ)) AttrFault → Result (Option Dimensions) Refusal
+area_looked_up (Ok (Some written)) = some_placed (area written)
+area_looked_up (Ok None) = Err lacks_area
+area_looked_up (Err fault) = Err (lookup_fault fault)
 
 -- the area that the start of dimensions names
-abbrev pub area_of : Tag → Result (Option Dimensions) Refusal
-area_of tag = area_by (value_of (codes "ref") tag.attributes)
+abbrev pub dimension_area : Tag → Result (Option Dimensions) Refusal
+dimension_area tag = area_looked_up (value_of (codes "ref") tag.attributes)
 
 -- what a start says of the sheet's dimensions, where it is there for that
 abbrev pub dimensions_by : Tag → Result (Option Dimensions) Refusal
-dimensions_by tag = if is_dimension tag then area_of tag else Ok None
+dimensions_by tag = if is_dimension tag then dimension_area tag else Ok None
 
 -- the last dimensions before the sheet's data
 abbrev pub dimensions_in : List Event → Result (Option Dimensions) Refusal
@@ -101,9 +101,9 @@ abbrev pub other_name : Head → Option (List ℕ)
 other_name head = option_map string_bytes head.other
 
 -- a start before the data is refused, wherever it stands; want of memory may come at any of them
-abbrev pub IsStartRefused : Result (Option Dimensions) Refusal → XlsxError → Type 0
-IsStartRefused answer OutOfMemory = ⊤
-IsStartRefused answer error = IsRefused (λ refusal. answer ≡ Err refusal) error
+abbrev pub IsHeadStartRefused : Result (Option Dimensions) Refusal → XlsxError → Type 0
+IsHeadStartRefused answer OutOfMemory = ⊤
+IsHeadStartRefused answer error = IsRefused (λ refusal. answer ≡ Err refusal) error
 
 -- how a part without a sheet's data is refused, by the name of its first start that is no dimension
 abbrev pub LacksData : Option (List ℕ) → XlsxError → Type 0

@@ -1,6 +1,8 @@
-ghost use Rattle.std.specs.Prelude.{◌≡◌, suc, length, List, true, false, Ok, Err, IfOk, OnOk, IfErr, string_bytes};
+ghost use Rattle.std.specs.Prelude.{◌≡◌, suc, length, List, true, false, Ok, Err, IfOk, OnOk};
+ghost use Rattle.std.specs.Prelude.{IfErr, string_bytes};
 ghost use Rattle.part_events.specs.Event.{Event, tag_of};
-ghost use Rattle.part_events.specs.Reading.{reading, open_elements, IsReading, IsAtElement, ReadsPart, Skips};
+ghost use Rattle.part_events.specs.Reading.{reading, open_elements, IsReading, IsAtElement};
+ghost use Rattle.part_events.specs.Reading.{ReadsPart, Skips};
 ghost use Rattle.part_events.specs.Section.{Element};
 ghost use Rattle.cell_data.specs.CellValue.{value_of_data_ref};
 ghost use Rattle.cell_data.specs.declared.error.XlsxError.TheVariants.{Io};
@@ -8,7 +10,7 @@ ghost use Rattle.xlsx_values.specs.Book.{kind_of, grounds_of};
 ghost use Rattle.xlsx_values.specs.Value.{cell_value, value_in};
 ghost use Rattle.xlsx_formulas.specs.Formula.{FormulaText};
 ghost use Rattle.xlsx_formulas.specs.Kept.{AreMasters};
-ghost use Rattle.xlsx_cells.specs.Children.{StandsAt, ReadsFormulas};
+ghost use Rattle.xlsx_cells.specs.Children.{StandsAtElement, ReadsFormulas};
 ghost use Rattle.xlsx_cells.specs.Counting.{IsStartRefused};
 ghost use Rattle.xlsx_cells.specs.Ends.{kind_of_cell};
 ghost use Rattle.xlsx_cells.specs.Errors.{IsCellError};
@@ -89,17 +91,18 @@ pub fn read_cell<P: Package>(
     ensures value { let old = reading (P.state «package».old) cursor.old in
         let value = cell_value (grounds_of asked.entry.book) in
         old.source.is_told ≡ true → asked.entry.wants.values ≡ true → (element : Element) →
-        StandsAt element old → IfOk result (λ read.
+        StandsAtElement element old → IfOk result (λ read.
         value element.tag element.inside ≡ Ok (value_of_data_ref read.value)) }
     ensures formula { let old = reading (P.state «package».old) cursor.old in
         old.source.is_told ≡ true → asked.entry.wants.formulas ≡ true → (element : Element) →
-        StandsAt element old → (earlier : List FormulaText) → AreMasters earlier masters.old →
+        StandsAtElement element old → (earlier : List FormulaText) →
+        AreMasters earlier masters.old →
         IfOk result (λ read. ReadsFormulas earlier pos element.inside
         (record { masters = masters.new; text = string_bytes read.formula })) }
     ensures same { asked.entry.wants.formulas ≡ false → OnOk result (masters.new ≡ masters.old) }
     ensures err { let old = reading (P.state «package».old) cursor.old in
         let new = reading (P.state «package».new) cursor.new in
-        IfErr result (λ error. (element : Element) → StandsAt element old →
+        IfErr result (λ error. (element : Element) → StandsAtElement element old →
         CellFails asked.entry.wants (grounds_of asked.entry.book) element.tag old new error) }
     ensures kind { IfErr result IsCellError }
 {

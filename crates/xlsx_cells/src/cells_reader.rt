@@ -48,9 +48,10 @@ impl<P: Package, S: Drop> Drop for XlsxCellReader<'_, P, S> {
 }
 
 impl<'a, P: Package> XlsxCellReader<'a, P> {
-    ghost use Rattle.xlsx_cells.specs.CellsReader.{flow_by, reference_of, grounds_by, area_by};
+    ghost use Rattle.xlsx_cells.specs.CellsReader.{flow_by, reference_of, grounds_by, area_held};
     ghost use Rattle.xlsx_cells.specs.CellsReader.{IsFlowing, IsFlowError, KeepsHold, EntersCells};
-    ghost use Rattle.xlsx_cells.specs.CellsReader.{EnterFails, CellTo, TakesValue, TakesFormula};
+    ghost use Rattle.xlsx_cells.specs.CellsReader.{EnterCellsFails, CellTo, TakesCellValue};
+    ghost use Rattle.xlsx_cells.specs.CellsReader.{TakesCellFormula};
     ghost use Rattle.xlsx_cells.specs.CellsReader.{FlowFails, RestsAtEnd, values_alone};
     ghost use Rattle.xlsx_cells.specs.CellsReader.{formulas_alone};
 
@@ -79,9 +80,9 @@ impl<'a, P: Package> XlsxCellReader<'a, P> {
           formats = formats.now;
           is_1904 = is_1904;
         })) }
-        ensures enters { IfOk result (λ reader. EntersCells (area_by reader)
+        ensures enters { IfOk result (λ reader. EntersCells (area_held reader)
             (xml_reader.reading_by P.state xml.entry) (flow_by P.state reader)) }
-        ensures err { IfErr result (EnterFails (xml_reader.reading_by P.state xml.entry)) }
+        ensures err { IfErr result (EnterCellsFails (xml_reader.reading_by P.state xml.entry)) }
         ensures kind { IfErr result IsHeadError }
     {
         let (package, mut cursor) = xml.into_parts();
@@ -114,7 +115,7 @@ impl<'a, P: Package> XlsxCellReader<'a, P> {
           formats = formats.now;
           is_1904 = is_1904;
         }) }
-        ensures dimensions { area_by result ≡ dimensions }
+        ensures dimensions { area_held result ≡ dimensions }
         ensures stream { (flow_by P.state result).stream ≡ stream (P.state «package».old) sheet }
         ensures going { ((flow_by P.state result).is_done ≡ false)
             × ((flow_by P.state result).is_failed ≡ false) }
@@ -133,7 +134,7 @@ impl<'a, P: Package> XlsxCellReader<'a, P> {
     /// The area of the last `dimension` (18.3.1.35) before the sheet's data, and without one both
     /// ends at row 0 and column 0. Rows and columns count from 0.
     pub fn dimensions(&self) -> Dimensions
-        ensures { result ≡ area_by self.now }
+        ensures { result ≡ area_held self.now }
     {
         self.dimensions
     }
@@ -170,7 +171,7 @@ impl<'a, P: Package> XlsxCellReader<'a, P> {
             let grounds = grounds_by self.old in
             old.stream.reading.source.is_told ≡ true → (before : List Mark)
             (earlier : List FormulaText) → StandsBehind before earlier old.stream →
-            IfOk result (λ found. TakesValue grounds before earlier found old new) }
+            IfOk result (λ found. TakesCellValue grounds before earlier found old new) }
         ensures err { let old = flow_by P.state self.old in
             let new = flow_by P.state self.new in
             IfErr result (FlowFails values_alone (grounds_by self.old) old new) }
@@ -217,7 +218,7 @@ impl<'a, P: Package> XlsxCellReader<'a, P> {
             let new = flow_by P.state self.new in
             old.stream.reading.source.is_told ≡ true → (before : List Mark)
             (earlier : List FormulaText) → StandsBehind before earlier old.stream →
-            IfOk result (λ found. TakesFormula before earlier found old new) }
+            IfOk result (λ found. TakesCellFormula before earlier found old new) }
         ensures err { let old = flow_by P.state self.old in
             let new = flow_by P.state self.new in
             IfErr result (FlowFails formulas_alone (grounds_by self.old) old new) }

@@ -1,6 +1,8 @@
-ghost use Rattle.std.specs.Prelude.{◌≡◌, suc, length, List, true, false, Ok, IfOk, OnOk, IfErr, string_bytes, codes};
+ghost use Rattle.std.specs.Prelude.{◌≡◌, suc, length, List, true, false, Ok, IfOk, OnOk, IfErr};
+ghost use Rattle.std.specs.Prelude.{string_bytes, codes};
 ghost use Rattle.part_events.specs.Event.{tag_of, start};
-ghost use Rattle.part_events.specs.Reading.{reading, open_elements, IsReading, IsAtElement, ReadsPart, Skips, ahead};
+ghost use Rattle.part_events.specs.Reading.{reading, open_elements, IsReading, IsAtElement};
+ghost use Rattle.part_events.specs.Reading.{ReadsPart, Skips, ahead};
 ghost use Rattle.part_events.specs.Section.{Element, content};
 ghost use Rattle.cell_data.specs.CellValue.{value_of_data_ref};
 ghost use Rattle.cell_data.specs.declared.error.XlsxError.TheVariants.{Io};
@@ -12,7 +14,9 @@ ghost use Rattle.xlsx_values.specs.Value.{Grounds, value_in, said_value, or_noth
 ghost use Rattle.xlsx_sections.specs.Answers.{or_earlier};
 ghost use Rattle.xlsx_formulas.specs.Formula.{FormulaText};
 ghost use Rattle.xlsx_formulas.specs.Kept.{AreMasters};
-ghost use Rattle.xlsx_cells.specs.Children.{StandsAt, value_kept, IsNamedAs, value_name, ChildFails, AreChildrenRefused, FormulaStep, ReadsFormula, ReadsFormulas};
+ghost use Rattle.xlsx_cells.specs.Children.{StandsAtElement, value_kept, IsNamedAs, value_name};
+ghost use Rattle.xlsx_cells.specs.Children.{ChildFails, AreChildrenRefused, FormulaStep};
+ghost use Rattle.xlsx_cells.specs.Children.{ReadsFormula, ReadsFormulas};
 ghost use Rattle.xlsx_cells.specs.declared.children.ChildName.TheVariants.{Formula};
 ghost use Rattle.xlsx_cells.specs.Errors.{IsCellError};
 ghost use Rattle.xlsx_cells.specs.Ends.{reads_children, end_in_children};
@@ -102,13 +106,13 @@ fn take_formula<P: Package>(
         let after : FormulaStep =
         record { masters = masters.new; text = string_bytes text.new } in
         old.source.is_told ≡ true → wants.formulas ≡ true → (element : Element) →
-        StandsAt element old → IsNamedAs Formula element.tag →
+        StandsAtElement element old → IsNamedAs Formula element.tag →
         OnOk result (ReadsFormula pos element.tag element.inside before after) }
     ensures same { wants.formulas ≡ false → OnOk result (masters.new ≡ masters.old) }
     ensures err { let old = reading (P.state «package».old) cursor.old in
         let new = reading (P.state «package».new) cursor.new in
         IfErr result (λ error. (grounds : Grounds) (format : CellFormat) (kind : CellKind)
-        (element : Element) → StandsAt element old → IsNamedAs Formula element.tag →
+        (element : Element) → StandsAtElement element old → IsNamedAs Formula element.tag →
         ChildFails wants grounds format kind element.tag old new error) }
     ensures kind { IfErr result IsCellError }
 {
@@ -145,7 +149,7 @@ fn keep_value<P: Package>(
         let said = said_value (grounds_of asked.entry.book) start.now.format
         (kind_of start.now.typ) in
         old.source.is_told ≡ true → asked.entry.wants.values ≡ true → (element : Element) →
-        StandsAt element old → IsNamedAs (value_name is_inline) element.tag → OnOk result
+        StandsAtElement element old → IsNamedAs (value_name is_inline) element.tag → OnOk result
         (or_earlier (value_kept value.old) (said element.tag element.inside)
         ≡ Ok (value_kept value.new)) }
     ensures err { let old = reading (P.state «package».old) cursor.old in
@@ -153,7 +157,7 @@ fn keep_value<P: Package>(
         let grounds = grounds_of asked.entry.book in
         let kind = kind_of start.now.typ in
         IfErr result (λ error. (element : Element) →
-        StandsAt element old → IsNamedAs (value_name is_inline) element.tag →
+        StandsAtElement element old → IsNamedAs (value_name is_inline) element.tag →
         ChildFails asked.entry.wants grounds start.now.format kind element.tag old new error) }
     ensures kind { IfErr result IsCellError }
 {
@@ -196,7 +200,7 @@ fn read_child<P: Package>(
         let said = said_value (grounds_of asked.entry.book) start.now.format
         (kind_of start.now.typ) in
         old.source.is_told ≡ true → asked.entry.wants.values ≡ true → (element : Element) →
-        StandsAt element old → OnOk result
+        StandsAtElement element old → OnOk result
         (or_earlier (value_kept contents.old.value) (said element.tag element.inside)
         ≡ Ok (value_kept contents.new.value)) }
     ensures formula { let old = reading (P.state «package».old) cursor.old in
@@ -205,14 +209,14 @@ fn read_child<P: Package>(
         let after : FormulaStep =
         record { masters = masters.new; text = string_bytes contents.new.formula } in
         old.source.is_told ≡ true → asked.entry.wants.formulas ≡ true → (element : Element) →
-        StandsAt element old →
+        StandsAtElement element old →
         OnOk result (ReadsFormula start.now.pos element.tag element.inside before after) }
     ensures same { asked.entry.wants.formulas ≡ false → OnOk result (masters.new ≡ masters.old) }
     ensures err { let old = reading (P.state «package».old) cursor.old in
         let new = reading (P.state «package».new) cursor.new in
         let grounds = grounds_of asked.entry.book in
         let kind = kind_of start.now.typ in
-        IfErr result (λ error. (element : Element) → StandsAt element old →
+        IfErr result (λ error. (element : Element) → StandsAtElement element old →
         ChildFails asked.entry.wants grounds start.now.format kind element.tag old new error) }
     ensures kind { IfErr result IsCellError }
 {

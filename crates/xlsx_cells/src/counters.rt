@@ -1,10 +1,12 @@
-ghost use Rattle.std.specs.Prelude.{◌≡◌, ◌+◌, ◌<◌, ℕ, [], ◌∷◌, List, Option, Some, None, Ok, Err, IfOk, OnOk, IfErr};
+ghost use Rattle.std.specs.Prelude.{◌≡◌, ◌+◌, ◌<◌, ℕ, [], ◌∷◌, List, Option, Some, None, Ok, Err};
+ghost use Rattle.std.specs.Prelude.{IfOk, OnOk, IfErr};
 ghost use Rattle.cell_refs.specs.declared.TheConstants.{MAX_ROWS, MAX_COLUMNS};
 ghost use Rattle.part_events.specs.Event.{Event, tag_of};
 ghost use Rattle.part_events.specs.Section.{Element};
-ghost use Rattle.xlsx_cells.specs.Counting.{AreKept, IsSound, IsRefused, IsPositionError};
+ghost use Rattle.xlsx_cells.specs.Counting.{AreKept, IsGiven, IsRefused, IsPositionError};
 ghost use Rattle.xlsx_cells.specs.Marks.{Mark, row_start, row_end, cell};
-ghost use Rattle.xlsx_cells.specs.Position.{row_named, position_named, column_counter, implied_position, cell_position};
+ghost use Rattle.xlsx_cells.specs.Position.{row_named, position_named, column_counter};
+ghost use Rattle.xlsx_cells.specs.Position.{implied_position, cell_position};
 
 use attr_text::RawAttributes;
 use cell_data::XlsxError;
@@ -83,7 +85,7 @@ impl Counters {
     pub fn start_row(&mut self, tag: StartTag<'_>) -> Result<(), XlsxError>
         ensures ok { OnOk result ((before : List Mark) → AreKept before self.old →
             AreKept (row_start (tag_of tag.entry) ∷ before) self.new) }
-        ensures sound { OnOk result (IsSound (row_named (tag_of tag.entry))) }
+        ensures sound { OnOk result (IsGiven (row_named (tag_of tag.entry))) }
         ensures err { IfErr result
             (IsRefused (λ refusal. row_named (tag_of tag.entry) ≡ Err refusal)) }
         ensures kind { IfErr result IsPositionError }

@@ -1,4 +1,5 @@
-ghost use Rattle.std.specs.Prelude.{◌≡◌, ◌≤◌, ℕ, List, length, true, Option, option_map, codes, IfOk, OnOk, IfErr};
+ghost use Rattle.std.specs.Prelude.{◌≡◌, ◌≤◌, ℕ, List, length, true, Option, option_map, codes};
+ghost use Rattle.std.specs.Prelude.{IfOk, OnOk, IfErr};
 ghost use Rattle.part_events.specs.Event.{tag_of, event_of};
 ghost use Rattle.part_events.specs.Reading.{reading, open_elements, IsReading, ReadsPart};
 ghost use Rattle.part_events.specs.Section.{Element};

@@ -8,9 +8,9 @@ ghost use Rattle.part_events.specs.Section.{behind_start};
 ghost use Rattle.cell_data.specs.declared.error.XlsxError.TheVariants.{Io};
 ghost use Rattle.xlsx_sections.specs.Answers.{or_earlier};
 ghost use Rattle.xlsx_cells.specs.Counting.{IsRefused};
-ghost use Rattle.xlsx_cells.specs.Head.{is_sheet_data, starts_data, area_of, dimensions_by};
+ghost use Rattle.xlsx_cells.specs.Head.{is_sheet_data, starts_data, dimension_area, dimensions_by};
 ghost use Rattle.xlsx_cells.specs.Head.{dimensions_at, AreDimensions, other_by, other_at};
-ghost use Rattle.xlsx_cells.specs.Head.{other_name, IsStartRefused, LacksData, HeadFails};
+ghost use Rattle.xlsx_cells.specs.Head.{other_name, IsHeadStartRefused, LacksData, HeadFails};
 ghost use Rattle.xlsx_cells.specs.Head.{IsHeadError};
 
 use attr_text::RawAttributes;
@@ -31,8 +31,9 @@ fn starts_data(event: PartEvent<'_>) -> bool
 
 /// The area that the start of dimensions names.
 fn area_of(tag: StartTag<'_>) -> Result<Dimensions, XlsxError>
-    ensures ok { IfOk result (λ area. area_of (tag_of tag.entry) ≡ Ok (Some area)) }
-    ensures err { IfErr result (IsRefused (λ refusal. area_of (tag_of tag.entry) ≡ Err refusal)) }
+    ensures ok { IfOk result (λ area. dimension_area (tag_of tag.entry) ≡ Ok (Some area)) }
+    ensures err { IfErr result (IsRefused (λ refusal.
+        dimension_area (tag_of tag.entry) ≡ Err refusal)) }
     ensures kind { IfErr result IsHeadError }
 {
     match tag.raw_attr("ref")? {
@@ -66,7 +67,7 @@ impl Head {
             OnOk result (or_earlier self.old.dimensions own ≡ Ok self.new.dimensions) }
         ensures other { let own = other_by (tag_of tag.entry) in
             OnOk result (other_name self.new ≡ option_or (other_name self.old) own) }
-        ensures err { IfErr result (IsStartRefused (dimensions_by (tag_of tag.entry))) }
+        ensures err { IfErr result (IsHeadStartRefused (dimensions_by (tag_of tag.entry))) }
         ensures kind { IfErr result IsHeadError }
     {
         if tag.local_name() == "dimension" {
@@ -83,7 +84,7 @@ impl Head {
             OnOk result (or_earlier self.old.dimensions own ≡ Ok self.new.dimensions) }
         ensures other { let own = other_at (event_of event.entry) in
             OnOk result (other_name self.new ≡ option_or (other_name self.old) own) }
-        ensures err { IfErr result (IsStartRefused (dimensions_at (event_of event.entry))) }
+        ensures err { IfErr result (IsHeadStartRefused (dimensions_at (event_of event.entry))) }
         ensures kind { IfErr result IsHeadError }
     {
         match event {

@@ -1,4 +1,5 @@
-ghost use Rattle.std.specs.Prelude.{◌≡◌, ◌<◌, ◌++◌, [], ◌∷◌, true, IfOk, OnOk, IfErr, All, map, string_bytes};
+ghost use Rattle.std.specs.Prelude.{◌≡◌, ◌<◌, ◌++◌, [], ◌∷◌, true, IfOk, OnOk, IfErr, All, map};
+ghost use Rattle.std.specs.Prelude.{string_bytes};
 ghost use Rattle.cell_refs.specs.declared.TheConstants.{MAX_ROWS, MAX_COLUMNS};
 ghost use Rattle.cell_data.specs.CellValue.{value_of_data_ref};
 ghost use Rattle.xlsx_cells.specs.Sheet.{used_values, used_formulas};
@@ -7,8 +8,10 @@ ghost use Rattle.cell_data.specs.Cells.{IsInSheet};
 ghost use Rattle.cell_data.specs.declared.error.XlsxError.TheVariants.{Io, OutOfMemory};
 ghost use Rattle.xlsx_values.specs.Book.{grounds_of};
 ghost use Rattle.xlsx_cells.specs.Errors.{IsCellError};
-ghost use Rattle.xlsx_cells.specs.SheetPart.{DataFails, HoldsValues, HoldsFormulas, value_entries, formula_entries};
-ghost use Rattle.xlsx_cells.specs.Stream.{stream, IsStreaming, StandsBehind, data_ahead, are_closed_ahead};
+ghost use Rattle.xlsx_cells.specs.SheetPart.{DataFails, HoldsValues, HoldsFormulas, value_entries};
+ghost use Rattle.xlsx_cells.specs.SheetPart.{formula_entries};
+ghost use Rattle.xlsx_cells.specs.Stream.{stream, IsStreaming, StandsBehind, data_ahead};
+ghost use Rattle.xlsx_cells.specs.Stream.{are_closed_ahead};
 
 use crate::cell_read::CellRead;
 use crate::children::Asked;

@@ -220,8 +220,8 @@ same_some x y found first second = ap (some_of x) (sym first ∙ second)
 -- a sheet that is read isn't refused, as each is
 abbrev pub NeverBoth : Type 0
 NeverBoth =
-    (parts : List Part) (name : List ℕ) (values : List ((ℕ × ℕ) × CellValue)) (formulas : List ((ℕ × ℕ) × List ℕ))
-    (error : XlsxError)
+    (parts : List Part) (name : List ℕ) (values : List ((ℕ × ℕ) × CellValue))
+    (formulas : List ((ℕ × ℕ) × List ℕ)) (error : XlsxError)
     → ReadsAs parts name values formulas → SheetCause parts name error → ⊥
 
 -- the words are a command on the package that the source spells
@@ -245,7 +245,8 @@ no_package_cause :
     (error : XlsxError)
     → IsCommand words source name parts → ReadsAs parts name values formulas
     → sheet_asked words ≡ Some asked → HasPackageCause asked source error → ⊥
-no_package_cause never words source name asked parts values formulas error command reads same cause =
+no_package_cause never words source name asked parts values formulas error command reads same
+    cause =
     let name_is = same_some asked name (sheet_asked words) same command.asked in
     let package_is =
     same_package source cause.parts parts (cause.spells command.is_told) command.spells
@@ -274,9 +275,10 @@ not_refused never words old new name parts values formulas NotAPackage command r
     let none = (refuses.cause.1 command.is_told).spelled in
     not_some parts (package_in old.source.left) command.spells.spelled none
 not_refused never words old new name parts values formulas NotBuilt command reads own refuses =
-    no_package_cause never words old.source name refuses.name parts values formulas workbook.NotBuilt
-    command reads refuses.asked refuses.cause.1
-not_refused never words old new name parts values formulas (Workbook error) command reads own refuses =
+    no_package_cause never words old.source name refuses.name parts values formulas
+    workbook.NotBuilt command reads refuses.asked refuses.cause.1
+not_refused never words old new name parts values formulas (Workbook error) command reads own
+    refuses =
     no_package_cause never words old.source name refuses.name parts values formulas error
     command reads refuses.asked refuses.cause.2
 not_refused never words old new name parts values formulas WriteFault command reads own refuses =
@@ -320,7 +322,8 @@ answers never words old new (Err error) told ok err = record {
       in (
         λ is_ok. absurd (true≢false (sym is_ok)),
         λ readable. absurd (
-            not_refused never words old new name parts readable.0 readable.1 error command readable.2
+            not_refused never words old new name parts readable.0 readable.1 error command
+            readable.2
             (λ is. memory (ap Err is), λ is. read (ap Err is), λ is. write (ap Err is)) err
             ),
       )

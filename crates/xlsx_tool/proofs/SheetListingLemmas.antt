@@ -23,8 +23,9 @@ use Rattle.cell_data.proofs.Placing.{less_from, none_behind, found_in_two}
 use Rattle.cell_data.specs.CellValue.{CellValue, nothing, value_of_data}
 use Rattle.cell_data.specs.Positions.{position_cmp, is_rising}
 use Rattle.cell_data.specs.declared.value.Data.{Data}
-use Rattle.xlsx_tool.specs.SheetListing.{line_of, value_at, formula_at, used, listing, values_in}
-use Rattle.xlsx_tool.specs.SheetListing.{formulas_in, value_given, formula_given, given}
+use Rattle.xlsx_tool.specs.SheetListing.{line_of, value_placed, formula_placed, used, listing}
+use Rattle.xlsx_tool.specs.SheetListing.{cell_values}
+use Rattle.xlsx_tool.specs.SheetListing.{cell_formulas, value_given, formula_given, given}
 use Rattle.xlsx_tool.specs.SheetListing.{Splits, AreInOrder, IsFirstOf, IsOfFirst, StandsFirst}
 
 twice : {A : Type 0} (t : Bool) (a b : A) → cond t a (cond t a b) ≡ cond t a b
@@ -160,7 +161,7 @@ module _ {X Y : Type 0} where
       (sym (found_entries q (used vs ++ used fs)))))
 
 line_at : List ((ℕ × ℕ) × CellValue) → List ((ℕ × ℕ) × List ℕ) → ℕ × ℕ → List ℕ
-line_at values formulas q = line_of q (value_at q values) (formula_at q formulas)
+line_at values formulas q = line_of q (value_placed q values) (formula_placed q formulas)
 
 lines_past : (p : ℕ × ℕ) (v : Option CellValue) (f : Option (List ℕ))
     (vs : List ((ℕ × ℕ) × CellValue)) (fs : List ((ℕ × ℕ) × List ℕ))
@@ -227,15 +228,15 @@ pub cells_step : (p : ℕ × ℕ) (v : Option Data) (f : Option (String Global))
     (vs values : List ((ℕ × ℕ) × Data)) (fs formulas : List ((ℕ × ℕ) × String Global)) →
     values ≡ given p v ++ vs → formulas ≡ given p f ++ fs →
     below_all position_cmp p vs ≡ true → below_all position_cmp p fs ≡ true →
-    listing (values_in values) (formulas_in formulas)
-    ≡ line_of p (value_given v) (formula_given f) ++ listing (values_in vs) (formulas_in fs)
+    listing (cell_values values) (cell_formulas formulas)
+    ≡ line_of p (value_given v) (formula_given f) ++ listing (cell_values vs) (cell_formulas fs)
 unfolding seen
 cells_step p v f vs values fs formulas is_v is_f in_values in_formulas =
-    let seen_v = ap values_in is_v ∙ seen_given value_of_data p v vs in
-    let seen_f = ap formulas_in is_f ∙ seen_given string_bytes p f fs in
+    let seen_v = ap cell_values is_v ∙ seen_given value_of_data p v vs in
+    let seen_f = ap cell_formulas is_f ∙ seen_given string_bytes p f fs in
     (λ i. listing (seen_v i) (seen_f i))
-    ∙ listing_step p (option_map value_of_data v) (option_map string_bytes f) (values_in vs)
-    (formulas_in fs) (seen_below value_of_data p vs ∙ in_values)
+    ∙ listing_step p (option_map value_of_data v) (option_map string_bytes f) (cell_values vs)
+    (cell_formulas fs) (seen_below value_of_data p vs ∙ in_values)
     (seen_below string_bytes p fs ∙ in_formulas)
 
 goes_on : (old new line rest left whole : List ℕ) → new ≡ old ++ line → left ≡ line ++ rest →
@@ -248,12 +249,14 @@ pub lines_on : (p : ℕ × ℕ) (v : Option Data) (f : Option (String Global))
     (values vs : List (Cell Data)) (formulas fs : List (Cell (String Global)))
     (old new whole : List ℕ) → Splits p values v vs → Splits p formulas f fs →
     new ≡ old ++ line_of p (value_given v) (formula_given f) →
-    old ++ listing (values_in (placed_cells values)) (formulas_in (placed_cells formulas)) ≡ whole →
-    new ++ listing (values_in (placed_cells vs)) (formulas_in (placed_cells fs)) ≡ whole
+    old ++ listing (cell_values (placed_cells values)) (cell_formulas (placed_cells formulas))
+    ≡ whole →
+    new ++ listing (cell_values (placed_cells vs)) (cell_formulas (placed_cells fs)) ≡ whole
 lines_on p v f values vs formulas fs old new whole splits_v splits_f printed same =
     goes_on old new (line_of p (value_given v) (formula_given f))
-    (listing (values_in (placed_cells vs)) (formulas_in (placed_cells fs)))
-    (listing (values_in (placed_cells values)) (formulas_in (placed_cells formulas))) whole printed
+    (listing (cell_values (placed_cells vs)) (cell_formulas (placed_cells fs)))
+    (listing (cell_values (placed_cells values)) (cell_formulas (placed_cells formulas))) whole
+    printed
     (cells_step p v f (placed_cells vs) (placed_cells values) (placed_cells fs)
     (placed_cells formulas) splits_v.whole splits_f.whole splits_v.below splits_f.below) same
 
@@ -272,12 +275,13 @@ nothing_listed =
 pub lines_end : (out whole : List ℕ)
     (values : List (Cell Data)) (formulas : List (Cell (String Global))) →
     values ≡ [] → formulas ≡ [] →
-    out ++ listing (values_in (placed_cells values)) (formulas_in (placed_cells formulas)) ≡ whole →
+    out ++ listing (cell_values (placed_cells values)) (cell_formulas (placed_cells formulas))
+    ≡ whole →
     out ≡ whole
 lines_end out whole values formulas no_value no_formula same =
     sym (append-nil out) ∙ (ap (λ bytes. out ++ bytes) (sym nothing_listed)
-    ∙ ((λ i. out ++ listing (values_in (placed_cells (sym no_value i)))
-    (formulas_in (placed_cells (sym no_formula i)))) ∙ same))
+    ∙ ((λ i. out ++ listing (cell_values (placed_cells (sym no_value i)))
+    (cell_formulas (placed_cells (sym no_formula i)))) ∙ same))
 
 module _ {X : Type 0} where
   given_length : (p : ℕ × ℕ) (v : Option X) (behind : List ((ℕ × ℕ) × X)) →

@@ -55,7 +55,8 @@ pub record ListsSheet (name : List ℕ) (old new : Streams) : Type 0 where
   pub spells : Spells old.source.left parts
   pub reads : ReadsAs parts name values formulas
   pub whole : new.source.left ≡ []
-  pub written : old.sink.is_told ≡ true → new.sink.written ≡ old.sink.written ++ listing values formulas
+  pub written :
+      old.sink.is_told ≡ true → new.sink.written ≡ old.sink.written ++ listing values formulas
 
 -- a run that answers Ok
 pub record Succeeds (words : List (List ℕ)) (old new : Streams) : Type 0 where

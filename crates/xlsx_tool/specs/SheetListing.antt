@@ -39,23 +39,23 @@ calendar_text true = codes " 1904"
 calendar_text false = codes " 1900"
 
 -- a value as it is printed, its kind first
-abbrev pub value_text : CellValue → Option (List ℕ)
-value_text nothing = None
-value_text (integer n) = Some (codes "n:" ++ signed_decimal n)
-value_text (number decimal) = Some (codes "n:" ++ printed decimal)
-value_text (text bytes) = Some (codes "s:" ++ escaped bytes)
+abbrev pub value_field : CellValue → Option (List ℕ)
+value_field nothing = None
+value_field (integer n) = Some (codes "n:" ++ signed_decimal n)
+value_field (number decimal) = Some (codes "n:" ++ printed decimal)
+value_field (text bytes) = Some (codes "s:" ++ escaped bytes)
 -- it is no value before its text is known
-value_text (shared_text place) = None
-value_text (truth holds) = Some (truth_text holds)
-value_text (time days kind is_1904) =
+value_field (shared_text place) = None
+value_field (truth holds) = Some (truth_text holds)
+value_field (time days kind is_1904) =
     Some (codes "t:" ++ (printed days ++ (kind_text kind ++ calendar_text is_1904)))
-value_text (iso_time bytes) = Some (codes "i:" ++ escaped bytes)
-value_text (failure error) = Some (codes "e:" ++ cell_error_text error)
+value_field (iso_time bytes) = Some (codes "i:" ++ escaped bytes)
+value_field (failure error) = Some (codes "e:" ++ cell_error_text error)
 
 -- an empty text is no formula
-abbrev pub formula_text : List ℕ → Option (List ℕ)
-formula_text [] = None
-formula_text (byte ∷ bytes) = Some (codes "=" ++ escaped (byte ∷ bytes))
+abbrev pub formula_field : List ℕ → Option (List ℕ)
+formula_field [] = None
+formula_field (byte ∷ bytes) = Some (codes "=" ++ escaped (byte ∷ bytes))
 
 -- `-` where there is nothing
 abbrev pub field : Option (List ℕ) → List ℕ
@@ -70,14 +70,14 @@ line position value formula =
 -- the line of a position, where it has a value or a formula
 abbrev pub line_of : ℕ × ℕ → CellValue → List ℕ → List ℕ
 line_of position value formula =
-    if is_some (value_text value) || is_some (formula_text formula)
-    then line position (value_text value) (formula_text formula) else []
+    if is_some (value_field value) || is_some (formula_field formula)
+    then line position (value_field value) (formula_field formula) else []
 
-abbrev pub value_at : ℕ × ℕ → List ((ℕ × ℕ) × CellValue) → CellValue
-value_at position values = unwrap_or (find position_cmp position values) nothing
+abbrev pub value_placed : ℕ × ℕ → List ((ℕ × ℕ) × CellValue) → CellValue
+value_placed position values = unwrap_or (find position_cmp position values) nothing
 
-abbrev pub formula_at : ℕ × ℕ → List ((ℕ × ℕ) × List ℕ) → List ℕ
-formula_at position formulas = unwrap_or (find position_cmp position formulas) []
+abbrev pub formula_placed : ℕ × ℕ → List ((ℕ × ℕ) × List ℕ) → List ℕ
+formula_placed position formulas = unwrap_or (find position_cmp position formulas) []
 
 -- the positions alone, as entries of a map
 abbrev pub used : {X : Type 0} → List ((ℕ × ℕ) × X) → List ((ℕ × ℕ) × Unit {0})
@@ -93,16 +93,16 @@ used_positions values formulas =
 unfoldable pub listing : List ((ℕ × ℕ) × CellValue) → List ((ℕ × ℕ) × List ℕ) → List ℕ
 listing values formulas =
     flat_map
-    (λ position. line_of position (value_at position values) (formula_at position formulas))
+    (λ position. line_of position (value_placed position values) (formula_placed position formulas))
     (used_positions values formulas)
 
 -- ---- the cells of ranges
 
-abbrev pub values_in : List ((ℕ × ℕ) × Data) → List ((ℕ × ℕ) × CellValue)
-values_in cells = map (λ cell. (cell.0, value_of_data cell.1)) cells
+abbrev pub cell_values : List ((ℕ × ℕ) × Data) → List ((ℕ × ℕ) × CellValue)
+cell_values cells = map (λ cell. (cell.0, value_of_data cell.1)) cells
 
-abbrev pub formulas_in : List ((ℕ × ℕ) × String Global) → List ((ℕ × ℕ) × List ℕ)
-formulas_in cells = map (λ cell. (cell.0, string_bytes cell.1)) cells
+abbrev pub cell_formulas : List ((ℕ × ℕ) × String Global) → List ((ℕ × ℕ) × List ℕ)
+cell_formulas cells = map (λ cell. (cell.0, string_bytes cell.1)) cells
 
 abbrev pub value_given : Option Data → CellValue
 value_given value = unwrap_or (option_map value_of_data value) nothing

@@ -6,8 +6,9 @@ ghost use Rattle.cell_data.specs.CellValue.{value_of_data, time_value};
 ghost use Rattle.cell_data.specs.Cells.{placed_cells};
 ghost use Rattle.cell_data.specs.Range.{cells_of};
 ghost use Rattle.xlsx_tool.specs.Escaped.{escaped};
-ghost use Rattle.xlsx_tool.specs.SheetListing.{kind_text, calendar_text, value_text, formula_text};
-ghost use Rattle.xlsx_tool.specs.SheetListing.{field, line_of, listing, values_in, formulas_in};
+ghost use Rattle.xlsx_tool.specs.SheetListing.{kind_text, calendar_text, value_field};
+ghost use Rattle.xlsx_tool.specs.SheetListing.{formula_field};
+ghost use Rattle.xlsx_tool.specs.SheetListing.{field, line_of, listing, cell_values, cell_formulas};
 ghost use Rattle.xlsx_tool.specs.SheetListing.{value_given, formula_given, AreInOrder, IsFirstOf};
 ghost use Rattle.xlsx_tool.specs.SheetListing.{StandsFirst, Splits};
 
@@ -34,7 +35,7 @@ fn calendar_text(is_1904: bool) -> &'static str
 
 fn push_time(out: &mut String, time: &ExcelDateTime) -> Result<(), AllocError>
     ensures { OnOk result (string_bytes out.new
-        ≡ string_bytes out.old ++ field (value_text (time_value time.now))) }
+        ≡ string_bytes out.old ++ field (value_field (time_value time.now))) }
 {
     out.push_str("t:")?;
     time.value.push_to(out)?;
@@ -61,7 +62,7 @@ fn push_integer(out: &mut String, number: i64) -> Result<(), AllocError>
 
 fn push_data(out: &mut String, value: &Data) -> Result<(), AllocError>
     ensures { OnOk result (string_bytes out.new
-        ≡ string_bytes out.old ++ field (value_text (value_of_data value.now))) }
+        ≡ string_bytes out.old ++ field (value_field (value_of_data value.now))) }
 {
     match value {
         Data::Int(number) => push_integer(out, *number),
@@ -83,7 +84,7 @@ fn push_data(out: &mut String, value: &Data) -> Result<(), AllocError>
 }
 
 fn push_value(out: &mut String, value: Option<&Data>) -> Result<(), AllocError>
-    ensures { let printed = field (value_text (value_given (option_copied value.entry))) in
+    ensures { let printed = field (value_field (value_given (option_copied value.entry))) in
         OnOk result (string_bytes out.new ≡ string_bytes out.old ++ printed) }
 {
     match value {
@@ -94,7 +95,7 @@ fn push_value(out: &mut String, value: Option<&Data>) -> Result<(), AllocError>
 
 fn push_formula_text(out: &mut String, formula: &str) -> Result<(), AllocError>
     ensures { OnOk result (string_bytes out.new
-        ≡ string_bytes out.old ++ field (formula_text formula.now)) }
+        ≡ string_bytes out.old ++ field (formula_field formula.now)) }
 {
     if formula.is_empty() {
         out.push_str("-")
@@ -104,7 +105,7 @@ fn push_formula_text(out: &mut String, formula: &str) -> Result<(), AllocError>
 }
 
 fn push_formula(out: &mut String, formula: Option<&String>) -> Result<(), AllocError>
-    ensures { let printed = field (formula_text (formula_given (option_copied formula.entry))) in
+    ensures { let printed = field (formula_field (formula_given (option_copied formula.entry))) in
         OnOk result (string_bytes out.new ≡ string_bytes out.old ++ printed) }
 {
     match formula {
@@ -114,7 +115,7 @@ fn push_formula(out: &mut String, formula: Option<&String>) -> Result<(), AllocE
 }
 
 fn has_value(value: Option<&Data>) -> bool
-    ensures { result ≡ is_some (value_text (value_given (option_copied value.entry))) }
+    ensures { result ≡ is_some (value_field (value_given (option_copied value.entry))) }
 {
     match value {
         Some(value) => !matches!(value, Data::Empty),
@@ -123,7 +124,7 @@ fn has_value(value: Option<&Data>) -> bool
 }
 
 fn has_formula(formula: Option<&String>) -> bool
-    ensures { result ≡ is_some (formula_text (formula_given (option_copied formula.entry))) }
+    ensures { result ≡ is_some (formula_field (formula_given (option_copied formula.entry))) }
 {
     match formula {
         Some(formula) => !formula.is_empty(),
@@ -194,8 +195,8 @@ fn push_lines(
 ) -> Result<(), AllocError>
     requires values { AreInOrder values.now }
     requires formulas { AreInOrder formulas.now }
-    ensures { let printed = listing (values_in (placed_cells values.now))
-        (formulas_in (placed_cells formulas.now)) in
+    ensures { let printed = listing (cell_values (placed_cells values.now))
+        (cell_formulas (placed_cells formulas.now)) in
         OnOk result (string_bytes out.new ≡ string_bytes out.old ++ printed) }
 {
     let mut values_left = values;
@@ -219,8 +220,8 @@ pub fn push_listing(
     values: &Range<Data>,
     formulas: &Range<String>,
 ) -> Result<(), AllocError>
-    ensures { let printed = listing (values_in (cells_of values.now))
-        (formulas_in (cells_of formulas.now)) in
+    ensures { let printed = listing (cell_values (cells_of values.now))
+        (cell_formulas (cells_of formulas.now)) in
         OnOk result (string_bytes out.new ≡ string_bytes out.old ++ printed) }
 {
     push_lines(out, values.used(), formulas.used())
@@ -232,8 +233,8 @@ pub fn listing_of(
     values: &Range<Data>,
     formulas: &Range<String>,
 ) -> Result<String, AllocError>
-    ensures { let printed = listing (values_in (cells_of values.now))
-        (formulas_in (cells_of formulas.now)) in
+    ensures { let printed = listing (cell_values (cells_of values.now))
+        (cell_formulas (cells_of formulas.now)) in
         IfOk result (λ out. string_bytes out ≡ printed) }
 {
     let mut out = String::new(alloc);

@@ -8,7 +8,8 @@ use Rattle.xlsx_cells.specs.Stream.{CellFails}
 use Rattle.xlsx_cells.proofs.CellsRead.{started_fail, contents_fail, some_wanted}
 use Rattle.xlsx_cells.proofs.ChildrenRead.{same_tag}
 use Rattle.xlsx_cells.proofs.cell_read.read_cell.Goals as goal
-use Rattle.xlsx_cells.proofs.cell_read.read_cell.Goals.{else-not-asked-via-then-not-asked+else-not-asked-2, else-not-asked-via-else-not-asked}
+use Rattle.xlsx_cells.proofs.cell_read.read_cell.Goals.{else-not-asked-via-then-not-asked+else-not-asked-2}
+use Rattle.xlsx_cells.proofs.cell_read.read_cell.Goals.{else-not-asked-via-else-not-asked}
 
 pub returns-in_err-start-clause-err : goal.returns-in_err-start-clause-err
 returns-in_err-start-clause-err g c =

@@ -1,4 +1,5 @@
-use Rattle.std.proofs.Common.{◌≡◌, ℕ, true, Some, None, refl, ◌∙◌, ap, subst, inl, inr, arith, codes, string_bytes}
+use Rattle.std.proofs.Common.{◌≡◌, ℕ, true, Some, None, refl, ◌∙◌, ap, subst, inl, inr, arith}
+use Rattle.std.proofs.Common.{codes, string_bytes}
 use Rattle.std.proofs.lemmas.Result.{err_from_is_err_and}
 use Rattle.part_events.specs.Event.{Tag}
 use Rattle.part_events.specs.Reading.{reading, ahead}
@@ -7,14 +8,18 @@ use Rattle.part_events.specs.Walk.{inside, element_at}
 use Rattle.xlsx_sections.specs.Elements.{end_outside, FindsElementIn}
 use Rattle.xlsx_sections.specs.PartSection.{Never, SectionFails, StandsAtStart}
 use Rattle.xlsx_sections.specs.Refusal.{in_element}
-use Rattle.xlsx_sections.proofs.ElementsRead.{IsElementFound, IsElementPassed, element_found, element_passed, element_refused, own_inside}
+use Rattle.xlsx_sections.proofs.ElementsRead.{IsElementFound, IsElementPassed, element_found}
+use Rattle.xlsx_sections.proofs.ElementsRead.{element_passed, element_refused, own_inside}
 use Rattle.xlsx_sections.proofs.Kept.{last_further, last_refused}
 use Rattle.xlsx_sections.proofs.Refused.{refused_later}
 use Rattle.xlsx_values.specs.Book.{kind_of, grounds_of}
 use Rattle.xlsx_values.specs.Value.{child_value, said_value, or_nothing}
-use Rattle.xlsx_cells.specs.Children.{StandsAt, FormulaStep, ReadsFormulas, value_kept, IsChildRefused, AreChildrenRefused}
+use Rattle.xlsx_cells.specs.Children.{StandsAtElement, FormulaStep, ReadsFormulas, value_kept}
+use Rattle.xlsx_cells.specs.Children.{IsChildRefused, AreChildrenRefused}
 use Rattle.xlsx_cells.specs.Ends.{end_in_child, end_in_child_element, end_in_children}
-use Rattle.xlsx_cells.proofs.ChildrenRead.{start_there, leaves_further, or_earlier_in_element, listed_further, formulas_further, formulas_refused, formulas_whole}
+use Rattle.xlsx_cells.proofs.ChildrenRead.{start_there, leaves_further, or_earlier_in_element}
+use Rattle.xlsx_cells.proofs.ChildrenRead.{listed_further, formulas_further, formulas_refused}
+use Rattle.xlsx_cells.proofs.ChildrenRead.{formulas_whole}
 use Rattle.xlsx_cells.proofs.children.read_children.Goals as goal
 
 pub returns-in_err-next_child_in-clause-err : goal.returns-in_err-next_child_in-clause-err
@@ -64,7 +69,7 @@ children-preserved g c =
     let there : old.source.is_told ≡ true → at.source.is_told ≡ true =
     λ told. found.read.reads.moves.parts.is_told ∙ told in
     let element = element_at base tag at in
-    let stand : StandsAt element at = record { tag = first.1; inside = refl } in
+    let stand : StandsAtElement element at = record { tag = first.1; inside = refl } in
     let before : FormulaStep =
     record { masters = c.children.masters; text = string_bytes c.children.contents.formula } in
     let behind : FormulaStep = record {
@@ -123,7 +128,7 @@ returns-in_err-read_child-clause-err g c =
     let found : IsElementFound is_any base tag place old mid at =
     element_found is_any first.1 now.keeps c.in_ok-next_child_in.ensures.reads stands finds in
     let element = element_at base tag at in
-    let stand : StandsAt element at = record { tag = first.1; inside = refl } in
+    let stand : StandsAtElement element at = record { tag = first.1; inside = refl } in
     let inner = end_in_child_element wants kind in
     let refused = AreChildrenRefused wants grounds format kind in
     let error = c.in_err-read_child.field-0.0 in

@@ -1,4 +1,5 @@
-use Rattle.std.proofs.Common.{◌≡◌, ◌∷◌, ◌++◌, ◌∙◌, List, None, Err, true, sym, ap, subst, refl, codes}
+use Rattle.std.proofs.Common.{◌≡◌, ◌∷◌, ◌++◌, ◌∙◌, List, None, Err, true, sym, ap, subst, refl}
+use Rattle.std.proofs.Common.{codes}
 use Rattle.std.proofs.lemmas.Result.{err_from_is_err_and}
 use Rattle.std.specs.Prelude.{option_map}
 use Rattle.part_events.specs.Event.{Event, event_of, tag_of, start}
@@ -15,7 +16,8 @@ use Rattle.xlsx_cells.specs.Finding.{IsTakenRefused, IsMisplaced, IsStepRefused,
 use Rattle.xlsx_cells.specs.Marks.{Mark, cell_start, is_cell, marks, marks_of, behind_marks}
 use Rattle.xlsx_cells.specs.Position.{cell_position}
 use Rattle.xlsx_cells.proofs.MarksAhead.{marks_event}
-use Rattle.xlsx_cells.proofs.Passing.{section_on, same_further, passed_further, cell_event, cell_left, cell_next, start_is_deep}
+use Rattle.xlsx_cells.proofs.Passing.{section_on, same_further, passed_further, cell_event}
+use Rattle.xlsx_cells.proofs.Passing.{cell_left, cell_next, start_is_deep}
 use Rattle.xlsx_cells.proofs.Refusing.{start_refused, taken_behind, row_refused}
 use Rattle.xlsx_cells.proofs.finding.find_cell.Goals as goal
 

@@ -5,8 +5,10 @@ use Rattle.xlsx_sections.specs.Elements.{KeepsElements}
 use Rattle.xlsx_values.specs.Book.{grounds_of}
 use Rattle.xlsx_cells.specs.Marks.{is_cell}
 use Rattle.xlsx_cells.specs.SheetPart.{value_entries, formula_entries}
-use Rattle.xlsx_cells.specs.Stream.{stream, StandsAfter, EndsData, TakesCell, IsRead, IsCellRefused, marks_ahead}
-use Rattle.xlsx_cells.proofs.Collecting.{collected_further, values_whole, formulas_whole, taken_is_mark, keeps_on, step_refused}
+use Rattle.xlsx_cells.specs.Stream.{stream, StandsAfter, EndsData, TakesCell, IsRead, IsCellRefused}
+use Rattle.xlsx_cells.specs.Stream.{marks_ahead}
+use Rattle.xlsx_cells.proofs.Collecting.{collected_further, values_whole, formulas_whole}
+use Rattle.xlsx_cells.proofs.Collecting.{taken_is_mark, keeps_on, step_refused}
 use Rattle.xlsx_cells.proofs.sheet_cells.collect.Goals as goal
 
 pub returns-in_err-read-clause-err : goal.returns-in_err-read-clause-err

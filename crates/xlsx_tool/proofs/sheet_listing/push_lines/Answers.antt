@@ -1,7 +1,7 @@
 use Rattle.std.proofs.Common.{string_bytes, ◌++◌}
 use Rattle.std.specs.Option.{option_copied}
 use Rattle.cell_data.specs.Cells.{placed_cells}
-use Rattle.xlsx_tool.specs.SheetListing.{listing, values_in, formulas_in}
+use Rattle.xlsx_tool.specs.SheetListing.{listing, cell_values, cell_formulas}
 use Rattle.xlsx_tool.proofs.SheetListingLemmas.{lines_on, lines_end, shorter}
 use Rattle.xlsx_tool.proofs.sheet_listing.push_lines.Goals as goal
 
@@ -21,8 +21,8 @@ positions-preserved c = record {
       c.split_at_position-in-Some.result.1.now (string_bytes c.positions.out)
       (string_bytes c.push_line.new.out)
       (string_bytes c.args.out.now
-      ++ listing (values_in (placed_cells c.args.values.now))
-      (formulas_in (placed_cells c.args.formulas.now)))
+      ++ listing (cell_values (placed_cells c.args.values.now))
+      (cell_formulas (placed_cells c.args.formulas.now)))
       c.split_at_position.ensures c.split_at_position-in-Some.ensures c.in_ok-push_line.ensures
       c.positions.invariant.printed;
   values_order = c.split_at_position.ensures.order;
@@ -33,7 +33,7 @@ pub returns : goal.returns
 returns c =
     lines_end (string_bytes c.positions.out)
     (string_bytes c.args.out.now
-    ++ listing (values_in (placed_cells c.args.values.now))
-    (formulas_in (placed_cells c.args.formulas.now)))
+    ++ listing (cell_values (placed_cells c.args.values.now))
+    (cell_formulas (placed_cells c.args.formulas.now)))
     c.positions.values_left.now c.positions.formulas_left.now
     c.in_default.ensures.0 c.in_default.ensures.1 c.positions.invariant.printed

@@ -6,7 +6,8 @@ use Rattle.part_events.specs.Section.{Element}
 use Rattle.xlsx_sections.specs.Refusal.{Refusal}
 use Rattle.xlsx_cells.specs.Counting.{AreKept, IsRefused}
 use Rattle.xlsx_cells.specs.Marks.{Mark, cell}
-use Rattle.xlsx_cells.specs.Position.{or_implied, position_named, row_counter, column_counter, cell_position, implied_position}
+use Rattle.xlsx_cells.specs.Position.{or_implied, position_named, row_counter, column_counter}
+use Rattle.xlsx_cells.specs.Position.{cell_position, implied_position}
 use Rattle.xlsx_cells.proofs.CountersMoved.{column_counter_unnamed, implied_refused}
 use Rattle.xlsx_cells.proofs.Refusing.{is_refused_weaker}
 use Rattle.xlsx_cells.proofs.counters.Counters.position.Goals as goal

@@ -5,7 +5,7 @@ use Rattle.attr_text.specs.Attributes.{local_name_of}
 use Rattle.cell_refs.specs.declared.dimensions.Dimensions.{Dimensions}
 use Rattle.part_events.specs.Event.{tag_of}
 use Rattle.xlsx_sections.specs.Refusal.{Refusal}
-use Rattle.xlsx_cells.specs.Head.{area_of, IsStartRefused}
+use Rattle.xlsx_cells.specs.Head.{dimension_area, IsHeadStartRefused}
 use Rattle.xlsx_cells.proofs.HeadRead.{tells_dimensions, start_refused}
 use Rattle.xlsx_cells.proofs.head.Head.take_start.Goals as goal
 
@@ -18,6 +18,6 @@ returns-in_err-area_of-clause-err c =
     ∙ sym c.eq.ensures ∙ c.if-eq.true in
     let p = err_from_is_err_and c.from_residual.result c.from_residual.ensures.1 in
     rw (p.1, p.2)
-    (subst (λ (answer : Result (Option Dimensions) Refusal). IsStartRefused answer error)
+    (subst (λ (answer : Result (Option Dimensions) Refusal). IsHeadStartRefused answer error)
     (sym (tells_dimensions tag named))
-    (start_refused (area_of tag) error c.in_err-area_of.ensures.err))
+    (start_refused (dimension_area tag) error c.in_err-area_of.ensures.err))

@@ -4,12 +4,14 @@ use Rattle.part_events.specs.Event.{Tag}
 use Rattle.part_events.specs.Reading.{reading}
 use Rattle.part_events.specs.Walk.{element_at}
 use Rattle.xlsx_sections.specs.Elements.{FindsElementIn}
-use Rattle.xlsx_sections.proofs.ElementsRead.{IsElementFound, IsElementPassed, keeps_none, element_found, element_passed, element_refused}
+use Rattle.xlsx_sections.proofs.ElementsRead.{IsElementFound, IsElementPassed, keeps_none}
+use Rattle.xlsx_sections.proofs.ElementsRead.{element_found, element_passed, element_refused}
 use Rattle.xlsx_sections.proofs.Refused.{refused_as}
 use Rattle.xlsx_values.specs.Book.{grounds_of}
-use Rattle.xlsx_cells.specs.Children.{StandsAt}
+use Rattle.xlsx_cells.specs.Children.{StandsAtElement}
 use Rattle.xlsx_cells.specs.Ends.{end_in_cell, end_in_contents, end_in_data}
-use Rattle.xlsx_cells.specs.Finding.{FindsCell, IsStepRefused, IsMisplaced, StandsAtCell, marks_left}
+use Rattle.xlsx_cells.specs.Finding.{FindsCell, IsStepRefused, IsMisplaced, StandsAtCell}
+use Rattle.xlsx_cells.specs.Finding.{marks_left}
 use Rattle.xlsx_cells.specs.Marks.{is_cell}
 use Rattle.xlsx_cells.specs.Stream.{IsContentRefused, IsCellRefused}
 use Rattle.xlsx_cells.proofs.CellsRead.{misplaced_cell, found_cell_refused, taken_cell}
@@ -52,7 +54,7 @@ returns-in_err-read_cell-clause-err g c =
     element_found is_cell first.1 (keeps_none is_cell base old c.requires.reading c.requires.within)
     c.in_ok-pos.ensures.reads stands.0 finds in
     let element = element_at base tag mid in
-    let stand : StandsAt element mid = record { tag = first.1; inside = refl } in
+    let stand : StandsAtElement element mid = record { tag = first.1; inside = refl } in
     let p = err_from_is_err_and c.from_residual-in_err-read_cell.result
     c.from_residual-in_err-read_cell.ensures.1 in
     rw (p.1, p.2)
@@ -92,7 +94,7 @@ returns-clause-takes g c = λ told before earlier behind.
     element_passed found c.in_ok-read_cell.ensures.reads c.in_ok-read_cell.ensures.depth
     c.in_ok-read_cell.ensures.skips in
     let element = element_at base tag mid in
-    let stand : StandsAt element mid = record { tag = there.current; inside = refl } in
+    let stand : StandsAtElement element mid = record { tag = there.current; inside = refl } in
     let told_mid = found.read.reads.moves.parts.is_told ∙ told in
     taken_cell wants (grounds_of c.args.asked.book) before earlier pos base old mid new
     c.find_cell.new.counters own.masters c.read_cell.new.masters c.in_ok-read_cell.field-0
