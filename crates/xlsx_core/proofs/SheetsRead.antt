@@ -1,25 +1,18 @@
--- How a sheet of an open workbook is read, and refusals that are handed on.
+-- The sheet of a workbook that opens, and refusals that are handed on.
 use Rattle.std.proofs.Common.{◌≡◌, ℕ, List, [], ◌∷◌, Bool, true, map, refl, sym, ◌∙◌, ap, subst}
-use Rattle.std.proofs.Common.{arith}
-use Rattle.std.proofs.Common.{inl, inr, Option, Some, None, String, Global, string_bytes}
+use Rattle.std.proofs.Common.{inr, Option, Some, None, String, Global, string_bytes}
 use Rattle.std.specs.Prelude.{if◌then◌else◌, IsSomeAnd}
 use Rattle.std.specs.Str.{bytes_eq}
-use Rattle.cell_refs.specs.declared.dimensions.Dimensions.{Dimensions}
 use Rattle.part_events.specs.Event.{Event}
 use Rattle.part_events.specs.Package.{Part, PackageState, SameParts}
 use Rattle.cell_data.specs.CellValue.{CellValue}
-use Rattle.cell_data.specs.Positions.{last_of_each}
 use Rattle.cell_data.specs.declared.error.XlsxError.{XlsxError}
 use Rattle.cell_data.specs.declared.error.XlsxError.TheVariants.{OutOfMemory, Io, NotBuilt}
 use Rattle.cell_data.specs.declared.error.XlsxError.TheVariants.{WorksheetNotFound}
-use Rattle.xlsx_sections.specs.PartSection.{PartSection, section_left}
 use Rattle.xlsx_values.specs.Value.{Grounds}
-use Rattle.xlsx_cells.specs.Errors.{IsCellError}
-use Rattle.xlsx_cells.specs.SheetPart.{SheetPartCause, DataCause, DataFails, EntersData}
-use Rattle.xlsx_cells.specs.SheetPart.{HoldsValues, HoldsFormulas}
-use Rattle.xlsx_cells.specs.Stream.{Stream, data_ahead, are_closed_ahead}
+use Rattle.xlsx_cells.specs.SheetPart.{SheetPartCause}
 use Rattle.xlsx_open.specs.Opening.{Opening, ListedSheet, listed_sheet, without_path}
-use Rattle.xlsx_open.specs.Opening.{HoldsOpening, OpensAs, IsBuilt, IsOpeningError, OpeningFails}
+use Rattle.xlsx_open.specs.Opening.{HoldsOpening, OpensAs, IsBuilt}
 use Rattle.xlsx_open.specs.Sheets.{PlacedSheet}
 use Rattle.xlsx_open.specs.declared.sheet.Metadata.{Metadata}
 use Rattle.xlsx_open.specs.declared.sheet.Sheet.{Sheet}
@@ -28,71 +21,13 @@ use Rattle.xlsx_core.specs.SheetReading.{path_named, events_at, events_named, gr
 use Rattle.xlsx_core.specs.SheetReading.{grounds_by, both_wanted, HoldsSheet, ReadsAs}
 use Rattle.xlsx_core.specs.SheetReading.{SheetFails, PlacedSheetFails}
 
--- ---- the data of a sheet that was found
-
-abbrev EntersAt : Option (List ℕ) → Dimensions → PackageState → Stream → Type 0
-EntersAt path area old mid = IsSomeAnd path (λ there. EntersData there area old mid)
-
--- the data were entered, and the rest of them is refused
-pub data_refused : (name : List ℕ) (grounds : Grounds) (path : Option (List ℕ))
-    (area : Dimensions) (old : PackageState) (mid new : Stream) (error : XlsxError)
-    → EntersAt path area old mid → IsCellError error → DataFails both_wanted grounds mid new error
-    → PlacedSheetFails name grounds path old new.reading.source error
-data_refused name grounds None area old mid new error enters kind fails = absurd enters
-data_refused name grounds (Some path) area old mid new Io enters kind fails =
-    omega (arith, enters.faults, fails)
-data_refused name grounds (Some path) area old mid new OutOfMemory enters kind fails = tt
-data_refused name grounds (Some path) area old mid new NotBuilt enters kind fails = absurd kind
-data_refused name grounds (Some path) area old mid new (WorksheetNotFound asked) enters kind
-    fails = absurd kind
-data_refused name grounds (Some path) area old mid new error enters kind fails = λ told.
-    let cause : DataCause both_wanted grounds (section_left mid.base mid.reading) error =
-    fails (enters.parts.is_told ∙ told) in
-    subst (λ (part : Option (List Event)). IsSomeAnd part
-    (λ events. SheetPartCause both_wanted grounds events error)) (sym (enters.part told))
-    (inr (subst (λ (found : Option PartSection). IsSomeAnd found
-    (λ s. DataCause both_wanted grounds s error)) (sym (enters.section told)) cause))
-
--- the data were read to their end
-pub reads_placed : (grounds : Grounds) (path : Option (List ℕ)) (area : Dimensions)
-    (old : PackageState) (mid : Stream) (values own_values : List ((ℕ × ℕ) × CellValue))
-    (formulas own_formulas : List ((ℕ × ℕ) × List ℕ)) → EntersAt path area old mid
-    → old.is_told ≡ true → are_closed_ahead mid ≡ true
-    → HoldsValues grounds (data_ahead mid) own_values → HoldsFormulas (data_ahead mid) own_formulas
-    → values ≡ last_of_each own_values → formulas ≡ last_of_each own_formulas
-    → IsSomeAnd (events_at path old.parts)
-    (λ events. HoldsSheet grounds events values formulas)
-reads_placed grounds None area old mid values own_values formulas own_formulas enters told closed
-    has_values has_formulas valued listed = absurd enters
-reads_placed grounds (Some path) area old mid values own_values formulas own_formulas enters told
-    closed has_values has_formulas valued listed =
-    let dimensions = enters.dimensions told in
-    subst (λ (part : Option (List Event)). IsSomeAnd part
-    (λ events. HoldsSheet grounds events values formulas)) (sym (enters.part told)) (record {
-      all = has_values.0;
-      written = has_formulas.0;
-      sheet = record {
-        section = section_left mid.base mid.reading;
-        area = dimensions.0;
-        found = enters.section told;
-        dimensions = dimensions.1;
-        closed = closed;
-        valued = has_values.1;
-        written = has_formulas.1;
-      };
-      valued = valued ∙ ap last_of_each has_values.2;
-      listed = listed ∙ ap last_of_each has_formulas.2;
-    })
-
--- ---- the sheet of a workbook that opens
-
 some_of : {A : Type 0} (o : Option A) (fact : A → Type 0) → IsSomeAnd o fact → (x : A)
     × (o ≡ Some x) × fact x
 some_of None fact is = absurd is
 some_of (Some x) fact is = (x, refl, is)
 
 -- the path that stands in the list of paths is that of the opening
-pub listed_is_named : (name : List ℕ) (sheets : List Sheet) (paths : List (String Global))
+listed_is_named : (name : List ℕ) (sheets : List Sheet) (paths : List (String Global))
     (placed : List PlacedSheet) → map listed_sheet sheets ≡ map without_path placed
     → map string_bytes paths ≡ map (λ (sheet : PlacedSheet). sheet.path) placed
     → path_listed name sheets paths ≡ path_named name placed
@@ -212,12 +147,3 @@ sheet_fails name path grounds old mid new error same faults opens fails = λ tol
       found = there.1;
       cause = there.2;
     })
-
--- a workbook that doesn't open
-pub sheet_unopened : (name : List ℕ) (old new : PackageState) (error : XlsxError)
-    → IsOpeningError error → OpeningFails old new error → SheetFails name old new error
-sheet_unopened name old new Io kind fails = fails
-sheet_unopened name old new OutOfMemory kind fails = tt
-sheet_unopened name old new NotBuilt kind fails = fails
-sheet_unopened name old new (WorksheetNotFound asked) kind fails = absurd kind
-sheet_unopened name old new error kind fails = λ told. inl (fails told)

@@ -180,8 +180,8 @@ fn sections_are_read_to_their_ends(rt: HostRuntime) -> Result<(), Fail> {
     Ok(())
 }
 
-/// A part of a workbook, and how it is refused: by the start, the reference or the end that is at fault, and by no other
-/// of its kind.
+/// A part of a workbook, and how it is refused: by the start, the reference or the end that is at
+/// fault, and by no other of its kind.
 const PLACES: [((&str, &str), &str); 4] = [
     (
         (
