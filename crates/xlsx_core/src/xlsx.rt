@@ -5,15 +5,12 @@ ghost use Rattle.cell_data.specs.declared.error.XlsxError.TheVariants.{Io};
 ghost use Rattle.xlsx_open.specs.Opening.{Opening, HoldsOpening, OpensAs, OpensSoundly, IsBuilt};
 ghost use Rattle.xlsx_open.specs.Opening.{IsOpeningError, OpensFrom, FailsToOpen, OpeningFails};
 ghost use Rattle.xlsx_open.specs.Opening.{SoundFails};
-ghost use Rattle.xlsx_core.specs.Opened.{path_listed};
-ghost use Rattle.xlsx_core.specs.SheetReading.{grounds_with, PlacedSheetFails, IsPlacedError};
-ghost use Rattle.xlsx_core.specs.SheetReading.{ReadsPlaced};
-
-use crate::placed_sheet::{path_named, read_placed};
+use crate::placed_sheet::{path_named, ranges_of, read_placed};
 use crate::sheet_reading::SheetReading;
-use cell_data::XlsxError;
+use cell_data::{HeaderRow, XlsxError};
 use part_events::Package;
 use std::alloc::Global;
+use xlsx_cells::{Asked, SheetCells, Wants};
 use xlsx_open::{Metadata, open};
 use xlsx_values::Book;
 
@@ -25,6 +22,7 @@ pub struct Xlsx<P: Package> {
     paths: Vec<String>,
     strings: Vec<String>,
     is_1904: bool,
+    header_row: HeaderRow,
     alloc: Global,
 }
 
@@ -36,6 +34,14 @@ pub struct OpenFailure<P: Package> {
 }
 
 impl<P: Package> Xlsx<P> {
+    ghost use Rattle.std.specs.Prelude.{All, IsSomeAnd};
+    ghost use Rattle.cell_data.specs.Cells.{IsInSheet};
+    ghost use Rattle.xlsx_cells.specs.SheetPart.{value_entries, formula_entries};
+    ghost use Rattle.xlsx_core.specs.SheetReading.{both_wanted, events_at, PlacedSheetFails};
+    ghost use Rattle.xlsx_core.specs.SheetReading.{IsPlacedError, ReadsPlaced};
+    ghost use Rattle.xlsx_core.specs.Worksheets.{path_of, grounds_of_book, KeepsWorkbook};
+    ghost use Rattle.xlsx_core.specs.Worksheets.{HoldsWanted};
+
     /// Opens the workbook of a package, as ECMA-376 part 2, section 9.3 (relationships) and part 1,
     /// section 18.2 (workbook) have it. A refusal hands the package back, with the same parts.
     ///
@@ -70,31 +76,29 @@ impl<P: Package> Xlsx<P> {
                 paths: opened.paths,
                 strings: opened.strings,
                 is_1904: opened.is_1904,
+                header_row: HeaderRow::FirstNonEmptyRow,
                 alloc,
             }),
             Err(error) => Err(OpenFailure { error, package }),
         }
     }
 
-    /// The values and the formulas of the first sheet of this name.
-    pub(crate) fn sheet(&mut self, name: &str) -> Result<SheetReading, XlsxError>
+    /// What is wanted of the first sheet of this name.
+    fn placed_cells(&mut self, name: &str, wants: Wants) -> Result<SheetCells, XlsxError>
         ensures keeps { SameParts (P.state self.old.package) (P.state self.new.package) }
-        ensures rest { (self.new.metadata ≡ self.old.metadata) × (self.new.paths ≡ self.old.paths)
-            × (self.new.strings ≡ self.old.strings) × (self.new.is_1904 ≡ self.old.is_1904) }
+        ensures rest { KeepsWorkbook self.old self.new }
         ensures faults { OnOk result
             ((P.state self.new.package).faults ≡ (P.state self.old.package).faults) }
+        ensures inside { IfOk result (λ cells.
+            All IsInSheet cells.values.items × All IsInSheet cells.formulas.items) }
         ensures reads { let old = P.state self.old.package in
-            let path =
-            path_listed name.now self.old.metadata.sheets.items self.old.paths.items in
-            let grounds =
-            grounds_with (map string_bytes self.old.strings.items) self.old.is_1904 in
-            old.is_told ≡ true → IfOk result (ReadsPlaced grounds path old.parts) }
-        ensures err { let path =
-            path_listed name.now self.old.metadata.sheets.items self.old.paths.items in
-            let grounds =
-            grounds_with (map string_bytes self.old.strings.items) self.old.is_1904 in
-            IfErr result (PlacedSheetFails name.now grounds path (P.state self.old.package)
-            (P.state self.new.package)) }
+            let path = path_of self.old name.now in
+            let grounds = grounds_of_book self.old in
+            old.is_told ≡ true → IfOk result (λ cells. IsSomeAnd (events_at path old.parts)
+            (λ events. HoldsWanted wants grounds events (value_entries cells.values.items)
+            (formula_entries cells.formulas.items))) }
+        ensures err { IfErr result (PlacedSheetFails name.now wants (grounds_of_book self.old)
+            (path_of self.old name.now) (P.state self.old.package) (P.state self.new.package)) }
         ensures counts { IfErr result
             (KeepsFaults Io (P.state self.old.package) (P.state self.new.package)) }
         ensures kind { IfErr result (IsPlacedError name.now) }
@@ -105,7 +109,31 @@ impl<P: Package> Xlsx<P> {
             formats: &[],
             is_1904: self.is_1904,
         };
-        read_placed(self.alloc, &mut self.package, path, name, book)
+        read_placed(self.alloc, &mut self.package, path, name, Asked { wants, book })
+    }
+
+    /// The values and the formulas of the first sheet of this name.
+    pub(crate) fn sheet(&mut self, name: &str) -> Result<SheetReading, XlsxError>
+        ensures keeps { SameParts (P.state self.old.package) (P.state self.new.package) }
+        ensures rest { KeepsWorkbook self.old self.new }
+        ensures faults { OnOk result
+            ((P.state self.new.package).faults ≡ (P.state self.old.package).faults) }
+        ensures reads { let old = P.state self.old.package in
+            old.is_told ≡ true → IfOk result
+            (ReadsPlaced (grounds_of_book self.old) (path_of self.old name.now) old.parts) }
+        ensures err { IfErr result (PlacedSheetFails name.now both_wanted
+            (grounds_of_book self.old) (path_of self.old name.now) (P.state self.old.package)
+            (P.state self.new.package)) }
+        ensures counts { IfErr result
+            (KeepsFaults Io (P.state self.old.package) (P.state self.new.package)) }
+        ensures kind { IfErr result (IsPlacedError name.now) }
+    {
+        let wants = Wants {
+            values: true,
+            formulas: true,
+        };
+        let cells = self.placed_cells(name, wants)?;
+        Ok(ranges_of(self.alloc, cells)?)
     }
 
     /// The package, as it is now.
@@ -118,6 +146,7 @@ impl<P: Package> Xlsx<P> {
             paths: _,
             strings: _,
             is_1904: _,
+            header_row: _,
             alloc: _,
         } = self;
         package
