@@ -1,3 +1,5 @@
 pub mod LastOfEach
 pub mod SheetLaws
 pub mod SheetsRead
+pub mod WorksheetsRead
+pub mod ValueRanges

@@ -1,6 +1,6 @@
 -- What single calls on the worksheets of an open workbook answer.
 use Rattle.std.specs.Prelude.{◌≡◌, ◌⊎◌, ⊤, ℕ, List, [], true, false, nat_le, Option, Some, None, Ok}
-use Rattle.std.specs.Prelude.{Bool, map, IsSome, IsSomeAnd, codes, string_bytes, String}
+use Rattle.std.specs.Prelude.{map, IsSome, IsSomeAnd, codes, string_bytes, String}
 use Rattle.std.specs.List.{filter}
 use Rattle.std.specs.declared.alloc.Global.{Global}
 use Rattle.cell_refs.specs.declared.dimensions.Dimensions.{Dimensions}
@@ -44,6 +44,15 @@ pub record KeepsWorkbook {P : Type 0} (old new : Xlsx P) : Type 0 where
   pub strings : new.strings ≡ old.strings
   pub is_1904 : new.is_1904 ≡ old.is_1904
   pub header_row : new.header_row ≡ old.header_row
+
+-- another header row, and all else as it was
+pub record SetsHeaderRow {P : Type 0} (header : HeaderRow) (old new : Xlsx P) : Type 0 where
+  pub «package» : new.package ≡ old.package
+  pub metadata : new.metadata ≡ old.metadata
+  pub paths : new.paths ≡ old.paths
+  pub strings : new.strings ≡ old.strings
+  pub is_1904 : new.is_1904 ≡ old.is_1904
+  pub header_row : new.header_row ≡ header
 
 -- the head of a sheet's part is sound, and its data are this section, which is closed
 pub record HasSheetData (events : List Event) (section : PartSection) : Type 0 where

@@ -8,6 +8,9 @@ mod sheet_reading;
 mod sheet_tests;
 #[cfg(test)]
 mod test_packages;
+mod value_range;
+#[cfg(test)]
+mod worksheet_tests;
 mod xlsx;
 
 pub use laws::{readable_sheets_are_not_refused, sheets_are_read_alike};
