@@ -11,6 +11,7 @@ mod test_packages;
 mod value_range;
 #[cfg(test)]
 mod worksheet_tests;
+mod worksheets;
 mod xlsx;
 
 pub use laws::{readable_sheets_are_not_refused, sheets_are_read_alike};
