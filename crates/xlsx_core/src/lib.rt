@@ -3,12 +3,12 @@
 
 mod laws;
 mod placed_sheet;
+mod ranges;
 mod sheet_reading;
 #[cfg(test)]
 mod sheet_tests;
 #[cfg(test)]
 mod test_packages;
-mod value_range;
 #[cfg(test)]
 mod worksheet_tests;
 mod worksheets;

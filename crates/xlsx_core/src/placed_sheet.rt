@@ -2,22 +2,20 @@ ghost use Rattle.std.specs.Prelude.{◌≡◌, true, option_map, IfOk, OnOk, IfE
 ghost use Rattle.std.specs.Option.{option_copied};
 ghost use Rattle.part_events.specs.Package.{SameParts, KeepsFaults};
 ghost use Rattle.cell_data.specs.Cells.{IsInSheet};
-ghost use Rattle.cell_data.specs.Positions.{last_of_each};
 ghost use Rattle.cell_data.specs.declared.error.XlsxError.TheVariants.{Io};
 ghost use Rattle.xlsx_values.specs.Book.{grounds_of};
 ghost use Rattle.xlsx_cells.specs.SheetPart.{EntersData, value_entries, formula_entries};
 ghost use Rattle.xlsx_cells.specs.Stream.{stream};
 ghost use Rattle.xlsx_core.specs.Opened.{path_listed};
-ghost use Rattle.xlsx_core.specs.SheetReading.{events_at, value_pairs, formula_pairs};
+ghost use Rattle.xlsx_core.specs.SheetReading.{events_at};
 ghost use Rattle.xlsx_core.specs.SheetReading.{PlacedHeadFails, PlacedSheetFails};
 ghost use Rattle.xlsx_core.specs.SheetReading.{IsPlacedHeadError, IsPlacedError};
 ghost use Rattle.xlsx_core.specs.Worksheets.{HoldsWanted};
 
-use crate::sheet_reading::SheetReading;
-use cell_data::{Data, Range, XlsxError};
+use cell_data::XlsxError;
 use cell_refs::Dimensions;
 use part_events::Package;
-use std::alloc::{AllocError, Global};
+use std::alloc::Global;
 use xlsx_cells::{Asked, SheetCells, SheetCursor, collect, open_data};
 use xlsx_open::Sheet;
 
@@ -62,21 +60,6 @@ pub fn open_placed<P: Package>(
         }
     }
     Err(XlsxError::WorksheetNotFound(String::from_str(alloc, name)?))
-}
-
-/// The cells of a sheet as ranges: the last value and the last formula of each position.
-pub fn ranges_of(alloc: Global, cells: SheetCells) -> Result<SheetReading, AllocError>
-    requires values { All IsInSheet cells.values.items }
-    requires formulas { All IsInSheet cells.formulas.items }
-    ensures values { IfOk result (λ found.
-        value_pairs found.values ≡ last_of_each (value_entries cells.values.items)) }
-    ensures formulas { IfOk result (λ found.
-        formula_pairs found.formulas ≡ last_of_each (formula_entries cells.formulas.items)) }
-{
-    Ok(SheetReading {
-        values: Range::from_sparse(alloc, cells.values, Data::Empty)?,
-        formulas: Range::from_sparse(alloc, cells.formulas, String::new(alloc))?,
-    })
 }
 
 /// What is asked for of the sheet of this name, whose part is at this path.

@@ -11,9 +11,9 @@ ghost use Rattle.xlsx_core.specs.Worksheets.{path_of, grounds_of_book, KeepsWork
 ghost use Rattle.xlsx_core.specs.Worksheets.{AnswersCells, ReadsValues, ReadsFormulas, RangeFails};
 ghost use Rattle.xlsx_core.specs.Worksheets.{IsRangeError, EntersSheet, ReaderFails};
 
-use crate::placed_sheet::{open_placed, path_named, ranges_of, read_placed};
+use crate::placed_sheet::{open_placed, path_named, read_placed};
+use crate::ranges::{formula_range, ranges_of, value_range};
 use crate::sheet_reading::SheetReading;
-use crate::value_range::value_range;
 use crate::xlsx::Xlsx;
 use cell_data::{Data, Range, XlsxError};
 use part_events::Package;
@@ -166,8 +166,7 @@ impl<P: Package> Xlsx<P> {
             formulas: true,
         };
         let cells = self.worksheet_cells(name, wants)?;
-        let alloc = self.alloc;
-        Ok(Range::from_sparse(alloc, cells.formulas, String::new(alloc))?)
+        Ok(formula_range(self.alloc, cells.formulas)?)
     }
 
     /// A reader of the cells of the first sheet of this name, which stands behind the start of its

@@ -3,9 +3,9 @@ use Rattle.std.specs.Prelude.{All}
 use Rattle.std.proofs.lemmas.Fn.{filter_same}
 use Rattle.cell_refs.specs.declared.dimensions.Dimensions.{Dimensions}
 use Rattle.cell_data.specs.Cells.{IsInSheet}
-use Rattle.xlsx_core.proofs.ValueRanges.{cells_from, sheet_from, whole_ranges, first_row, bounds_by}
-use Rattle.xlsx_core.proofs.ValueRanges.{no_bounds, empty_from, range_from}
-use Rattle.xlsx_core.proofs.value_range.value_range.Goals as goal
+use Rattle.xlsx_core.proofs.RangesMade.{cells_from, sheet_from, whole_ranges, first_row, bounds_by}
+use Rattle.xlsx_core.proofs.RangesMade.{no_bounds, empty_from, range_from}
+use Rattle.xlsx_core.proofs.ranges.value_range.Goals as goal
 
 pub from_sparse-requires-2 : goal.from_sparse-requires-2
 from_sparse-requires-2 c =

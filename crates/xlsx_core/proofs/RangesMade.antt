@@ -1,4 +1,4 @@
--- The range of values under a header row.
+-- The ranges of values and of formulas.
 use Rattle.std.proofs.Common.{◌≡◌, ℕ, zero, suc, ◌≤◌, List, [], ◌∷◌, Bool, true, false, cond}
 use Rattle.std.proofs.Common.{refl, sym, ◌∙◌, ap, subst, Option, Some, None, arith}
 use Rattle.std.proofs.Common.{Result, Ok, Err, ◌&&◌, String, Global, string_bytes}
@@ -239,7 +239,7 @@ same_places [] = refl
 same_places (cell ∷ cells) =
     ap (λ (area : Option Dimensions). Some (area_with cell.pos area)) (same_places cells)
 
-pub formula_range : (cells : List (Cell (String Global))) (range : Range (String Global))
+formula_range : (cells : List (Cell (String Global))) (range : Range (String Global))
     → cells_of range ≡ last_of_each (placed_cells cells)
     → bounds_of range ≡ least_area (placed_cells cells) → string_bytes (blank_of range) ≡ []
     → IsFormulaRange (formula_entries cells) range
@@ -248,3 +248,12 @@ formula_range cells range kept bounds blank = record {
   bounds = bounds ∙ same_places cells;
   blank = blank;
 }
+
+pub formula_ranges : (cells : List (Cell (String Global)))
+    (made : Result (Range (String Global)) AllocError)
+    → IfOk made (λ range. cells_of range ≡ last_of_each (placed_cells cells))
+    → IfOk made (λ range. bounds_of range ≡ least_area (placed_cells cells))
+    → IfOk made (λ range. string_bytes (blank_of range) ≡ [])
+    → IfOk made (IsFormulaRange (formula_entries cells))
+formula_ranges cells (Ok range) kept bounds blank = formula_range cells range kept bounds blank
+formula_ranges cells (Err error) kept bounds blank = tt
