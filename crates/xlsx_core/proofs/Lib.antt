@@ -1,3 +1,4 @@
 pub mod LastOfEach
+pub mod RangesMade
 pub mod SheetLaws
 pub mod SheetsRead

@@ -116,7 +116,7 @@ pub sheet_fails : (name : List ℕ) (path : Option (List ℕ)) (grounds : Ground
     (old mid new : PackageState) (error : XlsxError) → SameParts old mid
     → mid.faults ≡ old.faults
     → (old.is_told ≡ true → OpensPlaced name path grounds old.parts)
-    → PlacedSheetFails name grounds path mid new error → SheetFails name old new error
+    → PlacedSheetFails name both_wanted grounds path mid new error → SheetFails name old new error
 sheet_fails name path grounds old mid new OutOfMemory same faults opens fails = tt
 sheet_fails name path grounds old mid new Io same faults opens fails = rw faults at fails
 sheet_fails name path grounds old mid new NotBuilt same faults opens fails = absurd fails

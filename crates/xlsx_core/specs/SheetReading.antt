@@ -4,6 +4,7 @@ use Rattle.std.specs.Prelude.{None, Bool, map, option_and_then, string_bytes, Is
 use Rattle.std.specs.Str.{bytes_eq}
 use Rattle.std.specs.declared.alloc.Global.{Global}
 use Rattle.part_events.specs.Event.{Event}
+use Rattle.part_events.specs.Nesting.{whole}
 use Rattle.part_events.specs.Package.{Part, PackageState, HasCause, part_of}
 use Rattle.cell_data.specs.CellValue.{CellValue, value_of_data}
 use Rattle.cell_data.specs.Positions.{last_of_each}
@@ -16,7 +17,7 @@ use Rattle.cell_data.specs.declared.value.Data.{Data}
 use Rattle.xlsx_values.specs.Value.{Grounds}
 use Rattle.xlsx_formulas.specs.Formula.{FormulaText}
 use Rattle.xlsx_cells.specs.Errors.{IsCellError}
-use Rattle.xlsx_cells.specs.Head.{IsHeadError}
+use Rattle.xlsx_cells.specs.Head.{HeadCause, IsHeadError}
 use Rattle.xlsx_cells.specs.Sheet.{used_values, used_formulas}
 use Rattle.xlsx_cells.specs.Sheet.{formulas_along}
 use Rattle.xlsx_cells.specs.SheetPart.{SheetPartCause, IsSoundSheet}
@@ -129,20 +130,38 @@ abbrev pub IsSheetError : List ℕ → XlsxError → Type 0
 IsSheetError name (WorksheetNotFound asked) = string_bytes asked ≡ name
 IsSheetError name error = IsOpeningError error ⊎ IsPartError error
 
--- When a sheet of an open workbook isn't read: it has this name and this path, where it is there.
-abbrev pub PlacedSheetFails :
-    List ℕ → Grounds → Option (List ℕ) → PackageState → PackageState → XlsxError → Type 0
-PlacedSheetFails name grounds path old new Io = HasCause old new
-PlacedSheetFails name grounds path old new OutOfMemory = ⊤
-PlacedSheetFails name grounds path old new NotBuilt = ⊥
-PlacedSheetFails name grounds path old new (WorksheetNotFound asked) =
+-- When the data of a sheet of an open workbook aren't entered: it has this name and this path,
+-- where it is there.
+abbrev pub PlacedHeadFails :
+    List ℕ → Option (List ℕ) → PackageState → PackageState → XlsxError → Type 0
+PlacedHeadFails name path old new Io = HasCause old new
+PlacedHeadFails name path old new OutOfMemory = ⊤
+PlacedHeadFails name path old new NotBuilt = ⊥
+PlacedHeadFails name path old new (WorksheetNotFound asked) =
     (string_bytes asked ≡ name) × (old.is_told ≡ true → events_at path old.parts ≡ None)
-PlacedSheetFails name grounds path old new error =
+PlacedHeadFails name path old new error =
+    old.is_told ≡ true →
+    IsSomeAnd (events_at path old.parts) (λ events. HeadCause events (whole events) error)
+
+-- When what is wanted of it isn't read.
+abbrev pub PlacedSheetFails :
+    List ℕ → Wants → Grounds → Option (List ℕ) → PackageState → PackageState → XlsxError → Type 0
+PlacedSheetFails name wants grounds path old new Io = HasCause old new
+PlacedSheetFails name wants grounds path old new OutOfMemory = ⊤
+PlacedSheetFails name wants grounds path old new NotBuilt = ⊥
+PlacedSheetFails name wants grounds path old new (WorksheetNotFound asked) =
+    (string_bytes asked ≡ name) × (old.is_told ≡ true → events_at path old.parts ≡ None)
+PlacedSheetFails name wants grounds path old new error =
     old.is_told ≡ true →
     IsSomeAnd (events_at path old.parts)
-    (λ events. SheetPartCause both_wanted grounds events error)
+    (λ events. SheetPartCause wants grounds events error)
 
--- the refusals that it can have
+-- the refusals that entering them can have
+abbrev pub IsPlacedHeadError : List ℕ → XlsxError → Type 0
+IsPlacedHeadError name (WorksheetNotFound asked) = string_bytes asked ≡ name
+IsPlacedHeadError name error = IsHeadError error
+
+-- and those that reading them can have
 abbrev pub IsPlacedError : List ℕ → XlsxError → Type 0
 IsPlacedError name (WorksheetNotFound asked) = string_bytes asked ≡ name
 IsPlacedError name error = IsPartError error

@@ -2,24 +2,22 @@ ghost use Rattle.std.specs.Prelude.{◌≡◌, true, option_map, IfOk, OnOk, IfE
 ghost use Rattle.std.specs.Option.{option_copied};
 ghost use Rattle.part_events.specs.Package.{SameParts, KeepsFaults};
 ghost use Rattle.cell_data.specs.Cells.{IsInSheet};
-ghost use Rattle.cell_data.specs.Positions.{last_of_each};
 ghost use Rattle.cell_data.specs.declared.error.XlsxError.TheVariants.{Io};
 ghost use Rattle.xlsx_values.specs.Book.{grounds_of};
-ghost use Rattle.xlsx_values.specs.Value.{Grounds};
 ghost use Rattle.xlsx_cells.specs.SheetPart.{EntersData, value_entries, formula_entries};
 ghost use Rattle.xlsx_cells.specs.Stream.{stream};
 ghost use Rattle.xlsx_core.specs.Opened.{path_listed};
-ghost use Rattle.xlsx_core.specs.SheetReading.{value_pairs, formula_pairs, PlacedSheetFails};
-ghost use Rattle.xlsx_core.specs.SheetReading.{IsPlacedError, ReadsPlaced};
+ghost use Rattle.xlsx_core.specs.SheetReading.{events_at};
+ghost use Rattle.xlsx_core.specs.SheetReading.{PlacedHeadFails, PlacedSheetFails};
+ghost use Rattle.xlsx_core.specs.SheetReading.{IsPlacedHeadError, IsPlacedError};
+ghost use Rattle.xlsx_core.specs.Worksheets.{HoldsWanted};
 
-use crate::sheet_reading::SheetReading;
-use cell_data::{Data, Range, XlsxError};
+use cell_data::XlsxError;
 use cell_refs::Dimensions;
 use part_events::Package;
-use std::alloc::{AllocError, Global};
-use xlsx_cells::{Asked, SheetCells, SheetCursor, Wants, collect, open_data};
+use std::alloc::Global;
+use xlsx_cells::{Asked, SheetCells, SheetCursor, collect, open_data};
 use xlsx_open::Sheet;
-use xlsx_values::Book;
 
 /// The path of the part of the first sheet of this name.
 pub fn path_named<'a>(sheets: &[Sheet], paths: &'a [String], name: &str) -> Option<&'a str>
@@ -50,13 +48,11 @@ pub fn open_placed<P: Package>(
     ensures enters { let old = P.state «package».old in
         IfOk result (λ entered. IsSomeAnd (option_copied path.entry) (λ there.
         EntersData there entered.1 old (stream (P.state «package».new) entered.0))) }
-    ensures err { let old = P.state «package».old in
-        let new = P.state «package».new in
-        IfErr result (λ error. (grounds : Grounds) →
-        PlacedSheetFails name.now grounds (option_copied path.entry) old new error) }
+    ensures err { IfErr result (PlacedHeadFails name.now (option_copied path.entry)
+        (P.state «package».old) (P.state «package».new)) }
     ensures counts { IfErr result
         (KeepsFaults Io (P.state «package».old) (P.state «package».new)) }
-    ensures kind { IfErr result (IsPlacedError name.now) }
+    ensures kind { IfErr result (IsPlacedHeadError name.now) }
 {
     if let Some(path) = path {
         if let Some(entered) = open_data(alloc, package, path)? {
@@ -66,50 +62,34 @@ pub fn open_placed<P: Package>(
     Err(XlsxError::WorksheetNotFound(String::from_str(alloc, name)?))
 }
 
-/// The cells of a sheet as ranges: the last value and the last formula of each position.
-fn ranges_of(alloc: Global, cells: SheetCells) -> Result<SheetReading, AllocError>
-    requires values { All IsInSheet cells.values.items }
-    requires formulas { All IsInSheet cells.formulas.items }
-    ensures values { IfOk result (λ found.
-        value_pairs found.values ≡ last_of_each (value_entries cells.values.items)) }
-    ensures formulas { IfOk result (λ found.
-        formula_pairs found.formulas ≡ last_of_each (formula_entries cells.formulas.items)) }
-{
-    Ok(SheetReading {
-        values: Range::from_sparse(alloc, cells.values, Data::Empty)?,
-        formulas: Range::from_sparse(alloc, cells.formulas, String::new(alloc))?,
-    })
-}
-
-/// The values and the formulas of the sheet of this name, whose part is at this path; the book is
-/// what its values rest on.
+/// What is asked for of the sheet of this name, whose part is at this path.
 pub fn read_placed<P: Package>(
     alloc: Global,
     package: &mut P,
     path: Option<&str>,
     name: &str,
-    book: Book<'_>,
-) -> Result<SheetReading, XlsxError>
+    asked: Asked<'_>,
+) -> Result<SheetCells, XlsxError>
     ensures keeps { SameParts (P.state «package».old) (P.state «package».new) }
     ensures faults { OnOk result
         ((P.state «package».new).faults ≡ (P.state «package».old).faults) }
+    ensures inside { IfOk result (λ cells.
+        All IsInSheet cells.values.items × All IsInSheet cells.formulas.items) }
     ensures reads { let old = P.state «package».old in
-        old.is_told ≡ true → IfOk result
-        (ReadsPlaced (grounds_of book.entry) (option_copied path.entry) old.parts) }
-    ensures err { let old = P.state «package».old in
-        let new = P.state «package».new in
-        IfErr result (PlacedSheetFails name.now (grounds_of book.entry)
-        (option_copied path.entry) old new) }
+        let wants = asked.entry.wants in
+        let grounds = grounds_of asked.entry.book in
+        let path = option_copied path.entry in
+        old.is_told ≡ true → IfOk result (λ cells. IsSomeAnd (events_at path old.parts)
+        (λ events. HoldsWanted wants grounds events (value_entries cells.values.items)
+        (formula_entries cells.formulas.items))) }
+    ensures err { IfErr result (PlacedSheetFails name.now asked.entry.wants
+        (grounds_of asked.entry.book) (option_copied path.entry) (P.state «package».old)
+        (P.state «package».new)) }
     ensures counts { IfErr result
         (KeepsFaults Io (P.state «package».old) (P.state «package».new)) }
     ensures kind { IfErr result (IsPlacedError name.now) }
 {
     let (sheet, _) = open_placed(alloc, package, path, name)?;
     let mut sheet = sheet;
-    let wants = Wants {
-        values: true,
-        formulas: true,
-    };
-    let cells = collect(alloc, package, &mut sheet, Asked { wants, book })?;
-    Ok(ranges_of(alloc, cells)?)
+    collect(alloc, package, &mut sheet, asked)
 }

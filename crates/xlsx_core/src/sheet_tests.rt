@@ -9,7 +9,7 @@ use std::alloc::Global;
 use std::test::Fail;
 
 /// The text of a value behind a letter for its kind.
-fn push_value(out: &mut String, value: &Data) -> Result<(), Fail> {
+pub fn push_value(out: &mut String, value: &Data) -> Result<(), Fail> {
     match value {
         Data::Decimal(number) => {
             out.push_str("n:")?;

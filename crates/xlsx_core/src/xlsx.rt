@@ -1,31 +1,25 @@
 ghost use Rattle.std.specs.Prelude.{◌≡◌, true, map, option_map, slice_get, string_bytes};
 ghost use Rattle.std.specs.Prelude.{MatchResult, IfOk, OnOk, IfErr};
-ghost use Rattle.part_events.specs.Package.{SameParts, KeepsFaults};
 ghost use Rattle.cell_data.specs.declared.error.XlsxError.TheVariants.{Io};
 ghost use Rattle.xlsx_open.specs.Opening.{Opening, HoldsOpening, OpensAs, OpensSoundly, IsBuilt};
 ghost use Rattle.xlsx_open.specs.Opening.{IsOpeningError, OpensFrom, FailsToOpen, OpeningFails};
 ghost use Rattle.xlsx_open.specs.Opening.{SoundFails};
-ghost use Rattle.xlsx_core.specs.Opened.{path_listed};
-ghost use Rattle.xlsx_core.specs.SheetReading.{grounds_with, PlacedSheetFails, IsPlacedError};
-ghost use Rattle.xlsx_core.specs.SheetReading.{ReadsPlaced};
 
-use crate::placed_sheet::{path_named, read_placed};
-use crate::sheet_reading::SheetReading;
-use cell_data::XlsxError;
+use cell_data::{HeaderRow, XlsxError};
 use part_events::Package;
 use std::alloc::Global;
 use xlsx_open::{Metadata, open};
-use xlsx_values::Book;
 
 /// An open workbook, and the package that it is read from.
 #[derive(Drop)]
 pub struct Xlsx<P: Package> {
-    package: P,
-    metadata: Metadata,
-    paths: Vec<String>,
-    strings: Vec<String>,
-    is_1904: bool,
-    alloc: Global,
+    pub(crate) package: P,
+    pub(crate) metadata: Metadata,
+    pub(crate) paths: Vec<String>,
+    pub(crate) strings: Vec<String>,
+    pub(crate) is_1904: bool,
+    pub(crate) header_row: HeaderRow,
+    pub(crate) alloc: Global,
 }
 
 /// Why a workbook could not be opened, with the package that was handed in.
@@ -36,6 +30,9 @@ pub struct OpenFailure<P: Package> {
 }
 
 impl<P: Package> Xlsx<P> {
+    ghost use Rattle.cell_data.specs.declared.value.HeaderRow.TheVariants.{FirstNonEmptyRow};
+    ghost use Rattle.xlsx_core.specs.Worksheets.{SetsHeaderRow};
+
     /// Opens the workbook of a package, as ECMA-376 part 2, section 9.3 (relationships) and part 1,
     /// section 18.2 (workbook) have it. A refusal hands the package back, with the same parts.
     ///
@@ -53,6 +50,7 @@ impl<P: Package> Xlsx<P> {
             old.is_told ≡ true → IfOk result (λ xlsx. (opening : Opening)
             × HoldsOpening xlsx.metadata xlsx.paths.items xlsx.strings.items xlsx.is_1904 opening
             × OpensAs old.parts opening) }
+        ensures header_row { IfOk result (λ xlsx. xlsx.header_row ≡ FirstNonEmptyRow) }
         ensures built { let old = P.state «package» in
             old.is_told ≡ true → OnOk result (IsBuilt old.parts) }
         ensures err { IfErr result (λ failure.
@@ -70,42 +68,21 @@ impl<P: Package> Xlsx<P> {
                 paths: opened.paths,
                 strings: opened.strings,
                 is_1904: opened.is_1904,
+                header_row: HeaderRow::FirstNonEmptyRow,
                 alloc,
             }),
             Err(error) => Err(OpenFailure { error, package }),
         }
     }
 
-    /// The values and the formulas of the first sheet of this name.
-    pub(crate) fn sheet(&mut self, name: &str) -> Result<SheetReading, XlsxError>
-        ensures keeps { SameParts (P.state self.old.package) (P.state self.new.package) }
-        ensures rest { (self.new.metadata ≡ self.old.metadata) × (self.new.paths ≡ self.old.paths)
-            × (self.new.strings ≡ self.old.strings) × (self.new.is_1904 ≡ self.old.is_1904) }
-        ensures faults { OnOk result
-            ((P.state self.new.package).faults ≡ (P.state self.old.package).faults) }
-        ensures reads { let old = P.state self.old.package in
-            let path =
-            path_listed name.now self.old.metadata.sheets.items self.old.paths.items in
-            let grounds =
-            grounds_with (map string_bytes self.old.strings.items) self.old.is_1904 in
-            old.is_told ≡ true → IfOk result (ReadsPlaced grounds path old.parts) }
-        ensures err { let path =
-            path_listed name.now self.old.metadata.sheets.items self.old.paths.items in
-            let grounds =
-            grounds_with (map string_bytes self.old.strings.items) self.old.is_1904 in
-            IfErr result (PlacedSheetFails name.now grounds path (P.state self.old.package)
-            (P.state self.new.package)) }
-        ensures counts { IfErr result
-            (KeepsFaults Io (P.state self.old.package) (P.state self.new.package)) }
-        ensures kind { IfErr result (IsPlacedError name.now) }
+    /// Sets where ranges of values begin: with their first row that has a value, as after opening,
+    /// or with a row counted from 0.
+    pub fn with_header_row(&mut self, header_row: HeaderRow) -> &mut Self
+        ensures same_reference { result.ghost_name ≡ self.entry.ghost_name }
+        ensures sets { SetsHeaderRow header_row self.old result.now }
     {
-        let path = path_named(&self.metadata.sheets, &self.paths, name);
-        let book = Book {
-            strings: &self.strings,
-            formats: &[],
-            is_1904: self.is_1904,
-        };
-        read_placed(self.alloc, &mut self.package, path, name, book)
+        self.header_row = header_row;
+        self
     }
 
     /// The package, as it is now.
@@ -118,6 +95,7 @@ impl<P: Package> Xlsx<P> {
             paths: _,
             strings: _,
             is_1904: _,
+            header_row: _,
             alloc: _,
         } = self;
         package

@@ -1,7 +1,7 @@
 use Rattle.std.proofs.Common.{sym, subst, ◌∙◌, map, string_bytes}
 use Rattle.std.proofs.lemmas.Result.{IfOk-weaker, IfErr-weaker}
 use Rattle.xlsx_core.specs.Opened.{path_listed}
-use Rattle.xlsx_core.specs.SheetReading.{grounds_with, value_pairs, formula_pairs, ReadsAs}
+use Rattle.xlsx_core.specs.SheetReading.{both_wanted, grounds_with, value_pairs, formula_pairs, ReadsAs}
 use Rattle.xlsx_core.specs.SheetReading.{ReadsPlaced, SheetFails, PlacedSheetFails}
 use Rattle.xlsx_core.proofs.SheetsRead.{opens_placed, reads_as, sheet_fails}
 use Rattle.xlsx_core.proofs.sheet_reading.read_sheet.Goals as goal
@@ -33,13 +33,13 @@ returns-in-Ok-clause-err g c =
     let path = path_listed name xlsx.metadata.sheets.items xlsx.paths.items in
     let grounds = grounds_with (map string_bytes xlsx.strings.items) xlsx.is_1904 in
     IfErr-weaker c.sheet-result.result
-    (PlacedSheetFails name grounds path mid
+    (PlacedSheetFails name both_wanted grounds path mid
     (g.P.Package.state c.sheet-result.new.self.package))
     (SheetFails name old new)
     (λ e fails. sheet_fails name path grounds old mid new e c.in-Ok.ensures.uses.parts
     c.in-Ok.ensures.uses.faults
     (λ told. let opened = c.in-Ok.ensures.opens told in
     opens_placed name opened.0 opened.1 opened.2)
-    (subst (λ there. PlacedSheetFails name grounds path mid (g.P.Package.state there) e)
+    (subst (λ there. PlacedSheetFails name both_wanted grounds path mid (g.P.Package.state there) e)
     (sym c.into_package.ensures) fails))
     c.sheet-result.ensures.err

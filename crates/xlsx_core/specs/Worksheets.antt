@@ -1,0 +1,178 @@
+-- What single calls on the worksheets of an open workbook answer.
+use Rattle.std.specs.Prelude.{◌≡◌, ◌⊎◌, ⊤, ℕ, List, [], true, false, nat_le, Option, Some, None, Ok}
+use Rattle.std.specs.Prelude.{map, IsSome, IsSomeAnd, codes, string_bytes, String}
+use Rattle.std.specs.List.{filter}
+use Rattle.std.specs.declared.alloc.Global.{Global}
+use Rattle.cell_refs.specs.declared.dimensions.Dimensions.{Dimensions}
+use Rattle.part_events.specs.Event.{Event}
+use Rattle.part_events.specs.Nesting.{whole}
+use Rattle.part_events.specs.Package.{Part, PackageState}
+use Rattle.cell_data.specs.CellValue.{CellValue}
+use Rattle.cell_data.specs.Positions.{last_of_each, least_area}
+use Rattle.cell_data.specs.Range.{bounds_of, blank_of}
+use Rattle.cell_data.specs.declared.error.XlsxError.{XlsxError}
+use Rattle.cell_data.specs.declared.error.XlsxError.TheVariants.{OutOfMemory, Io, NotAWorksheet}
+use Rattle.cell_data.specs.declared.range.Range.{Range}
+use Rattle.cell_data.specs.declared.value.Data.{Data}
+use Rattle.cell_data.specs.declared.value.Data.TheVariants.{Empty}
+use Rattle.cell_data.specs.declared.value.HeaderRow.{HeaderRow}
+use Rattle.cell_data.specs.declared.value.HeaderRow.TheVariants.{FirstNonEmptyRow, Row}
+use Rattle.xlsx_sections.specs.PartSection.{PartSection, section_in, inside_of, has_end}
+use Rattle.xlsx_values.specs.Value.{Grounds}
+use Rattle.xlsx_cells.specs.CellsReader.{Flow, IsFlowing}
+use Rattle.xlsx_cells.specs.Head.{dimensions_in, HasNoData, other_in}
+use Rattle.xlsx_cells.specs.SheetPart.{EntersData, HoldsValues, HoldsFormulas}
+use Rattle.xlsx_cells.specs.declared.children.Wants.{Wants}
+use Rattle.xlsx_core.specs.Opened.{path_listed}
+use Rattle.xlsx_core.specs.SheetReading.{grounds_with, events_at, value_pairs, formula_pairs}
+use Rattle.xlsx_core.specs.SheetReading.{IsPlacedError}
+use Rattle.xlsx_core.specs.SheetReading.{PlacedSheetFails, PlacedHeadFails}
+use Rattle.xlsx_core.specs.declared.xlsx.Xlsx.{Xlsx}
+
+-- where the part of the first sheet of a name is, in an open workbook
+abbrev pub path_of : {P : Type 0} → Xlsx P → List ℕ → Option (List ℕ)
+path_of xlsx name = path_listed name xlsx.metadata.sheets.items xlsx.paths.items
+
+-- what the values of its cells rest on
+abbrev pub grounds_of_book : {P : Type 0} → Xlsx P → Grounds
+grounds_of_book xlsx = grounds_with (map string_bytes xlsx.strings.items) xlsx.is_1904
+
+-- a call keeps all of a workbook but its package
+pub record KeepsWorkbook {P : Type 0} (old new : Xlsx P) : Type 0 where
+  pub metadata : new.metadata ≡ old.metadata
+  pub paths : new.paths ≡ old.paths
+  pub strings : new.strings ≡ old.strings
+  pub is_1904 : new.is_1904 ≡ old.is_1904
+  pub header_row : new.header_row ≡ old.header_row
+
+-- another header row, and all else as it was
+pub record SetsHeaderRow {P : Type 0} (header : HeaderRow) (old new : Xlsx P) : Type 0 where
+  pub «package» : new.package ≡ old.package
+  pub metadata : new.metadata ≡ old.metadata
+  pub paths : new.paths ≡ old.paths
+  pub strings : new.strings ≡ old.strings
+  pub is_1904 : new.is_1904 ≡ old.is_1904
+  pub header_row : new.header_row ≡ header
+
+-- the head of a sheet's part is sound, and its data are this section, which is closed
+pub record HasSheetData (events : List Event) (section : PartSection) : Type 0 where
+  pub area : Option Dimensions
+  pub found : section_in (codes "sheetData") events ≡ Some section
+  pub dimensions : dimensions_in (whole events) ≡ Ok area
+  pub closed : has_end section ≡ true
+
+-- a sheet's part holds what is wanted of it: these values, and these formulas
+pub record HoldsWanted
+    (wants : Wants) (grounds : Grounds) (events : List Event)
+    (values : List ((ℕ × ℕ) × CellValue)) (formulas : List ((ℕ × ℕ) × List ℕ)) : Type 0 where
+  pub section : PartSection
+  pub sheet : HasSheetData events section
+  pub valued : wants.values ≡ true → HoldsValues grounds (inside_of section) values
+  pub written : wants.formulas ≡ true → HoldsFormulas (inside_of section) formulas
+
+-- a sheet's part is sound but for its formulas, and these are its values that count
+abbrev pub HasValues : Grounds → List Event → List ((ℕ × ℕ) × CellValue) → Type 0
+HasValues grounds events values =
+    (section : PartSection) × HasSheetData events section
+    × HoldsValues grounds (inside_of section) values
+
+-- it is sound but for its values, and these are its formulas that count
+abbrev pub HasFormulas : List Event → List ((ℕ × ℕ) × List ℕ) → Type 0
+HasFormulas events formulas =
+    (section : PartSection) × HasSheetData events section
+    × HoldsFormulas (inside_of section) formulas
+
+-- a part that is no worksheet: it ends before a sheet's data, and has a start that is no dimension
+pub record IsNoWorksheet (events : List Event) : Type 0 where
+  pub nested : whole events ≡ events
+  pub none : HasNoData (whole events)
+  pub other : IsSome (other_in (whole events))
+
+-- what is read of a part, which may be no worksheet and has no cells then
+abbrev pub AnswersCells :
+    Wants → Grounds → List ((ℕ × ℕ) × CellValue) → List ((ℕ × ℕ) × List ℕ) → List Event → Type 0
+AnswersCells wants grounds values formulas events =
+    HoldsWanted wants grounds events values formulas
+    ⊎ (IsNoWorksheet events × (values ≡ []) × (formulas ≡ []))
+
+abbrev pub AnswersValues : Grounds → List Event → List ((ℕ × ℕ) × CellValue) → Type 0
+AnswersValues grounds events values =
+    HasValues grounds events values ⊎ (IsNoWorksheet events × (values ≡ []))
+
+abbrev pub AnswersFormulas : List Event → List ((ℕ × ℕ) × List ℕ) → Type 0
+AnswersFormulas events formulas =
+    HasFormulas events formulas ⊎ (IsNoWorksheet events × (formulas ≡ []))
+
+-- what stands in a row from this one on
+abbrev pub from_row : {X : Type 0} → ℕ → List ((ℕ × ℕ) × X) → List ((ℕ × ℕ) × X)
+from_row row cells = filter (λ cell. nat_le row cell.0.0) cells
+
+-- what counts under a header row
+abbrev pub below_header : {X : Type 0} → HeaderRow → List ((ℕ × ℕ) × X) → List ((ℕ × ℕ) × X)
+below_header FirstNonEmptyRow cells = cells
+below_header (Row row) cells = from_row row cells
+
+-- the area with another first row
+abbrev pub area_from : ℕ → Option Dimensions → Option Dimensions
+area_from row None = None
+area_from row (Some area) = Some (record { start = (row, area.start.1); end = area.end })
+
+-- the area that begins with the header row, where there is one
+abbrev pub header_area : HeaderRow → Option Dimensions → Option Dimensions
+header_area FirstNonEmptyRow area = area
+header_area (Row row) area = area_from row area
+
+-- the range of these values under a header row: the last of each position
+pub record IsValueRange
+    (header : HeaderRow) (values : List ((ℕ × ℕ) × CellValue)) (range : Range Data) : Type 0 where
+  pub cells : value_pairs range ≡ last_of_each (below_header header values)
+  pub bounds : bounds_of range ≡ header_area header (least_area (below_header header values))
+  pub blank : blank_of range ≡ Empty
+
+-- the range of these formulas
+pub record IsFormulaRange
+    (formulas : List ((ℕ × ℕ) × List ℕ)) (range : Range (String Global)) : Type 0 where
+  pub cells : formula_pairs range ≡ last_of_each formulas
+  pub bounds : bounds_of range ≡ least_area formulas
+  pub blank : string_bytes (blank_of range) ≡ []
+
+-- the values of the sheet whose part is at a path
+abbrev pub ReadsValues :
+    Grounds → HeaderRow → Option (List ℕ) → List Part → Range Data → Type 0
+ReadsValues grounds header path parts range =
+    IsSomeAnd (events_at path parts)
+    (λ events. (values : List ((ℕ × ℕ) × CellValue)) × AnswersValues grounds events values
+    × IsValueRange header values range)
+
+-- and its formulas
+abbrev pub ReadsFormulas : Option (List ℕ) → List Part → Range (String Global) → Type 0
+ReadsFormulas path parts range =
+    IsSomeAnd (events_at path parts)
+    (λ events. (formulas : List ((ℕ × ℕ) × List ℕ)) × AnswersFormulas events formulas
+    × IsFormulaRange formulas range)
+
+-- when a range isn't read: a part that is no worksheet is no reason
+abbrev pub RangeFails :
+    List ℕ → Wants → Grounds → Option (List ℕ) → PackageState → PackageState → XlsxError → Type 0
+RangeFails name wants grounds path old new (NotAWorksheet other) = ⊥
+RangeFails name wants grounds path old new error =
+    PlacedSheetFails name wants grounds path old new error
+
+abbrev pub IsRangeError : List ℕ → XlsxError → Type 0
+IsRangeError name (NotAWorksheet other) = ⊥
+IsRangeError name error = IsPlacedError name error
+
+-- The data of the sheet whose part is at a path were entered, by a reader that has taken nothing of
+-- them.
+pub record EntersSheet
+    (path : Option (List ℕ)) (area : Dimensions) (old : PackageState) (new : Flow) : Type 0 where
+  pub flowing : IsFlowing new
+  pub going : new.is_failed ≡ false
+  pub left : new.is_done ≡ false
+  pub enters : IsSomeAnd path (λ there. EntersData there area old new.stream)
+
+-- when they aren't: nothing is said of the package then, which nobody holds
+abbrev pub ReaderFails : List ℕ → Option (List ℕ) → PackageState → XlsxError → Type 0
+ReaderFails name path old Io = ⊤
+ReaderFails name path old OutOfMemory = ⊤
+ReaderFails name path old error = PlacedHeadFails name path old old error

@@ -1,0 +1,200 @@
+ghost use Rattle.std.specs.Prelude.{◌≡◌, true, IfOk, OnOk, IfErr, All, IsSomeAnd};
+ghost use Rattle.part_events.specs.Package.{SameParts, KeepsFaults};
+ghost use Rattle.cell_data.specs.Cells.{IsInSheet};
+ghost use Rattle.cell_data.specs.declared.error.XlsxError.TheVariants.{Io};
+ghost use Rattle.xlsx_cells.specs.CellsReader.{values_alone, formulas_alone, area_held, flow_by};
+ghost use Rattle.xlsx_cells.specs.CellsReader.{grounds_by};
+ghost use Rattle.xlsx_cells.specs.SheetPart.{value_entries, formula_entries};
+ghost use Rattle.xlsx_core.specs.SheetReading.{both_wanted, events_at, PlacedSheetFails};
+ghost use Rattle.xlsx_core.specs.SheetReading.{IsPlacedHeadError, IsPlacedError, ReadsPlaced};
+ghost use Rattle.xlsx_core.specs.Worksheets.{path_of, grounds_of_book, KeepsWorkbook, HoldsWanted};
+ghost use Rattle.xlsx_core.specs.Worksheets.{AnswersCells, ReadsValues, ReadsFormulas, RangeFails};
+ghost use Rattle.xlsx_core.specs.Worksheets.{IsRangeError, EntersSheet, ReaderFails};
+
+use crate::placed_sheet::{open_placed, path_named, read_placed};
+use crate::ranges::{formula_range, ranges_of, value_range};
+use crate::sheet_reading::SheetReading;
+use crate::xlsx::Xlsx;
+use cell_data::{Data, Range, XlsxError};
+use part_events::Package;
+use xlsx_cells::{Asked, SheetCells, Wants, XlsxCellReader};
+use xlsx_values::Book;
+
+/// Reading the worksheets of an open workbook.
+impl<P: Package> Xlsx<P> {
+    /// What is wanted of the first sheet of this name.
+    fn placed_cells(&mut self, name: &str, wants: Wants) -> Result<SheetCells, XlsxError>
+        ensures keeps { SameParts (P.state self.old.package) (P.state self.new.package) }
+        ensures rest { KeepsWorkbook self.old self.new }
+        ensures faults { OnOk result
+            ((P.state self.new.package).faults ≡ (P.state self.old.package).faults) }
+        ensures inside { IfOk result (λ cells.
+            All IsInSheet cells.values.items × All IsInSheet cells.formulas.items) }
+        ensures reads { let old = P.state self.old.package in
+            let path = path_of self.old name.now in
+            let grounds = grounds_of_book self.old in
+            old.is_told ≡ true → IfOk result (λ cells. IsSomeAnd (events_at path old.parts)
+            (λ events. HoldsWanted wants grounds events (value_entries cells.values.items)
+            (formula_entries cells.formulas.items))) }
+        ensures err { IfErr result (PlacedSheetFails name.now wants (grounds_of_book self.old)
+            (path_of self.old name.now) (P.state self.old.package) (P.state self.new.package)) }
+        ensures counts { IfErr result
+            (KeepsFaults Io (P.state self.old.package) (P.state self.new.package)) }
+        ensures kind { IfErr result (IsPlacedError name.now) }
+    {
+        let path = path_named(&self.metadata.sheets, &self.paths, name);
+        let book = Book {
+            strings: &self.strings,
+            formats: &[],
+            is_1904: self.is_1904,
+        };
+        read_placed(
+            self.alloc,
+            &mut self.package,
+            path,
+            name,
+            Asked { wants, book },
+        )
+    }
+
+    /// The values and the formulas of the first sheet of this name.
+    pub(crate) fn sheet(&mut self, name: &str) -> Result<SheetReading, XlsxError>
+        ensures keeps { SameParts (P.state self.old.package) (P.state self.new.package) }
+        ensures rest { KeepsWorkbook self.old self.new }
+        ensures faults { OnOk result
+            ((P.state self.new.package).faults ≡ (P.state self.old.package).faults) }
+        ensures reads { let old = P.state self.old.package in
+            old.is_told ≡ true → IfOk result
+            (ReadsPlaced (grounds_of_book self.old) (path_of self.old name.now) old.parts) }
+        ensures err { IfErr result (PlacedSheetFails name.now both_wanted
+            (grounds_of_book self.old) (path_of self.old name.now) (P.state self.old.package)
+            (P.state self.new.package)) }
+        ensures counts { IfErr result
+            (KeepsFaults Io (P.state self.old.package) (P.state self.new.package)) }
+        ensures kind { IfErr result (IsPlacedError name.now) }
+    {
+        let wants = Wants {
+            values: true,
+            formulas: true,
+        };
+        let cells = self.placed_cells(name, wants)?;
+        Ok(ranges_of(self.alloc, cells)?)
+    }
+
+    /// What is wanted of the first sheet of this name, and nothing where its part is no worksheet.
+    fn worksheet_cells(&mut self, name: &str, wants: Wants) -> Result<SheetCells, XlsxError>
+        ensures keeps { SameParts (P.state self.old.package) (P.state self.new.package) }
+        ensures rest { KeepsWorkbook self.old self.new }
+        ensures faults { OnOk result
+            ((P.state self.new.package).faults ≡ (P.state self.old.package).faults) }
+        ensures inside { IfOk result (λ cells.
+            All IsInSheet cells.values.items × All IsInSheet cells.formulas.items) }
+        ensures reads { let old = P.state self.old.package in
+            let path = path_of self.old name.now in
+            let grounds = grounds_of_book self.old in
+            old.is_told ≡ true → IfOk result (λ cells. IsSomeAnd (events_at path old.parts)
+            (AnswersCells wants grounds (value_entries cells.values.items)
+            (formula_entries cells.formulas.items))) }
+        ensures err { IfErr result (RangeFails name.now wants (grounds_of_book self.old)
+            (path_of self.old name.now) (P.state self.old.package) (P.state self.new.package)) }
+        ensures counts { IfErr result
+            (KeepsFaults Io (P.state self.old.package) (P.state self.new.package)) }
+        ensures kind { IfErr result (IsRangeError name.now) }
+    {
+        match self.placed_cells(name, wants) {
+            Ok(cells) => Ok(cells),
+            Err(XlsxError::NotAWorksheet(_)) => Ok(SheetCells {
+                values: Vec::new(self.alloc),
+                formulas: Vec::new(self.alloc),
+            }),
+            Err(error) => Err(error),
+        }
+    }
+
+    /// The values of the first sheet of this name (ECMA-376 part 1, 18.3.1.80) that aren't empty:
+    /// the last one of each position, counted from 0. Under `HeaderRow::Row` only the rows from
+    /// that one on count, and a range with a value begins with it. Formulas are not read.
+    ///
+    /// A part that is no worksheet, as that of a chart sheet, has the empty range. Fails with
+    /// `WorksheetNotFound` where no sheet has the name or the first such sheet has no part. Else
+    /// the first start, row or cell that can't be read gives the refusal.
+    pub fn worksheet_range(&mut self, name: &str) -> Result<Range<Data>, XlsxError>
+        ensures keeps { SameParts (P.state self.old.package) (P.state self.new.package) }
+        ensures rest { KeepsWorkbook self.old self.new }
+        ensures faults { OnOk result
+            ((P.state self.new.package).faults ≡ (P.state self.old.package).faults) }
+        ensures reads { let old = P.state self.old.package in
+            let path = path_of self.old name.now in
+            old.is_told ≡ true → IfOk result
+            (ReadsValues (grounds_of_book self.old) self.old.header_row path old.parts) }
+        ensures err { IfErr result (RangeFails name.now values_alone (grounds_of_book self.old)
+            (path_of self.old name.now) (P.state self.old.package) (P.state self.new.package)) }
+        ensures counts { IfErr result
+            (KeepsFaults Io (P.state self.old.package) (P.state self.new.package)) }
+        ensures kind { IfErr result (IsRangeError name.now) }
+    {
+        let wants = Wants {
+            values: true,
+            formulas: false,
+        };
+        let cells = self.worksheet_cells(name, wants)?;
+        Ok(value_range(self.alloc, cells.values, self.header_row)?)
+    }
+
+    /// The formulas of the first sheet of this name (18.3.1.40) that aren't empty, without `=`: the
+    /// last one of each position, counted from 0. One of a group is that of its master, moved to
+    /// the cell. Values are not read, and the header row doesn't count.
+    ///
+    /// A part that is no worksheet has the empty range. Refused as `worksheet_range` is, but by
+    /// what formulas say in place of values.
+    pub fn worksheet_formula(&mut self, name: &str) -> Result<Range<String>, XlsxError>
+        ensures keeps { SameParts (P.state self.old.package) (P.state self.new.package) }
+        ensures rest { KeepsWorkbook self.old self.new }
+        ensures faults { OnOk result
+            ((P.state self.new.package).faults ≡ (P.state self.old.package).faults) }
+        ensures reads { let old = P.state self.old.package in
+            old.is_told ≡ true → IfOk result
+            (ReadsFormulas (path_of self.old name.now) old.parts) }
+        ensures err { IfErr result (RangeFails name.now formulas_alone (grounds_of_book self.old)
+            (path_of self.old name.now) (P.state self.old.package) (P.state self.new.package)) }
+        ensures counts { IfErr result
+            (KeepsFaults Io (P.state self.old.package) (P.state self.new.package)) }
+        ensures kind { IfErr result (IsRangeError name.now) }
+    {
+        let wants = Wants {
+            values: false,
+            formulas: true,
+        };
+        let cells = self.worksheet_cells(name, wants)?;
+        Ok(formula_range(self.alloc, cells.formulas)?)
+    }
+
+    /// A reader of the cells of the first sheet of this name, which stands behind the start of its
+    /// data (18.3.1.80) and has taken nothing of them.
+    ///
+    /// Fails with `WorksheetNotFound` where no sheet has the name or the first such sheet has no
+    /// part, with `NotAWorksheet` where its part is none, and else as `XlsxCellReader::new`.
+    pub fn worksheet_cells_reader<'a>(
+        &'a mut self,
+        name: &str,
+    ) -> Result<XlsxCellReader<'a, P>, XlsxError>
+        ensures enters { IfOk result (λ reader. EntersSheet (path_of self.old name.now)
+            (area_held reader) (P.state self.old.package) (flow_by P.state reader)) }
+        ensures grounds { IfOk result (λ reader. grounds_by reader ≡ grounds_of_book self.old) }
+        ensures err { IfErr result (ReaderFails name.now (path_of self.old name.now)
+            (P.state self.old.package)) }
+        ensures kind { IfErr result (IsPlacedHeadError name.now) }
+    {
+        let path = path_named(&self.metadata.sheets, &self.paths, name);
+        let (sheet, dimensions) = open_placed(self.alloc, &mut self.package, path, name)?;
+        let is_1904 = self.is_1904;
+        Ok(XlsxCellReader::resume(
+            &mut self.package,
+            &self.strings,
+            &[],
+            is_1904,
+            sheet,
+            dimensions,
+        ))
+    }
+}
