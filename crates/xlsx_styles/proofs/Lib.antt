@@ -1,2 +1,4 @@
+pub mod Nearest
 pub mod Orders
 pub mod Shades
+pub mod StartsRead
