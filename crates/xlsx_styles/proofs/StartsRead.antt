@@ -1,18 +1,19 @@
 -- How an element is read start by start, to its end.
-use Rattle.std.proofs.Common.{◌≡◌, ℕ, ◌≤◌, List, [], ◌∷◌, length, Bool, true, Some, Option, Result, Ok, Err, refl, sym, ◌∙◌, ap, subst, arith}
+use Rattle.std.proofs.Common.{◌≡◌, ℕ, ◌≤◌, List, [], ◌∷◌, length, Bool, true, Some, Option, Result, Ok, Err, refl, sym, ◌∙◌, ap, subst, arith, codes, inl, inr}
 use Rattle.part_events.specs.Event.{Tag, Event, start, IsStartAnd}
 use Rattle.part_events.specs.Reading.{Reading, IsReading, ReadsOn, Skips, ahead}
-use Rattle.part_events.specs.Section.{content, is_closed, behind}
+use Rattle.part_events.specs.Section.{Element, content, is_closed, behind}
 use Rattle.part_events.specs.Walk.{inside, IsNextStart, ClosesSection}
 use Rattle.part_events.proofs.Onward.{reads_nothing}
 use Rattle.part_events.specs.declared.fault.XmlFault.TheVariants.{EndMismatch}
 use Rattle.cell_data.specs.declared.error.XlsxError.{XlsxError}
-use Rattle.cell_data.specs.declared.error.XlsxError.TheVariants.{OutOfMemory, Io, Xml, XmlEof}
+use Rattle.cell_data.specs.declared.error.XlsxError.TheVariants.{OutOfMemory, Io, Xml, XmlAttr, XmlEof}
+use Rattle.xlsx_sections.specs.Elements.{KeepsElements, end_outside, end_among}
 use Rattle.xlsx_sections.specs.PartSection.{PartSection, KeepsSection, SectionFails, StandsAtStart, FindsStartIn, Never, always, IsStepError}
 use Rattle.xlsx_sections.specs.Refusal.{Refusal}
 use Rattle.xlsx_sections.proofs.Refused.{refused_later}
 use Rattle.xlsx_styles.specs.Changes.{all_changes, changed_by}
-use Rattle.xlsx_styles.specs.Errors.{IsPlainError}
+use Rattle.xlsx_styles.specs.Errors.{IsPlainError, IsBorderError}
 use Rattle.xlsx_styles.specs.Starts.{KeepsStarts}
 
 pub starts_none : (base : ℕ) (first : Reading) → IsReading first → base ≤ length first.names
@@ -97,3 +98,31 @@ plain_step name Io is = tt
 plain_step name (Xml (EndMismatch at)) is = tt
 plain_step name (XmlEof element) is = is
 plain_step name _ is = absurd is
+
+-- the step to the next element is refused, and so is the section
+pub step_refused : {base : ℕ} {first mid : Reading} {wanted : Tag → Bool} (name : List ℕ)
+    (inner : Element → Option (List ℕ)) (before : PartSection → Refusal → Type 0) (new : Reading)
+    (error : XlsxError) → KeepsElements wanted base first mid
+    → SectionFails (end_among wanted name inner) Never base mid new error
+    → SectionFails (end_among wanted name inner) before base first new error
+step_refused {base = base} {first = first} {mid = mid} {wanted =
+    wanted} name inner before new error keeps fails =
+    refused_later base first mid (end_among wanted name inner) Never before new error keeps.section
+    (λ told. ap (end_outside name inner) (keeps.unclosed told)) (λ _ refusal never. absurd never)
+    fails
+
+pub border_step : (error : XlsxError) → IsStepError (codes "border") error → IsBorderError error
+border_step OutOfMemory is = tt
+border_step Io is = tt
+border_step (Xml (EndMismatch at)) is = tt
+border_step (XmlEof element) is = inl is
+border_step _ is = absurd is
+
+pub side_step : (error : XlsxError) → IsPlainError (codes "border side") error
+    → IsBorderError error
+side_step OutOfMemory is = tt
+side_step Io is = tt
+side_step (Xml (EndMismatch at)) is = tt
+side_step (XmlAttr fault) is = tt
+side_step (XmlEof element) is = inr is
+side_step _ is = absurd is

@@ -189,16 +189,19 @@ name_changed behind font (Ok None) = Ok font
 name_changed behind font (Ok (Some text)) = with_decoded font (decoded_at behind text)
 name_changed behind font (Err fault) = Err (lookup_fault fault)
 
--- what a start makes of the font by its name and the text of its `val`
-abbrev pub value_changed :
-    List ℕ → FontSaid → Result (Option (List ℕ)) AttrFault → Result FontSaid AttrFault
-value_changed name font text =
-    if bytes_eq name (codes "sz") then changed_with with_size font text
-    else (if bytes_eq name (codes "b") then changed_with with_weight font text
-    else (if bytes_eq name (codes "i") then changed_with with_style font text
-    else (if bytes_eq name (codes "u") then changed_with with_underline font text
-    else (if bytes_eq name (codes "strike") then changed_with with_strike font text
-    else changed_with with_family font text))))
+-- what a start of this local name makes of a font, by the text of its `val`
+abbrev pub with_value : List ℕ → FontSaid → Option (List ℕ) → FontSaid
+with_value name font text =
+    if bytes_eq name (codes "sz") then with_size font text
+    else (if bytes_eq name (codes "b") then with_weight font text
+    else (if bytes_eq name (codes "i") then with_style font text
+    else (if bytes_eq name (codes "u") then with_underline font text
+    else (if bytes_eq name (codes "strike") then with_strike font text
+    else with_family font text))))
+
+unfoldable pub value_changed : Tag → FontSaid → Result FontSaid AttrFault
+value_changed tag font =
+    changed_with (with_value (local_name_of tag.name)) font (value_of (codes "val") tag.attributes)
 
 abbrev pub is_font_name : Tag → Bool
 is_font_name tag = is_named (codes "name" ∷ []) tag
@@ -213,8 +216,7 @@ font_change theme start font =
     then name_changed start.behind font (value_of (codes "val") start.tag.attributes)
     else (if is_font_color start.tag
     then or_fault (changed_with with_color font (color_of theme start.tag))
-    else or_fault (value_changed (local_name_of start.tag.name) font
-    (value_of (codes "val") start.tag.attributes)))
+    else or_fault (value_changed start.tag font))
 
 abbrev pub is_in_font : Tag → Bool
 is_in_font tag = is_named (

@@ -1,4 +1,5 @@
 pub mod Alignments
+pub mod Borders
 pub mod Changes
 pub mod Colors
 pub mod Errors

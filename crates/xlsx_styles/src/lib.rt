@@ -3,8 +3,11 @@
 #![tactic(auto)]
 
 mod alignment;
+mod border;
 mod color_text;
 mod fill;
+mod font;
+mod font_parts;
 mod laws;
 mod starts;
 mod texts;
@@ -12,8 +15,10 @@ mod theme;
 mod tint;
 
 pub use alignment::{parse_alignment, parse_protection};
+pub use border::read_border;
 pub use color_text::parse_color;
 pub use fill::read_fill;
+pub use font::read_font;
 pub use laws::{tints_keep_the_order, tints_of_zero_change_nothing};
 pub use theme::default_theme_colors;
 pub use tint::apply_tint;
