@@ -9,6 +9,7 @@ mod fill;
 mod font;
 mod font_parts;
 mod laws;
+mod parsing;
 mod starts;
 mod texts;
 mod theme;
@@ -20,6 +21,7 @@ pub use color_text::parse_color;
 pub use fill::read_fill;
 pub use font::read_font;
 pub use laws::{tints_keep_the_order, tints_of_zero_change_nothing};
+pub use parsing::{parse_border, parse_fill, parse_font};
 pub use theme::default_theme_colors;
 pub use tint::apply_tint;
 
