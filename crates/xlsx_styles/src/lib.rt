@@ -26,4 +26,6 @@ pub use theme::default_theme_colors;
 pub use tint::apply_tint;
 
 #[cfg(test)]
+mod element_tests;
+#[cfg(test)]
 mod tests;
