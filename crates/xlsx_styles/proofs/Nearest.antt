@@ -1,5 +1,5 @@
 -- What is nearest to a fraction is one number.
-use Rattle.std.proofs.Common.{◌≡◌, ◌*◌, ◌+◌, ◌<◌, ◌≤◌, ℕ, sym, arith}
+use Rattle.std.proofs.Common.{◌≡◌, ◌*◌, ℕ, sym, arith}
 use Rattle.std.proofs.Math.Nat.{div-eq_of_lt-le}
 use Rattle.xlsx_styles.specs.Colors.{nearest}
 use Rattle.xlsx_styles.specs.Tint.{Fraction, IsNearest}

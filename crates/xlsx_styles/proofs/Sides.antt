@@ -1,13 +1,12 @@
 -- How a side of a border is refused.
-use Rattle.std.proofs.Common.{◌≡◌, ℕ, List, Result, Ok, Err, codes, length, true, sym, ◌∙◌, ap, subst, arith}
-use Rattle.part_events.specs.Event.{Tag, Event, start}
+use Rattle.std.proofs.Common.{◌≡◌, List, Ok, codes, length, sym, ◌∙◌, ap, arith}
+use Rattle.part_events.specs.Event.{Tag, start}
 use Rattle.part_events.specs.Reading.{Reading, IsReading}
 use Rattle.cell_data.specs.declared.error.XlsxError.{XlsxError}
 use Rattle.cell_styles.specs.declared.border.BorderStyle.{BorderStyle}
 use Rattle.cell_styles.specs.declared.color.Color.{Color}
 use Rattle.xlsx_sections.specs.Elements.{ElementReadFails, IsInsideRefused}
 use Rattle.xlsx_sections.specs.PartSection.{always, inside_of, section_left}
-use Rattle.xlsx_sections.specs.Refusal.{Refusal}
 use Rattle.xlsx_sections.proofs.Refused.{refused_as}
 use Rattle.xlsx_styles.specs.Borders.{color_in, colored, side_by, side_line, side_of}
 
@@ -26,6 +25,7 @@ side_fails theme tag own style old new error is here line fails there =
     (IsInsideRefused (color_in theme)) (IsInsideRefused (side_of theme tag)) new error is
     (omega arith)
     (λ refusal refuses.
-    ap (side_by theme (inside_of (section_left (length old.names) old))) (ap side_line (same_tag tag own (there ∙ sym here)) ∙ line)
+    ap (side_by theme (inside_of (section_left (length old.names) old)))
+    (ap side_line (same_tag tag own (there ∙ sym here)) ∙ line)
     ∙ ap (colored style) refuses)
     fails

@@ -1,7 +1,6 @@
 -- A size as a number.
 use Rattle.std.proofs.Common.{◌≡◌, Option, Some, None, option_map, refl}
 use Rattle.std.specs.Option.{option_or}
-use Rattle.std.specs.Prelude.{ℤ}
 use Rattle.cell_data.specs.Decimal.{number_of}
 use Rattle.cell_data.specs.declared.decimal.Decimal.{Decimal}
 

@@ -1,5 +1,5 @@
 -- How an element is read start by start, to its end.
-use Rattle.std.proofs.Common.{◌≡◌, ℕ, ◌≤◌, List, [], ◌∷◌, length, Bool, true, Some, Option, Result, Ok, Err, refl, sym, ◌∙◌, ap, subst, arith, codes, inl, inr}
+use Rattle.std.proofs.Common.{◌≡◌, ℕ, ◌≤◌, List, ◌∷◌, length, Bool, true, Some, Option, Result, Ok, Err, refl, sym, ◌∙◌, ap, subst, arith, codes, inl, inr}
 use Rattle.part_events.specs.Event.{Tag, Event, start, IsStartAnd}
 use Rattle.part_events.specs.Reading.{Reading, IsReading, ReadsOn, Skips, ahead}
 use Rattle.part_events.specs.Section.{Element, content, is_closed, behind}
@@ -9,7 +9,7 @@ use Rattle.part_events.specs.declared.fault.XmlFault.TheVariants.{EndMismatch}
 use Rattle.cell_data.specs.declared.error.XlsxError.{XlsxError}
 use Rattle.cell_data.specs.declared.error.XlsxError.TheVariants.{OutOfMemory, Io, Xml, XmlAttr, XmlEof}
 use Rattle.xlsx_sections.specs.Elements.{KeepsElements, end_outside, end_among}
-use Rattle.xlsx_sections.specs.PartSection.{PartSection, KeepsSection, SectionFails, StandsAtStart, FindsStartIn, Never, always, IsStepError}
+use Rattle.xlsx_sections.specs.PartSection.{PartSection, KeepsSection, SectionFails, FindsStartIn, Never, always, IsStepError}
 use Rattle.xlsx_sections.specs.Refusal.{Refusal}
 use Rattle.xlsx_sections.proofs.Refused.{refused_later}
 use Rattle.xlsx_styles.specs.Changes.{all_changes, changed_by}

@@ -1,5 +1,5 @@
 -- What the elements of fonts say (ECMA-376 part 1, section 18.8.22).
-use Rattle.std.specs.Prelude.{ℕ, nat_le, ℤ, List, [], ◌∷◌, Bool, true, ◌||◌, if◌then◌else◌, codes, Option, Some, None, option_map, Result, Ok, Err}
+use Rattle.std.specs.Prelude.{ℕ, nat_le, ℤ, List, [], ◌∷◌, Bool, true, if◌then◌else◌, codes, Option, Some, None, option_map, Result, Ok, Err}
 use Rattle.std.specs.Option.{option_and_then, option_or}
 use Rattle.std.specs.Str.{bytes_eq}
 use Rattle.attr_text.specs.Attributes.{value_of, local_name_of}

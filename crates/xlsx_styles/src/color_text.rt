@@ -126,10 +126,7 @@ fn color_texts<'a>(
 
 /// The color that a start names by its attributes `rgb`, `theme`, `indexed` and `tint`, and None
 /// where the text of the first key that is there is no color's (ECMA-376 part 1, section 18.8.3).
-pub fn parse_color(
-    e: &StartTag<'_>,
-    theme_colors: &[Color],
-) -> Result<Option<Color>, AttrFault>
+pub fn parse_color(e: &StartTag<'_>, theme_colors: &[Color]) -> Result<Option<Color>, AttrFault>
     ensures { color_of theme_colors.now (tag_of e.now) ≡ result }
 {
     let (rgb, theme, indexed, tint) = color_texts(e)?;

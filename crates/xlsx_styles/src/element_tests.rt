@@ -89,7 +89,10 @@ fn colors_are_named_by_the_first_key_that_is_there(rt: HostRuntime) -> Result<()
         (" rgb=\"+12345\" theme=\"1\"", None),
         (" rgb=\"12345\"", None),
         (" theme=\"3\" indexed=\"2\"", Some(0xFF1F497D)),
-        (" theme=\"2\" tint=\"-0.0999786370433668\"", Some(0xFFDDD9C3)),
+        (
+            " theme=\"2\" tint=\"-0.0999786370433668\"",
+            Some(0xFFDDD9C3),
+        ),
         (" theme=\"3\" tint=\"inf\"", Some(0xFF1F497D)),
         (" theme=\"12\"", Some(0xFF000000)),
         (" theme=\"256\" indexed=\"2\"", None),
@@ -264,7 +267,11 @@ fn a_part_that_ends_in_borders_tells_where(rt: HostRuntime) -> Result<(), Fail> 
         return Err("not refused")?;
     };
     assert_eq!(rt; name, "border side");
-    let outside = [start("border", ""), start("left", ""), PartEvent::End("left")];
+    let outside = [
+        start("border", ""),
+        start("left", ""),
+        PartEvent::End("left"),
+    ];
     let Err(XlsxError::XmlEof(name)) = borders_in(&rt, alloc, &outside, true, true) else {
         return Err("not refused")?;
     };

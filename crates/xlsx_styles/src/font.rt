@@ -21,12 +21,7 @@ use xlsx_sections::{decode_at, start_tag};
 
 /// Names the font by a start, which is event number `at` of its part.
 #[tactic(auto, using(crate::proofs::FontErrors::decode_step))]
-fn change_name(
-    alloc: Global,
-    font: &mut Font,
-    tag: StartTag<'_>,
-    at: u64,
-) -> Result<(), XlsxError>
+fn change_name(alloc: Global, font: &mut Font, tag: StartTag<'_>, at: u64) -> Result<(), XlsxError>
     ensures ok { let name = value_of (codes "val") (tag_of tag.entry).attributes in
         OnOk result ((behind : ℕ) →
         name_changed behind (said_of font.old) name ≡ Ok (said_of font.new)) }

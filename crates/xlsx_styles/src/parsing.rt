@@ -111,5 +111,11 @@ pub fn parse_border<P: Package>(
         (border_of theme_colors.now diagonal_down diagonal_up) old new) }
     ensures kind { IfErr result IsBorderError }
 {
-    read_border(xml.package, &mut xml.cursor, diagonal_down, diagonal_up, theme_colors)
+    read_border(
+        xml.package,
+        &mut xml.cursor,
+        diagonal_down,
+        diagonal_up,
+        theme_colors,
+    )
 }

@@ -1,8 +1,7 @@
-use Rattle.std.proofs.Common.{◌≡◌, ℕ, Result, Ok, refl, sym, ◌∙◌, ap, codes, subst}
+use Rattle.std.proofs.Common.{ℕ, Result, refl, sym, ◌∙◌, ap, codes, subst}
 use Rattle.std.proofs.lemmas.Result.{err_from_is_err_and}
 use Rattle.part_events.specs.Event.{tag_of}
-use Rattle.part_events.specs.Reading.{reading, ahead}
-use Rattle.part_events.specs.Section.{content}
+use Rattle.part_events.specs.Reading.{reading}
 use Rattle.part_events.specs.Walk.{element_at}
 use Rattle.cell_styles.specs.declared.border.Border.{Border}
 use Rattle.xlsx_sections.specs.Elements.{IsInsideRefused}

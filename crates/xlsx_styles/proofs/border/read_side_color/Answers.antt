@@ -37,7 +37,9 @@ starts-preserved g c =
           (λ told. rw c.in-Some.is at (c.in_ok-_at.ensures.found told)) found.read;
       own = c.starts.invariant.own;
       color = λ told. last_further (side_color c.args.theme_colors.now) c.starts.color
-          (found.starts told) (c.in_ok-keep_color.ensures (length (section_ahead c.depth-base.result new))) (c.starts.invariant.color told);
+          (found.starts told)
+          (c.in_ok-keep_color.ensures (length (section_ahead c.depth-base.result new)))
+          (c.starts.invariant.color told);
     }
 
 pub returns-in_err-keep_color-clause-err : goal.returns-in_err-keep_color-clause-err
@@ -57,4 +59,6 @@ returns-in_err-keep_color-clause-err g c =
     (XmlAttr c.in_err-keep_color.field-0.0))
     c.starts.invariant.own
     (λ told. last_refused (side_color c.args.theme_colors.now) c.starts.color
-    (found.starts told) (c.in_err-keep_color.ensures (length (section_ahead c.depth-base.result new))) (c.starts.invariant.color told)))
+    (found.starts told)
+    (c.in_err-keep_color.ensures (length (section_ahead c.depth-base.result new)))
+    (c.starts.invariant.color told)))

@@ -1,5 +1,5 @@
-use Rattle.std.proofs.Common.{◌≡◌, ◌≤◌, ◌^◌, get_or, length, true, sym, ap, ◌∙◌, arith, rules, lt-ltb}
-use Rattle.std.specs.Prelude.{nat_lt, ℕ, suc, ◌+◌, ◌*◌}
+use Rattle.std.proofs.Common.{◌≡◌, ◌≤◌, ◌^◌, get_or, true, sym, ap, ◌∙◌, arith, rules, lt-ltb}
+use Rattle.std.specs.Prelude.{nat_lt, ℕ, ◌+◌, ◌*◌}
 use Rattle.std.proofs.Common.{take, subst}
 use Rattle.std.specs.Str.Parse.{digits_value}
 use Rattle.std.specs.Char.{digit_value}
@@ -40,5 +40,10 @@ overflow_add-number c =
     let i = c.loop-digit.digit-index in
     let less : 16 ^ i ≤ 16 ^ 7 = pow-le-pow_right (omega arith) {i = i} {j = 7}
     (omega (arith, c.loop-digit-test.true, c.requires)) in
-    omega (arith, c.loop-digit.invariant.bound, less, c.in_ok-value.ensures.value.0,
-    c.in_ok-value.ensures.value.1)
+    omega (
+      arith,
+      c.loop-digit.invariant.bound,
+      less,
+      c.in_ok-value.ensures.value.0,
+      c.in_ok-value.ensures.value.1,
+    )
