@@ -1,5 +1,6 @@
 -- Tints: a color made lighter or darker by a number from -1 to 1, in exact fractions.
 use Rattle.std.specs.Prelude.{ℕ, ◌+◌, ◌-◌, ◌*◌, ◌/◌, ◌^◌, ◌<◌, ◌≤◌, min, max, Bool, true, false, ℤ, pos, negsuc, nat_abs, zero, suc}
+use Rattle.cell_data.specs.Decimal.{number_of}
 use Rattle.cell_data.specs.declared.decimal.Decimal.{Decimal}
 use Rattle.cell_styles.specs.declared.color.Color.{Color}
 
@@ -16,9 +17,12 @@ abbrev pub parts_of : ℕ → ℤ → ℕ
 parts_of size (pos power) = size * 10 ^ power * unit
 parts_of size (negsuc power) = size * unit / 10 ^ (power + 1)
 
--- how large a tint is, at most 1, in parts of the unit
+-- how large a number is, its mantissa and its power of ten, at most 1, in parts of the unit
+abbrev pub number_size : ℤ × ℤ → ℕ
+number_size number = min (parts_of (nat_abs number.0) number.1) unit
+
 abbrev pub tint_size : Decimal → ℕ
-tint_size tint = min (parts_of (nat_abs tint.mantissa) tint.exponent) unit
+tint_size tint = number_size (number_of tint)
 
 -- the sum of the largest and the smallest channel
 abbrev pub channel_sum : Color → ℕ
@@ -50,11 +54,14 @@ shade sum tinted (suc room) channel = record {
   divisor = 2 * unit * suc room;
 }
 
-abbrev pub tint_fraction : Color → Decimal → ℕ → Fraction
-tint_fraction color tint channel =
+abbrev pub number_fraction : Color → ℤ × ℤ → ℕ → Fraction
+number_fraction color number channel =
     shade (channel_sum color)
-    (tinted_sum (is_negative tint.mantissa) (tint_size tint) (channel_sum color))
+    (tinted_sum (is_negative number.0) (number_size number) (channel_sum color))
     (room_of (channel_sum color)) channel
+
+abbrev pub tint_fraction : Color → Decimal → ℕ → Fraction
+tint_fraction color tint channel = number_fraction color (number_of tint) channel
 
 -- the whole number nearest to a fraction, halves upward: 2n - 1 ≤ 2x < 2n + 1 for the fraction x
 pub record IsNearest (n : ℕ) (fraction : Fraction) : Type 0 where

@@ -1,0 +1,32 @@
+-- Which refusals are those of a font.
+use Rattle.std.proofs.Common.{◌≡◌, ℕ, List, codes, Result, Err, ap}
+use Rattle.part_events.specs.declared.fault.XmlFault.TheVariants.{EndMismatch, Entity}
+use Rattle.cell_data.specs.declared.error.XlsxError.{XlsxError}
+use Rattle.cell_data.specs.declared.error.XlsxError.TheVariants.{OutOfMemory, Io, Xml, XmlEof}
+use Rattle.xlsx_sections.specs.PartSection.{IsStepError}
+use Rattle.xlsx_sections.specs.Refusal.{Refusal, ElementFails, IsDecodeError}
+use Rattle.xlsx_sections.proofs.Refused.{refused_at_weaker}
+use Rattle.xlsx_styles.specs.Errors.{IsFontError}
+use Rattle.xlsx_styles.specs.Fonts.{FontSaid, with_decoded}
+
+pub font_step : (error : XlsxError) → IsStepError (codes "font") error → IsFontError error
+font_step OutOfMemory is = tt
+font_step Io is = tt
+font_step (Xml (EndMismatch at)) is = tt
+font_step (XmlEof element) is = is
+font_step _ is = absurd is
+
+pub decode_step : (error : XlsxError) → IsDecodeError error → IsFontError error
+decode_step OutOfMemory is = tt
+decode_step (Xml (Entity at)) is = tt
+decode_step _ is = absurd is
+
+-- a name that doesn't decode refuses the font
+pub decoded_fails : (font : FontSaid) (at behind : ℕ) (decoded : Result (List ℕ) Refusal)
+    (error : XlsxError) → ElementFails decoded at behind error
+    → ElementFails (with_decoded font decoded) at behind error
+decoded_fails font at behind decoded error fails =
+    refused_at_weaker at behind
+    (λ (refusal : Refusal). with_decoded font decoded ≡ Err refusal)
+    (λ (refusal : Refusal). decoded ≡ Err refusal) error
+    (λ refusal is. ap (with_decoded font) is) fails

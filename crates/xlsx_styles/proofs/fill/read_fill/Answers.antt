@@ -1,0 +1,59 @@
+use Rattle.std.proofs.Common.{ℕ, ap, codes, subst}
+use Rattle.std.proofs.lemmas.Result.{err_from_is_err_and}
+use Rattle.part_events.specs.Reading.{reading}
+use Rattle.cell_data.specs.declared.error.XlsxError.TheVariants.{XmlAttr}
+use Rattle.xlsx_sections.specs.Elements.{IsInsideRefused}
+use Rattle.xlsx_sections.specs.PartSection.{SectionFails, always}
+use Rattle.xlsx_sections.proofs.SectionsRead.{start_found}
+use Rattle.xlsx_styles.specs.Changes.{or_fault}
+use Rattle.xlsx_styles.specs.Fills.{fill_change, fill_of, is_in_fill}
+use Rattle.xlsx_styles.proofs.StartsRead.{behind_start_found, start_refused, change_further, change_refused}
+use Rattle.xlsx_styles.proofs.fill.read_fill.Goals as goal
+
+pub returns-in_err-_at-clause-err : goal.returns-in_err-_at-clause-err
+returns-in_err-_at-clause-err g c =
+    let old = reading (g.P.Package.state c.args.package.now) c.args.cursor.now in
+    let new = reading (g.P.Package.state c.next_start_among.new.package)
+    c.next_start_among.new.cursor in
+    let refused = IsInsideRefused (fill_of c.args.theme_colors.now) in
+    let e = c.in_err-_at.field-0.0 in
+    let p = err_from_is_err_and c.from_residual.result c.from_residual.ensures.1 in
+    rw (p.1, p.2)
+    (subst (λ (n : ℕ). SectionFails (always (codes "fill")) refused n old new e)
+    c.starts.invariant.own
+    (start_refused (codes "fill") refused new e c.starts.invariant.keeps c.in_err-_at.ensures.err))
+
+pub starts-preserved : goal.starts-preserved
+starts-preserved g c =
+    let stands = rw c.in-Some.is at c.in_ok-_at.ensures.stands in
+    let found = start_found is_in_fill c.start_tag.ensures c.starts.invariant.keeps.section
+    c.in_ok-_at.ensures.reads stands
+    (λ told. rw c.in-Some.is at (c.in_ok-_at.ensures.found told)) in
+    record {
+      keeps = behind_start_found is_in_fill c.in-Some._at c.start_tag.ensures
+          c.starts.invariant.keeps
+          (λ told. rw c.in-Some.is at (c.in_ok-_at.ensures.found told)) found.read;
+      own = c.starts.invariant.own;
+      fill = λ told. change_further (fill_change c.args.theme_colors.now) c.starts.fill
+          (found.starts told) (ap or_fault c.in_ok-change_fill.ensures)
+          (c.starts.invariant.fill told);
+    }
+
+pub returns-in_err-change_fill-clause-err : goal.returns-in_err-change_fill-clause-err
+returns-in_err-change_fill-clause-err g c =
+    let old = reading (g.P.Package.state c.args.package.now) c.args.cursor.now in
+    let new = reading (g.P.Package.state c.next_start_among.new.package)
+    c.next_start_among.new.cursor in
+    let stands = rw c.in-Some.is at c.in_ok-_at.ensures.stands in
+    let found = start_found is_in_fill c.start_tag.ensures c.starts.invariant.keeps.section
+    c.in_ok-_at.ensures.reads stands
+    (λ told. rw c.in-Some.is at (c.in_ok-_at.ensures.found told)) in
+    let refused = IsInsideRefused (fill_of c.args.theme_colors.now) in
+    let p = err_from_is_err_and c.from_residual-in_err-change_fill.result
+    c.from_residual-in_err-change_fill.ensures.1 in
+    rw (p.1, p.2)
+    (subst (λ (n : ℕ). SectionFails (always (codes "fill")) refused n old new
+    (XmlAttr c.in_err-change_fill.field-0.0))
+    c.starts.invariant.own
+    (λ told. change_refused (fill_change c.args.theme_colors.now) c.starts.fill
+    (found.starts told) (ap or_fault c.in_err-change_fill.ensures) (c.starts.invariant.fill told)))

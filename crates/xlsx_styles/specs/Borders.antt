@@ -1,0 +1,149 @@
+-- What the elements of borders say (ECMA-376 part 1, section 18.8.4).
+use Rattle.std.specs.Prelude.{ℕ, List, [], ◌∷◌, Bool, if◌then◌else◌, codes, Option, Some, None, Result, Ok, Err}
+use Rattle.std.specs.Str.{bytes_eq}
+use Rattle.attr_text.specs.Attributes.{value_of, local_name_of}
+use Rattle.attr_text.specs.declared.fault.AttrFault.{AttrFault}
+use Rattle.part_events.specs.Event.{Tag, Event}
+use Rattle.part_events.specs.Section.{PlacedTag, Element, starts_by, outermost, is_named}
+use Rattle.cell_styles.specs.Default.{default_borders}
+use Rattle.cell_styles.specs.declared.border.Border.{Border}
+use Rattle.cell_styles.specs.declared.border.Borders.{Borders}
+use Rattle.cell_styles.specs.declared.border.BorderStyle.{BorderStyle}
+use Rattle.cell_styles.specs.declared.border.BorderStyle.TheVariants as line
+use Rattle.cell_styles.specs.declared.color.Color.{Color}
+use Rattle.xlsx_sections.specs.Answers.{last_answer}
+use Rattle.xlsx_sections.specs.Elements.{end_among}
+use Rattle.xlsx_sections.specs.Refusal.{Refusal, lookup_fault, in_element}
+use Rattle.xlsx_styles.specs.Changes.{all_changes, or_fault}
+use Rattle.xlsx_styles.specs.Colors.{color_of}
+use Rattle.xlsx_styles.specs.Texts.{named}
+use Rattle.xlsx_styles.specs.declared.border.Side.{Side}
+use Rattle.xlsx_styles.specs.declared.border.Side.TheVariants.{Left, Right, Top, Bottom, Diagonal}
+
+-- ECMA-376 part 1, section 18.18.3
+unfoldable pub line_named : List ℕ → BorderStyle
+line_named text = named (
+    (codes "thin", line.Thin) ∷ (codes "medium", line.Medium) ∷ (codes "thick", line.Thick)
+    ∷ (codes "double", line.Double) ∷ (codes "hair", line.Hair) ∷ (codes "dashed", line.Dashed)
+    ∷ (codes "dotted", line.Dotted) ∷ (codes "mediumDashed", line.MediumDashed)
+    ∷ (codes "dashDot", line.DashDot) ∷ (codes "mediumDashDot", line.MediumDashDot)
+    ∷ (codes "dashDotDot", line.DashDotDot)
+    ∷ (codes "mediumDashDotDot", line.MediumDashDotDot)
+    ∷ (codes "slantDashDot", line.SlantDashDot) ∷ []) line.None text
+
+abbrev pub line_of : Option (List ℕ) → BorderStyle
+line_of None = line.None
+line_of (Some text) = line_named text
+
+abbrev pub is_color : Tag → Bool
+is_color tag = is_named (codes "color" ∷ []) tag
+
+abbrev pub side_color : List Color → PlacedTag → Result (Option Color) Refusal
+side_color theme start = or_fault (color_of theme start.tag)
+
+-- the color of a side, by what stands in it: that of the last start that names one
+abbrev pub color_in : List Color → List Event → Result (Option Color) Refusal
+color_in theme inside = last_answer (side_color theme) (starts_by is_color inside)
+
+abbrev pub colored : BorderStyle → Result (Option Color) Refusal → Result Border Refusal
+colored style (Ok color) = Ok (record { style = style; color = color })
+colored style (Err refusal) = Err refusal
+
+abbrev pub lined : Result (Option (List ℕ)) AttrFault → Result BorderStyle AttrFault
+lined (Ok text) = Ok (line_of text)
+lined (Err fault) = Err fault
+
+abbrev pub side_line : Tag → Result BorderStyle AttrFault
+side_line tag = lined (value_of (codes "style") tag.attributes)
+
+abbrev pub side_by : List Color → List Event → Result BorderStyle AttrFault → Result Border Refusal
+side_by theme inside (Ok style) = colored style (color_in theme inside)
+side_by theme inside (Err fault) = Err (lookup_fault fault)
+
+-- a side, by its start and what stands in it
+abbrev pub side_of : List Color → Tag → List Event → Result Border Refusal
+side_of theme tag inside = side_by theme inside (side_line tag)
+
+-- the side of a start's local name
+abbrev pub side_named : List ℕ → Side
+side_named name =
+    if bytes_eq name (codes "left") then Left
+    else (if bytes_eq name (codes "right") then Right
+    else (if bytes_eq name (codes "top") then Top
+    else (if bytes_eq name (codes "bottom") then Bottom else Diagonal)))
+
+-- borders with one more side, which takes the place of an earlier one; the diagonal goes down, up,
+-- both ways or none
+abbrev pub with_side : Bool → Bool → Side → Borders → Border → Borders
+with_side down up Left borders side = record {
+  left = side;
+  right = borders.right;
+  top = borders.top;
+  bottom = borders.bottom;
+  diagonal_down = borders.diagonal_down;
+  diagonal_up = borders.diagonal_up;
+}
+with_side down up Right borders side = record {
+  left = borders.left;
+  right = side;
+  top = borders.top;
+  bottom = borders.bottom;
+  diagonal_down = borders.diagonal_down;
+  diagonal_up = borders.diagonal_up;
+}
+with_side down up Top borders side = record {
+  left = borders.left;
+  right = borders.right;
+  top = side;
+  bottom = borders.bottom;
+  diagonal_down = borders.diagonal_down;
+  diagonal_up = borders.diagonal_up;
+}
+with_side down up Bottom borders side = record {
+  left = borders.left;
+  right = borders.right;
+  top = borders.top;
+  bottom = side;
+  diagonal_down = borders.diagonal_down;
+  diagonal_up = borders.diagonal_up;
+}
+with_side down up Diagonal borders side = record {
+  left = borders.left;
+  right = borders.right;
+  top = borders.top;
+  bottom = borders.bottom;
+  diagonal_down = if down then side else borders.diagonal_down;
+  diagonal_up = if up then side else borders.diagonal_up;
+}
+
+abbrev pub side_kept : (Border → Borders) → Result Border Refusal → Result Borders Refusal
+side_kept place (Ok side) = Ok (place side)
+side_kept place (Err refusal) = Err refusal
+
+-- what a side of this start makes of the borders, by what is said of it
+abbrev pub side_placed : Bool → Bool → Tag → Borders → Result Border Refusal
+    → Result Borders Refusal
+side_placed down up tag borders side =
+    side_kept (with_side down up (side_named (local_name_of tag.name)) borders) side
+
+abbrev pub border_change :
+    List Color → Bool → Bool → Element → Borders → Result Borders Refusal
+border_change theme down up element borders =
+    side_placed down up element.tag borders
+    (in_element element (side_of theme element.tag element.inside))
+
+abbrev pub is_side : Tag → Bool
+is_side tag = is_named (
+    codes "left" ∷ codes "right" ∷ codes "top" ∷ codes "bottom" ∷ codes "diagonal" ∷ []) tag
+
+-- the borders of an element, by what stands in it: its outermost sides
+abbrev pub border_of : List Color → Bool → Bool → List Event → Result Borders Refusal
+border_of theme down up inside =
+    all_changes (border_change theme down up) (outermost is_side inside) default_borders
+
+-- the end of the part in a side is told by these words
+abbrev pub end_in_side : Element → Option (List ℕ)
+end_in_side element = Some (codes "border side")
+
+abbrev pub end_in_border : List Event → Option (List ℕ)
+end_in_border inside = end_among is_side (codes "border") end_in_side inside

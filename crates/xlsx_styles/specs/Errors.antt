@@ -1,0 +1,34 @@
+-- The refusals that reading an element of styles can have, whatever the package tells.
+use Rattle.std.specs.Prelude.{◌≡◌, ◌⊎◌, ⊤, ℕ, List, codes}
+use Rattle.part_events.specs.declared.fault.XmlFault.TheVariants.{EndMismatch, Entity}
+use Rattle.cell_data.specs.declared.error.XlsxError.{XlsxError}
+use Rattle.cell_data.specs.declared.error.XlsxError.TheVariants.{OutOfMemory, Io, Xml, XmlAttr, XmlEof}
+
+-- of one without decoded texts, of this name
+abbrev pub IsPlainError : List ℕ → XlsxError → Type 0
+IsPlainError name Io = ⊤
+IsPlainError name OutOfMemory = ⊤
+IsPlainError name (Xml (EndMismatch at)) = ⊤
+IsPlainError name (XmlAttr fault) = ⊤
+IsPlainError name (XmlEof element) = element.now ≡ name
+IsPlainError name _ = ⊥
+
+-- and of a font, whose name is decoded
+abbrev pub IsFontError : XlsxError → Type 0
+IsFontError Io = ⊤
+IsFontError OutOfMemory = ⊤
+IsFontError (Xml (EndMismatch at)) = ⊤
+IsFontError (Xml (Entity at)) = ⊤
+IsFontError (XmlAttr fault) = ⊤
+IsFontError (XmlEof element) = element.now ≡ codes "font"
+IsFontError _ = ⊥
+
+-- and of borders
+abbrev pub IsBorderError : XlsxError → Type 0
+IsBorderError Io = ⊤
+IsBorderError OutOfMemory = ⊤
+IsBorderError (Xml (EndMismatch at)) = ⊤
+IsBorderError (XmlAttr fault) = ⊤
+IsBorderError (XmlEof element) =
+    (element.now ≡ codes "border") ⊎ (element.now ≡ codes "border side")
+IsBorderError _ = ⊥

@@ -1,0 +1,242 @@
+ghost use Rattle.std.specs.Prelude.{◌≡◌, ◌≤◌, List, ℕ, suc, codes, length, true, Ok, Err, IfOk, OnOk, IfErr, MatchResult};
+ghost use Rattle.std.specs.Option.{option_copied};
+ghost use Rattle.attr_text.specs.Attributes.{local_name_of};
+ghost use Rattle.part_events.specs.Event.{Tag, start, tag_of};
+ghost use Rattle.part_events.specs.Reading.{reading, open_elements, IsReading, IsAtElement, ReadsPart, Skips, ahead};
+ghost use Rattle.part_events.specs.Section.{content};
+ghost use Rattle.cell_data.specs.declared.error.XlsxError.TheVariants.{Io};
+ghost use Rattle.xlsx_sections.specs.Answers.{or_earlier};
+ghost use Rattle.xlsx_sections.specs.Elements.{ElementReadFails};
+ghost use Rattle.xlsx_sections.specs.PartSection.{always};
+ghost use Rattle.xlsx_sections.specs.Refusal.{lookup_fault, placed_at};
+ghost use Rattle.xlsx_styles.specs.Borders.{line_named, line_of, side_line, side_color, color_in, side_of, side_named, with_side, border_of, end_in_border};
+ghost use Rattle.xlsx_styles.specs.Errors.{IsPlainError, IsBorderError};
+
+use crate::color_text::parse_color;
+use attr_text::{AttrFault, RawAttributes};
+use cell_data::XlsxError;
+use cell_styles::{Border, BorderStyle, Borders, Color};
+use part_events::{Cursor, Package, StartTag};
+use xlsx_sections::{next_element_in, next_start_in, start_tag};
+
+/// A side of a border, by the name of its element.
+#[derive(Clone, Copy)]
+pub enum Side {
+    Left,
+    Right,
+    Top,
+    Bottom,
+    Diagonal,
+}
+
+fn side_named(name: &str) -> Side
+    ensures { result ≡ side_named name.now }
+{
+    match name {
+        "left" => Side::Left,
+        "right" => Side::Right,
+        "top" => Side::Top,
+        "bottom" => Side::Bottom,
+        _ => Side::Diagonal,
+    }
+}
+
+fn side_of(tag: StartTag<'_>) -> Side
+    ensures { result ≡ side_named (local_name_of (tag_of tag.entry).name) }
+{
+    side_named(tag.local_name())
+}
+
+#[tactic(auto, unfolding(crate::specs::Borders::line_named))]
+fn line_named(text: &str) -> BorderStyle
+    ensures { result ≡ line_named text.now }
+{
+    match text {
+        "thin" => BorderStyle::Thin,
+        "medium" => BorderStyle::Medium,
+        "thick" => BorderStyle::Thick,
+        "double" => BorderStyle::Double,
+        "hair" => BorderStyle::Hair,
+        "dashed" => BorderStyle::Dashed,
+        "dotted" => BorderStyle::Dotted,
+        "mediumDashed" => BorderStyle::MediumDashed,
+        "dashDot" => BorderStyle::DashDot,
+        "mediumDashDot" => BorderStyle::MediumDashDot,
+        "dashDotDot" => BorderStyle::DashDotDot,
+        "mediumDashDotDot" => BorderStyle::MediumDashDotDot,
+        "slantDashDot" => BorderStyle::SlantDashDot,
+        _ => BorderStyle::None,
+    }
+}
+
+fn line_of(text: Option<&str>) -> BorderStyle
+    ensures { result ≡ line_of (option_copied text.entry) }
+{
+    match text {
+        Some(text) => line_named(text),
+        None => BorderStyle::None,
+    }
+}
+
+fn side_line(tag: StartTag<'_>) -> Result<BorderStyle, AttrFault>
+    ensures { side_line (tag_of tag.entry) ≡ result }
+{
+    Ok(line_of(tag.raw_attr("style")?))
+}
+
+/// Keeps the color that a start names, where it names one.
+fn keep_color(
+    kept: &mut Option<Color>,
+    tag: StartTag<'_>,
+    theme_colors: &[Color],
+) -> Result<(), AttrFault>
+    ensures { MatchResult result
+        (λ _. (behind : ℕ) → or_earlier kept.old
+        (side_color theme_colors.now (placed_at (tag_of tag.entry) behind)) ≡ Ok kept.new)
+        (λ fault. (behind : ℕ) → side_color theme_colors.now (placed_at (tag_of tag.entry) behind)
+        ≡ Err (lookup_fault fault)) }
+{
+    let color = parse_color(&tag, theme_colors)?;
+    if color.is_some() {
+        *kept = color;
+    }
+    Ok(())
+}
+
+/// The color of the side at whose start the package stands, which is read to its end.
+#[tactic(auto, using(crate::proofs::StartsRead::plain_step))]
+fn read_side_color<P: Package>(
+    package: &mut P,
+    cursor: &mut Cursor,
+    theme_colors: &[Color],
+) -> Result<Option<Color>, XlsxError>
+    requires reading { IsReading (reading (P.state «package».old) cursor.old) }
+    requires element { IsAtElement (reading (P.state «package».old) cursor.old) }
+    ensures reads { let old = reading (P.state «package».old) cursor.old in
+        let new = reading (P.state «package».new) cursor.new in
+        ReadsPart Io result old new }
+    ensures depth { OnOk result
+        (length (open_elements cursor.old) ≡ suc (length (open_elements cursor.new))) }
+    ensures skips { let old = reading (P.state «package».old) cursor.old in
+        let new = reading (P.state «package».new) cursor.new in
+        old.source.is_told ≡ true → OnOk result (Skips old new) }
+    ensures color { let old = reading (P.state «package».old) cursor.old in
+        old.source.is_told ≡ true →
+        IfOk result (λ color. color_in theme_colors.now (content 0 (ahead old)) ≡ Ok color) }
+    ensures err { let old = reading (P.state «package».old) cursor.old in
+        let new = reading (P.state «package».new) cursor.new in
+        IfErr result (ElementReadFails (always (codes "border side")) (color_in theme_colors.now)
+        old new) }
+    ensures kind { IfErr result (IsPlainError (codes "border side")) }
+{
+    let base = cursor.depth();
+    let mut color = None;
+    'starts: while let Some(_at) = next_start_in(package, cursor, base, "color", "border side")? {
+        keep_color(&mut color, start_tag(package), theme_colors)?;
+    }
+    Ok(color)
+}
+
+/// The side at whose start the package stands, which is read to its end.
+#[tactic(auto, using(crate::proofs::StartsRead::side_step, crate::proofs::Sides::side_fails))]
+fn read_side<P: Package>(
+    package: &mut P,
+    cursor: &mut Cursor,
+    theme_colors: &[Color],
+) -> Result<Border, XlsxError>
+    requires reading { IsReading (reading (P.state «package».old) cursor.old) }
+    requires element { IsAtElement (reading (P.state «package».old) cursor.old) }
+    ensures reads { let old = reading (P.state «package».old) cursor.old in
+        let new = reading (P.state «package».new) cursor.new in
+        ReadsPart Io result old new }
+    ensures depth { OnOk result
+        (length (open_elements cursor.old) ≡ suc (length (open_elements cursor.new))) }
+    ensures skips { let old = reading (P.state «package».old) cursor.old in
+        let new = reading (P.state «package».new) cursor.new in
+        old.source.is_told ≡ true → OnOk result (Skips old new) }
+    ensures side { let old = reading (P.state «package».old) cursor.old in
+        old.source.is_told ≡ true → IfOk result (λ side. (tag : Tag) →
+        start tag ≡ old.source.current →
+        side_of theme_colors.now tag (content 0 (ahead old)) ≡ Ok side) }
+    ensures err { let old = reading (P.state «package».old) cursor.old in
+        let new = reading (P.state «package».new) cursor.new in
+        IfErr result (λ error. (tag : Tag) → start tag ≡ old.source.current →
+        ElementReadFails (always (codes "border side")) (side_of theme_colors.now tag)
+        old new error) }
+    ensures kind { IfErr result IsBorderError }
+{
+    let style = side_line(start_tag(package))?;
+    let color = read_side_color(package, cursor, theme_colors)?;
+    Ok(Border { style, color })
+}
+
+/// Places a side: a diagonal goes down, up, both ways or none.
+fn place_side(borders: &mut Borders, side: Side, border: Border, down: bool, up: bool)
+    ensures { borders.new ≡ with_side down up side borders.old border }
+{
+    match side {
+        Side::Left => borders.left = border,
+        Side::Right => borders.right = border,
+        Side::Top => borders.top = border,
+        Side::Bottom => borders.bottom = border,
+        Side::Diagonal => {
+            let Border { style, color } = border;
+            if down {
+                borders.diagonal_down = Border { style, color };
+            }
+            if up {
+                borders.diagonal_up = Border { style, color };
+            }
+        }
+    }
+}
+
+/// Reads the borders at whose start the package stands, to its end (ECMA-376 part 1, section
+/// 18.8.4). Its diagonal is that of each direction that is asked for. Colors are named by the
+/// colors of the theme.
+///
+/// A part that ends in a side is `XmlEof("border side")`, and one that ends elsewhere in the
+/// element `XmlEof("border")`.
+#[tactic(auto, using(crate::proofs::StartsRead::border_step))]
+pub fn read_border<P: Package>(
+    package: &mut P,
+    cursor: &mut Cursor,
+    diagonal_down: bool,
+    diagonal_up: bool,
+    theme_colors: &[Color],
+) -> Result<Borders, XlsxError>
+    requires reading { IsReading (reading (P.state «package».old) cursor.old) }
+    requires element { IsAtElement (reading (P.state «package».old) cursor.old) }
+    ensures reads { let old = reading (P.state «package».old) cursor.old in
+        let new = reading (P.state «package».new) cursor.new in
+        ReadsPart Io result old new }
+    ensures depth { OnOk result
+        (length (open_elements cursor.old) ≡ suc (length (open_elements cursor.new))) }
+    ensures skips { let old = reading (P.state «package».old) cursor.old in
+        let new = reading (P.state «package».new) cursor.new in
+        old.source.is_told ≡ true → OnOk result (Skips old new) }
+    ensures borders { let old = reading (P.state «package».old) cursor.old in
+        old.source.is_told ≡ true → IfOk result (λ borders.
+        border_of theme_colors.now diagonal_down diagonal_up (content 0 (ahead old))
+        ≡ Ok borders) }
+    ensures err { let old = reading (P.state «package».old) cursor.old in
+        let new = reading (P.state «package».new) cursor.new in
+        IfErr result (ElementReadFails end_in_border
+        (border_of theme_colors.now diagonal_down diagonal_up) old new) }
+    ensures kind { IfErr result IsBorderError }
+{
+    let base = cursor.depth();
+    let mut borders = Borders::default();
+    'sides: while let Some(_at) = next_element_in(
+        package,
+        cursor,
+        base,
+        &["left", "right", "top", "bottom", "diagonal"],
+        "border",
+    )? {
+        let side = side_of(start_tag(package));
+        let border = read_side(package, cursor, theme_colors)?;
+        place_side(&mut borders, side, border, diagonal_down, diagonal_up);
+    }
+    Ok(borders)
+}

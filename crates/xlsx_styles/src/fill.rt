@@ -1,0 +1,136 @@
+ghost use Rattle.std.specs.Prelude.{◌≡◌, ◌≤◌, List, ℕ, suc, codes, length, true, Ok, Err, IfOk, OnOk, IfErr, MatchResult};
+ghost use Rattle.std.specs.Option.{option_copied};
+ghost use Rattle.attr_text.specs.Attributes.{value_of};
+ghost use Rattle.part_events.specs.Event.{tag_of};
+ghost use Rattle.part_events.specs.Reading.{reading, open_elements, IsReading, IsAtElement, ReadsPart, Skips, ahead};
+ghost use Rattle.part_events.specs.Section.{content};
+ghost use Rattle.cell_data.specs.declared.error.XlsxError.TheVariants.{Io};
+ghost use Rattle.xlsx_sections.specs.Elements.{ElementReadFails};
+ghost use Rattle.xlsx_sections.specs.PartSection.{always};
+ghost use Rattle.xlsx_styles.specs.Changes.{changed_with};
+ghost use Rattle.xlsx_styles.specs.Errors.{IsPlainError};
+ghost use Rattle.xlsx_styles.specs.Fills.{pattern_named, with_pattern, with_foreground, with_background, fill_changed, fill_of};
+
+use crate::color_text::parse_color;
+use crate::starts::next_start_among;
+use attr_text::{AttrFault, RawAttributes};
+use cell_data::XlsxError;
+use cell_styles::{Color, Fill, FillPattern};
+use part_events::{Cursor, Package, StartTag};
+use xlsx_sections::start_tag;
+
+#[tactic(auto, unfolding(crate::specs::Fills::pattern_named))]
+fn pattern_named(text: &str) -> FillPattern
+    ensures { result ≡ pattern_named text.now }
+{
+    match text {
+        "solid" => FillPattern::Solid,
+        "darkGray" => FillPattern::DarkGray,
+        "mediumGray" => FillPattern::MediumGray,
+        "lightGray" => FillPattern::LightGray,
+        "gray125" => FillPattern::Gray125,
+        "gray0625" => FillPattern::Gray0625,
+        "darkHorizontal" => FillPattern::DarkHorizontal,
+        "darkVertical" => FillPattern::DarkVertical,
+        "darkDown" => FillPattern::DarkDown,
+        "darkUp" => FillPattern::DarkUp,
+        "darkGrid" => FillPattern::DarkGrid,
+        "darkTrellis" => FillPattern::DarkTrellis,
+        "lightHorizontal" => FillPattern::LightHorizontal,
+        "lightVertical" => FillPattern::LightVertical,
+        "lightDown" => FillPattern::LightDown,
+        "lightUp" => FillPattern::LightUp,
+        "lightGrid" => FillPattern::LightGrid,
+        "lightTrellis" => FillPattern::LightTrellis,
+        _ => FillPattern::None,
+    }
+}
+
+fn keep_pattern(fill: &mut Fill, text: Option<&str>)
+    ensures { fill.new ≡ with_pattern fill.old (option_copied text.entry) }
+{
+    if let Some(text) = text {
+        fill.pattern = pattern_named(text);
+    }
+}
+
+fn change_pattern(fill: &mut Fill, tag: StartTag<'_>) -> Result<(), AttrFault>
+    ensures { let text = value_of (codes "patternType") (tag_of tag.entry).attributes in
+        MatchResult result
+        (λ _. changed_with with_pattern fill.old text ≡ Ok fill.new)
+        (λ fault. changed_with with_pattern fill.old text ≡ Err fault) }
+{
+    keep_pattern(fill, tag.raw_attr("patternType")?);
+    Ok(())
+}
+
+fn keep_foreground(fill: &mut Fill, color: Option<Color>)
+    ensures { fill.new ≡ with_foreground fill.old color }
+{
+    if color.is_some() {
+        fill.foreground_color = color;
+    }
+}
+
+fn keep_background(fill: &mut Fill, color: Option<Color>)
+    ensures { fill.new ≡ with_background fill.old color }
+{
+    if color.is_some() {
+        fill.background_color = color;
+    }
+}
+
+/// Changes the fill by a start that stands in its element.
+fn change_fill(fill: &mut Fill, tag: StartTag<'_>, theme_colors: &[Color]) -> Result<(), AttrFault>
+    ensures { MatchResult result
+        (λ _. fill_changed theme_colors.now (tag_of tag.entry) fill.old ≡ Ok fill.new)
+        (λ fault. fill_changed theme_colors.now (tag_of tag.entry) fill.old ≡ Err fault) }
+{
+    match tag.local_name() {
+        "patternFill" => change_pattern(fill, tag)?,
+        "fgColor" => keep_foreground(fill, parse_color(&tag, theme_colors)?),
+        _ => keep_background(fill, parse_color(&tag, theme_colors)?),
+    }
+    Ok(())
+}
+
+/// Reads the fill at whose start the package stands, to its end (ECMA-376 part 1, section
+/// 18.8.20). Colors are named by the colors of the theme.
+#[tactic(auto, using(crate::proofs::StartsRead::plain_step))]
+pub fn read_fill<P: Package>(
+    package: &mut P,
+    cursor: &mut Cursor,
+    theme_colors: &[Color],
+) -> Result<Fill, XlsxError>
+    requires reading { IsReading (reading (P.state «package».old) cursor.old) }
+    requires element { IsAtElement (reading (P.state «package».old) cursor.old) }
+    ensures reads { let old = reading (P.state «package».old) cursor.old in
+        let new = reading (P.state «package».new) cursor.new in
+        ReadsPart Io result old new }
+    ensures depth { OnOk result
+        (length (open_elements cursor.old) ≡ suc (length (open_elements cursor.new))) }
+    ensures skips { let old = reading (P.state «package».old) cursor.old in
+        let new = reading (P.state «package».new) cursor.new in
+        old.source.is_told ≡ true → OnOk result (Skips old new) }
+    ensures fill { let old = reading (P.state «package».old) cursor.old in
+        old.source.is_told ≡ true →
+        IfOk result (λ fill. fill_of theme_colors.now (content 0 (ahead old)) ≡ Ok fill) }
+    ensures err { let old = reading (P.state «package».old) cursor.old in
+        let new = reading (P.state «package».new) cursor.new in
+        IfErr result (ElementReadFails (always (codes "fill")) (fill_of theme_colors.now)
+        old new) }
+    ensures kind { IfErr result (IsPlainError (codes "fill")) }
+{
+    let base = cursor.depth();
+    let mut fill = Fill::default();
+    'starts: while let Some(_at) = next_start_among(
+        package,
+        cursor,
+        base,
+        &["patternFill", "fgColor", "bgColor"],
+        "fill",
+    )? {
+        change_fill(&mut fill, start_tag(package), theme_colors)?;
+    }
+    Ok(fill)
+}

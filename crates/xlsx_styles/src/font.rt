@@ -1,0 +1,103 @@
+ghost use Rattle.std.specs.Prelude.{◌≡◌, ◌≤◌, List, ℕ, suc, codes, length, true, Ok, Err, IfOk, OnOk, IfErr};
+ghost use Rattle.attr_text.specs.Attributes.{value_of};
+ghost use Rattle.part_events.specs.Event.{tag_of};
+ghost use Rattle.part_events.specs.Reading.{reading, open_elements, IsReading, IsAtElement, ReadsPart, Skips, ahead};
+ghost use Rattle.part_events.specs.Section.{content};
+ghost use Rattle.cell_data.specs.declared.error.XlsxError.TheVariants.{Io};
+ghost use Rattle.xlsx_sections.specs.Elements.{ElementReadFails};
+ghost use Rattle.xlsx_sections.specs.PartSection.{always};
+ghost use Rattle.xlsx_sections.specs.Refusal.{ElementFails, placed_at};
+ghost use Rattle.xlsx_styles.specs.Errors.{IsFontError};
+ghost use Rattle.xlsx_styles.specs.Fonts.{said_of, name_changed, font_change, font_of};
+
+use crate::font_parts::{change_color, change_value};
+use crate::starts::next_start_among;
+use attr_text::RawAttributes;
+use cell_data::XlsxError;
+use cell_styles::{Color, Font};
+use part_events::{Cursor, Package, StartTag};
+use std::alloc::Global;
+use xlsx_sections::{decode_at, start_tag};
+
+/// Names the font by a start, which is event number `at` of its part.
+#[tactic(auto, using(crate::proofs::FontErrors::decode_step))]
+fn change_name(alloc: Global, font: &mut Font, tag: StartTag<'_>, at: u64) -> Result<(), XlsxError>
+    ensures ok { let name = value_of (codes "val") (tag_of tag.entry).attributes in
+        OnOk result ((behind : ℕ) →
+        name_changed behind (said_of font.old) name ≡ Ok (said_of font.new)) }
+    ensures err { let name = value_of (codes "val") (tag_of tag.entry).attributes in
+        IfErr result (λ error. (behind : ℕ) →
+        ElementFails (name_changed behind (said_of font.old) name) at behind error) }
+    ensures kind { IfErr result IsFontError }
+{
+    if let Some(name) = tag.raw_attr("val")? {
+        font.name = Some(decode_at(alloc, name, at)?);
+    }
+    Ok(())
+}
+
+/// Changes the font by a start that stands in its element, event number `at` of its part.
+fn change_font(
+    alloc: Global,
+    font: &mut Font,
+    tag: StartTag<'_>,
+    at: u64,
+    theme_colors: &[Color],
+) -> Result<(), XlsxError>
+    ensures ok { OnOk result ((behind : ℕ) →
+        font_change theme_colors.now (placed_at (tag_of tag.entry) behind) (said_of font.old)
+        ≡ Ok (said_of font.new)) }
+    ensures err { IfErr result (λ error. (behind : ℕ) → ElementFails
+        (font_change theme_colors.now (placed_at (tag_of tag.entry) behind) (said_of font.old))
+        at behind error) }
+    ensures kind { IfErr result IsFontError }
+{
+    match tag.local_name() {
+        "name" => change_name(alloc, font, tag, at)?,
+        "color" => change_color(font, tag, theme_colors)?,
+        _ => change_value(font, tag)?,
+    }
+    Ok(())
+}
+
+/// Reads the font at whose start the package stands, to its end (ECMA-376 part 1, section
+/// 18.8.22). Colors are named by the colors of the theme.
+#[tactic(auto, using(crate::proofs::FontErrors::font_step))]
+pub fn read_font<P: Package>(
+    alloc: Global,
+    package: &mut P,
+    cursor: &mut Cursor,
+    theme_colors: &[Color],
+) -> Result<Font, XlsxError>
+    requires reading { IsReading (reading (P.state «package».old) cursor.old) }
+    requires element { IsAtElement (reading (P.state «package».old) cursor.old) }
+    ensures reads { let old = reading (P.state «package».old) cursor.old in
+        let new = reading (P.state «package».new) cursor.new in
+        ReadsPart Io result old new }
+    ensures depth { OnOk result
+        (length (open_elements cursor.old) ≡ suc (length (open_elements cursor.new))) }
+    ensures skips { let old = reading (P.state «package».old) cursor.old in
+        let new = reading (P.state «package».new) cursor.new in
+        old.source.is_told ≡ true → OnOk result (Skips old new) }
+    ensures font { let old = reading (P.state «package».old) cursor.old in
+        old.source.is_told ≡ true →
+        IfOk result (λ font. font_of theme_colors.now (content 0 (ahead old)) ≡ Ok (said_of font)) }
+    ensures err { let old = reading (P.state «package».old) cursor.old in
+        let new = reading (P.state «package».new) cursor.new in
+        IfErr result (ElementReadFails (always (codes "font")) (font_of theme_colors.now)
+        old new) }
+    ensures kind { IfErr result IsFontError }
+{
+    let base = cursor.depth();
+    let mut font = Font::default();
+    'starts: while let Some(at) = next_start_among(
+        package,
+        cursor,
+        base,
+        &["name", "sz", "family", "b", "i", "u", "strike", "color"],
+        "font",
+    )? {
+        change_font(alloc, &mut font, start_tag(package), at, theme_colors)?;
+    }
+    Ok(font)
+}

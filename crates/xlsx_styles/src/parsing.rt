@@ -1,0 +1,121 @@
+ghost use Rattle.std.specs.Prelude.{◌≡◌, suc, codes, length, true, Ok, IfOk, OnOk, IfErr};
+ghost use Rattle.part_events.specs.Reader.{reading_by, SamePackage};
+ghost use Rattle.part_events.specs.Reading.{IsReading, IsAtElement, ReadsPart, Skips, ahead};
+ghost use Rattle.part_events.specs.Section.{content};
+ghost use Rattle.cell_data.specs.declared.error.XlsxError.TheVariants.{Io};
+ghost use Rattle.xlsx_sections.specs.Elements.{ElementReadFails};
+ghost use Rattle.xlsx_sections.specs.PartSection.{always};
+ghost use Rattle.xlsx_styles.specs.Borders.{border_of, end_in_border};
+ghost use Rattle.xlsx_styles.specs.Errors.{IsPlainError, IsFontError, IsBorderError};
+ghost use Rattle.xlsx_styles.specs.Fills.{fill_of};
+ghost use Rattle.xlsx_styles.specs.Fonts.{said_of, font_of};
+
+use crate::border::read_border;
+use crate::fill::read_fill;
+use crate::font::read_font;
+use cell_data::XlsxError;
+use cell_styles::{Borders, Color, Fill, Font};
+use part_events::{Package, XlReader};
+
+/// Reads the font at whose start the reader stands, to its matching end (ECMA-376 part 1, section
+/// 18.8.22). Of each kind the last start in it counts that says something. A number in `theme`
+/// names one of `theme_colors`.
+///
+/// A part that ends before is `XmlEof("font")`, and a name with a reference without a character is
+/// `Xml(Entity)` with the number of its start, counted from 0.
+pub fn parse_font<P: Package>(
+    xml: &mut XlReader<'_, P>,
+    theme_colors: &[Color],
+) -> Result<Font, XlsxError>
+    requires reading { IsReading (reading_by P.state xml.old) }
+    requires element { IsAtElement (reading_by P.state xml.old) }
+    ensures same_package { SamePackage xml.old xml.new }
+    ensures reads { ReadsPart Io result (reading_by P.state xml.old) (reading_by P.state xml.new) }
+    ensures depth { let old = reading_by P.state xml.old in
+        let new = reading_by P.state xml.new in
+        OnOk result (length old.names ≡ suc (length new.names)) }
+    ensures skips { let old = reading_by P.state xml.old in
+        let new = reading_by P.state xml.new in
+        old.source.is_told ≡ true → OnOk result (Skips old new) }
+    ensures font { let old = reading_by P.state xml.old in
+        old.source.is_told ≡ true →
+        IfOk result (λ font. font_of theme_colors.now (content 0 (ahead old)) ≡ Ok (said_of font)) }
+    ensures err { let old = reading_by P.state xml.old in
+        let new = reading_by P.state xml.new in
+        IfErr result (ElementReadFails (always (codes "font")) (font_of theme_colors.now)
+        old new) }
+    ensures kind { IfErr result IsFontError }
+{
+    let alloc = xml.cursor.alloc();
+    read_font(alloc, xml.package, &mut xml.cursor, theme_colors)
+}
+
+/// Reads the fill at whose start the reader stands, to its matching end (ECMA-376 part 1, section
+/// 18.8.20). Of each kind the last start in it counts that says something. A number in `theme`
+/// names one of `theme_colors`. A part that ends before is `XmlEof("fill")`.
+pub fn parse_fill<P: Package>(
+    xml: &mut XlReader<'_, P>,
+    theme_colors: &[Color],
+) -> Result<Fill, XlsxError>
+    requires reading { IsReading (reading_by P.state xml.old) }
+    requires element { IsAtElement (reading_by P.state xml.old) }
+    ensures same_package { SamePackage xml.old xml.new }
+    ensures reads { ReadsPart Io result (reading_by P.state xml.old) (reading_by P.state xml.new) }
+    ensures depth { let old = reading_by P.state xml.old in
+        let new = reading_by P.state xml.new in
+        OnOk result (length old.names ≡ suc (length new.names)) }
+    ensures skips { let old = reading_by P.state xml.old in
+        let new = reading_by P.state xml.new in
+        old.source.is_told ≡ true → OnOk result (Skips old new) }
+    ensures fill { let old = reading_by P.state xml.old in
+        old.source.is_told ≡ true →
+        IfOk result (λ fill. fill_of theme_colors.now (content 0 (ahead old)) ≡ Ok fill) }
+    ensures err { let old = reading_by P.state xml.old in
+        let new = reading_by P.state xml.new in
+        IfErr result (ElementReadFails (always (codes "fill")) (fill_of theme_colors.now)
+        old new) }
+    ensures kind { IfErr result (IsPlainError (codes "fill")) }
+{
+    read_fill(xml.package, &mut xml.cursor, theme_colors)
+}
+
+/// Reads the borders at whose start the reader stands, to its matching end (ECMA-376 part 1,
+/// section 18.8.4). The last outermost side of each kind counts; the diagonal is that of each
+/// direction that is asked for. A number in `theme` names one of `theme_colors`.
+///
+/// A part that ends in a side is `XmlEof("border side")`, and one that ends elsewhere in the
+/// element `XmlEof("border")`.
+pub fn parse_border<P: Package>(
+    xml: &mut XlReader<'_, P>,
+    diagonal_down: bool,
+    diagonal_up: bool,
+    theme_colors: &[Color],
+) -> Result<Borders, XlsxError>
+    requires reading { IsReading (reading_by P.state xml.old) }
+    requires element { IsAtElement (reading_by P.state xml.old) }
+    ensures same_package { SamePackage xml.old xml.new }
+    ensures reads { ReadsPart Io result (reading_by P.state xml.old) (reading_by P.state xml.new) }
+    ensures depth { let old = reading_by P.state xml.old in
+        let new = reading_by P.state xml.new in
+        OnOk result (length old.names ≡ suc (length new.names)) }
+    ensures skips { let old = reading_by P.state xml.old in
+        let new = reading_by P.state xml.new in
+        old.source.is_told ≡ true → OnOk result (Skips old new) }
+    ensures borders { let old = reading_by P.state xml.old in
+        old.source.is_told ≡ true → IfOk result (λ borders.
+        border_of theme_colors.now diagonal_down diagonal_up (content 0 (ahead old))
+        ≡ Ok borders) }
+    ensures err { let old = reading_by P.state xml.old in
+        let new = reading_by P.state xml.new in
+        IfErr result (ElementReadFails end_in_border
+        (border_of theme_colors.now diagonal_down diagonal_up) old new) }
+    ensures kind { IfErr result IsBorderError }
+{
+    read_border(
+        xml.package,
+        &mut xml.cursor,
+        diagonal_down,
+        diagonal_up,
+        theme_colors,
+    )
+}
