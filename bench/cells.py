@@ -1,5 +1,6 @@
 #!/usr/bin/env python3
-"""Measures `cells S` of xlsx_tool beside json.load of the same text, and prints one table (docs/PERFORMANCE.md)."""
+"""Measures `cells S` of xlsx_tool beside json.load of the same text, and prints one table
+(docs/PERFORMANCE.md)."""
 
 import argparse
 import hashlib
@@ -50,8 +51,8 @@ def escaped(text):
     return text.replace("\\", "\\\\").replace("\t", "\\t")
 
 
-def line_of(reference, value="-", formula=None):
-    return f"{reference}\t{value}\t{'-' if formula is None else '=' + escaped(formula)}\t-\n"
+def line_of(reference, value="-", formula=None, fill="-"):
+    return f"{reference}\t{value}\t{'-' if formula is None else '=' + escaped(formula)}\t{fill}\n"
 
 
 def cell_events(attributes, *children):
@@ -122,6 +123,28 @@ class Shared:
         )
 
 
+class OneMaster:
+    """One shared formula, and derived ones in all other cells, which name no positions."""
+
+    frame = FRAME
+    columns = list(zip("ABCDEFGHIJ", "KLMNOPQRST"))
+
+    def row_events(self, row):
+        yield start("row", "")
+        for place in range(len(self.columns)):
+            own, inside = ' t="shared" si="0"', []
+            if row == 1 and place == 0:
+                own, inside = own + ' ref="A1:J1048576"', [["t", "SUM(K$1:K1)"]]
+            yield from cell_events("", ("f", own, inside))
+        yield end("row")
+
+    def row_lines(self, row):
+        return "".join(
+            line_of(f"{column}{row}", formula=f"SUM({summed}$1:{summed}{row})")
+            for column, summed in self.columns
+        )
+
+
 def number(value):
     """A whole number as the program prints it."""
     return f"n:{value}"
@@ -164,7 +187,87 @@ class Values:
         )
 
 
-MIXES = {"texts": Texts, "shared": Shared, "values": Values}
+class Styled:
+    """Numbers, dates, formulas and shared strings, over 40 cell formats; and another sheet."""
+
+    formats = 40
+    colors = [f"{place * 12:02X}{255 - place * 12:02X}80" for place in range(20)]
+
+    def __init__(self):
+        strings = [start("sst")]
+        for place in range(1000):
+            strings += [start("si"), start("t"), ["t", f"kind {place}"], end("t"), end("si")]
+        strings.append(end("sst"))
+        sheets = [("worksheet", "worksheets/sheet1.xml"), ("worksheet", "worksheets/sheet2.xml")]
+        other = [start("worksheet"), start("sheetData")]
+        for row in range(1, 1001):
+            other += self.row_events(row)
+        other += [end("sheetData"), end("worksheet")]
+        workbook = [*WORKBOOK[:4], start("sheet", ' name="T" sheetId="2" r:id="rId2"')]
+        self.frame = [
+            OFFICE,
+            ("xl/_rels/workbook.xml.rels", list(relationships(sheets))),
+            ("xl/workbook.xml", [*workbook, *WORKBOOK[3:]]),
+            ("xl/sharedStrings.xml", strings),
+            ("xl/styles.xml", list(self.style_events())),
+            ("xl/worksheets/sheet2.xml", other),
+        ]
+
+    def style_events(self):
+        yield from (start("styleSheet"), start("fonts"), start("font"))
+        yield from (start("b"), end("b"), end("font"), end("fonts"), start("fills"))
+        for color in self.colors:
+            yield from (start("fill"), start("patternFill", ' patternType="solid"'))
+            yield from (start("fgColor", f' rgb="FF{color}"'), end("fgColor"))
+            yield from (end("patternFill"), end("fill"))
+        yield from (end("fills"), start("cellXfs"))
+        for place in range(self.formats):
+            number_format = 14 if self.is_date(place) else 0
+            own = f' numFmtId="{number_format}" fontId="0" fillId="{place % len(self.colors)}"'
+            yield from (start("xf", own), end("xf"))
+        yield from (end("cellXfs"), end("styleSheet"))
+
+    def is_date(self, place):
+        return place % 4 == 0
+
+    def place_of(self, row, column):
+        """The cell format of a cell, which is never number 0."""
+        return 1 + (row * 4 + column) % (self.formats - 1)
+
+    def row_events(self, row):
+        yield start("row", f' r="{row}"')
+        for column, letter in enumerate("ABCD"):
+            own = f' r="{letter}{row}" s="{self.place_of(row, column)}"'
+            if letter == "B":
+                yield from cell_events(own + ' t="s"', text_child("v", str(row % 1000)))
+            elif letter == "C":
+                formula = text_child("f", f"A{row}*2")
+                yield from cell_events(own, formula, text_child("v", str(row * 2)))
+            else:
+                yield from cell_events(own, text_child("v", f"{row}.25"))
+        yield end("row")
+
+    def row_lines(self, row):
+        lines = []
+        for column, letter in enumerate("ABCD"):
+            place = self.place_of(row, column)
+            written = str(row * 2) if letter == "C" else f"{row}.25"
+            value = f"t:{written} date 1900" if self.is_date(place) else f"n:{written}"
+            if letter == "B":
+                value = f"s:kind {row % 1000}"
+            formula = f"A{row}*2" if letter == "C" else None
+            fill = "#" + self.colors[place % len(self.colors)]
+            lines.append(line_of(f"{letter}{row}", value, formula, fill))
+        return "".join(lines)
+
+
+MIXES = {
+    "texts": Texts,
+    "shared": Shared,
+    "one_master": OneMaster,
+    "values": Values,
+    "styled": Styled,
+}
 
 
 class Listing:
@@ -185,7 +288,8 @@ class Listing:
 
 
 def write_package(path, limit, mix):
-    """Writes a package with as many rows as fit into the limit. Answers its size, its rows and its listing."""
+    """Writes a package with as many rows as fit into the limit. Answers its size, its rows and its
+    listing."""
     frame = "".join(
         f"{spelled({'name': name, 'events': events})}," for name, events in mix.frame
     )

@@ -1,4 +1,5 @@
-"""What the scripts of this folder share: package texts, the program, runs that are measured, and their table."""
+"""What the scripts of this folder share: package texts, the program, runs that are measured, and
+their table."""
 
 import json
 import os
@@ -57,7 +58,8 @@ def add_repeats(parser, repeats):
 def add_program(parser):
     parser.add_argument(
         "--program",
-        help="a program that is built already (default: that of this repository, which is built where that is due)",
+        help="a program that is built already (default: that of this repository, which is built "
+        "where that is due)",
     )
 
 

@@ -1,6 +1,6 @@
 #!/usr/bin/env python3
-"""Measures the opening of workbooks with many sheets and defined names beside json.load of the same text, and prints
-one table (docs/PERFORMANCE.md)."""
+"""Measures the opening of workbooks with many sheets and defined names beside json.load of the
+same text, and prints one table (docs/PERFORMANCE.md)."""
 
 import argparse
 import os
@@ -32,7 +32,8 @@ NO_SHEET = 6
 # What the program may end with where it doesn't find the workbook's parts.
 NOT_FOUND = (6, 9)
 
-# The workbook's relationships and the workbook, by the names that opening looks for, and by others as long.
+# The workbook's relationships and the workbook, by the names that opening looks for, and by others
+# as long.
 FOUND = ("xl/_rels/workbook.xml.rels", "xl/workbook.xml")
 RENAMED = ("xl/_rels/workbook.xml.relx", "xl/workbook.xmx")
 
@@ -84,9 +85,9 @@ def write_package(path, part_names, sheets, names):
 
 
 class Size:
-    """A package in two spellings. They differ in nothing but the names of the workbook's two parts: the program reads
-    as much JSON of both and builds as large a package, and finds a workbook to open in the first alone. So what the
-    first takes longer than the second is the opening."""
+    """A package in two spellings. They differ in nothing but the names of the workbook's two parts:
+    the program reads as much JSON of both and builds as large a package, and finds a workbook to
+    open in the first alone. So what the first takes longer than the second is the opening."""
 
     def __init__(self, folder, program, times):
         self.words = [program, "cells", ABSENT]
@@ -116,7 +117,8 @@ class Size:
         self.json.append(measured(JSON_LOAD, self.found))
 
     def result(self):
-        """The seconds with, without and of opening and of json.load, and the peak memory of opening and json.load."""
+        """The seconds with, without and of opening and of json.load, and the peak memory of opening
+        and json.load."""
         runs = (self.opened, self.unopened, self.json)
         opened, unopened, json = (each(median, of) for of in runs)
         pairs = zip(self.opened, self.unopened)

@@ -1,7 +1,7 @@
 #!/usr/bin/env python3
-"""Runs `cells S` over the shipped package with its first allocation refused, then with its second, and so on, until
-none is left to refuse. Each of these runs must end with the status and the text of want of memory and print nothing,
-and the last one must print the stored lines."""
+"""Runs `cells S` over the shipped package with its first allocation refused, then with its second,
+and so on, until none is left to refuse. Each of these runs must end with the status and the text of
+want of memory and print nothing, and the last one must print the stored lines."""
 
 import argparse
 import os
@@ -13,8 +13,9 @@ from measure import TOP, add_program, program_of
 
 TOOL = TOP / "crates" / "xlsx_tool"
 
-# Loaded before the C library, this stands in for the calls by which the program asks for memory. It refuses the one
-# with the number REFUSED and then writes a byte to the descriptor TOLD. All others go on to the C library.
+# Loaded before the C library, this stands in for the calls by which the program asks for memory. It
+# refuses the one with the number REFUSED and then writes a byte to the descriptor TOLD. All others
+# go on to the C library.
 SOURCE = """\
 #include <stdlib.h>
 #include <unistd.h>
@@ -51,7 +52,8 @@ def compiled(folder):
 
 
 def run(words, library, number):
-    """Whether an allocation with this number was refused; and the status, standard output and standard error."""
+    """Whether an allocation with this number was refused; and the status, standard output and
+    standard error."""
     with open(TOOL / "stdin", "rb") as package, tempfile.TemporaryFile() as told:
         given = {"LD_PRELOAD": library, "REFUSED": str(number), "TOLD": str(told.fileno())}
         ended = subprocess.run(
@@ -85,7 +87,8 @@ def main():
             number += 1
             refused, found = run(words, library, number)
     demand((0, (TOOL / "stdout").read_bytes(), b""), found, number)
-    print(f"{number - 1} allocations, each refused in a run of its own, and each told as want of memory")
+    told = "each refused in a run of its own, and each told as want of memory"
+    print(f"{number - 1} allocations, {told}")
 
 
 if __name__ == "__main__":

@@ -17,24 +17,77 @@ def relationships(*kinds_and_targets):
     return f"<Relationships>{''.join(each)}</Relationships>"
 
 
-def with_rows(rows):
-    """The parts of a workbook whose one sheet `S` has these rows."""
+def with_rows(rows, name="S"):
+    """The parts of a workbook whose one sheet has these rows."""
     return {
         "_rels/.rels": relationships(("officeDocument", "xl/workbook.xml")),
         "xl/_rels/workbook.xml.rels": relationships(("worksheet", "worksheets/sheet1.xml")),
         "xl/workbook.xml": (
-            '<workbook><sheets><sheet name="S" sheetId="1" r:id="rId1"/></sheets></workbook>'
+            f'<workbook><sheets><sheet name="{name}" sheetId="1" r:id="rId1"/></sheets></workbook>'
         ),
         "xl/worksheets/sheet1.xml": f"<worksheet><sheetData>{rows}</sheetData></worksheet>",
     }
 
 
-# The markup of the package that is shipped in crates/xlsx_tool, and its lines.
+# A workbook of two values and a formula, without styles, and its lines.
 MINIMAL = with_rows(
     '<row r="1"><c r="A1" t="str"><v>nut</v></c>'
     '<c r="B1" t="str"><f>UPPER(A1)</f><v>NUT</v></c></row>'
 )
 LINES = b"A1\ts:nut\t-\t-\nB1\ts:NUT\t=UPPER(A1)\t-\n"
+
+# The markup of the package that is shipped in crates/xlsx_tool, as a spreadsheet program writes it.
+SALES = {
+    **with_rows(
+        '<row r="1" spans="1:3"><c r="A1" s="1" t="s"><v>0</v></c><c r="B1" s="1" t="s"><v>1</v></c>'
+        '<c r="C1" s="1" t="s"><v>2</v></c></row>'
+        '<row r="2"><c r="A2" s="2"><v>45292</v></c><c r="B2"><v>10.5</v></c>'
+        '<c r="C2"><f t="shared" ref="C2:C3" si="0">SUM(B$2:B2)</f><v>10.5</v></c></row>'
+        '<row r="3"><c r="A3" s="2"><v>45293</v></c><c r="B3"><v>4</v></c>'
+        '<c r="C3"><f t="shared" si="0"/><v>14.5</v></c></row>',
+        name="Sales",
+    ),
+    "xl/sharedStrings.xml": (
+        '<sst count="3" uniqueCount="3"><si><t>Date</t></si><si><t>Amount</t></si>'
+        '<si><t xml:space="preserve"> Total</t></si></sst>'
+    ),
+    "xl/styles.xml": (
+        '<styleSheet><fonts count="1"><font><sz val="11"/><color theme="1"/><name val="Calibri"/>'
+        '<family val="2"/></font></fonts>'
+        '<fills count="3"><fill><patternFill patternType="none"/></fill>'
+        '<fill><patternFill patternType="gray125"/></fill>'
+        '<fill><patternFill patternType="solid"><fgColor theme="2" tint="-0.0999786370433668"/>'
+        '<bgColor indexed="64"/></patternFill></fill></fills>'
+        '<borders count="1"><border><left/><right/><top/><bottom/><diagonal/></border></borders>'
+        '<cellXfs count="3"><xf numFmtId="0" fontId="0" fillId="0" borderId="0"/>'
+        '<xf numFmtId="0" fontId="0" fillId="2" borderId="0"/>'
+        '<xf numFmtId="14" fontId="0" fillId="0" borderId="0"/></cellXfs></styleSheet>'
+    ),
+}
+SALES["xl/worksheets/sheet1.xml"] = SALES["xl/worksheets/sheet1.xml"].replace(
+    "<sheetData>", '<dimension ref="A1:C3"/><sheetData>'
+)
+SALES_LINES = (
+    b"A1\ts:Date\t-\t#DDD9C3\nB1\ts:Amount\t-\t#DDD9C3\nC1\ts: Total\t-\t#DDD9C3\n"
+    b"A2\tt:45292 date 1900\t-\t-\nB2\tn:10.5\t-\t-\nC2\tn:10.5\t=SUM(B$2:B2)\t-\n"
+    b"A3\tt:45293 date 1900\t-\t-\nB3\tn:4\t-\t-\nC3\tn:14.5\t=SUM(B$2:B3)\t-\n"
+)
+
+# A workbook whose theme ends in its color scheme, and the line of its cell in the default theme.
+BROKEN_THEME = {
+    **with_rows('<row r="1"><c r="A1" s="1"/></row>'),
+    "xl/theme/theme1.xml": (
+        '<theme><themeElements><clrScheme><dk1><srgbClr val="000000"/></dk1>'
+    ),
+    "xl/styles.xml": (
+        '<styleSheet><fonts><font><color theme="3"/></font></fonts>'
+        '<fills><fill><patternFill patternType="none"/></fill>'
+        '<fill><patternFill patternType="solid"><fgColor theme="3"/></patternFill></fill></fills>'
+        '<cellXfs><xf numFmtId="0" fontId="0" fillId="0"/><xf numFmtId="0" fontId="0" fillId="1"/>'
+        "</cellXfs></styleSheet>"
+    ),
+}
+BROKEN_THEME_LINES = b"A1\t-\t-\t#1F497D\n"
 
 # A workbook with every kind of value but dates, and with a group of formulas; and its lines.
 MIXED = {

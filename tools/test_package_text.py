@@ -9,7 +9,7 @@ import sys
 import tempfile
 import unittest
 
-from fixtures import MINIMAL, archive, relationships
+from fixtures import MINIMAL, SALES, archive, relationships
 from package_text import Refusal, write
 
 HERE = pathlib.Path(__file__).resolve().parent
@@ -63,7 +63,7 @@ class Files(unittest.TestCase):
 class Parts(Files):
     def test_the_markup_of_the_shipped_package_gives_the_shipped_package(self):
         wanted = json.loads(SHIPPED.read_text(encoding="utf-8"))
-        self.assertEqual(self.package_of(archive(MINIMAL)), wanted)
+        self.assertEqual(self.package_of(archive(SALES)), wanted)
 
     def test_parts_keep_their_order(self):
         turned = dict(reversed(MINIMAL.items()))

@@ -13,7 +13,18 @@ import termios
 import time
 import unittest
 
-from fixtures import LINES, MINIMAL, MIXED, MIXED_LINES, package_text, with_rows
+from fixtures import (
+    BROKEN_THEME,
+    BROKEN_THEME_LINES,
+    LINES,
+    MINIMAL,
+    MIXED,
+    MIXED_LINES,
+    SALES,
+    SALES_LINES,
+    package_text,
+    with_rows,
+)
 
 TOP = pathlib.Path(__file__).resolve().parent.parent
 FORMAT = (TOP / "docs" / "FORMAT.md").read_text(encoding="utf-8")
@@ -168,10 +179,46 @@ class Edge:
         ):
             self.assertEqual(self.run_on(package_text(with_rows(cell))), no_workbook(text), cell)
 
-    def test_what_is_not_built_yet(self):
-        self.assertEqual(
-            self.run_on(package_text({**MINIMAL, "xl/styles.xml": "<styleSheet/>"})), refusal(9)
-        )
+    def test_a_workbook_with_styles(self):
+        package = package_text({**MINIMAL, "xl/styles.xml": "<styleSheet/>"})
+        self.assertEqual(self.run_on(package), (0, LINES, b""))
+
+    def test_each_part_of_a_workbook_left_out(self):
+        without_styles = SALES_LINES.replace(b"#DDD9C3", b"-")
+        for day in (b"45292", b"45293"):
+            without_styles = without_styles.replace(b"t:" + day + b" date 1900", b"n:" + day)
+        lines = lambda wanted: (0, wanted, b"")
+        no_sheet = no_workbook(b"Worksheet 'Sales' not found")
+        no_string = no_workbook(b"Cell string index not found in shared strings table")
+        for left_out, wanted in (
+            (None, lines(SALES_LINES)),
+            ("_rels/.rels", no_workbook(b"File not found '_rels/.rels'")),
+            (
+                "xl/_rels/workbook.xml.rels",
+                no_workbook(b"File not found 'xl/_rels/workbook.xml.rels'"),
+            ),
+            ("xl/workbook.xml", no_sheet),
+            ("xl/worksheets/sheet1.xml", no_sheet),
+            ("xl/sharedStrings.xml", no_string),
+            ("xl/styles.xml", lines(without_styles)),
+        ):
+            parts = {name: markup for name, markup in SALES.items() if name != left_out}
+            found = self.run_on(package_text(parts), ["cells", "Sales"])
+            self.assertEqual(found, wanted, left_out)
+
+    def test_a_faulty_theme_refuses_nothing(self):
+        package = package_text(BROKEN_THEME)
+        self.assertEqual(self.run_on(package), (0, BROKEN_THEME_LINES, b""))
+
+    def test_styles_that_end_early_are_refused(self):
+        for styles, name in (
+            ("<styleSheet><cellXfs><xf>", b"xf"),
+            ("<styleSheet><fonts>", b"fonts"),
+            ("<styleSheet>", b"styleSheet"),
+        ):
+            package = package_text({**MINIMAL, "xl/styles.xml": styles})
+            text = b"Unexpected end of xml, expecting '</" + name + b">'"
+            self.assertEqual(self.run_on(package), no_workbook(text), styles)
 
     def test_want_of_memory(self):
         def bound():

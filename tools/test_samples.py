@@ -17,6 +17,18 @@ HERE = pathlib.Path(__file__).resolve().parent
 SAMPLES = HERE.parent / "samples"
 WORKBOOKS = sorted(SAMPLES.glob("*.xlsx"))
 
+# The sheet of each workbook whose lines stand beside it.
+SHEETS = {
+    "chart_sheet": "Data",
+    "dates_1900": "Dates",
+    "dates_1904": "Dates",
+    "inline_strings": "S",
+    "rich_text": "Goods & prices",
+    "shared_formulas": "Sales",
+    "themes_and_tints": "Fills",
+    "values_and_formulas": "S",
+}
+
 # How many texts stand behind the mark of an event.
 FORMS = {"s": 2, "e": 1, "t": 1, "d": 1, "r": 1, "o": 0}
 NAMED = {"amp": "&", "lt": "<", "gt": ">", "quot": '"', "apos": "'"}
@@ -97,15 +109,27 @@ class Samples(unittest.TestCase):
         for path in WORKBOOKS:
             self.assertLess(len(package_text(path)), LIMIT)
 
-    def test_values_and_formulas_give_their_lines(self):
+    def test_workbooks_give_their_lines(self):
+        self.assertEqual({path.stem for path in SAMPLES.glob("*.lines")}, set(SHEETS))
+        for name, sheet in SHEETS.items():
+            ran = subprocess.run(
+                [OUT / "xlsx_tool", "cells", sheet],
+                input=package_text(SAMPLES / f"{name}.xlsx"),
+                stdout=subprocess.PIPE,
+                stderr=subprocess.PIPE,
+            )
+            wanted = (SAMPLES / f"{name}.lines").read_bytes()
+            self.assertEqual((ran.returncode, ran.stdout, ran.stderr), (0, wanted, b""), name)
+
+    def test_a_chart_sheet_is_no_worksheet(self):
         ran = subprocess.run(
-            [OUT / "xlsx_tool", "cells", "S"],
-            input=package_text(SAMPLES / "values_and_formulas.xlsx"),
+            [OUT / "xlsx_tool", "cells", "Chart"],
+            input=package_text(SAMPLES / "chart_sheet.xlsx"),
             stdout=subprocess.PIPE,
             stderr=subprocess.PIPE,
         )
-        wanted = (SAMPLES / "values_and_formulas.lines").read_bytes()
-        self.assertEqual((ran.returncode, ran.stdout, ran.stderr), (0, wanted, b""))
+        wanted = b"Expecting a worksheet, got chartsheet\n"
+        self.assertEqual((ran.returncode, ran.stdout, ran.stderr), (6, b"", wanted))
 
 
 if __name__ == "__main__":

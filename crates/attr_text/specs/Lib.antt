@@ -4,5 +4,5 @@ pub mod FirstItem
 pub mod Text
 pub mod Wanted
 pub mod Escapes
-pub mod Fault
+pub mod TextFaults
 pub mod Lines

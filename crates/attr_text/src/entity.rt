@@ -7,7 +7,7 @@ ghost use Rattle.std.specs.Str.Parse.{digits_value};
 ghost use Rattle.attr_text.specs.Text.{all_digits, character_of_digits, unnamed_character};
 ghost use Rattle.attr_text.specs.Text.{entity_character, is_semicolon, character_behind};
 ghost use Rattle.attr_text.specs.Text.{onto_decoded, decoded};
-ghost use Rattle.attr_text.specs.Fault.{DecodeFails, EntityFails};
+ghost use Rattle.attr_text.specs.TextFaults.{DecodeFails, EntityFails};
 
 use crate::cuts::split_first;
 use crate::fault::TextFault;

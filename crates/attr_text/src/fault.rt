@@ -26,7 +26,7 @@ pub enum TextFault {
 
 impl fmt::Display for TextFault {
     ghost use Rattle.std.specs.Prelude.{Some};
-    ghost use Rattle.attr_text.specs.Fault.{fault_text};
+    ghost use Rattle.attr_text.specs.TextFaults.{fault_text};
 
     ghost output = { λ fault. Some (fault_text fault) };
 

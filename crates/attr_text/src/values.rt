@@ -194,13 +194,25 @@ macro_rules! get_attrs {
     ($element:expr, $ka:expr => $va:ident, $kb:expr => $vb:ident, $kc:expr => $vc:ident $(,)?) => {
         $crate::three_values($element.attributes_raw(), $ka, $kb, $kc)
     };
-    ($element:expr, $ka:expr => $va:ident, $kb:expr => $vb:ident, $kc:expr => $vc:ident, $kd:expr => $vd:ident $(,)?) => {
+    (
+        $element:expr,
+        $ka:expr => $va:ident, $kb:expr => $vb:ident, $kc:expr => $vc:ident,
+        $kd:expr => $vd:ident $(,)?
+    ) => {
         $crate::four_values($element.attributes_raw(), $ka, $kb, $kc, $kd)
     };
-    ($element:expr, $ka:expr => $va:ident, $kb:expr => $vb:ident, $kc:expr => $vc:ident, $kd:expr => $vd:ident, $ke:expr => $ve:ident $(,)?) => {
+    (
+        $element:expr,
+        $ka:expr => $va:ident, $kb:expr => $vb:ident, $kc:expr => $vc:ident,
+        $kd:expr => $vd:ident, $ke:expr => $ve:ident $(,)?
+    ) => {
         $crate::five_values($element.attributes_raw(), $ka, $kb, $kc, $kd, $ke)
     };
-    ($element:expr, $ka:expr => $va:ident, $kb:expr => $vb:ident, $kc:expr => $vc:ident, $kd:expr => $vd:ident, $ke:expr => $ve:ident, $kf:expr => $vf:ident $(,)?) => {
+    (
+        $element:expr,
+        $ka:expr => $va:ident, $kb:expr => $vb:ident, $kc:expr => $vc:ident,
+        $kd:expr => $vd:ident, $ke:expr => $ve:ident, $kf:expr => $vf:ident $(,)?
+    ) => {
         $crate::six_values($element.attributes_raw(), $ka, $kb, $kc, $kd, $ke, $kf)
     };
 }

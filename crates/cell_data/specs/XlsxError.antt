@@ -7,7 +7,7 @@ use Rattle.part_events.specs.declared.fault.StreamError.TheVariants as stream
 use Rattle.cell_refs.specs.declared.error.RefError.{RefError}
 use Rattle.cell_refs.specs.declared.error.RefError.TheVariants as ref
 use Rattle.cell_data.specs.declared.error.XlsxError.{XlsxError}
-use Rattle.cell_data.specs.declared.error.XlsxError.TheVariants.{OutOfMemory, Failed, NotBuilt, Io}
+use Rattle.cell_data.specs.declared.error.XlsxError.TheVariants.{OutOfMemory, Failed, Io}
 use Rattle.cell_data.specs.declared.error.XlsxError.TheVariants.{Xml, XmlAttr, ParseFloat, ParseInt}
 use Rattle.cell_data.specs.declared.error.XlsxError.TheVariants.{XmlEof, UnexpectedNode}
 use Rattle.cell_data.specs.declared.error.XlsxError.TheVariants.{FileNotFound, RelationshipNotFound}
@@ -41,7 +41,6 @@ of_reference (ref.DimensionCount count) = DimensionCount count
 abbrev pub text_of : XlsxError → Option (List ℕ)
 text_of OutOfMemory = Some (codes "out of memory")
 text_of Failed = Some (codes "the reader has failed before")
-text_of NotBuilt = Some (codes "not built yet")
 text_of Io = Some (codes "I/O error")
 text_of (Xml fault) = None
 text_of (XmlAttr fault) = None

@@ -15,8 +15,6 @@ pub enum XlsxError {
     OutOfMemory,
     /// A call was made on a reader after an earlier one was refused.
     Failed,
-    /// The package needs what this version can't read yet.
-    NotBuilt,
     /// The package could not be read.
     Io,
     /// The markup of a part is at fault.
@@ -72,7 +70,6 @@ impl fmt::Display for XlsxError {
         match self {
             XlsxError::OutOfMemory => f.write_str("out of memory"),
             XlsxError::Failed => f.write_str("the reader has failed before"),
-            XlsxError::NotBuilt => f.write_str("not built yet"),
             XlsxError::Io => f.write_str("I/O error"),
             XlsxError::Xml(fault) => write!(f, "Xml error: {fault}"),
             XlsxError::XmlAttr(fault) => write!(f, "Xml attribute error: {fault}"),

@@ -20,7 +20,6 @@ fn each_refusal_has_its_text(rt: HostRuntime) -> Result<(), Fail> {
     let refusals = [
         (XlsxError::OutOfMemory, "out of memory"),
         (XlsxError::Failed, "the reader has failed before"),
-        (XlsxError::NotBuilt, "not built yet"),
         (XlsxError::Io, "I/O error"),
         (
             XlsxError::Xml(XmlFault::EndMismatch { at }),

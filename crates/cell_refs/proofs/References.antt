@@ -11,7 +11,8 @@ use Rattle.std.proofs.lemmas.List.Folds.{list_all-append}
 use Rattle.cell_refs.specs.A1.{column_name, corner, row_from, row_of}
 use Rattle.cell_refs.specs.Reference.{reference, row_reference}
 use Rattle.cell_refs.proofs.Names.{letters_value-column_name}
-use Rattle.cell_refs.proofs.PositionParts.{WritesRow, WritesColumn, corner_from-written, row_from-written}
+use Rattle.cell_refs.proofs.PositionParts.{WritesRow, WritesColumn, corner_from-written}
+use Rattle.cell_refs.proofs.PositionParts.{row_from-written}
 use Rattle.cell_refs.proofs.ReadBack.{letters_of-append, behind_letters-append, letters-column_name}
 use Rattle.cell_refs.proofs.ReadBack.{corner_from_parts}
 

@@ -1,10 +1,12 @@
 -- Places of an area, and the area of cells.
-use Rattle.std.proofs.Common.{◌≡◌, ℕ, ◌+◌, ◌-◌, ◌*◌, ◌<◌, ◌≤◌, min, max, List, [], ◌∷◌, Option, Some, None, ◌++◌, All, IfSome, refl, ap, ◌∙◌, arith}
+use Rattle.std.proofs.Common.{◌≡◌, ℕ, ◌+◌, ◌-◌, ◌*◌, ◌<◌, ◌≤◌, min, max, List, [], ◌∷◌, Option}
+use Rattle.std.proofs.Common.{Some, None, ◌++◌, All, IfSome, refl, ap, ◌∙◌, arith}
 use Rattle.std.proofs.Math.Nat.{mul-le-mul_right}
 use Rattle.std.proofs.lemmas.List.Elements.{All-head, All-tail}
 use Rattle.cell_refs.specs.Dimensions.{cell_count, IsInArea}
 use Rattle.cell_refs.specs.declared.dimensions.Dimensions.{Dimensions}
-use Rattle.cell_styles.specs.StyleMap.{StyledCell, IsOnSheet, IsArea, widened, bounds_of, place_in, width_of, height_of}
+use Rattle.cell_styles.specs.StyleMap.{StyledCell, IsOnSheet, IsArea, widened, covering_area}
+use Rattle.cell_styles.specs.StyleMap.{place_in, width_in, height_in}
 
 -- a row and a column below the numbers of both
 below_both : (row column rows width : ℕ) → row < rows → column < width
@@ -19,7 +21,7 @@ below_both row column rows width h i =
 pub place_within : (area : Dimensions) (row column : ℕ) → IsArea area → IsInArea area row column
     → place_in area (row, column) < cell_count area
 place_within area row column whole inside =
-    below_both (row - area.start.0) (column - area.start.1) (height_of area) (width_of area)
+    below_both (row - area.start.0) (column - area.start.1) (height_in area) (width_in area)
     (omega arith) (omega arith)
 
 -- an area with one more cell
@@ -34,10 +36,10 @@ widened_area (Some area) cell on whole = (
 )
 
 pub bounds_are_area : (cells : List StyledCell) → All IsOnSheet cells
-    → IfSome (bounds_of cells) IsArea
+    → IfSome (covering_area cells) IsArea
 bounds_are_area [] all = tt
 bounds_are_area (cell ∷ cells) all =
-    widened_area (bounds_of cells) cell (All-head IsOnSheet cell cells all)
+    widened_area (covering_area cells) cell (All-head IsOnSheet cell cells all)
     (bounds_are_area cells (All-tail IsOnSheet cell cells all))
 
 -- two cells more, in either order
@@ -57,9 +59,9 @@ widened_twice (Some area) one two =
     λ i. record { start = (a i, b i); end = (c i, d i) }
 
 -- the area of cells with one more behind them
-pub bounds_of-more : (cells : List StyledCell) (cell : StyledCell)
-    → bounds_of (cells ++ cell ∷ []) ≡ Some (widened (bounds_of cells) cell)
-bounds_of-more [] cell = refl
-bounds_of-more (first ∷ cells) cell =
-    ap (λ area. Some (widened area first)) (bounds_of-more cells cell)
-    ∙ ap Some (widened_twice (bounds_of cells) cell first)
+pub covering_area-more : (cells : List StyledCell) (cell : StyledCell)
+    → covering_area (cells ++ cell ∷ []) ≡ Some (widened (covering_area cells) cell)
+covering_area-more [] cell = refl
+covering_area-more (first ∷ cells) cell =
+    ap (λ area. Some (widened area first)) (covering_area-more cells cell)
+    ∙ ap Some (widened_twice (covering_area cells) cell first)

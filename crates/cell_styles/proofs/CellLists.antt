@@ -1,27 +1,32 @@
 -- The cells of an area, by their ids.
-use Rattle.std.proofs.Common.{◌≡◌, ℕ, ◌+◌, ◌-◌, ◌/◌, ◌%◌, ◌<◌, ◌&&◌, nat_lt, List, [], ◌∷◌, ◌++◌, length, replicate, get_or, map, slice_get, true, Some, All, refl, ap, subst, sym, ◌∙◌, arith, suc, length-append}
+use Rattle.std.proofs.Common.{◌≡◌, ℕ, ◌+◌, ◌-◌, ◌/◌, ◌%◌, ◌<◌, ◌&&◌, nat_lt, List, [], ◌∷◌, ◌++◌}
+use Rattle.std.proofs.Common.{length, replicate, get_or, map, slice_get, true, Some, All, refl, ap}
+use Rattle.std.proofs.Common.{subst, sym, ◌∙◌, arith, suc, length-append}
 use Rattle.std.specs.List.{list_all, range_with_len}
 use Rattle.std.proofs.Math.Nat.{div-lt_iff_lt-mul, mod-lt}
 use Rattle.std.proofs.lemmas.Bool.Decides.{nat_tests}
-use Rattle.std.proofs.lemmas.List.{length-replicate, get_or-append-add, get_or_append_left, get_or-replicate}
+use Rattle.std.proofs.lemmas.List.{length-replicate, get_or-append-add, get_or_append_left}
+use Rattle.std.proofs.lemmas.List.{get_or-replicate}
 use Rattle.cell_refs.specs.Dimensions.{cell_count, IsInArea}
 use Rattle.cell_refs.specs.declared.dimensions.Dimensions.{Dimensions}
 use Rattle.cell_styles.specs.declared.style.Style.{Style}
 use Rattle.cell_styles.specs.declared.style_runs.StyleRun.{StyleRun}
-use Rattle.cell_styles.specs.StyleItems.{CellStyle, cells_along, cells_in, position_styles, LieAhead}
-use Rattle.cell_styles.specs.StyleMap.{StyleMap, IsArea, IsSound, position_in, style_at, width_of, height_of}
+use Rattle.cell_styles.specs.StyleItems.{CellStyle, cells_along, cells_in, position_styles}
+use Rattle.cell_styles.specs.StyleItems.{LieAhead}
+use Rattle.cell_styles.specs.StyleMap.{StyleMap, IsArea, IsSound, position_in, style_at, width_in}
+use Rattle.cell_styles.specs.StyleMap.{height_in}
 use Rattle.cell_styles.specs.StyleRuns.{numbers_along, IsCanonical}
 use Rattle.cell_styles.proofs.Lookups.{style_found}
 use Rattle.cell_styles.proofs.Meaning.{place_of_position}
 use Rattle.cell_styles.proofs.RunLists.{end_is}
 
 -- the position of a place of the area lies in it
-position_inside : (area : Dimensions) (place : ℕ) → IsArea area → place < cell_count area
+pub position_inside : (area : Dimensions) (place : ℕ) → IsArea area → place < cell_count area
     → IsInArea area (position_in area place).0 (position_in area place).1
 position_inside area place whole within =
-    let width = width_of area in
+    let width = width_in area in
     let some : 0 < width = omega (arith, whole.1) in
-    let down : place / width < height_of area = (div-lt_iff_lt-mul some).1 within in
+    let down : place / width < height_in area = (div-lt_iff_lt-mul some).1 within in
     let right : place % width < width = mod-lt place some in
     (omega arith, omega (arith, down, whole.0), omega arith, omega (arith, right, whole.1))
 

@@ -1,5 +1,6 @@
 -- Comparisons hold exactly of equal values, part by part.
-use Rattle.std.proofs.Common.{◌≡◌, Bool, true, false, ◌&&◌, Some, None, nat_eq, refl, ap, subst, sym, ◌∙◌, rules}
+use Rattle.std.proofs.Common.{◌≡◌, Bool, true, false, ◌&&◌, Some, None, nat_eq, refl, ap, subst}
+use Rattle.std.proofs.Common.{sym, ◌∙◌, rules}
 use Rattle.std.proofs.Props.{props}
 use Rattle.std.specs.Bool.{beq}
 use Rattle.std.specs.Prelude.{ℤ, pos}
@@ -10,7 +11,7 @@ use Rattle.std.specs.Option.{option_eq}
 use Rattle.std.specs.Cmp.Lexicographic.{pointwise}
 use Rattle.cell_styles.specs.Equality.{IsEquality}
 use Rattle.cell_styles.specs.Font.{FontFields}
-use Rattle.cell_styles.specs.NumberFormat.{NumberFormatFields}
+use Rattle.cell_styles.specs.StyleFormats.{NumberFormatFields}
 use Rattle.cell_styles.specs.declared.alignment.Alignment.{Alignment}
 use Rattle.cell_styles.specs.declared.border.Border.{Border}
 use Rattle.cell_styles.specs.declared.border.Borders.{Borders}

@@ -1,5 +1,6 @@
 -- How many groups of equal neighbours a list can have.
-use Rattle.std.proofs.Common.{◌≡◌, ℕ, ◌+◌, ◌*◌, ◌≤◌, ◌==◌, if◌then◌else◌, List, [], ◌∷◌, Bool, true, false, nat_lt, count_by, rules, arith, zero, suc}
+use Rattle.std.proofs.Common.{◌≡◌, ℕ, ◌+◌, ◌*◌, ◌≤◌, ◌==◌, if◌then◌else◌, List, [], ◌∷◌, Bool, true}
+use Rattle.std.proofs.Common.{false, nat_lt, count_by, rules, arith, zero, suc}
 use Rattle.std.proofs.lemmas.List.Sums.{sum_by-cons}
 use Rattle.cell_styles.specs.Groups.{group_count}
 

@@ -10,3 +10,4 @@ pub mod RunSearch
 pub mod RunSteps
 pub mod SameRanges
 pub mod StyledLists
+pub mod StyledOrder

@@ -1,11 +1,15 @@
 -- Runs and the numbers that they keep.
-use Rattle.std.proofs.Common.{◌≡◌, ◌≢◌, ℕ, ◌+◌, ◌-◌, ◌<◌, ◌≤◌, ◌==◌, true, false, List, [], ◌∷◌, ◌++◌, length, replicate, slice_get, slice_set, Some, refl, ap, subst, arith, zero, suc, length-append, append_assoc, append-nil, zero-add, inl, inr}
+use Rattle.std.proofs.Common.{◌≡◌, ◌≢◌, ℕ, ◌+◌, ◌-◌, ◌<◌, ◌≤◌, ◌==◌, true, false, List, [], ◌∷◌}
+use Rattle.std.proofs.Common.{◌++◌, length, replicate, slice_get, slice_set, Some, refl, ap, subst}
+use Rattle.std.proofs.Common.{arith, zero, suc, length-append, append_assoc, append-nil, zero-add}
+use Rattle.std.proofs.Common.{inl, inr}
 use Rattle.std.proofs.lemmas.Bool.{eqb-true, eqb-false, eq-eqb}
 use Rattle.std.proofs.lemmas.Bool.Decides.{eqb_tells}
 use Rattle.std.proofs.lemmas.List.{length-replicate, replicate-append-replicate}
 use Rattle.cell_styles.specs.declared.style_runs.StyleRun.{StyleRun}
 use Rattle.cell_styles.specs.Groups.{group_count}
-use Rattle.cell_styles.specs.StyleRuns.{numbers_along, BeginsOtherwise, IsCanonical, end_along, last_is}
+use Rattle.cell_styles.specs.StyleRuns.{numbers_along, BeginsOtherwise, IsCanonical, end_along}
+use Rattle.cell_styles.specs.StyleRuns.{last_is}
 
 -- canonical runs end where their numbers do
 pub end_is : (start : ℕ) (runs : List StyleRun) → IsCanonical start runs

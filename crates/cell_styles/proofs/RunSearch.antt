@@ -1,8 +1,12 @@
 -- Finding the run of a place by halves.
-use Rattle.std.proofs.Common.{◌≡◌, ℕ, ◌+◌, ◌-◌, ◌*◌, ◌/◌, ◌^◌, ◌<◌, ◌≤◌, List, [], ◌∷◌, length, replicate, get_or, refl, ap, sym, ◌∙◌, inl, inr, subst, arith, zero, suc}
+use Rattle.std.proofs.Common.{◌≡◌, ℕ, ◌+◌, ◌-◌, ◌*◌, ◌/◌, ◌^◌, ◌<◌, ◌≤◌, List, [], ◌∷◌, length}
+use Rattle.std.proofs.Common.{replicate, get_or, refl, ap, sym, ◌∙◌, inl, inr, subst, arith, zero}
+use Rattle.std.proofs.Common.{suc}
 use Rattle.std.proofs.lemmas.Bool.{cases_lt}
-use Rattle.std.proofs.Math.Nat.{eq-or-lt_of_le, mul-le-mul_left, mul_comm, mul_assoc, mul-one, pow-succ'}
-use Rattle.std.proofs.lemmas.List.{length-replicate, get_or-replicate, get_or_append_left, get_or-append_right}
+use Rattle.std.proofs.Math.Nat.{eq-or-lt_of_le, mul-le-mul_left, mul_comm, mul_assoc, mul-one}
+use Rattle.std.proofs.Math.Nat.{pow-succ'}
+use Rattle.std.proofs.lemmas.List.{length-replicate, get_or-replicate, get_or_append_left}
+use Rattle.std.proofs.lemmas.List.{get_or-append_right}
 use Rattle.cell_styles.specs.declared.style_runs.StyleRun.{StyleRun}
 use Rattle.cell_styles.specs.StyleRuns.{numbers_along, IsCanonical, end_along}
 use Rattle.cell_styles.proofs.RunLists.{end_is}

@@ -1,5 +1,6 @@
 -- Runs passed place by place.
-use Rattle.std.proofs.Common.{◌≡◌, ℕ, ◌+◌, ◌-◌, ◌<◌, ◌≤◌, List, [], ◌∷◌, ◌++◌, replicate, Bool, true, slice_get, Some, refl, ap, subst, sym, ◌∙◌, arith, rules, suc}
+use Rattle.std.proofs.Common.{◌≡◌, ℕ, ◌+◌, ◌-◌, ◌<◌, ◌≤◌, List, [], ◌∷◌, ◌++◌, replicate, Bool}
+use Rattle.std.proofs.Common.{true, slice_get, Some, refl, ap, subst, sym, ◌∙◌, arith, rules, suc}
 use Rattle.std.specs.List.{list_all}
 use Rattle.cell_styles.specs.declared.style_runs.StyleRun.{StyleRun}
 use Rattle.cell_styles.specs.StyleRuns.{numbers_along, IsCanonical, end_along, PassesOne}

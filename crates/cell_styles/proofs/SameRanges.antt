@@ -1,12 +1,16 @@
 -- Entries with the same first explicit id at each position give the same range.
-use Rattle.std.proofs.Common.{◌≡◌, ℕ, ◌<◌, ◌≤◌, ◌==◌, ◌&&◌, nat_lt, if◌then◌else◌, List, [], ◌∷◌, filter, length, map, Bool, true, false, Option, Some, None, All, IfSome, refl, ap, subst, sym, ◌∙◌, arith}
+use Rattle.std.proofs.Common.{◌≡◌, ℕ, ◌<◌, ◌≤◌, ◌==◌, ◌&&◌, nat_lt, if◌then◌else◌, List, [], ◌∷◌}
+use Rattle.std.proofs.Common.{filter, length, map, Bool, true, false, Option, Some, None, All}
+use Rattle.std.proofs.Common.{IfSome, refl, ap, subst, sym, ◌∙◌, arith}
 use Rattle.std.proofs.lemmas.Bool.{eqb-true, eq-eqb}
 use Rattle.std.proofs.lemmas.Bool.Decides.{nat_tests}
 use Rattle.std.proofs.lemmas.List.Elements.{All-head, All-tail, All-cons}
 use Rattle.cell_refs.specs.Dimensions.{IsInArea}
 use Rattle.cell_refs.specs.declared.dimensions.Dimensions.{Dimensions}
 use Rattle.cell_styles.specs.declared.style.Style.{Style}
-use Rattle.cell_styles.specs.StyleMap.{StyledCell, is_explicit, is_at, first_id_at, widened, bounds_of, position_in, places, styles_in, styles_of, IsInBounds}
+use Rattle.cell_styles.specs.StyleMap.{StyledCell, is_explicit, is_at, first_id_at, widened}
+use Rattle.cell_styles.specs.StyleMap.{covering_area, position_in, places, styles_in, styles_of}
+use Rattle.cell_styles.specs.StyleMap.{IsInBounds}
 use Rattle.cell_styles.proofs.Meaning.{both_true, kept, dropped, widened_has, widened_keeps}
 
 abbrev explicit : ℕ → List StyledCell → List StyledCell
@@ -67,32 +71,34 @@ go_inside : (count : ℕ) (cell : StyledCell) (cells : List StyledCell) (positio
     × ℕ) (b c : Bool)
     → is_explicit count cell ≡ b → is_at position cell ≡ c
     → (0 < first_id_at count cells position
-    → IsInBounds (bounds_of (explicit count cells)) position)
+    → IsInBounds (covering_area (explicit count cells)) position)
     → 0 < first_id_at count (cell ∷ cells) position
-    → IsInBounds (bounds_of (explicit count (cell ∷ cells))) position
+    → IsInBounds (covering_area (explicit count (cell ∷ cells))) position
 go_inside count cell cells position true true e a rest h =
     let row : cell.0 ≡ position.0 =
     eqb-true _ _ (both_true (cell.0 == position.0) (cell.1 == position.1) a).0 in
     let column : cell.1 ≡ position.1 =
     eqb-true _ _ (both_true (cell.0 == position.0) (cell.1 == position.1) a).1 in
-    let area = widened (bounds_of (explicit count cells)) cell in
-    subst (λ es. IsInBounds (bounds_of es) position) (sym (kept (is_explicit count) cell cells e))
+    let area = widened (covering_area (explicit count cells)) cell in
+    subst (λ es. IsInBounds (covering_area es) position)
+    (sym (kept (is_explicit count) cell cells e))
     (subst (λ r. IsInArea area r position.1) row (subst (λ k. IsInArea area cell.0 k) column
-    (widened_has (bounds_of (explicit count cells)) cell)))
+    (widened_has (covering_area (explicit count cells)) cell)))
 go_inside count cell cells position true false e a rest h =
     let here : 0 < first_id_at count cells position = subst (λ n. 0 < n) (rw (e, a) refl) h in
-    subst (λ es. IsInBounds (bounds_of es) position) (sym (kept (is_explicit count) cell cells e))
-    (wider (bounds_of (explicit count cells)) cell position (rest here))
+    subst (λ es. IsInBounds (covering_area es) position)
+    (sym (kept (is_explicit count) cell cells e))
+    (wider (covering_area (explicit count cells)) cell position (rest here))
 go_inside count cell cells position false c e a rest h =
     let same : first_id_at count (cell ∷ cells) position ≡ first_id_at count cells position =
     rw e refl in
-    subst (λ es. IsInBounds (bounds_of es) position)
+    subst (λ es. IsInBounds (covering_area es) position)
     (sym (dropped (is_explicit count) cell cells e))
     (rest (subst (λ n. 0 < n) same h))
 
 ids_inside : (count : ℕ) (cells : List StyledCell) (position : ℕ × ℕ)
     → 0 < first_id_at count cells position
-    → IsInBounds (bounds_of (explicit count cells)) position
+    → IsInBounds (covering_area (explicit count cells)) position
 ids_inside count [] position h = absurd (omega arith)
 ids_inside count (cell ∷ cells) position h =
     go_inside count cell cells position (is_explicit count cell) (is_at position cell) refl refl
@@ -115,30 +121,30 @@ go_least (Some a) cell b here rest = (
 )
 
 least : (cells : List StyledCell) (b : Dimensions) → All (λ c. IsInArea b c.0 c.1) cells
-    → IfSome (bounds_of cells) (λ a. Within a b)
+    → IfSome (covering_area cells) (λ a. Within a b)
 least [] b all = tt
 least (cell ∷ cells) b all =
-    go_least (bounds_of cells) cell b (All-head (λ c. IsInArea b c.0 c.1) cell cells all)
+    go_least (covering_area cells) cell b (All-head (λ c. IsInArea b c.0 c.1) cell cells all)
     (least cells b (All-tail (λ c. IsInArea b c.0 c.1) cell cells all))
 
 -- two areas, each of which holds all cells of the other
 equal_areas : (xs ys : List StyledCell)
-    → All (λ c. IsInBounds (bounds_of ys) (c.0, c.1)) xs
-    → All (λ c. IsInBounds (bounds_of xs) (c.0, c.1)) ys
-    → bounds_of xs ≡ bounds_of ys
+    → All (λ c. IsInBounds (covering_area ys) (c.0, c.1)) xs
+    → All (λ c. IsInBounds (covering_area xs) (c.0, c.1)) ys
+    → covering_area xs ≡ covering_area ys
 equal_areas [] [] left right = refl
 equal_areas [] (y ∷ ys) left right = absurd (All-head (λ c. IsInBounds None (c.0, c.1)) y ys right)
 equal_areas (x ∷ xs) [] left right = absurd (All-head (λ c. IsInBounds None (c.0, c.1)) x xs left)
 equal_areas (x ∷ xs) (y ∷ ys) left right =
-    let a = least (x ∷ xs) (widened (bounds_of ys) y) left in
-    let b = least (y ∷ ys) (widened (bounds_of xs) x) right in
-    let p : (widened (bounds_of xs) x).start.0 ≡ (widened (bounds_of ys) y).start.0 =
+    let a = least (x ∷ xs) (widened (covering_area ys) y) left in
+    let b = least (y ∷ ys) (widened (covering_area xs) x) right in
+    let p : (widened (covering_area xs) x).start.0 ≡ (widened (covering_area ys) y).start.0 =
     omega (arith, a.0, b.0) in
-    let q : (widened (bounds_of xs) x).start.1 ≡ (widened (bounds_of ys) y).start.1 =
+    let q : (widened (covering_area xs) x).start.1 ≡ (widened (covering_area ys) y).start.1 =
     omega (arith, a.1, b.1) in
-    let r : (widened (bounds_of xs) x).end.0 ≡ (widened (bounds_of ys) y).end.0 =
+    let r : (widened (covering_area xs) x).end.0 ≡ (widened (covering_area ys) y).end.0 =
     omega (arith, a.2, b.2) in
-    let s : (widened (bounds_of xs) x).end.1 ≡ (widened (bounds_of ys) y).end.1 =
+    let s : (widened (covering_area xs) x).end.1 ≡ (widened (covering_area ys) y).end.1 =
     omega (arith, a.3, b.3) in
     λ i. Some (record { start = (p i, q i); end = (r i, s i) })
 
@@ -148,16 +154,16 @@ pub same_range : (palette : List Style) (xs ys : List StyledCell)
     → styles_of palette xs ≡ styles_of palette ys
 same_range palette xs ys same =
     let count = length palette in
-    let left : All (λ c. IsInBounds (bounds_of (explicit count ys)) (c.0, c.1))
+    let left : All (λ c. IsInBounds (covering_area (explicit count ys)) (c.0, c.1))
     (explicit count xs) =
     λ k d h. ids_inside count ys _ (subst (λ n. 0 < n) (same _) (all_ids count xs k d h)) in
-    let right : All (λ c. IsInBounds (bounds_of (explicit count xs)) (c.0, c.1))
+    let right : All (λ c. IsInBounds (covering_area (explicit count xs)) (c.0, c.1))
     (explicit count ys) =
     λ k d h. ids_inside count xs _
     (subst (λ n. 0 < n) (sym (same _)) (all_ids count ys k d h)) in
     let area = equal_areas (explicit count xs) (explicit count ys) left right in
     ap (λ b. styles_in b palette xs) area
-    ∙ same_styles (bounds_of (explicit count ys)) palette xs ys same
+    ∙ same_styles (covering_area (explicit count ys)) palette xs ys same
   where
     same_styles : (b : Option Dimensions) (p : List Style) (us vs : List StyledCell)
         → ((position : ℕ × ℕ) → first_id_at (length p) us position

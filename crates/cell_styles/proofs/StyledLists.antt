@@ -1,11 +1,14 @@
 -- The styled cells of an area, by their runs.
-use Rattle.std.proofs.Common.{◌≡◌, ℕ, ◌+◌, ◌-◌, ◌<◌, if◌then◌else◌, nat_lt, List, [], ◌∷◌, ◌++◌, length, replicate, get_or, map, filter, slice_index, Bool, true, false, Some, refl, ap, sym, ◌∙◌, inl, inr, arith, zero, suc}
+use Rattle.std.proofs.Common.{◌≡◌, ℕ, ◌+◌, ◌-◌, ◌<◌, if◌then◌else◌, nat_lt, List, [], ◌∷◌, ◌++◌}
+use Rattle.std.proofs.Common.{length, replicate, get_or, map, filter, slice_index, Bool, true}
+use Rattle.std.proofs.Common.{false, Some, refl, ap, sym, ◌∙◌, inl, inr, arith, zero, suc}
 use Rattle.std.specs.List.{range_with_len}
 use Rattle.std.proofs.lemmas.Bool.Decides.{eqb_tells, nat_tests}
 use Rattle.cell_refs.specs.Dimensions.{cell_count}
 use Rattle.cell_refs.specs.declared.dimensions.Dimensions.{Dimensions}
 use Rattle.cell_styles.specs.declared.style_runs.StyleRun.{StyleRun}
-use Rattle.cell_styles.specs.StyleItems.{styled_along, styled_in, styled_of, BeginsStyled, PassesBlank, LieWithin}
+use Rattle.cell_styles.specs.StyleItems.{styled_along, styled_in, styled_of, BeginsStyled}
+use Rattle.cell_styles.specs.StyleItems.{PassesBlank, LieWithin}
 use Rattle.cell_styles.specs.StyleMap.{StyledCell, StyleMap, IsSound, position_in}
 use Rattle.cell_styles.specs.StyleRuns.{numbers_along, IsCanonical, BeginsOtherwise}
 use Rattle.cell_styles.proofs.RunLists.{end_is}

@@ -6,7 +6,7 @@ pub mod Fill
 pub mod Filling
 pub mod Font
 pub mod Groups
-pub mod NumberFormat
+pub mod StyleFormats
 pub mod Style
 pub mod StyleItems
 pub mod StyleMap

@@ -1,11 +1,14 @@
 -- The positions of an area with their styles or ids, row by row.
-use Rattle.std.specs.Prelude.{◌≡◌, ◌≢◌, ℕ, ◌+◌, ◌≤◌, ◌==◌, if◌then◌else◌, List, [], ◌∷◌, map, filter, nat_lt, Option, Some, None, true, slice_get, slice_index}
+use Rattle.std.specs.Prelude.{◌≡◌, ◌≢◌, ℕ, ◌+◌, ◌≤◌, ◌==◌, if◌then◌else◌, List, [], ◌∷◌, map}
+use Rattle.std.specs.Prelude.{filter, nat_lt, Option, Some, None, true, slice_get, slice_index, All}
 use Rattle.std.specs.List.{list_all}
 use Rattle.cell_refs.specs.Dimensions.{cell_count}
 use Rattle.cell_refs.specs.declared.dimensions.Dimensions.{Dimensions}
+use Rattle.cell_data.specs.Positions.{is_rising}
 use Rattle.cell_styles.specs.declared.style.Style.{Style}
 use Rattle.cell_styles.specs.declared.style_runs.StyleRun.{StyleRun}
 use Rattle.cell_styles.specs.StyleMap.{StyledCell, StyleMap, IsArea, position_in, places, style_at}
+use Rattle.cell_styles.specs.StyleMap.{IsOnSheet}
 use Rattle.cell_styles.specs.StyleRuns.{IsCanonical, end_along, numbers_along}
 
 -- a row, a column and the style there
@@ -62,6 +65,15 @@ styled_in (Some area) ids =
 
 abbrev pub styled_of : StyleMap → List StyledCell
 styled_of styles = styled_in styles.bounds styles.ids
+
+-- a styled cell as an entry of a map from positions to ids
+abbrev pub styled_entry : StyledCell → (ℕ × ℕ) × ℕ
+styled_entry cell = ((cell.0, cell.1), cell.2)
+
+-- cells of a worksheet, each behind the one before it, row by row
+pub record RiseOnSheet (cells : List StyledCell) : Type 0 where
+  pub rising : is_rising (map styled_entry cells) ≡ true
+  pub sheet : All IsOnSheet cells
 
 -- runs that begin at a place of an area
 pub record LieWithin (area : Dimensions) (place : ℕ) (runs : List StyleRun) : Type 0 where

@@ -1,6 +1,8 @@
 -- Which style each position has: the area that the styled positions span, and an id for each of its
 -- positions, row by row.
-use Rattle.std.specs.Prelude.{◌≡◌, ℕ, ◌+◌, ◌-◌, ◌*◌, ◌/◌, ◌%◌, ◌<◌, ◌≤◌, min, max, ◌==◌, ◌&&◌, nat_lt, nat_le, if◌then◌else◌, List, [], ◌∷◌, map, filter, length, slice_get, slice_index, Bool, Option, Some, None, All}
+use Rattle.std.specs.Prelude.{◌≡◌, ℕ, ◌+◌, ◌-◌, ◌*◌, ◌/◌, ◌%◌, ◌<◌, ◌≤◌, min, max, ◌==◌, ◌&&◌}
+use Rattle.std.specs.Prelude.{nat_lt, nat_le, if◌then◌else◌, List, [], ◌∷◌, map, filter, length}
+use Rattle.std.specs.Prelude.{slice_get, slice_index, Bool, Option, Some, None, All}
 use Rattle.std.specs.List.{range_with_len}
 use Rattle.cell_refs.specs.Dimensions.{span, cell_count, IsInArea}
 use Rattle.cell_refs.specs.declared.TheConstants.{MAX_ROWS, MAX_COLUMNS}
@@ -39,24 +41,24 @@ widened (Some area) cell = record {
 }
 
 -- the least area that has these cells
-abbrev pub bounds_of : List StyledCell → Option Dimensions
-bounds_of [] = None
-bounds_of (cell ∷ cells) = Some (widened (bounds_of cells) cell)
+abbrev pub covering_area : List StyledCell → Option Dimensions
+covering_area [] = None
+covering_area (cell ∷ cells) = Some (widened (covering_area cells) cell)
 
-abbrev pub width_of : Dimensions → ℕ
-width_of area = span area.start.1 area.end.1
+abbrev pub width_in : Dimensions → ℕ
+width_in area = span area.start.1 area.end.1
 
-abbrev pub height_of : Dimensions → ℕ
-height_of area = span area.start.0 area.end.0
+abbrev pub height_in : Dimensions → ℕ
+height_in area = span area.start.0 area.end.0
 
 -- the place of a position among those of an area, row by row, and the position of a place
 abbrev pub place_in : Dimensions → ℕ × ℕ → ℕ
 place_in area position =
-    (position.0 - area.start.0) * width_of area + (position.1 - area.start.1)
+    (position.0 - area.start.0) * width_in area + (position.1 - area.start.1)
 
 abbrev pub position_in : Dimensions → ℕ → ℕ × ℕ
 position_in area place =
-    (area.start.0 + place / width_of area, area.start.1 + place % width_of area)
+    (area.start.0 + place / width_in area, area.start.1 + place % width_in area)
 
 -- the places of an area
 abbrev pub places : Dimensions → List ℕ
@@ -82,7 +84,7 @@ styles_in (Some area) palette cells = record {
 -- the styles that entries give: the area spans the explicit ones
 abbrev pub styles_of : List Style → List StyledCell → StyleMap
 styles_of palette cells =
-    styles_in (bounds_of (filter (is_explicit (length palette)) cells)) palette cells
+    styles_in (covering_area (filter (is_explicit (length palette)) cells)) palette cells
 
 -- the corners are in order and on a worksheet
 abbrev pub IsArea : Dimensions → Type 0

@@ -1,5 +1,6 @@
 -- Numbers kept as runs of equal neighbours.
-use Rattle.std.specs.Prelude.{◌≡◌, ◌≢◌, ℕ, ◌+◌, ◌-◌, ◌<◌, ◌==◌, List, [], ◌∷◌, ◌++◌, replicate, Bool, true, false, slice_index_or}
+use Rattle.std.specs.Prelude.{◌≡◌, ◌≢◌, ℕ, ◌+◌, ◌-◌, ◌<◌, ◌==◌, List, [], ◌∷◌, ◌++◌, replicate}
+use Rattle.std.specs.Prelude.{Bool, true, false, slice_index_or}
 use Rattle.std.specs.List.{list_all}
 use Rattle.cell_styles.specs.declared.style_runs.StyleRun.{StyleRun}
 

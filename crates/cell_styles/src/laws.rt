@@ -1,6 +1,8 @@
 ghost use Rattle.std.specs.Prelude.{◌≡◌, ℕ, ◌^◌, ◌<◌, List, length};
 ghost use Rattle.cell_styles.specs.Color.{argb_of, color_of_argb};
-ghost use Rattle.cell_styles.specs.Default.{IsOnly, default_color, default_border, default_borders, default_font, default_alignment, default_fill, default_protection, default_style};
+ghost use Rattle.cell_styles.specs.Default.{IsOnly, default_color, default_border, default_borders};
+ghost use Rattle.cell_styles.specs.Default.{default_font, default_alignment, default_fill};
+ghost use Rattle.cell_styles.specs.Default.{default_protection, default_style};
 ghost use Rattle.cell_styles.specs.Equality.{IsEquality};
 ghost use Rattle.cell_styles.specs.StyleMap.{StyledCell, first_id_at, styles_of};
 ghost use Rattle.cell_styles.specs.declared.color.Color.{Color};

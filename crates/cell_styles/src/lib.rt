@@ -31,7 +31,7 @@ pub use protection::Protection;
 pub use steps::Steps;
 pub use style::Style;
 pub use style_cells::StyleRangeCells;
-pub use style_range::StyleRange;
+pub use style_range::{StyleRange, copied_palette};
 pub use styled_cells::StyledCells;
 
 #[cfg(test)]

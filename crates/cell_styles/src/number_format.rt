@@ -12,7 +12,7 @@ pub struct NumberFormat {
 
 impl Model for NumberFormat {
     ghost use Rattle.std.specs.Prelude.{string_bytes};
-    ghost use Rattle.cell_styles.specs.NumberFormat.{NumberFormatFields};
+    ghost use Rattle.cell_styles.specs.StyleFormats.{NumberFormatFields};
 
     ghost Value = { NumberFormatFields };
 

@@ -1,10 +1,12 @@
-ghost use Rattle.std.specs.Prelude.{◌≡◌, ◌+◌, ◌-◌, ◌*◌, ◌^◌, ◌<◌, ◌≤◌, ◌↔◌, None, IfOk, IsTrue, IsSome, All, nat_lt, count_by};
+ghost use Rattle.std.specs.Prelude.{◌≡◌, ◌+◌, ◌-◌, ◌*◌, ◌^◌, ◌<◌, ◌≤◌, ◌↔◌, None, IfOk, IsTrue};
+ghost use Rattle.std.specs.Prelude.{IsSome, All, nat_lt, count_by};
 ghost use Rattle.std.specs.Option.{option_map, option_map_or, option_copied};
 ghost use Rattle.cell_styles.specs.Groups.{group_count};
-ghost use Rattle.cell_styles.specs.StyleItems.{position_styles, styled_of};
-ghost use Rattle.cell_styles.specs.StyleMap.{IsOnSheet, IsInBounds, no_styles, place_in, styles_of, style_at, width_of, height_of};
+ghost use Rattle.cell_styles.specs.StyleItems.{position_styles, styled_of, RiseOnSheet};
+ghost use Rattle.cell_styles.specs.StyleMap.{IsOnSheet, IsInBounds, no_styles, place_in, styles_of};
+ghost use Rattle.cell_styles.specs.StyleMap.{style_at, width_in, height_in};
 
-use crate::filling::{bounds_of, explicit, filled, height, in_order, place_in, width};
+use crate::filling::{covering_area, explicit, filled, height, in_order, place_in, width};
 use crate::style_runs::StyleRuns;
 use crate::{Steps, Style, StyleRangeCells, StyledCells};
 use cell_refs::Dimensions;
@@ -65,7 +67,7 @@ impl StyleRange {
         ensures { IfOk result (λ range. range ≡ styles_of palette.items cells.items) }
     {
         let cells = explicit(cells, palette.len());
-        match bounds_of(&cells) {
+        match covering_area(&cells) {
             None => Ok(StyleRange::empty(alloc)),
             Some(bounds) => {
                 let cells = in_order(cells, bounds)?;
@@ -85,7 +87,7 @@ impl StyleRange {
     {
         Ok(StyleRange {
             bounds: self.bounds,
-            palette: copied(alloc, &self.palette)?,
+            palette: copied_palette(alloc, &self.palette)?,
             ids: self.ids.clone_in(alloc)?,
         })
     }
@@ -113,7 +115,7 @@ impl StyleRange {
 
     /// The number of columns of the area.
     pub fn width(&self) -> usize
-        ensures { result ≡ option_map_or width_of self.now.bounds 0 }
+        ensures { result ≡ option_map_or width_in self.now.bounds 0 }
     {
         match self.bounds {
             Some(bounds) => width(bounds),
@@ -123,7 +125,7 @@ impl StyleRange {
 
     /// The number of rows of the area.
     pub fn height(&self) -> usize
-        ensures { result ≡ option_map_or height_of self.now.bounds 0 }
+        ensures { result ≡ option_map_or height_in self.now.bounds 0 }
     {
         match self.bounds {
             Some(bounds) => height(bounds),
@@ -175,7 +177,8 @@ impl StyleRange {
 
     /// The positions of the area that have an id above 0, with that id, row by row.
     pub fn styled(&self) -> StyledCells<'_>
-        ensures { result ≡ styled_of self.now }
+        ensures cells { result ≡ styled_of self.now }
+        ensures order { RiseOnSheet result }
     {
         match self.bounds {
             Some(area) => StyledCells::new(area, self.ids.as_slice()),
@@ -196,7 +199,8 @@ impl StyleRange {
     }
 }
 
-fn copied(alloc: Global, palette: &[Style]) -> Result<Vec<Style>, AllocError>
+/// A copy of these styles in memory of its own.
+pub fn copied_palette(alloc: Global, palette: &[Style]) -> Result<Vec<Style>, AllocError>
     ensures { IfOk result (λ copy. copy.items ≡ palette.now) }
 {
     let mut copy = Vec::new(alloc);

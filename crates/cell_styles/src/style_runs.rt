@@ -1,6 +1,8 @@
-ghost use Rattle.std.specs.Prelude.{◌≡◌, ◌++◌, ◌+◌, ◌-◌, ◌*◌, ◌^◌, ◌<◌, ◌≤◌, [], ◌↔◌, IsTrue, IfOk, OnOk, OnErr, length, replicate, slice_index};
+ghost use Rattle.std.specs.Prelude.{◌≡◌, ◌++◌, ◌+◌, ◌-◌, ◌*◌, ◌^◌, ◌<◌, ◌≤◌, [], ◌↔◌, IsTrue, IfOk};
+ghost use Rattle.std.specs.Prelude.{OnOk, OnErr, length, replicate, slice_index};
 ghost use Rattle.cell_styles.specs.Groups.{group_count};
-ghost use Rattle.cell_styles.specs.StyleRuns.{end_along, last_is, numbers_along, IsCanonical, PassesOne};
+ghost use Rattle.cell_styles.specs.StyleRuns.{end_along, last_is, numbers_along, IsCanonical};
+ghost use Rattle.cell_styles.specs.StyleRuns.{PassesOne};
 
 use crate::Steps;
 use std::alloc::{AllocError, Global};

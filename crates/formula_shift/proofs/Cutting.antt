@@ -9,7 +9,7 @@ use Rattle.std.proofs.lemmas.List.Sums.{prefix_len-le-length}
 use Rattle.std.proofs.lemmas.List.{take-append-drop}
 use Rattle.std.proofs.lemmas.Str.{IsCharBoundary-after_ascii}
 use Rattle.formula_shift.specs.Pieces.{PieceKind, string_kind, quoted_kind, group_kind, word_kind}
-use Rattle.formula_shift.specs.Pieces.{other_kind, kind_of, string_length, quoted_length}
+use Rattle.formula_shift.specs.Pieces.{other_kind, piece_kind, string_length, quoted_length}
 use Rattle.formula_shift.specs.Pieces.{group_length, is_word_byte, is_other_byte, length_behind}
 use Rattle.formula_shift.specs.Pieces.{first_piece, pieces_behind, pieces, joined_pieces}
 
@@ -111,7 +111,7 @@ other_ends a bs = run_ends is_other_byte not_other_below a bs where
   run_ends p below a [] = inl (omega arith)
   run_ends p below a (b ∷ bs) = grind (arith, run_ends p below b bs, below b)
 
-word_kind_below : (b : ℕ) → word_kind ≡ kind_of b → b < 128
+word_kind_below : (b : ℕ) → word_kind ≡ piece_kind b → b < 128
 word_kind_below b is =
     is_word_byte_below b (by_tests (eqb b 34) (eqb b 39) (eqb b 91) (is_word_byte b) is) where
       by_tests : (quote apostrophe bracket in_word : Bool) →
@@ -126,7 +126,7 @@ word_kind_below b is =
       by_tests false false false false e = cc
 
 -- the first piece ends between characters
-pub ends_beside_ascii : (a : ℕ) (bs : List ℕ) (kind : PieceKind) → kind ≡ kind_of a →
+pub ends_beside_ascii : (a : ℕ) (bs : List ℕ) (kind : PieceKind) → kind ≡ piece_kind a →
     EndsBesideAscii a bs (length_behind kind bs)
 ends_beside_ascii a bs string_kind is = string_ends a bs
 ends_beside_ascii a bs quoted_kind is = quoted_ends a bs
@@ -147,10 +147,10 @@ unfolding pieces pieces_behind
 pieces-nil = refl
 
 pub pieces-cons : (b : ℕ) (bs : List ℕ) →
-    pieces (b ∷ bs) ≡ first_piece b bs ∷ pieces (drop (length_behind (kind_of b) bs) bs)
+    pieces (b ∷ bs) ≡ first_piece b bs ∷ pieces (drop (length_behind (piece_kind b) bs) bs)
 unfolding pieces pieces_behind
 pieces-cons b bs = ap (λ ps. first_piece b bs ∷ ps)
-    (pieces_behind-drop (length_behind (kind_of b) bs) bs)
+    (pieces_behind-drop (length_behind (piece_kind b) bs) bs)
 
 -- the pieces joined are the text
 pub joined_pieces-pieces_behind : (n : ℕ) (bs : List ℕ) →
@@ -159,7 +159,7 @@ unfolding pieces_behind
 joined_pieces-pieces_behind zero [] = refl
 joined_pieces-pieces_behind (suc n) [] = refl
 joined_pieces-pieces_behind zero (b ∷ bs) =
-    let n = length_behind (kind_of b) bs in
+    let n = length_behind (piece_kind b) bs in
     ap (λ rest. b ∷ (take n bs ++ rest)) (joined_pieces-pieces_behind n bs)
     ∙ ap (λ rest. b ∷ rest) (take-append-drop n bs)
 joined_pieces-pieces_behind (suc n) (b ∷ bs) = joined_pieces-pieces_behind n bs
@@ -173,7 +173,7 @@ length-pieces_behind : (n : ℕ) (bs : List ℕ) → length (pieces_behind n bs)
 unfolding pieces_behind
 length-pieces_behind n [] = omega arith
 length-pieces_behind zero (b ∷ bs) =
-    omega (arith, length-pieces_behind (length_behind (kind_of b) bs) bs)
+    omega (arith, length-pieces_behind (length_behind (piece_kind b) bs) bs)
 length-pieces_behind (suc n) (b ∷ bs) = omega (arith, length-pieces_behind n bs)
 
 pub length-pieces : (text : List ℕ) → length (pieces text) ≤ length text
@@ -182,11 +182,11 @@ length-pieces text = length-pieces_behind 0 text
 
 -- a text may be cut behind its first piece
 pub boundary_behind_piece : (b : ℕ) (bs : List ℕ) → IsUtf8 (b ∷ bs) →
-    IsCharBoundary (b ∷ bs) (length_behind (kind_of b) bs + 1)
+    IsCharBoundary (b ∷ bs) (length_behind (piece_kind b) bs + 1)
 boundary_behind_piece b bs utf8 =
-    let n = length_behind (kind_of b) bs in
-    let le = length_behind-le (kind_of b) bs in
-    elim (ends_beside_ascii b bs (kind_of b) refl) [
+    let n = length_behind (piece_kind b) bs in
+    let le = length_behind-le (piece_kind b) bs in
+    elim (ends_beside_ascii b bs (piece_kind b) refl) [
       | inl all ↦ (omega (arith, le), λ lt _. absurd (omega (arith, all)))
       | inr beside ↦ elim beside [
         | inl last ↦ IsCharBoundary-after_ascii (b ∷ bs) n utf8 (omega (arith, le)) last
@@ -201,7 +201,7 @@ boundary_behind_piece b bs utf8 =
 -- what a call of `next` finds: the text is the byte b and the bytes bs, of which n belong to the
 -- first piece
 module _ (text : List ℕ) (b : ℕ) (bs : List ℕ) (n : ℕ) (starts : text ≡ b ∷ bs)
-    (counted : n ≡ length_behind (kind_of b) bs) where
+    (counted : n ≡ length_behind (piece_kind b) bs) where
   pub next_boundary : IsUtf8 text → IsCharBoundary text (n + 1)
   next_boundary utf8 =
       subst (λ t. IsCharBoundary t (n + 1)) (sym starts)
@@ -209,19 +209,19 @@ module _ (text : List ℕ) (b : ℕ) (bs : List ℕ) (n : ℕ) (starts : text �
       (boundary_behind_piece b bs (subst IsUtf8 starts utf8)))
 
   pub next_le : n + 1 ≤ length text
-  next_le = omega (arith, length_behind-le (kind_of b) bs, counted, ap length starts)
+  next_le = omega (arith, length_behind-le (piece_kind b) bs, counted, ap length starts)
 
   pub next_pieces : (front after : List ℕ) → front ≡ take (n + 1) text → after ≡ drop (n + 1) text →
-      pieces text ≡ record { kind = kind_of b; bytes = front } ∷ pieces after
+      pieces text ≡ record { kind = piece_kind b; bytes = front } ∷ pieces after
   next_pieces front after front_is after_is =
       let front_now : front ≡ b ∷ take n bs = front_is ∙ ap (take (n + 1)) starts
       ∙ ap (λ k. take k (b ∷ bs)) (add-one n) in
       let after_now : after ≡ drop n bs = after_is ∙ ap (drop (n + 1)) starts
       ∙ ap (λ k. drop k (b ∷ bs)) (add-one n) in
       let ends : pieces (b ∷ bs)
-      ≡ record { kind = kind_of b; bytes = b ∷ take n bs } ∷ pieces (drop n bs) =
+      ≡ record { kind = piece_kind b; bytes = b ∷ take n bs } ∷ pieces (drop n bs) =
       subst (λ k. pieces (b ∷ bs)
-      ≡ record { kind = kind_of b; bytes = b ∷ take k bs } ∷ pieces (drop k bs)) (sym counted)
+      ≡ record { kind = piece_kind b; bytes = b ∷ take k bs } ∷ pieces (drop k bs)) (sym counted)
       (pieces-cons b bs) in
       ap pieces starts ∙ ends
-      ∙ (λ i. record { kind = kind_of b; bytes = sym front_now i } ∷ pieces (sym after_now i))
+      ∙ (λ i. record { kind = piece_kind b; bytes = sym front_now i } ∷ pieces (sym after_now i))

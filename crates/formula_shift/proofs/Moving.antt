@@ -6,7 +6,8 @@ use Rattle.std.specs.Prelude.{IfSome, ℤ, unwrap_or, option_map, option_and_the
 use Rattle.std.specs.List.{prefix_len, list_all}
 use Rattle.formula_shift.specs.declared.reference.Reference.{Reference}
 use Rattle.formula_shift.specs.Pieces.{PieceKind, string_kind, quoted_kind, group_kind, word_kind}
-use Rattle.formula_shift.specs.Pieces.{other_kind, PieceText, kind_of, is_word_byte, length_behind}
+use Rattle.formula_shift.specs.Pieces.{other_kind, PieceText, piece_kind, is_word_byte}
+use Rattle.formula_shift.specs.Pieces.{length_behind}
 use Rattle.formula_shift.specs.Pieces.{pieces, joined_pieces}
 use Rattle.formula_shift.specs.References.{IsInWorksheet, word_reference, displaced}
 use Rattle.formula_shift.specs.Relocation.{is_word, is_name_before, first_byte, piece_reference}
@@ -72,8 +73,8 @@ run_stops p [] [] ends = refl
 run_stops p [] (c ∷ r) ends = grind arith
 run_stops p (b ∷ bs) rest ends = grind (arith, run_stops p bs rest)
 
-word_kind_of : (c : ℕ) → is_word_byte c ≡ true → kind_of c ≡ word_kind
-word_kind_of c word = word_kind_is (kind_of c) (word_is c ∙ word)
+word_piece_kind : (c : ℕ) → is_word_byte c ≡ true → piece_kind c ≡ word_kind
+word_piece_kind c word = word_kind_is (piece_kind c) (word_is c ∙ word)
 
 -- the first byte of a Word is one of a Word's
 pub first_in_word : (w : ℕ) (ws : List ℕ) → list_all is_word_byte (w ∷ ws) ≡ true →
@@ -119,7 +120,7 @@ module _ (p q : PieceText) (rest rest' : List ℕ) (is_from : IsMovedFrom p q)
           first = w;
           behind = ws;
           bytes_are = are;
-          kind_is = kind ∙ sym (word_kind_of w (first_in_word w ws all));
+          kind_is = kind ∙ sym (word_piece_kind w (first_in_word w ws all));
           ends = ap (λ k. length_behind k (ws ++ rest')) kind
               ∙ run_is is_word_byte ws rest' (rest_in_word w ws all) stops;
         }
@@ -139,7 +140,7 @@ module _ (p q : PieceText) (rest rest' : List ℕ) (is_from : IsMovedFrom p q)
         by_bytes : (bs : List ℕ) → 0 < length bs → list_all is_word_byte bs ≡ true →
             first_kind (bs ++ rest') ≡ Some word_kind
         by_bytes [] nonempty all = absurd (omega arith)
-        by_bytes (w ∷ ws) nonempty all = ap Some (word_kind_of w (first_in_word w ws all))
+        by_bytes (w ∷ ws) nonempty all = ap Some (word_piece_kind w (first_in_word w ws all))
 
 are_cut-moved : (offset : ℤ × ℤ) (ps : List PieceText) → AreCut ps →
     AreCut (moved_pieces offset ps)

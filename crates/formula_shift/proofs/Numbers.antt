@@ -17,7 +17,7 @@ use Rattle.std.proofs.lemmas.List.Sums.{prefix_len_passes}
 use Rattle.cell_refs.specs.A1.{letter_value, letters_value, column_name}
 use Rattle.cell_refs.specs.declared.TheConstants.{MAX_ROWS, MAX_COLUMNS}
 use Rattle.cell_refs.proofs.Names.{letters_value_push, column_name_one, column_name_more}
-use Rattle.formula_shift.specs.References.{place_numbered, column_named, row_named}
+use Rattle.formula_shift.specs.References.{place_numbered, column_of_letters, row_of_digits}
 
 place_numbered_past : (limit number : ℕ) → limit < number → place_numbered limit number ≡ None
 place_numbered_past limit zero past = absurd (omega arith)
@@ -53,7 +53,7 @@ letters_front letters i =
     (omega arith))
 
 pub column_named_past : (letters : List ℕ) (i : ℕ) → MAX_COLUMNS < letters_value (take i letters) →
-    column_named letters ≡ None
+    column_of_letters letters ≡ None
 column_named_past letters i past =
     place_numbered_past MAX_COLUMNS (letters_value letters) (omega (arith, letters_front letters i))
 
@@ -71,7 +71,7 @@ digits_front digits i =
     omega (arith, digits_value_is 10 (take i digits), digits_value_is 10 digits, front)
 
 pub row_named_past : (digits : List ℕ) (i : ℕ) → MAX_ROWS < digits_value 10 (take i digits) →
-    row_named digits ≡ None
+    row_of_digits digits ≡ None
 row_named_past digits i past =
     by_test (list_all is_ascii_digit digits) (place_numbered MAX_ROWS (digits_value 10 digits))
     (place_numbered_past MAX_ROWS (digits_value 10 digits) (omega (arith, digits_front digits i)))
@@ -81,7 +81,7 @@ row_named_past digits i past =
     by_test false o e = refl
 
 pub row_named_other : (digits : List ℕ) (i : ℕ) → i < length digits →
-    is_ascii_digit (get_or digits i 0) ≡ false → row_named digits ≡ None
+    is_ascii_digit (get_or digits i 0) ≡ false → row_of_digits digits ≡ None
 row_named_other digits i lt other = rw (list_all_at is_ascii_digit digits i 0 lt other) refl
 
 -- the bytes that a text begins with as long as they pass all pass

@@ -14,7 +14,8 @@ use Rattle.cell_refs.proofs.PositionParts.{WritesRow, WritesColumn, corner-ok, c
 use Rattle.cell_refs.proofs.ReadBack.{corner_from_parts}
 use Rattle.formula_shift.specs.declared.corner.Corner.{Corner}
 use Rattle.formula_shift.specs.declared.corner.Corner.TheVariants.{Cell, Row, Column}
-use Rattle.formula_shift.specs.References.{place_numbered, column_named, row_named, has_dollar}
+use Rattle.formula_shift.specs.References.{place_numbered, column_of_letters, row_of_digits}
+use Rattle.formula_shift.specs.References.{has_dollar}
 use Rattle.formula_shift.specs.References.{behind_dollar, cell_corner, corner_by, corner_of}
 use Rattle.formula_shift.proofs.Composing.{cell_parts, mapped_part}
 use Rattle.formula_shift.proofs.ReadBack.{place_numbered_next}
@@ -24,12 +25,14 @@ place_numbered-some : (limit number place : ℕ) → place_numbered limit number
 place_numbered-some limit zero place is = absurd cc
 place_numbered-some limit (suc n) place is = (grind (arith, nat_tests), grind (arith, nat_tests))
 
-row_named-written : (digits : List ℕ) (row : ℕ) → WritesRow digits row → row_named digits ≡ Some row
-row_named-written digits row in_row =
+row_of_digits-written : (digits : List ℕ) (row : ℕ) → WritesRow digits row
+    → row_of_digits digits ≡ Some row
+row_of_digits-written digits row in_row =
     rw (in_row.are_digits, in_row.value) (place_numbered_next 1048576 row in_row.inside)
 
-row_named-some : (digits : List ℕ) (row : ℕ) → row_named digits ≡ Some row → WritesRow digits row
-row_named-some digits row is = by_test (list_all is_ascii_digit digits) refl is where
+row_of_digits-some : (digits : List ℕ) (row : ℕ) → row_of_digits digits ≡ Some row
+    → WritesRow digits row
+row_of_digits-some digits row is = by_test (list_all is_ascii_digit digits) refl is where
   by_test : (t : Bool) → list_all is_ascii_digit digits ≡ t →
       cond t (place_numbered 1048576 (digits_value 10 digits)) None ≡ Some row →
       WritesRow digits row
@@ -38,14 +41,14 @@ row_named-some digits row is = by_test (list_all is_ascii_digit digits) refl is 
       record { are_digits = all; value = place.0; inside = place.1 }
   by_test false all is = absurd cc
 
-column_named-written : (letters : List ℕ) (column : ℕ) → WritesColumn letters column →
-    column_named letters ≡ Some column
-column_named-written letters column in_column =
+column_of_letters-written : (letters : List ℕ) (column : ℕ) → WritesColumn letters column →
+    column_of_letters letters ≡ Some column
+column_of_letters-written letters column in_column =
     rw in_column.value (place_numbered_next 16384 column in_column.inside)
 
-column_named-some : (letters : List ℕ) (column : ℕ) → column_named letters ≡ Some column →
+column_of_letters-some : (letters : List ℕ) (column : ℕ) → column_of_letters letters ≡ Some column →
     WritesColumn letters column
-column_named-some letters column is =
+column_of_letters-some letters column is =
     let place = place_numbered-some 16384 (letters_value letters) column is in
     record { value = place.0; inside = place.1 }
 
@@ -81,8 +84,8 @@ corner_by-written [] digits row column in_row in_column = absurd (omega (arith, 
 corner_by-written (c ∷ cs) [] row column in_row in_column = absurd (omega (arith, in_row.value))
 corner_by-written (c ∷ cs) (b ∷ bs) row column in_row in_column =
     rw (no_dollar-digit b bs in_row.are_digits)
-    (ap₂ (cell_corner false false) (row_named-written (b ∷ bs) row in_row)
-    (column_named-written (c ∷ cs) column in_column))
+    (ap₂ (cell_corner false false) (row_of_digits-written (b ∷ bs) row in_row)
+    (column_of_letters-written (c ∷ cs) column in_column))
 
 -- a text that is read as a position is that cell
 corner_of-position : (text : List ℕ) (row column : ℕ) → corner text ≡ Ok (row, column) →
@@ -99,24 +102,27 @@ corner_by-some : (absolute : Bool) (letters behind : List ℕ) (row column : ℕ
     corner_by absolute letters behind ≡ Some (Cell row column false false) →
     (absolute ≡ false) × WritesRow behind row × WritesColumn letters column
 corner_by-some absolute [] behind row column is =
-    let part = mapped_part (λ r. Row r absolute) (row_named behind)
+    let part = mapped_part (λ r. Row r absolute) (row_of_digits behind)
     (Cell row column false false) is in
     absurd (let e = part.2 in cc)
 corner_by-some absolute (c ∷ cs) [] row column is =
-    let part = mapped_part (λ r. Column r absolute) (column_named (c ∷ cs))
+    let part = mapped_part (λ r. Column r absolute) (column_of_letters (c ∷ cs))
     (Cell row column false false) is in
     absurd (let e = part.2 in cc)
 corner_by-some absolute (c ∷ cs) (b ∷ bs) row column is =
-    let parts = cell_parts (b == 36) absolute (row_named (behind_dollar (b ∷ bs)))
-    (column_named (c ∷ cs))
+    let parts = cell_parts (b == 36) absolute (row_of_digits (behind_dollar (b ∷ bs)))
+    (column_of_letters (c ∷ cs))
     (Cell row column false false) is in
     let same = parts.4 in
     let none : (b == 36) ≡ false = cc in
     let relative : absolute ≡ false = cc in
-    let in_row : row_named (b ∷ bs) ≡ Some row =
-    ap row_named (sym (behind_dollar-none (b ∷ bs) none)) ∙ parts.2 ∙ (let e = same in cc) in
-    let in_column : column_named (c ∷ cs) ≡ Some column = let e = parts.3 in cc in
-    (relative, row_named-some (b ∷ bs) row in_row, column_named-some (c ∷ cs) column in_column)
+    let in_row : row_of_digits (b ∷ bs) ≡ Some row =
+    ap row_of_digits (sym (behind_dollar-none (b ∷ bs) none)) ∙ parts.2 ∙ (let e = same in cc) in
+    let in_column : column_of_letters (c ∷ cs) ≡ Some column = let e = parts.3 in cc in (
+      relative,
+      row_of_digits-some (b ∷ bs) row in_row,
+      column_of_letters-some (c ∷ cs) column in_column,
+    )
 
 position-corner_of : (text : List ℕ) (row column : ℕ) →
     corner_of text ≡ Some (Cell row column false false) → corner text ≡ Ok (row, column)

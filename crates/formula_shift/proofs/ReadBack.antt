@@ -19,7 +19,8 @@ use Rattle.cell_refs.proofs.Names.{letters_value-column_name, All-capital-column
 use Rattle.formula_shift.specs.declared.corner.Corner.{Corner}
 use Rattle.formula_shift.specs.declared.corner.Corner.TheVariants.{Cell, Row, Column}
 use Rattle.formula_shift.specs.declared.reference.Reference.{Reference}
-use Rattle.formula_shift.specs.References.{place_numbered, column_named, row_named, has_dollar}
+use Rattle.formula_shift.specs.References.{place_numbered, column_of_letters, row_of_digits}
+use Rattle.formula_shift.specs.References.{has_dollar}
 use Rattle.formula_shift.specs.References.{behind_dollar, cell_corner, corner_by, corner_of, alone}
 use Rattle.formula_shift.specs.References.{same_kind, range_of, reference_by, word_reference}
 use Rattle.formula_shift.specs.References.{IsCornerInside, IsInWorksheet, dollar, corner_spelling}
@@ -34,7 +35,7 @@ place_numbered_next limit n below = ap (place_numbered limit) (add-one n) ∙ by
   by_test : place_numbered limit (suc n) ≡ Some n
   by_test = grind (arith, nat_tests)
 
-row_read : (row : ℕ) → row < MAX_ROWS → row_named (decimal (row + 1)) ≡ Some row
+row_read : (row : ℕ) → row < MAX_ROWS → row_of_digits (decimal (row + 1)) ≡ Some row
 row_read row below =
     let digits = digits-decimal (row + 1) (omega arith) in
     let value : digits_value 10 (decimal (row + 1)) ≡ row + 1 =
@@ -42,7 +43,7 @@ row_read row below =
     (λ i. cond (digits i) (place_numbered MAX_ROWS (value i)) None)
     ∙ place_numbered_next MAX_ROWS row below
 
-column_read : (col : ℕ) → col < MAX_COLUMNS → column_named (column_name col) ≡ Some col
+column_read : (col : ℕ) → col < MAX_COLUMNS → column_of_letters (column_name col) ≡ Some col
 column_read col below = ap (place_numbered MAX_COLUMNS) (letters_value-column_name col)
     ∙ place_numbered_next MAX_COLUMNS col below
 
@@ -103,7 +104,8 @@ dollar_begins false bs none = none
 
 -- the three forms of a corner
 row_form : (absolute : Bool) (digits : List ℕ) (row : ℕ) → list_all is_ascii_digit digits ≡ true →
-    row_named digits ≡ Some row → corner_of (dollar absolute ++ digits) ≡ Some (Row row absolute)
+    row_of_digits digits ≡ Some row
+    → corner_of (dollar absolute ++ digits) ≡ Some (Row row absolute)
 unfolding corner_of
 row_form absolute digits row all is =
     let begin = begins_digit digits all in
@@ -114,7 +116,7 @@ row_form absolute digits row all is =
     ∙ ap (option_map (λ row. Row row absolute)) is
 
 column_form : (absolute : Bool) (letters : List ℕ) (col : ℕ) → 0 < length letters →
-    All IsCapital letters → column_named letters ≡ Some col →
+    All IsCapital letters → column_of_letters letters ≡ Some col →
     corner_of (dollar absolute ++ letters) ≡ Some (Column col absolute)
 unfolding corner_of
 column_form absolute letters col some capitals is =
@@ -125,15 +127,15 @@ column_form absolute letters col some capitals is =
     ∙ (λ i. corner_by absolute (letters_of (sym whole i)) (behind_letters (sym whole i)))
     ∙ (λ i. corner_by absolute (split.0 i) (split.1 i))
     ∙ by_letters letters some is where
-      by_letters : (letters : List ℕ) → 0 < length letters → column_named letters ≡ Some col →
+      by_letters : (letters : List ℕ) → 0 < length letters → column_of_letters letters ≡ Some col →
           corner_by absolute letters [] ≡ Some (Column col absolute)
       by_letters [] some is = absurd (omega arith)
       by_letters (c ∷ cs) some is = ap (option_map (λ col. Column col absolute)) is
 
 cell_form : (absolute_row absolute_col : Bool) (letters digits : List ℕ) (row col : ℕ) →
     0 < length letters → All IsCapital letters → 0 < length digits →
-    list_all is_ascii_digit digits ≡ true → row_named digits ≡ Some row →
-    column_named letters ≡ Some col →
+    list_all is_ascii_digit digits ≡ true → row_of_digits digits ≡ Some row →
+    column_of_letters letters ≡ Some col →
     corner_of ((dollar absolute_col ++ letters) ++ (dollar absolute_row ++ digits))
     ≡ Some (Cell row col absolute_row absolute_col)
 unfolding corner_of
@@ -153,7 +155,8 @@ cell_form absolute_row absolute_col letters digits row col some capitals some' a
     ∙ (λ i. corner_by (read.0 i) (letters_of (read.1 i)) (behind_letters (read.1 i)))
     ∙ (λ i. corner_by absolute_col (split.0 i) (split.1 i))
     ∙ by_parts letters behind some (longer absolute_row digits some')
-    ∙ (λ i. cell_corner (read'.0 i) absolute_col (row_named (read'.1 i)) (column_named letters))
+    ∙ (λ i. cell_corner (read'.0 i) absolute_col (row_of_digits (read'.1 i))
+    (column_of_letters letters))
     ∙ (λ i. cell_corner absolute_row absolute_col (row_is i) (col_is i)) where
       no_dollar : (letters behind : List ℕ) → 0 < length letters → has_dollar letters ≡ false →
           has_dollar (letters ++ behind) ≡ false
@@ -166,8 +169,8 @@ cell_form absolute_row absolute_col letters digits row col some capitals some' a
 
       by_parts : (letters behind : List ℕ) → 0 < length letters → 0 < length behind →
           corner_by absolute_col letters behind
-          ≡ cell_corner (has_dollar behind) absolute_col (row_named (behind_dollar behind))
-          (column_named letters)
+          ≡ cell_corner (has_dollar behind) absolute_col (row_of_digits (behind_dollar behind))
+          (column_of_letters letters)
       by_parts [] behind some more = absurd (omega arith)
       by_parts (c ∷ cs) [] some more = absurd (omega arith)
       by_parts (c ∷ cs) (b ∷ bs) some more = refl

@@ -7,7 +7,8 @@ use Rattle.std.proofs.lemmas.Bool.Decides.{nat_tests}
 use Rattle.std.proofs.lemmas.List.{take-append-drop, length-take-le, take_at, drop_at}
 use Rattle.std.specs.List.{prefix_len}
 use Rattle.formula_shift.specs.Pieces.{PieceKind, string_kind, quoted_kind, group_kind, word_kind}
-use Rattle.formula_shift.specs.Pieces.{other_kind, PieceText, kind_of, string_length, quoted_length}
+use Rattle.formula_shift.specs.Pieces.{other_kind, PieceText, piece_kind, string_length}
+use Rattle.formula_shift.specs.Pieces.{quoted_length}
 use Rattle.formula_shift.specs.Pieces.{group_length, is_word_byte, is_other_byte, length_behind}
 use Rattle.formula_shift.specs.Pieces.{pieces_behind, pieces, joined_pieces}
 use Rattle.formula_shift.specs.Relocation.{is_word}
@@ -25,14 +26,14 @@ is_other _ = false
 -- a fact of a byte and its kind, from the three bytes that begin a kind alone and from all others
 kind_by : (P : ℕ → PieceKind → Type 0) → P 34 string_kind → P 39 quoted_kind → P 91 group_kind →
     ((c : ℕ) → eqb c 34 ≡ false → eqb c 39 ≡ false → eqb c 91 ≡ false →
-    P c (cond (is_word_byte c) word_kind other_kind)) → (c : ℕ) → P c (kind_of c)
+    P c (cond (is_word_byte c) word_kind other_kind)) → (c : ℕ) → P c (piece_kind c)
 kind_by P quote apostrophe bracket others c =
     elim (cases_eq c 34) [
-      | inl e ↦ subst (λ c. P c (kind_of c)) (sym e) quote
+      | inl e ↦ subst (λ c. P c (piece_kind c)) (sym e) quote
       | inr not_quote ↦ elim (cases_eq c 39) [
-        | inl e ↦ subst (λ c. P c (kind_of c)) (sym e) apostrophe
+        | inl e ↦ subst (λ c. P c (piece_kind c)) (sym e) apostrophe
         | inr not_apostrophe ↦ elim (cases_eq c 91) [
-          | inl e ↦ subst (λ c. P c (kind_of c)) (sym e) bracket
+          | inl e ↦ subst (λ c. P c (piece_kind c)) (sym e) bracket
           | inr not_bracket ↦
               let a : eqb c 34 ≡ false = grind (arith, nat_tests) in
               let b : eqb c 39 ≡ false = grind (arith, nat_tests) in
@@ -42,7 +43,7 @@ kind_by P quote apostrophe bracket others c =
       ]
     ]
 
-quoted_is : (c : ℕ) → is_quoted (kind_of c) ≡ eqb c 39
+quoted_is : (c : ℕ) → is_quoted (piece_kind c) ≡ eqb c 39
 quoted_is c = kind_by (λ c k. is_quoted k ≡ eqb c 39) refl refl refl
     (λ c a b d. by_word c (is_word_byte c) b) c where
       by_word : (c : ℕ) (w : Bool) → eqb c 39 ≡ false →
@@ -50,14 +51,14 @@ quoted_is c = kind_by (λ c k. is_quoted k ≡ eqb c 39) refl refl refl
       by_word c true e = sym e
       by_word c false e = sym e
 
-pub word_is : (c : ℕ) → is_word (kind_of c) ≡ is_word_byte c
+pub word_is : (c : ℕ) → is_word (piece_kind c) ≡ is_word_byte c
 word_is c = kind_by (λ c k. is_word k ≡ is_word_byte c) refl refl refl
     (λ c a b d. by_word (is_word_byte c)) c where
       by_word : (w : Bool) → is_word (cond w word_kind other_kind) ≡ w
       by_word true = refl
       by_word false = refl
 
-other_is : (c : ℕ) → is_other (kind_of c) ≡ is_other_byte c
+other_is : (c : ℕ) → is_other (piece_kind c) ≡ is_other_byte c
 other_is c = kind_by (λ c k. is_other k ≡ is_other_byte c) refl refl refl
     (λ c a b d. by_word (is_word_byte c) (eqb c 34) (eqb c 39) (eqb c 91) a b d) c where
       by_word : (w a b d : Bool) → a ≡ false → b ≡ false → d ≡ false →
@@ -68,7 +69,7 @@ other_is c = kind_by (λ c k. is_other k ≡ is_other_byte c) refl refl refl
 -- the kind of the piece that a text begins with
 abbrev pub first_kind : List ℕ → Option PieceKind
 first_kind [] = None
-first_kind (b ∷ bs) = Some (kind_of b)
+first_kind (b ∷ bs) = Some (piece_kind b)
 
 quoted_positive : (c : ℕ) (r : List ℕ) → 0 < quoted_length (c ∷ r)
 unfolding quoted_length
@@ -102,7 +103,7 @@ quoted_keeps (b ∷ []) [] [] alike ends = refl
 quoted_keeps (b ∷ []) [] (c' ∷ r') alike ends = cc
 quoted_keeps (b ∷ []) (c ∷ r) [] alike ends = cc
 quoted_keeps (b ∷ []) (c ∷ r) (c' ∷ r') alike ends =
-    let same : kind_of c ≡ kind_of c' = cc in
+    let same : piece_kind c ≡ piece_kind c' = cc in
     let apostrophes : eqb c 39 ≡ eqb c' 39 = sym (quoted_is c) ∙ ap is_quoted same ∙ quoted_is c' in
     grind (arith, quoted_positive c r)
 quoted_keeps (b ∷ c ∷ bs) rest rest' alike ends =
@@ -157,12 +158,13 @@ run_keeps p [] (c ∷ r) [] alike ends = grind arith
 run_keeps p [] (c ∷ r) (c' ∷ r') alike ends = grind arith
 run_keeps p (b ∷ bs) rest rest' alike ends = grind (arith, run_keeps p bs rest rest' alike)
 
-pub begins_alike : (p : ℕ → Bool) (q : PieceKind → Bool) → ((c : ℕ) → q (kind_of c) ≡ p c) →
+pub begins_alike : (p : ℕ → Bool) (q : PieceKind → Bool) → ((c : ℕ) → q (piece_kind c) ≡ p c) →
     (rest rest' : List ℕ) → first_kind rest ≡ first_kind rest' → begins p rest ≡ begins p rest'
 begins_alike p q is [] [] alike = refl
 begins_alike p q is [] (c' ∷ r') alike = cc
 begins_alike p q is (c ∷ r) [] alike = cc
-begins_alike p q is (c ∷ r) (c' ∷ r') alike = let same : kind_of c ≡ kind_of c' = cc in sym (is c)
+begins_alike p q is (c ∷ r) (c' ∷ r') alike =
+    let same : piece_kind c ≡ piece_kind c' = cc in sym (is c)
     ∙ ap q same ∙ is c'
 
 pub length_behind_keeps : (kind : PieceKind) (bs rest rest' : List ℕ) →
@@ -183,7 +185,7 @@ pub record StandsBefore (p : PieceText) (rest : List ℕ) : Type 0 where
   pub first : ℕ
   pub behind : List ℕ
   pub bytes_are : p.bytes ≡ first ∷ behind
-  pub kind_is : p.kind ≡ kind_of first
+  pub kind_is : p.kind ≡ piece_kind first
   pub ends : length_behind p.kind (behind ++ rest) ≡ length behind
 
 -- each piece stands before those behind it
@@ -196,16 +198,16 @@ unfolding pieces_behind
 are_cut_behind n [] = tt
 are_cut_behind (suc n) (b ∷ bs) = are_cut_behind n bs
 are_cut_behind zero (b ∷ bs) =
-    let m = length_behind (kind_of b) bs in (
+    let m = length_behind (piece_kind b) bs in (
       record {
         first = b;
         behind = take m bs;
         bytes_are = refl;
         kind_is = refl;
-        ends = ap (λ rest. length_behind (kind_of b) (take m bs ++ rest))
+        ends = ap (λ rest. length_behind (piece_kind b) (take m bs ++ rest))
             (joined_pieces-pieces_behind m bs)
-            ∙ ap (length_behind (kind_of b)) (take-append-drop m bs)
-            ∙ sym (length-take-le m bs (length_behind-le (kind_of b) bs));
+            ∙ ap (length_behind (piece_kind b)) (take-append-drop m bs)
+            ∙ sym (length-take-le m bs (length_behind-le (piece_kind b) bs));
       },
       are_cut_behind m bs,
     )
@@ -220,20 +222,20 @@ first_of_joined : (p : PieceText) (rest : List ℕ) → StandsBefore p rest →
 first_of_joined p rest stands =
     let b = stands.first in
     let bs = stands.behind in
-    let counted : length_behind (kind_of b) (bs ++ rest) ≡ length bs =
+    let counted : length_behind (piece_kind b) (bs ++ rest) ≡ length bs =
     ap (λ k. length_behind k (bs ++ rest)) (sym stands.kind_is) ∙ stands.ends in
     let cut : pieces (b ∷ (bs ++ rest))
-    ≡ record { kind = kind_of b; bytes = b ∷ take (length bs) (bs ++ rest) } ∷ pieces
+    ≡ record { kind = piece_kind b; bytes = b ∷ take (length bs) (bs ++ rest) } ∷ pieces
     (drop (length bs) (bs ++ rest)) =
     subst (λ k. pieces (b ∷ (bs ++ rest))
-    ≡ record { kind = kind_of b; bytes = b ∷ take k (bs ++ rest) } ∷ pieces
+    ≡ record { kind = piece_kind b; bytes = b ∷ take k (bs ++ rest) } ∷ pieces
     (drop k (bs ++ rest))) counted (pieces-cons b (bs ++ rest)) in
     let front : take (length bs) (bs ++ rest) ≡ bs = take_at bs rest (length bs) refl in
     let after : drop (length bs) (bs ++ rest) ≡ rest = drop_at bs rest (length bs) refl in
-    let whole : record { kind = kind_of b; bytes = b ∷ bs } ≡ p =
+    let whole : record { kind = piece_kind b; bytes = b ∷ bs } ≡ p =
     λ i. record { kind = sym stands.kind_is i; bytes = sym stands.bytes_are i } in
     ap (λ t. pieces (t ++ rest)) stands.bytes_are ∙ cut
-    ∙ (λ i. record { kind = kind_of b; bytes = b ∷ front i } ∷ pieces (after i))
+    ∙ (λ i. record { kind = piece_kind b; bytes = b ∷ front i } ∷ pieces (after i))
     ∙ ap (λ q. q ∷ pieces rest) whole
 
 pub pieces-joined_pieces : (ps : List PieceText) → AreCut ps → pieces (joined_pieces ps) ≡ ps

@@ -21,7 +21,8 @@ use Rattle.formula_shift.specs.declared.reference.Reference.{Reference}
 use Rattle.formula_shift.specs.Pieces.{is_word_byte}
 use Rattle.formula_shift.proofs.Numbers.{length-column_name_one, length-column_name_two}
 use Rattle.formula_shift.proofs.Numbers.{length-column_name_three}
-use Rattle.formula_shift.specs.References.{place_numbered, column_named, row_named, has_dollar}
+use Rattle.formula_shift.specs.References.{place_numbered, column_of_letters, row_of_digits}
+use Rattle.formula_shift.specs.References.{has_dollar}
 use Rattle.formula_shift.specs.References.{behind_dollar, cell_corner, corner_by, corner_of, alone}
 use Rattle.formula_shift.specs.References.{same_kind, range_of, reference_by, word_reference}
 use Rattle.formula_shift.specs.References.{IsCornerInside, IsInWorksheet, place_within}
@@ -43,8 +44,8 @@ displaced_place_below : (limit : ℕ) (offset : ℤ) (absolute : Bool) (place : 
 displaced_place_below limit offset true place below = below
 displaced_place_below limit offset false place below = place_within_below limit _
 
-row_named_below : (digits : List ℕ) → IfSome (row_named digits) (λ n. n < MAX_ROWS)
-row_named_below digits =
+row_of_digits_below : (digits : List ℕ) → IfSome (row_of_digits digits) (λ n. n < MAX_ROWS)
+row_of_digits_below digits =
     by_test (list_all is_ascii_digit digits) (place_numbered MAX_ROWS (digits_value 10 digits))
     (place_numbered_below MAX_ROWS (digits_value 10 digits)) where
       by_test : (b : Bool) (o : Option ℕ) → IfSome o (λ n. n < MAX_ROWS) →
@@ -68,14 +69,14 @@ mapped_inside f limit inside (Some n) below = inside n below
 corner_by_inside : (absolute : Bool) (letters behind : List ℕ) →
     IfSome (corner_by absolute letters behind) IsCornerInside
 corner_by_inside absolute [] behind =
-    mapped_inside (λ row. Row row absolute) MAX_ROWS (λ n h. h) (row_named behind)
-    (row_named_below behind)
+    mapped_inside (λ row. Row row absolute) MAX_ROWS (λ n h. h) (row_of_digits behind)
+    (row_of_digits_below behind)
 corner_by_inside absolute (c ∷ cs) [] =
-    mapped_inside (λ col. Column col absolute) MAX_COLUMNS (λ n h. h) (column_named (c ∷ cs))
+    mapped_inside (λ col. Column col absolute) MAX_COLUMNS (λ n h. h) (column_of_letters (c ∷ cs))
     (place_numbered_below MAX_COLUMNS (letters_value (c ∷ cs)))
 corner_by_inside absolute (c ∷ cs) (b ∷ bs) =
-    cell_inside (has_dollar (b ∷ bs)) absolute (row_named (behind_dollar (b ∷ bs)))
-    (column_named (c ∷ cs)) (row_named_below (behind_dollar (b ∷ bs)))
+    cell_inside (has_dollar (b ∷ bs)) absolute (row_of_digits (behind_dollar (b ∷ bs)))
+    (column_of_letters (c ∷ cs)) (row_of_digits_below (behind_dollar (b ∷ bs)))
     (place_numbered_below MAX_COLUMNS (letters_value (c ∷ cs)))
 
 pub corner_of_inside : (text : List ℕ) → IfSome (corner_of text) IsCornerInside

@@ -2,7 +2,8 @@ ghost use Rattle.std.specs.Prelude.{◌≡◌, ◌+◌, ◌<◌, ◌≤◌, ◌+
 ghost use Rattle.std.specs.Prelude.{string_bytes, string_len, string_capacity};
 ghost use Rattle.std.specs.List.{AllPass, prefix_len};
 ghost use Rattle.std.specs.Char.{is_ascii_alphabetic};
-ghost use Rattle.formula_shift.specs.References.{corner_of, corner_by, column_named, row_named};
+ghost use Rattle.formula_shift.specs.References.{corner_of, corner_by, column_of_letters};
+ghost use Rattle.formula_shift.specs.References.{row_of_digits};
 ghost use Rattle.formula_shift.specs.References.{has_dollar, behind_dollar, same_kind};
 ghost use Rattle.formula_shift.specs.References.{displaced_place, displaced_corner};
 ghost use Rattle.formula_shift.specs.References.{corner_spelling, IsCornerInside};
@@ -160,15 +161,15 @@ fn corner_by(absolute: bool, letters: &[u8], behind: &[u8]) -> Option<Corner>
     ensures { result ≡ corner_by absolute letters.now behind.now }
 {
     if letters.is_empty() {
-        let row = row_named(behind)?;
+        let row = row_of_digits(behind)?;
         return Some(Corner::Row { row, absolute });
     }
-    let col = column_named(letters)?;
+    let col = column_of_letters(letters)?;
     if behind.is_empty() {
         return Some(Corner::Column { col, absolute });
     }
     let (absolute_row, digits) = cut_dollar(behind);
-    let row = row_named(digits)?;
+    let row = row_of_digits(digits)?;
     Some(Corner::Cell {
         row,
         col,
@@ -204,9 +205,9 @@ fn letter_count(text: &[u8]) -> usize
 }
 
 // The column that letters name, if any.
-fn column_named(letters: &[u8]) -> Option<u32>
+fn column_of_letters(letters: &[u8]) -> Option<u32>
     requires { AllPass is_ascii_alphabetic letters.now }
-    ensures { result ≡ column_named letters.now }
+    ensures { result ≡ column_of_letters letters.now }
 {
     let mut number = 0;
     for b in letters {
@@ -219,8 +220,8 @@ fn column_named(letters: &[u8]) -> Option<u32>
 }
 
 // The row that digits name, if any. Other bytes name none.
-fn row_named(digits: &[u8]) -> Option<u32>
-    ensures { result ≡ row_named digits.now }
+fn row_of_digits(digits: &[u8]) -> Option<u32>
+    ensures { result ≡ row_of_digits digits.now }
 {
     let mut number = 0;
     for b in digits {

@@ -1,6 +1,6 @@
 ghost use Rattle.std.specs.Prelude.{◌≡◌, ◌↔◌, ℕ, false, Some, Ok, IfSome, pos, suc, ◌+◌, [], ◌∷◌};
 ghost use Rattle.std.specs.Prelude.{◌++◌, List, ℤ, length, drop, encode_utf8};
-ghost use Rattle.formula_shift.specs.Pieces.{kind_of, group_length, length_behind, first_piece};
+ghost use Rattle.formula_shift.specs.Pieces.{piece_kind, group_length, length_behind, first_piece};
 ghost use Rattle.formula_shift.specs.Pieces.{pieces, joined_pieces};
 ghost use Rattle.cell_refs.specs.A1.{column_name, corner};
 ghost use Rattle.cell_refs.specs.Reference.{reference, row_reference};
@@ -15,7 +15,7 @@ use crate::Corner;
 pub fn pieces_by_the_first()
     ensures none { pieces [] ≡ [] }
     ensures some { (b : ℕ) (bs : List ℕ) →
-        pieces (b ∷ bs) ≡ first_piece b bs ∷ pieces (drop (length_behind (kind_of b) bs) bs) }
+        pieces (b ∷ bs) ≡ first_piece b bs ∷ pieces (drop (length_behind (piece_kind b) bs) bs) }
 {}
 
 /// The pieces of a text joined are the text.

@@ -1,6 +1,6 @@
 ghost use Rattle.std.specs.Prelude.{◌≡◌, ◌≤◌, length};
 ghost use Rattle.std.specs.List.{prefix_len};
-ghost use Rattle.formula_shift.specs.Pieces.{piece_text, kind_of, string_length, quoted_length};
+ghost use Rattle.formula_shift.specs.Pieces.{piece_text, piece_kind, string_length, quoted_length};
 ghost use Rattle.formula_shift.specs.Pieces.{group_length, length_behind, is_word_byte};
 ghost use Rattle.formula_shift.specs.Pieces.{is_other_byte, joined_pieces, pieces};
 
@@ -82,7 +82,7 @@ impl<'a> Iterator for Pieces<'a> {
 
 // The piece of this text, whose first byte is given.
 fn piece_of<'a>(first: u8, text: &'a str) -> Piece<'a>
-    ensures { piece_text result ≡ record { kind = kind_of first; bytes = text.now } }
+    ensures { piece_text result ≡ record { kind = piece_kind first; bytes = text.now } }
 {
     match first {
         b'"' => Piece::String(text),
@@ -95,7 +95,7 @@ fn piece_of<'a>(first: u8, text: &'a str) -> Piece<'a>
 
 // How many of the bytes behind a piece's first byte belong to it.
 fn length_behind(first: u8, behind: &[u8]) -> usize
-    ensures { result ≡ length_behind (kind_of first) behind.now }
+    ensures { result ≡ length_behind (piece_kind first) behind.now }
 {
     match first {
         b'"' => string_length(behind),

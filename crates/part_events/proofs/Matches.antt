@@ -1,5 +1,6 @@
 -- Reading forward finds the match of a start.
-use Rattle.std.proofs.Common.{◌≡◌, ◌≢◌, ℕ, zero, suc, ◌+◌, List, [], ◌∷◌, ◌++◌, reverse, true, false, refl, ◌∙◌, ap, arith}
+use Rattle.std.proofs.Common.{◌≡◌, ◌≢◌, ℕ, zero, suc, ◌+◌, List, [], ◌∷◌, ◌++◌, reverse, true}
+use Rattle.std.proofs.Common.{false, refl, ◌∙◌, ap, arith}
 use Rattle.part_events.specs.Event.{Tag, Event, start, end, leaf}
 use Rattle.part_events.specs.Nesting.{starts_in, ends_in, IsWhole}
 use Rattle.part_events.specs.NestingLaws.{IsMatch, ClosesAtMatch}

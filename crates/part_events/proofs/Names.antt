@@ -1,5 +1,6 @@
 -- Comparing names byte by byte.
-use Rattle.std.proofs.Common.{◌≡◌, ℕ, ◌<◌, ◌+◌, List, ◌∷◌, length, drop, get_or, ◌∙◌, ap, Bool, ◌&&◌, eq-eqb}
+use Rattle.std.proofs.Common.{◌≡◌, ℕ, ◌<◌, ◌+◌, List, ◌∷◌, length, drop, get_or, ◌∙◌, ap, Bool}
+use Rattle.std.proofs.Common.{◌&&◌, eq-eqb}
 use Rattle.std.proofs.lemmas.List.{drop_more}
 use Rattle.std.specs.Str.{bytes_eq}
 use Rattle.part_events.specs.Package.{folded_byte, folded}

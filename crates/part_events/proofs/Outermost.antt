@@ -1,11 +1,13 @@
 -- Outermost elements and children, by their starts.
-use Rattle.std.proofs.Common.{◌≡◌, ℕ, zero, suc, ◌+◌, List, [], ◌∷◌, map, Bool, true, false, refl, sym, ◌∙◌, ap, arith}
+use Rattle.std.proofs.Common.{◌≡◌, ℕ, zero, suc, ◌+◌, List, [], ◌∷◌, map, Bool, true, false, refl}
+use Rattle.std.proofs.Common.{sym, ◌∙◌, ap, arith}
 use Rattle.std.specs.Prelude.{if◌then◌else◌, ◌==◌}
 use Rattle.std.proofs.lemmas.Bool.Decides.{nat_tests}
 use Rattle.part_events.specs.Event.{Tag, Event, start, end, leaf, is_start}
 use Rattle.part_events.specs.Nesting.{starts_in, ends_in, depth}
 use Rattle.part_events.specs.NestingLaws.{starts_at}
-use Rattle.part_events.specs.Section.{Element, element_of, content, behind, outermost, outermost_from, is_any, children}
+use Rattle.part_events.specs.Section.{Element, element_of, content, behind, outermost}
+use Rattle.part_events.specs.Section.{outermost_from, is_any, children}
 
 left_behind : (wanted : Tag → Bool) (inner : ℕ) (events : List Event)
     → outermost_from wanted (suc inner) events ≡ outermost_from wanted 0 (behind inner events)

@@ -1,7 +1,9 @@
 -- Contents and elements: how those of a section and of an element in it go together.
-use Rattle.std.proofs.Common.{◌≡◌, ℕ, zero, suc, ◌+◌, ◌<◌, List, [], ◌∷◌, ◌++◌, length, Bool, true, false, refl, ap, arith}
+use Rattle.std.proofs.Common.{◌≡◌, ℕ, zero, suc, ◌+◌, ◌<◌, List, [], ◌∷◌, ◌++◌, length, Bool, true}
+use Rattle.std.proofs.Common.{false, refl, ap, arith}
 use Rattle.part_events.specs.Event.{Tag, Event, start, end, leaf}
-use Rattle.part_events.specs.Section.{content, is_closed, behind, starts_by, outermost_from, unclosed_from}
+use Rattle.part_events.specs.Section.{content, is_closed, behind, starts_by, outermost_from}
+use Rattle.part_events.specs.Section.{unclosed_from}
 
 -- an element is closed before the one that it lies in
 pub content-content : (inner within : ℕ) (events : List Event) → inner < within

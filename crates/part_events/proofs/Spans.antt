@@ -1,8 +1,10 @@
 -- What lies in a text stays where it is while texts are put behind it.
-use Rattle.std.proofs.Common.{◌≡◌, ℕ, ◌<◌, ◌≤◌, ◌-◌, List, [], ◌∷◌, ◌++◌, length, take, drop, map, refl, sym, ◌∙◌, ap, arith, append_assoc, inl, inr}
+use Rattle.std.proofs.Common.{◌≡◌, ℕ, ◌<◌, ◌≤◌, ◌-◌, List, [], ◌∷◌, ◌++◌, length, take, drop, map}
+use Rattle.std.proofs.Common.{refl, sym, ◌∙◌, ap, arith, append_assoc, inl, inr}
 use Rattle.std.proofs.lemmas.Bool.{cases_lt}
 use Rattle.std.specs.Prelude.{Result, Ok, Err, OnErr}
-use Rattle.std.proofs.lemmas.List.{append-nil, length-append, drop_at, take_all, map_push, get_or_append_left, take-append-le, drop-append-le, length-drop}
+use Rattle.std.proofs.lemmas.List.{append-nil, length-append, drop_at, take_all, map_push}
+use Rattle.std.proofs.lemmas.List.{get_or_append_left, take-append-le, drop-append-le, length-drop}
 use Rattle.std.proofs.lemmas.List.Elements.{All-weaker, All-push, recursion_from_All}
 use Rattle.std.proofs.lemmas.Str.{IsUtf8-append, IsUtf8-nil, IsCharBoundary-at_seam}
 use Rattle.std.specs.List.{All, AllByRecursion}
@@ -11,7 +13,8 @@ use Rattle.part_events.specs.Event.{Event, end, leaf, text, char_data, entity_re
 use Rattle.part_events.specs.Stored.{within, stored_event, IsSpan, LiesWithin, Extends}
 use Rattle.part_events.specs.declared.stored.Span.{Span}
 use Rattle.part_events.specs.declared.stored.StoredEvent.{StoredEvent}
-use Rattle.part_events.specs.declared.stored.StoredEvent.TheVariants.{Start, End, Text, CharData, EntityRef, Other}
+use Rattle.part_events.specs.declared.stored.StoredEvent.TheVariants.{Start, End, Text, CharData}
+use Rattle.part_events.specs.declared.stored.StoredEvent.TheVariants.{EntityRef, Other}
 
 pub Extends-refl : (bytes : List ℕ) → Extends bytes bytes
 Extends-refl bytes = record { more = []; is_text = IsUtf8-nil; joined = sym (append-nil bytes) }

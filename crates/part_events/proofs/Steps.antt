@@ -1,5 +1,6 @@
 -- A reader's step to the next event.
-use Rattle.std.proofs.Common.{◌≡◌, ℕ, ◌+◌, ◌<◌, append-nil, List, [], ◌∷◌, ◌++◌, length, reverse, Bool, true, false, refl, sym, ◌∙◌, ap, arith}
+use Rattle.std.proofs.Common.{◌≡◌, ℕ, ◌+◌, ◌<◌, append-nil, List, [], ◌∷◌, ◌++◌, length, reverse}
+use Rattle.std.proofs.Common.{Bool, true, false, refl, sym, ◌∙◌, ap, arith}
 use Rattle.std.specs.Prelude.{slice_get, Option, if◌then◌else◌}
 use Rattle.std.specs.Option.{option_map_or}
 use Rattle.std.specs.Str.{bytes_eq}
@@ -8,7 +9,8 @@ use Rattle.part_events.specs.Event.{Tag, Event, start, end}
 use Rattle.part_events.specs.Nesting.{closes, whole_rest}
 use Rattle.part_events.specs.OpenNames.{is_innermost}
 use Rattle.part_events.specs.Package.{SameParts, Advances, AdvanceCounts}
-use Rattle.part_events.specs.Reading.{Reading, IsReading, IsTracked, StaysReadable, BreaksNext, EndsOpen, ahead, events_of}
+use Rattle.part_events.specs.Reading.{Reading, IsReading, IsTracked, StaysReadable, BreaksNext}
+use Rattle.part_events.specs.Reading.{EndsOpen, ahead, events_of}
 use Rattle.part_events.proofs.Nested.{reverse_on, broken, names_at_start, whole_split}
 
 -- an event was taken of the same part

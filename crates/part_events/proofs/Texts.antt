@@ -1,11 +1,14 @@
 -- How the text of an element is read, event by event.
-use Rattle.std.proofs.Common.{◌≡◌, ℕ, suc, ◌+◌, ◌-◌, List, [], ◌∷◌, ◌++◌, length, reverse, Bool, true, false, refl, sym, ◌∙◌, ap, arith, append_assoc, append-nil, Option, Some, None}
+use Rattle.std.proofs.Common.{◌≡◌, ℕ, suc, ◌+◌, ◌-◌, List, [], ◌∷◌, ◌++◌, length, reverse, Bool}
+use Rattle.std.proofs.Common.{true, false, refl, sym, ◌∙◌, ap, arith, append_assoc, append-nil}
+use Rattle.std.proofs.Common.{Option, Some, None}
 use Rattle.std.specs.Prelude.{if◌then◌else◌, slice_get, IsSomeAnd}
 use Rattle.std.proofs.lemmas.List.{length-append, length-reverse}
 use Rattle.attr_text.specs.declared.fault.TextFault.{TextFault}
 use Rattle.attr_text.specs.declared.fault.TextFault.TheVariants as text_fault
 use Rattle.part_events.specs.Event.{Event, start, end, leaf}
-use Rattle.part_events.specs.JoinedText.{EventFails, text_error, event_text, joined_text, is_unknown, unknown_entity, TextFails, IsUnknownAt}
+use Rattle.part_events.specs.JoinedText.{EventFails, text_error, event_text, joined_text}
+use Rattle.part_events.specs.JoinedText.{is_unknown, unknown_entity, TextFails, IsUnknownAt}
 use Rattle.part_events.specs.Reading.{Reading, IsTracked, ahead, events_of}
 use Rattle.part_events.specs.Section.{content, is_closed, behind}
 use Rattle.part_events.specs.Walk.{inside, TakesInside}

@@ -1,10 +1,14 @@
 -- A walk's way over the events of a section.
-use Rattle.std.proofs.Common.{◌≡◌, ℕ, suc, ◌-◌, ◌<◌, ◌≤◌, List, [], ◌∷◌, length, Bool, true, false, Option, Some, refl, sym, ◌∙◌, ap, arith}
+use Rattle.std.proofs.Common.{◌≡◌, ℕ, suc, ◌-◌, ◌<◌, ◌≤◌, List, [], ◌∷◌, length, Bool, true, false}
+use Rattle.std.proofs.Common.{Option, Some, refl, sym, ◌∙◌, ap, arith}
 use Rattle.std.specs.Prelude.{if◌then◌else◌}
 use Rattle.part_events.specs.Event.{Tag, Event, start, end, leaf, is_start}
-use Rattle.part_events.specs.Reading.{Reading, TakesEvent, StepsAhead, names_behind, IsEnclosed, ahead}
-use Rattle.part_events.specs.Section.{Element, element_of, content, is_closed, behind, outermost_from, unclosed_from}
-use Rattle.part_events.specs.Walk.{inside, element_at, section_ahead, section_end, TakesInside, SameAhead, IsNextElement}
+use Rattle.part_events.specs.Reading.{Reading, TakesEvent, StepsAhead, names_behind, IsEnclosed}
+use Rattle.part_events.specs.Reading.{ahead}
+use Rattle.part_events.specs.Section.{Element, element_of, content, is_closed, behind}
+use Rattle.part_events.specs.Section.{outermost_from, unclosed_from}
+use Rattle.part_events.specs.Walk.{inside, element_at, section_ahead, section_end, TakesInside}
+use Rattle.part_events.specs.Walk.{SameAhead, IsNextElement}
 use Rattle.part_events.proofs.Sections.{content-content, is_closed-content, goes_on_behind}
 
 -- how many elements are open before and behind an event

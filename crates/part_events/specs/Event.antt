@@ -2,7 +2,8 @@
 use Rattle.std.specs.Prelude.{ℕ, List, Bool, true, false}
 use Rattle.part_events.specs.declared.event.StartTag.{StartTag}
 use Rattle.part_events.specs.declared.event.PartEvent.{PartEvent}
-use Rattle.part_events.specs.declared.event.PartEvent.TheVariants.{Start, End, Text, CharData, EntityRef, Other}
+use Rattle.part_events.specs.declared.event.PartEvent.TheVariants.{Start, End, Text, CharData}
+use Rattle.part_events.specs.declared.event.PartEvent.TheVariants.{EntityRef, Other}
 
 -- a start: its whole name, and the text of its attributes as written
 pub record Tag : Type 0 where

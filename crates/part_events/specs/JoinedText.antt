@@ -1,6 +1,8 @@
 -- The text of an element: that of its Text events and references, with character data where it is
 -- asked for.
-use Rattle.std.specs.Prelude.{◌≡◌, ⊤, ℕ, suc, ◌+◌, List, [], ◌∷◌, ◌++◌, length, Bool, true, false, if◌then◌else◌, Option, None, Some, is_none, encode_utf8, slice_get, IsSomeAnd}
+use Rattle.std.specs.Prelude.{◌≡◌, ⊤, ℕ, suc, ◌+◌, List, [], ◌∷◌, ◌++◌, length, Bool, true, false}
+use Rattle.std.specs.Prelude.{if◌then◌else◌, Option, None, Some, is_none, encode_utf8, slice_get}
+use Rattle.std.specs.Prelude.{IsSomeAnd}
 use Rattle.attr_text.specs.Text.{entity_character, line_ends}
 use Rattle.attr_text.specs.declared.fault.TextFault.{TextFault}
 use Rattle.attr_text.specs.declared.fault.TextFault.TheVariants as text_fault

@@ -1,6 +1,6 @@
 pub mod Event
 pub mod Failing
-pub mod Fault
+pub mod StreamFaults
 pub mod JoinedText
 pub mod Memory
 pub mod NestingLaws

@@ -1,5 +1,6 @@
 -- A package in memory: what its fields say, and what adding to it makes of its parts.
-use Rattle.std.specs.Prelude.{◌≡◌, ℕ, ◌-◌, ◌<◌, ◌≤◌, List, [], ◌∷◌, ◌++◌, length, take, drop, reverse, slice_index_or, Bool, true, false, Option, Some, None}
+use Rattle.std.specs.Prelude.{◌≡◌, ℕ, ◌-◌, ◌<◌, ◌≤◌, List, [], ◌∷◌, ◌++◌, length, take, drop}
+use Rattle.std.specs.Prelude.{reverse, slice_index_or, Bool, true, false, Option, Some, None}
 use Rattle.part_events.specs.Event.{Event, leaf, other}
 use Rattle.part_events.specs.Package.{Part, PackageState}
 use Rattle.part_events.specs.declared.memory.Place.{Place}

@@ -1,8 +1,10 @@
 -- What the definitions by looking back and by reading forward say of depths and matches.
-use Rattle.std.specs.Prelude.{◌≡◌, ◌≢◌, ℕ, ◌+◌, List, [], ◌∷◌, ◌++◌, map, reverse, Bool, true, false, ◌⊎◌, ◌==◌, if◌then◌else◌, Some}
+use Rattle.std.specs.Prelude.{◌≡◌, ◌≢◌, ℕ, ◌+◌, List, [], ◌∷◌, ◌++◌, map, reverse, Bool, true}
+use Rattle.std.specs.Prelude.{false, ◌⊎◌, ◌==◌, if◌then◌else◌, Some}
 use Rattle.part_events.specs.Event.{Tag, Event, start, end, leaf, is_start}
 use Rattle.part_events.specs.Nesting.{OpenStart, depth, innermost_open, closes, IsWhole, whole}
-use Rattle.part_events.specs.Section.{Element, element_of, content, is_closed, behind, outermost, children}
+use Rattle.part_events.specs.Section.{Element, element_of, content, is_closed, behind, outermost}
+use Rattle.part_events.specs.Section.{children}
 
 -- the last start whose depth is one less than that of the place
 pub record IsLastStartOneOut (past : List Event) (opening : OpenStart) : Type 0 where

@@ -1,5 +1,7 @@
 -- A package of parts, as its reader sees it.
-use Rattle.std.specs.Prelude.{◌≡◌, ℕ, ◌+◌, ◌-◌, ◌≤◌, ◌^◌, min, List, [], ◌∷◌, length, map, Bool, true, false, ◌==◌, if◌then◌else◌, Option, Some, None, Result, MatchResult}
+use Rattle.std.specs.Prelude.{◌≡◌, ℕ, ◌+◌, ◌-◌, ◌≤◌, ◌^◌, min, List, [], ◌∷◌, length, map, Bool}
+use Rattle.std.specs.Prelude.{true, false, ◌==◌, if◌then◌else◌, Option, Some, None, Result}
+use Rattle.std.specs.Prelude.{MatchResult}
 use Rattle.std.specs.Option.{option_map_or}
 use Rattle.std.specs.Char.{to_ascii_lowercase}
 use Rattle.std.specs.Str.{bytes_eq}
@@ -97,8 +99,8 @@ pub record AdvanceCounts (more : Bool) (old new : PackageState) : Type 0 where
   pub faults : new.faults ≡ old.faults
 
 -- how many events the first part of a name has
-abbrev pub events_in : List Part → List ℕ → ℕ
-events_in parts name = option_map_or length (part_of parts name) 0
+abbrev pub event_count : List Part → List ℕ → ℕ
+event_count parts name = option_map_or length (part_of parts name) 0
 
 -- a call on a package that isn't refused, in which at most `most` events are taken
 pub record UsesPackage (most : ℕ) (old new : PackageState) : Type 0 where

@@ -10,9 +10,9 @@ abbrev pub reading_by : {P : Type 0} → (P → PackageState) → XlReader P Cur
 reading_by state reader = reading (state reader.package.now) reader.cursor
 
 -- the reference by which it holds its package
-abbrev pub reference_of : {P : Type 0} → XlReader P Cursor → GName
-reference_of reader = reader.package.ghost_name
+abbrev pub held_package : {P : Type 0} → XlReader P Cursor → GName
+held_package reader = reader.package.ghost_name
 
 -- a call keeps the reader's hold on its package
 abbrev pub SamePackage : {P : Type 0} → XlReader P Cursor → XlReader P Cursor → Type 0
-SamePackage old new = reference_of new ≡ reference_of old
+SamePackage old new = held_package new ≡ held_package old

@@ -4,7 +4,8 @@ use Rattle.std.specs.Str.{IsCharBoundary, IsUtf8}
 use Rattle.part_events.specs.Event.{Event, start, end, leaf, text, char_data, entity_ref, other}
 use Rattle.part_events.specs.declared.stored.Span.{Span}
 use Rattle.part_events.specs.declared.stored.StoredEvent.{StoredEvent}
-use Rattle.part_events.specs.declared.stored.StoredEvent.TheVariants.{Start, End, Text, CharData, EntityRef, Other}
+use Rattle.part_events.specs.declared.stored.StoredEvent.TheVariants.{Start, End, Text, CharData}
+use Rattle.part_events.specs.declared.stored.StoredEvent.TheVariants.{EntityRef, Other}
 
 -- the bytes of the text from the span's start to its end
 abbrev pub within : List ℕ → Span → List ℕ

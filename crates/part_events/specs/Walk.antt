@@ -1,10 +1,13 @@
 -- How a walk over a section goes: from its start, whose element is number `base` of the open ones,
 -- to its end.
-use Rattle.std.specs.Prelude.{◌≡◌, ⊤, ℕ, suc, ◌+◌, ◌-◌, ◌<◌, ◌≤◌, List, [], ◌∷◌, length, map, Bool, true, false, if◌then◌else◌, Some, None, slice_get}
+use Rattle.std.specs.Prelude.{◌≡◌, ⊤, ℕ, suc, ◌+◌, ◌-◌, ◌<◌, ◌≤◌, List, [], ◌∷◌, length, map, Bool}
+use Rattle.std.specs.Prelude.{true, false, if◌then◌else◌, Some, None, slice_get}
 use Rattle.part_events.specs.Event.{Tag, Event, start, IsStartAnd}
 use Rattle.part_events.specs.Package.{HasCause}
-use Rattle.part_events.specs.Reading.{Reading, IsAtElement, TakesEvent, StaysAtEnd, StepsAhead, IsAtEnd, BreaksAt, BreaksNext, ahead, events_of}
-use Rattle.part_events.specs.Section.{Element, content, is_closed, behind, starts_by, behind_start, outermost, unclosed, is_any, is_named}
+use Rattle.part_events.specs.Reading.{Reading, IsAtElement, TakesEvent, StaysAtEnd, StepsAhead}
+use Rattle.part_events.specs.Reading.{IsAtEnd, BreaksAt, BreaksNext, ahead, events_of}
+use Rattle.part_events.specs.Section.{Element, content, is_closed, behind, starts_by, behind_start}
+use Rattle.part_events.specs.Section.{outermost, unclosed, is_any, is_named}
 use Rattle.part_events.specs.declared.fault.StreamError.{StreamError}
 use Rattle.part_events.specs.declared.fault.StreamError.TheVariants.{Io, Xml, OutOfMemory}
 use Rattle.part_events.specs.declared.fault.XmlFault.TheVariants.{EndMismatch, Unclosed, Entity}

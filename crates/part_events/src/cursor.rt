@@ -1,7 +1,10 @@
-ghost use Rattle.std.specs.Prelude.{◌≡◌, ◌+◌, ◌<◌, ◌^◌, ℕ, [], length, true, false, is_err, IfOk, OnOk, IfErr};
+ghost use Rattle.std.specs.Prelude.{◌≡◌, ◌+◌, ◌<◌, ◌^◌, ℕ, [], length, true, false, is_err, IfOk};
+ghost use Rattle.std.specs.Prelude.{OnOk, IfErr};
 ghost use Rattle.part_events.specs.declared.fault.StreamError.TheVariants.{Io, Xml};
 ghost use Rattle.part_events.specs.declared.fault.XmlFault.TheVariants.{Unclosed};
-ghost use Rattle.part_events.specs.Reading.{reading, events_taken, open_elements, has_failed, allocator_in, IsReading, IsAtStart, Reads, Steps, StepsAhead, NextFails};
+ghost use Rattle.part_events.specs.Reading.{reading, events_taken, open_elements, has_failed};
+ghost use Rattle.part_events.specs.Reading.{allocator_in, IsReading, IsAtStart, Reads, Steps};
+ghost use Rattle.part_events.specs.Reading.{StepsAhead, NextFails};
 
 use crate::event::PartEvent;
 use crate::fault::{StreamError, XmlFault};

@@ -2,7 +2,8 @@ ghost use Rattle.std.specs.Prelude.{◌≡◌, ◌≤◌, [], length, true, OnOk
 ghost use Rattle.part_events.specs.Event.{event_of};
 ghost use Rattle.part_events.specs.Failing.{Planned, planned_state, CountsCall};
 ghost use Rattle.part_events.specs.Memory.{closed};
-ghost use Rattle.part_events.specs.Package.{SameParts, Fails, Opens, OpenCounts, Advances, AdvanceCounts};
+ghost use Rattle.part_events.specs.Package.{SameParts, Fails, Opens, OpenCounts, Advances};
+ghost use Rattle.part_events.specs.Package.{AdvanceCounts};
 
 use crate::event::PartEvent;
 use crate::memory::MemoryPackage;

@@ -31,7 +31,7 @@ pub enum StreamError {
 }
 
 impl fmt::Display for StreamError {
-    ghost use Rattle.part_events.specs.Fault.{stream_text};
+    ghost use Rattle.part_events.specs.StreamFaults.{stream_text};
 
     ghost output = { stream_text };
 

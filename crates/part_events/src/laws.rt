@@ -2,7 +2,9 @@
 
 ghost use Rattle.std.specs.Prelude.{List};
 ghost use Rattle.part_events.specs.Event.{Event};
-ghost use Rattle.part_events.specs.NestingLaws.{InnermostOpenIsByDepth, ContentIsByMatch, OutermostInOrder, ChildrenAreAtDepthOne, WholeIsLongest};
+ghost use Rattle.part_events.specs.NestingLaws.{InnermostOpenIsByDepth, ContentIsByMatch};
+ghost use Rattle.part_events.specs.NestingLaws.{OutermostInOrder, ChildrenAreAtDepthOne};
+ghost use Rattle.part_events.specs.NestingLaws.{WholeIsLongest};
 
 /// Looking back finds the last start whose depth is one less than that of the place, and no other.
 pub fn innermost_open_is_by_depth()

@@ -1,6 +1,7 @@
 ghost use Rattle.std.specs.Prelude.{◌≡◌, ◌≤◌, length, true, IfOk, OnErr};
 ghost use Rattle.part_events.specs.Event.{event_of};
-ghost use Rattle.part_events.specs.Package.{PackageState, SameParts, Fails, Opens, OpenCounts, Advances, AdvanceCounts};
+ghost use Rattle.part_events.specs.Package.{PackageState, SameParts, Fails, Opens, OpenCounts};
+ghost use Rattle.part_events.specs.Package.{Advances, AdvanceCounts};
 
 use crate::event::PartEvent;
 

@@ -1,11 +1,15 @@
-ghost use Rattle.std.specs.Prelude.{◌≡◌, ℕ, List, suc, [], ◌≤◌, length, map, true, None, Some, MatchOption, OnOk, OnErr, IfOk, IfErr, string_bytes, IfSome};
+ghost use Rattle.std.specs.Prelude.{◌≡◌, ℕ, List, suc, [], ◌≤◌, length, map, true, None, Some};
+ghost use Rattle.std.specs.Prelude.{MatchOption, OnOk, OnErr, IfOk, IfErr, string_bytes, IfSome};
 ghost use Rattle.part_events.specs.declared.fault.StreamError.TheVariants.{Io};
 ghost use Rattle.part_events.specs.Event.{event_of};
 ghost use Rattle.part_events.specs.JoinedText.{PutsFront, ReadsText, TextFails};
 ghost use Rattle.part_events.specs.Package.{part_of};
-ghost use Rattle.part_events.specs.Reading.{ahead, events_of, OpensReader, IsReading, IsAtStart, IsAtElement, Reads, Steps, StepsAhead, NextFails, Skips, SkipFails};
+ghost use Rattle.part_events.specs.Reading.{ahead, events_of, OpensReader, IsReading, IsAtStart};
+ghost use Rattle.part_events.specs.Reading.{IsAtElement, Reads, Steps, StepsAhead, NextFails};
+ghost use Rattle.part_events.specs.Reading.{Skips, SkipFails};
 ghost use Rattle.part_events.specs.Section.{content, is_named, is_any};
-ghost use Rattle.part_events.specs.Walk.{StandsInside, StepsInside, InsideFails, StandsAt, FindsStart, FindsElement, WalkFails};
+ghost use Rattle.part_events.specs.Walk.{StandsInside, StepsInside, InsideFails, StandsAt};
+ghost use Rattle.part_events.specs.Walk.{FindsStart, FindsElement, WalkFails};
 
 use crate::cursor::Cursor;
 use crate::event::PartEvent;
@@ -36,7 +40,7 @@ impl<P: Package, C: Drop> Drop for XlReader<'_, P, C> {
 }
 
 impl<'a, P: Package> XlReader<'a, P> {
-    ghost use Rattle.part_events.specs.Reader.{reading_by, reference_of, SamePackage};
+    ghost use Rattle.part_events.specs.Reader.{reading_by, held_package, SamePackage};
 
     /// Opens the part of this name. Answers None where there is none.
     ///
@@ -48,7 +52,7 @@ impl<'a, P: Package> XlReader<'a, P> {
         name: &str,
     ) -> Result<Option<XlReader<'a, P>>, StreamError>
         ensures same_reference { IfOk result (λ found. IfSome found
-            (λ reader. reference_of reader ≡ «package».entry.ghost_name)) }
+            (λ reader. held_package reader ≡ «package».entry.ghost_name)) }
         ensures opens { IfOk result (λ found. IfSome found
             (λ reader. OpensReader (P.state «package».old) (reading_by P.state reader))) }
         ensures part { let part = part_of (P.state «package».old).parts name.now in
@@ -68,7 +72,7 @@ impl<'a, P: Package> XlReader<'a, P> {
     /// A reader over the part that was just opened.
     pub fn over(alloc: Global, package: &'a mut P) -> XlReader<'a, P>
         requires { IsAtStart (P.state «package».old) }
-        ensures same_reference { reference_of result ≡ «package».entry.ghost_name }
+        ensures same_reference { held_package result ≡ «package».entry.ghost_name }
         ensures same { result.package.now ≡ «package».old }
         ensures start { (reading_by P.state result).at ≡ 0 }
         ensures depth { (reading_by P.state result).names ≡ [] }
@@ -81,7 +85,7 @@ impl<'a, P: Package> XlReader<'a, P> {
 
     /// The package that the reader holds, and its cursor, for a reader that keeps more beside it.
     pub fn into_parts(self) -> (&'a mut P, Cursor)
-        ensures same_reference { result.0.ghost_name ≡ reference_of self.entry }
+        ensures same_reference { result.0.ghost_name ≡ held_package self.entry }
         ensures same { result.0.now ≡ self.entry.package.now }
         ensures cursor { result.1 ≡ self.entry.cursor }
     {

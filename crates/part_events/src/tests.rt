@@ -81,7 +81,8 @@ fn first_text<P: Package>(
     Ok(false)
 }
 
-// How many elements of a name stand in the first section, how many children it has, and how it ended.
+// How many elements of a name stand in the first section, how many children it has, and how it
+// ended.
 fn count_elements<P: Package>(
     alloc: Global,
     package: &mut P,

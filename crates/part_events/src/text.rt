@@ -1,8 +1,11 @@
-ghost use Rattle.std.specs.Prelude.{◌≡◌, ℕ, List, ◌<◌, ◌++◌, ◌-◌, suc, length, true, false, OnOk, OnErr, IfOk, IfErr, string_bytes};
+ghost use Rattle.std.specs.Prelude.{◌≡◌, ℕ, List, ◌<◌, ◌++◌, ◌-◌, suc, length, true, false, OnOk};
+ghost use Rattle.std.specs.Prelude.{OnErr, IfOk, IfErr, string_bytes};
 ghost use Rattle.part_events.specs.declared.fault.StreamError.TheVariants.{Io};
 ghost use Rattle.part_events.specs.Event.{event_of};
-ghost use Rattle.part_events.specs.JoinedText.{text_error, event_text, is_unknown, EventFails, PutsFront, ReadsText, TextFails};
-ghost use Rattle.part_events.specs.Reading.{reading, events_taken, open_elements, IsReading, IsAtElement, Reads, ahead};
+ghost use Rattle.part_events.specs.JoinedText.{text_error, event_text, is_unknown, EventFails};
+ghost use Rattle.part_events.specs.JoinedText.{PutsFront, ReadsText, TextFails};
+ghost use Rattle.part_events.specs.Reading.{reading, events_taken, open_elements, IsReading};
+ghost use Rattle.part_events.specs.Reading.{IsAtElement, Reads, ahead};
 ghost use Rattle.part_events.specs.Section.{content};
 
 use crate::cursor::Cursor;

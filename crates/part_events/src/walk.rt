@@ -3,9 +3,11 @@ ghost use Rattle.std.specs.List.{list_any};
 ghost use Rattle.std.specs.Str.{bytes_eq};
 ghost use Rattle.part_events.specs.declared.fault.StreamError.TheVariants.{Io};
 ghost use Rattle.part_events.specs.Event.{tag_of};
-ghost use Rattle.part_events.specs.Reading.{reading, open_elements, IsReading, IsAtElement, Reads, Skips, SkipFails};
+ghost use Rattle.part_events.specs.Reading.{reading, open_elements, IsReading, IsAtElement, Reads};
+ghost use Rattle.part_events.specs.Reading.{Skips, SkipFails};
 ghost use Rattle.part_events.specs.Section.{is_named, is_any};
-ghost use Rattle.part_events.specs.Walk.{wants, StandsInside, StepsInside, InsideFails, StandsAt, FindsStart, FindsElement, WalkFails};
+ghost use Rattle.part_events.specs.Walk.{wants, StandsInside, StepsInside, InsideFails, StandsAt};
+ghost use Rattle.part_events.specs.Walk.{FindsStart, FindsElement, WalkFails};
 
 use crate::cursor::Cursor;
 use crate::event::{PartEvent, StartTag};

@@ -3,6 +3,9 @@ use Rattle.std.proofs.Common.{◌≡◌, ℕ, List, [], ◌∷◌, ◌++◌, Boo
 use Rattle.std.proofs.Common.{Result, Ok, Err, refl, sym, ◌∙◌, ap, subst, inl, inr, codes, length}
 use Rattle.std.proofs.Common.{◌⊎◌, string_bytes}
 use Rattle.std.specs.Prelude.{◌||◌}
+use Rattle.std.specs.Option.{unwrap_or}
+use Rattle.attr_text.specs.Attributes.{lookup, value_of}
+use Rattle.attr_text.proofs.LookupsByKey.{lookup-ok}
 use Rattle.part_events.specs.Event.{Tag, Event, start}
 use Rattle.part_events.specs.Reading.{Reading, ahead}
 use Rattle.part_events.specs.Section.{Element, content, unclosed, is_any}
@@ -19,23 +22,25 @@ use Rattle.xlsx_sections.specs.Refusal.{Refusal, in_element, further, events_beh
 use Rattle.xlsx_sections.proofs.ElementsRead.{IsElementPassed, own_inside}
 use Rattle.xlsx_sections.proofs.Refused.{refused_weaker, refused_by}
 use Rattle.xlsx_values.specs.CellType.{CellKind}
-use Rattle.xlsx_values.specs.Value.{Grounds, cell_value, value_in}
+use Rattle.xlsx_values.specs.Value.{Grounds, cell_value, value_in, style_number}
 use Rattle.xlsx_formulas.specs.Formula.{FormulaText, formulas_in, cell_formula, behind_formulas}
 use Rattle.xlsx_formulas.specs.Kept.{AreMasters}
 use Rattle.xlsx_formulas.specs.declared.masters.Masters.{Masters}
-use Rattle.xlsx_cells.specs.Children.{AreChildrenRefused, ReadsFormulas}
-use Rattle.xlsx_cells.specs.Counting.{IsStartRefused}
+use Rattle.xlsx_sections.proofs.SectionsRead.{same_tag}
+use Rattle.xlsx_cells.specs.Children.{AreChildrenRefused, ReadsFormulaChildren}
+use Rattle.xlsx_cells.specs.Counting.{IsStartRefused, IsRefused}
 use Rattle.xlsx_cells.specs.Ends.{reads_children, kind_of_cell, end_in_child_element}
 use Rattle.xlsx_cells.specs.Ends.{end_in_children, end_in_contents}
 use Rattle.xlsx_cells.specs.Finding.{FindsCell, IsTakenRefused, IsMisplaced, BehindRow, marks_left}
 use Rattle.xlsx_cells.specs.Marks.{Mark, row_start, row_end, cell, is_cell, marks, behind_marks}
 use Rattle.xlsx_cells.specs.Position.{row_named}
-use Rattle.xlsx_cells.specs.Stream.{IsContentRefused, IsCellRefused, CellFails, TakesCell, IsRead}
+use Rattle.xlsx_cells.specs.Stream.{IsContentRefused, IsHeadRefused, IsCellRefused, CellFails}
+use Rattle.xlsx_cells.specs.Stream.{TakesCell, IsRead}
+use Rattle.xlsx_cells.specs.StyleIds.{id_named, id_looked_up}
 use Rattle.xlsx_cells.specs.declared.cell_read.CellRead.{CellRead}
 use Rattle.xlsx_cells.specs.declared.children.Wants.{Wants}
 use Rattle.xlsx_cells.specs.declared.counters.Counters.{Counters}
-use Rattle.xlsx_cells.proofs.ChildrenRead.{same_tag}
-use Rattle.xlsx_cells.proofs.Refusing.{taken_behind}
+use Rattle.xlsx_cells.proofs.Refusing.{taken_behind, is_refused_weaker}
 
 -- the start of an element is refused, where memory may be wanting too
 pub started_refused : (base : ℕ) (first : Reading) (ending : List Event → Option (List ℕ))
@@ -54,6 +59,33 @@ started_refused base first ending own refused new error weaker is = λ told.
     let last = last_of (section_left base first) in
     refused_weaker last last (refused (section_left base first)) own error (weaker told) refl
     (is last)
+
+-- the style id of a cell whose three keys were looked up together
+pub id_among : (tag : Tag) (position style typ : Option (List ℕ))
+    → lookup (codes "r" ∷ codes "s" ∷ codes "t" ∷ []) tag.attributes
+    ≡ Ok (position ∷ style ∷ typ ∷ []) → id_named tag ≡ Ok (unwrap_or (style_number style) 0)
+id_among tag position style typ found =
+    let each = (lookup-ok (codes "r" ∷ codes "s" ∷ codes "t" ∷ []) (position ∷ style ∷ typ ∷ [])
+    tag.attributes).0 found in
+    let second : value_of (codes "s") tag.attributes ≡ Ok style = cc in
+    ap id_looked_up second
+
+-- a start whose style id alone is wanted is refused
+pub id_start_refused : (wants : Wants) (tag : Tag) (error : XlsxError) → wants.styles ≡ true
+    → IsRefused (λ refusal. id_named tag ≡ Err refusal) error
+    → IsRefused (λ refusal. (wants.styles ≡ true) × (id_named tag ≡ Err refusal)) error
+id_start_refused wants tag error wanted is =
+    is_refused_weaker (λ refusal. id_named tag ≡ Err refusal)
+    (λ refusal. (wants.styles ≡ true) × (id_named tag ≡ Err refusal)) error
+    (λ refusal own. (wanted, own)) is
+
+pub head_refused : (wants : Wants) (grounds : Grounds) (tag : Tag) (error : XlsxError)
+    → IsRefused (λ refusal. (wants.styles ≡ true) × (id_named tag ≡ Err refusal)) error
+    → IsStartRefused (IsHeadRefused wants grounds tag) error
+head_refused wants grounds tag OutOfMemory is = tt
+head_refused wants grounds tag error is =
+    is_refused_weaker (λ refusal. (wants.styles ≡ true) × (id_named tag ≡ Err refusal))
+    (IsHeadRefused wants grounds tag) error (λ refusal own. inr own) is
 
 pub some_wanted : (values formulas : Bool) → (values ≡ true) ⊎ (formulas ≡ true)
     → (values || formulas) ≡ true
@@ -102,23 +134,24 @@ contents_fail wants grounds format kind tag old new error some typed valued fail
         own.0,
         valued own.0 (inside_of (section_left (length old.names) old)) ∙ own.1,
       )
-      | inr own ↦ inr own
+      | inr own ↦ inr (inl own)
     ]) fails
 
 pub started_fail : (wants : Wants) (grounds : Grounds) (tag : Tag) (old new : Reading)
-    (error : XlsxError)
-    → IsStartRefused (λ refusal. (wants.values ≡ true)
-    × ((inside : List Event) → cell_value grounds tag inside ≡ Err refusal)) error
+    (error : XlsxError) → IsStartRefused (IsHeadRefused wants grounds tag) error
     → CellFails wants grounds tag old new error
 started_fail wants grounds tag old new error is =
     started_refused (length old.names) old (end_in_contents wants tag)
-    (λ (refusal : Refusal). (wants.values ≡ true)
-    × ((inside : List Event) → cell_value grounds tag inside ≡ Err refusal))
-    (IsContentRefused wants grounds tag) new error
-    (λ told refusal own. inl
-    (own.0, own.1 (inside_of (section_left (length old.names) old)))) is
+    (IsHeadRefused wants grounds tag) (IsContentRefused wants grounds tag) new error
+    (λ told refusal own. elim own [
+      | inl valued ↦ inl (
+        valued.0,
+        valued.1 (inside_of (section_left (length old.names) old)),
+      )
+      | inr named ↦ inr (inr named)
+    ]) is
 
-row_weaker : {P Q : Type 0} (row : Result (Option ℕ) Refusal) (refusal : Refusal) → (P → Q)
+pub row_weaker : {P Q : Type 0} (row : Result (Option ℕ) Refusal) (refusal : Refusal) → (P → Q)
     → BehindRow row refusal P → BehindRow row refusal Q
 row_weaker (Ok row) refusal weaker is = weaker is
 row_weaker (Err own) refusal weaker is = is
@@ -165,7 +198,13 @@ found_cell_refused wants grounds before position base old new counters tag refus
     let here : IsCellRefused wants grounds (behind_marks finds.passed before) element after =
     elim is [
       | inl own ↦ inr (inl (own.0, ap (in_element element) (rw (own_inside new) at own.1)))
-      | inr own ↦ inr (inr (own.0, ap (in_element element) (rw (own_inside new) at own.1)))
+      | inr others ↦ elim others [
+        | inl own ↦ inr (inr (inl (
+          own.0,
+          ap (in_element element) (rw (own_inside new) at own.1),
+        )))
+        | inr own ↦ inr (inr (inr (own.0, ap (in_element element) own.1)))
+      ]
     ] in
     subst (λ (all : List Mark). IsTakenRefused (IsCellRefused wants grounds) before all after)
     (sym marks_same)
@@ -186,7 +225,7 @@ kept_of : (formulas : Bool) (wants : Wants) (earlier : List FormulaText) (positi
     (inside : List Event) (old new : Masters) (text : List ℕ) → wants.formulas ≡ formulas
     → AreMasters earlier old
     → (wants.formulas ≡ true
-    → ReadsFormulas earlier position inside (record { masters = new; text = text }))
+    → ReadsFormulaChildren earlier position inside (record { masters = new; text = text }))
     → (wants.formulas ≡ false → new ≡ old) → KeptOf wants earlier position inside new text
 kept_of true wants earlier position inside old new text is behind reads same =
     let all = reads is in
@@ -214,16 +253,17 @@ pub taken_cell : (wants : Wants) (grounds : Grounds) (before : List Mark)
     → AreMasters earlier masters → read.pos ≡ position
     → (wants.values ≡ true → cell_value grounds finds.tag (content 0 (ahead mid))
     ≡ Ok (value_of_data_ref read.value))
-    → (wants.formulas ≡ true → ReadsFormulas earlier position (content 0 (ahead mid))
+    → (wants.formulas ≡ true → ReadsFormulaChildren earlier position (content 0 (ahead mid))
     (record { masters = after; text = string_bytes read.formula }))
     → (wants.formulas ≡ false → after ≡ masters)
+    → (wants.styles ≡ true → id_named finds.tag ≡ Ok read.style_id)
     → (first : Counters)
     → TakesCell before earlier
     (record { reading = old; base = base; counters = first; masters = masters })
     (record { reading = new; base = base; counters = counters; masters = after })
     (IsRead wants grounds earlier read)
 taken_cell wants grounds before earlier position base old mid new counters masters after read finds
-    passed told behind placed valued reads same first =
+    passed told behind placed valued reads same styled first =
     let element = element_at base finds.tag mid in
     let all : KeptOf wants earlier position (content 0 (ahead mid)) after
     (string_bytes read.formula) =
@@ -244,6 +284,7 @@ taken_cell wants grounds before earlier position base old mid new counters maste
         found = λ wanted. all.found wanted
             ∙ ap (λ (own : ℕ × ℕ). cell_formula earlier own all.kept) (sym placed);
         none = all.none;
+        styled = styled;
       };
       stands = record { counters = finds.counts; masters = all.groups };
     }

@@ -14,7 +14,7 @@ use Rattle.xlsx_sections.specs.Elements.{ElementReadFails, IsInsideRefused, name
 use Rattle.xlsx_sections.specs.PartSection.{PartSection, SectionFails, Never, always, inside_of}
 use Rattle.xlsx_sections.specs.PartSection.{section_left}
 use Rattle.xlsx_sections.specs.Refusal.{Refusal, stray_child, in_element}
-use Rattle.xlsx_sections.proofs.Kept.{prepended-nil}
+use Rattle.xlsx_sections.proofs.Kept.{prepended-nil, some_passed, some_taken, some_refused}
 use Rattle.xlsx_sections.proofs.Refused.{refused_by}
 use Rattle.xlsx_strings.specs.Strings.{end_in_string}
 use Rattle.xlsx_values.specs.CellType.{CellKind}
@@ -22,10 +22,10 @@ use Rattle.xlsx_values.specs.Value.{Grounds, value_element, inline_value, said_v
 use Rattle.xlsx_values.specs.Value.{end_in_value}
 use Rattle.xlsx_formulas.specs.Formula.{FormulaText, formula_text, said_formula, some_formula}
 use Rattle.xlsx_formulas.specs.Formula.{child_formula, formulas_in}
-use Rattle.xlsx_formulas.proofs.Cells.{KeepsFormulas, some_passed, some_taken, some_refused}
+use Rattle.xlsx_formulas.proofs.Cells.{KeepsFormulas}
 use Rattle.xlsx_formulas.proofs.Cells.{child_kept, formula_kept, formulas_read}
 use Rattle.xlsx_cells.specs.Children.{IsNamedAs, IsChildRefused, ChildFails, FormulaStep}
-use Rattle.xlsx_cells.specs.Children.{StepsFormula, ReadsFormula, ReadsFormulas}
+use Rattle.xlsx_cells.specs.Children.{StepsFormula, ReadsFormula, ReadsFormulaChildren}
 use Rattle.xlsx_cells.specs.Ends.{reads_children, end_in_child}
 use Rattle.xlsx_cells.specs.declared.children.ChildName.TheVariants.{Formula, Value, Inline, Stray}
 use Rattle.xlsx_cells.specs.declared.children.Wants.{Wants}
@@ -127,9 +127,6 @@ inline_said grounds format kind element earlier found named is =
     rw (named.0, named.1, named.2) (ap some_value is) in
     ap (or_earlier earlier) said
 
-pub same_tag : {first second : Tag} → start first ≡ start second → first ≡ second
-same_tag same = cc
-
 -- the start at which a reader stands
 pub start_there : (event : Event) (P : Tag → Type 0) → IsStartAnd event P
     → (tag : Tag) × (start tag ≡ event) × P tag
@@ -210,7 +207,7 @@ formulas_further {child = child} old new keeps same step =
 pub formulas_whole : {earlier : List FormulaText} {position : ℕ × ℕ} {inside : List Event}
     {left : List Element} (new : FormulaStep)
     → KeepsFormulas earlier position (formulas_in inside) left new.masters new.text → left ≡ []
-    → ReadsFormulas earlier position inside new
+    → ReadsFormulaChildren earlier position inside new
 formulas_whole new keeps none = record {
   kept = keeps.passed;
   listed = formulas_read keeps none;

@@ -2,13 +2,15 @@
 use Rattle.std.proofs.Common.{◌≡◌, ℕ, List, [], ◌∷◌, ◌++◌, append-nil, Bool, true, false, Option}
 use Rattle.std.proofs.Common.{Result, Ok, Err, refl, sym, ◌∙◌, ap, subst, inl, inr, ◌⊎◌}
 use Rattle.std.proofs.Common.{string_bytes, codes}
-use Rattle.std.specs.Prelude.{if◌then◌else◌}
+use Rattle.std.specs.Prelude.{if◌then◌else◌, filter}
+use Rattle.std.proofs.lemmas.List.Elements.{filter-append}
 use Rattle.part_events.specs.Event.{Tag}
 use Rattle.part_events.specs.Reading.{Reading}
 use Rattle.part_events.specs.Section.{Element}
 use Rattle.part_events.specs.Walk.{section_ahead}
 use Rattle.cell_data.specs.declared.error.XlsxError.{XlsxError}
 use Rattle.cell_data.specs.CellValue.{CellValue, value_of_data_ref}
+use Rattle.cell_styles.specs.StyleMap.{StyledCell, is_explicit}
 use Rattle.xlsx_sections.specs.Answers.{prepended}
 use Rattle.xlsx_sections.specs.Elements.{KeepsElements, end_outside}
 use Rattle.xlsx_sections.specs.PartSection.{SectionFails}
@@ -30,6 +32,7 @@ use Rattle.xlsx_cells.specs.SheetPart.{IsMarkRefused, AreDataRefused, DataFails,
 use Rattle.xlsx_cells.specs.SheetPart.{HoldsFormulas}
 use Rattle.xlsx_cells.specs.Stream.{Stream, StandsBehind, IsCellRefused, IsRead, TakesCell}
 use Rattle.xlsx_cells.specs.Stream.{EndsData, NextCellFails, marks_ahead, data_ahead}
+use Rattle.xlsx_cells.specs.StyleIds.{placed_id, ids_in, HoldsIds}
 use Rattle.xlsx_cells.specs.declared.cell_read.CellRead.{CellRead}
 use Rattle.xlsx_cells.specs.declared.children.Wants.{Wants}
 
@@ -47,7 +50,7 @@ answers_passed answer (row_end ∷ passed) before marks rows =
     answers_passed answer passed (row_end ∷ before) marks rows
 answers_passed answer (cell element ∷ passed) before marks rows = absurd rows
 
-no_answers : {A : Type 0} (answer : List Mark → Element → Result A Refusal)
+pub no_answers : {A : Type 0} (answer : List Mark → Element → Result A Refusal)
     (passed before : List Mark) → PassesRows passed → answers_from answer before passed ≡ Ok []
 no_answers answer [] before rows = refl
 no_answers answer (row_start tag ∷ passed) before rows =
@@ -179,40 +182,53 @@ pub record FormulasSoFar
   pub behind : earlier ≡ behind_cells passed []
   pub used : formulas ≡ used_formulas (formulas_along [] passed)
 
+-- and the style ids
+pub record IdsSoFar
+    (count : ℕ) (before : List Mark) (old now : Stream) (ids : List StyledCell) : Type 0 where
+  pub passed : List StyledCell
+  pub all :
+      prepended passed (answers_from placed_id before (marks_ahead now)) ≡ ids_in (data_ahead old)
+  pub used : ids ≡ filter (is_explicit count) passed
+
 -- the cells of a sheet's data were collected up to here
 pub record HasCollected
-    (wants : Wants) (grounds : Grounds) (old now : Stream)
-    (values : List ((ℕ × ℕ) × CellValue)) (formulas : List ((ℕ × ℕ) × List ℕ)) : Type 0 where
+    (wants : Wants) (grounds : Grounds) (count : ℕ) (old now : Stream)
+    (values : List ((ℕ × ℕ) × CellValue)) (formulas : List ((ℕ × ℕ) × List ℕ))
+    (ids : List StyledCell) : Type 0 where
   pub before : List Mark
   pub earlier : List FormulaText
   pub stands : StandsBehind before earlier now
   pub valued : wants.values ≡ true → ValuesSoFar grounds before old now values
   pub listed : wants.formulas ≡ true → FormulasSoFar before earlier old now formulas
+  pub styled : wants.styles ≡ true → IdsSoFar count before old now ids
   pub refused :
       (refusal : Refusal) →
       IsMarkRefused (IsCellRefused wants grounds) before (marks_ahead now) refusal →
       IsMarkRefused (IsCellRefused wants grounds) [] (marks_ahead old) refusal
 
-pub collected_none : (wants : Wants) (grounds : Grounds) (old : Stream) → StandsBehind [] [] old
-    → HasCollected wants grounds old old [] []
-collected_none wants grounds old fresh = record {
+pub collected_none : (wants : Wants) (grounds : Grounds) (count : ℕ) (old : Stream)
+    → StandsBehind [] [] old → HasCollected wants grounds count old old [] [] []
+collected_none wants grounds count old fresh = record {
   before = [];
   earlier = [];
   stands = fresh;
   valued = λ wanted. record { passed = []; all = prepended-nil _; used = refl };
   listed = λ wanted. record { passed = []; all = prepended-nil _; behind = refl; used = refl };
+  styled = λ wanted. record { passed = []; all = prepended-nil _; used = refl };
   refused = λ refusal is. is;
 }
 
 -- one cell more
-pub collected_further : (wants : Wants) (grounds : Grounds) (old mid new : Stream)
-    (values : List ((ℕ × ℕ) × CellValue)) (formulas : List ((ℕ × ℕ) × List ℕ)) (read : CellRead)
-    → (been : HasCollected wants grounds old mid values formulas)
+pub collected_further : (wants : Wants) (grounds : Grounds) (count : ℕ) (old mid new : Stream)
+    (values : List ((ℕ × ℕ) × CellValue)) (formulas : List ((ℕ × ℕ) × List ℕ))
+    (ids : List StyledCell) (read : CellRead)
+    → (been : HasCollected wants grounds count old mid values formulas ids)
     → TakesCell been.before been.earlier mid new (IsRead wants grounds been.earlier read)
-    → HasCollected wants grounds old new
+    → HasCollected wants grounds count old new
     (values ++ used_values grounds.strings ((read.pos, value_of_data_ref read.value) ∷ []))
     (formulas ++ used_formulas ((read.pos, string_bytes read.formula) ∷ []))
-collected_further wants grounds old mid new values formulas read been takes =
+    (ids ++ filter (is_explicit count) ((read.pos.0, read.pos.1, read.style_id) ∷ []))
+collected_further wants grounds count old mid new values formulas ids read been takes =
     let behind = behind_marks takes.passed been.before in
     let element = takes.element in
     let value = value_of_data_ref read.value in
@@ -257,6 +273,20 @@ collected_further wants grounds old mid new values formulas read been takes =
                 ((read.pos, cell_formula (behind_cells so_far.passed []) read.pos takes.kept) ∷ []))
                 ∙ ap used_formulas (sym (along_further so_far.passed [] own));
           };
+      styled = λ wanted.
+          let so_far = been.styled wanted in
+          let own : StyledCell = (read.pos.0, read.pos.1, read.style_id) in
+          let answer : placed_id behind element ≡ Ok own =
+          rw (takes.fact.placed, takes.fact.styled wanted) refl in
+          record {
+            passed = so_far.passed ++ own ∷ [];
+            all = answer_kept placed_id so_far.passed own takes.passed been.before
+                (marks_ahead new) (marks_ahead mid) element _ takes.rows takes.marks answer
+                so_far.all;
+            used = ap (λ (all : List StyledCell). all ++ filter (is_explicit count) (own ∷ []))
+                so_far.used
+                ∙ sym (filter-append (is_explicit count) so_far.passed (own ∷ []));
+          };
       refused = λ refusal is. been.refused refusal
           (subst (λ (all : List Mark). IsMarkRefused (IsCellRefused wants grounds) been.before all
           refusal) (sym takes.marks)
@@ -264,11 +294,11 @@ collected_further wants grounds old mid new values formulas read been takes =
           (cell element ∷ marks_ahead new) refusal takes.rows (inr is)));
     }
 
-pub values_whole : (wants : Wants) (grounds : Grounds) (old now : Stream)
+pub values_whole : (wants : Wants) (grounds : Grounds) (count : ℕ) (old now : Stream)
     (values : List ((ℕ × ℕ) × CellValue)) (formulas : List ((ℕ × ℕ) × List ℕ))
-    → HasCollected wants grounds old now values formulas → EndsData now → wants.values ≡ true
-    → HoldsValues grounds (data_ahead old) values
-values_whole wants grounds old now values formulas been ends wanted =
+    (ids : List StyledCell) → HasCollected wants grounds count old now values formulas ids
+    → EndsData now → wants.values ≡ true → HoldsValues grounds (data_ahead old) values
+values_whole wants grounds count old now values formulas ids been ends wanted =
     let so_far = been.valued wanted in (
       so_far.passed,
       answers_whole (placed_value grounds) so_far.passed been.before (marks_ahead now) _ ends.rows
@@ -276,15 +306,26 @@ values_whole wants grounds old now values formulas been ends wanted =
       so_far.used,
     )
 
-pub formulas_whole : (wants : Wants) (grounds : Grounds) (old now : Stream)
+pub formulas_whole : (wants : Wants) (grounds : Grounds) (count : ℕ) (old now : Stream)
     (values : List ((ℕ × ℕ) × CellValue)) (formulas : List ((ℕ × ℕ) × List ℕ))
-    → HasCollected wants grounds old now values formulas → EndsData now → wants.formulas ≡ true
-    → HoldsFormulas (data_ahead old) formulas
-formulas_whole wants grounds old now values formulas been ends wanted =
+    (ids : List StyledCell) → HasCollected wants grounds count old now values formulas ids
+    → EndsData now → wants.formulas ≡ true → HoldsFormulas (data_ahead old) formulas
+formulas_whole wants grounds count old now values formulas ids been ends wanted =
     let so_far = been.listed wanted in (
       so_far.passed,
       answers_whole placed_formulas so_far.passed been.before (marks_ahead now) _ ends.rows
           so_far.all,
+      so_far.used,
+    )
+
+pub ids_whole : (wants : Wants) (grounds : Grounds) (count : ℕ) (old now : Stream)
+    (values : List ((ℕ × ℕ) × CellValue)) (formulas : List ((ℕ × ℕ) × List ℕ))
+    (ids : List StyledCell) → HasCollected wants grounds count old now values formulas ids
+    → EndsData now → wants.styles ≡ true → HoldsIds count (data_ahead old) ids
+ids_whole wants grounds count old now values formulas ids been ends wanted =
+    let so_far = been.styled wanted in (
+      so_far.passed,
+      answers_whole placed_id so_far.passed been.before (marks_ahead now) _ ends.rows so_far.all,
       so_far.used,
     )
 

@@ -12,7 +12,7 @@ use Rattle.cell_data.specs.declared.cell.Cell.{Cell}
 use Rattle.cell_data.specs.declared.error.XlsxError.{XlsxError}
 use Rattle.cell_data.specs.declared.value.DataRef.{DataRef}
 use Rattle.xlsx_sections.specs.PartSection.{section_left, section_in}
-use Rattle.xlsx_sections.proofs.SectionsRead.{first_section_left}
+use Rattle.xlsx_sections.proofs.SectionsRead.{ahead_at_first, first_section_left, nothing_past}
 use Rattle.xlsx_values.specs.Value.{Grounds}
 use Rattle.xlsx_formulas.specs.Formula.{FormulaText}
 use Rattle.xlsx_formulas.specs.Kept.{AreMasters}
@@ -24,7 +24,6 @@ use Rattle.xlsx_cells.specs.Marks.{Mark}
 use Rattle.xlsx_cells.specs.Stream.{Stream, TakesNext, TakesCell, IsRead}
 use Rattle.xlsx_cells.specs.declared.cell_read.CellRead.{CellRead}
 use Rattle.xlsx_cells.specs.declared.children.Wants.{Wants}
-use Rattle.xlsx_cells.proofs.HeadRead.{ahead_at_first}
 
 -- what a step of the cursor takes, the stream takes
 pub taken_from : (wants : Wants) (grounds : Grounds) (before : List Mark)
@@ -74,16 +73,6 @@ formula_taken read own is takes = record {
   };
   stands = takes.stands;
 }
-
-empty_by_length : (events : List Event) → length events ≡ 0 → events ≡ []
-empty_by_length [] none = refl
-empty_by_length (event ∷ events) none = absurd (omega (arith, none))
-
--- a reader that took nothing has nothing behind it
-pub nothing_past : (r : Reading) → IsReading r → r.at ≡ 0 → r.source.is_told ≡ true
-    → r.source.past ≡ []
-nothing_past r is first told =
-    empty_by_length r.source.past (omega (arith, (is.tracked told).at, first))
 
 pub cells_entered : {area : Dimensions} (old : Reading) (new : Flow) → IsReading old → old.at ≡ 0
     → new.is_failed ≡ false → new.is_done ≡ false → ReadsOn old new.stream.reading

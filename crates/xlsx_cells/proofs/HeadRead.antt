@@ -228,10 +228,6 @@ next_kind old new (stream.Xml (Entity at)) fails = absurd fails
 
 -- ---- for the reader of a whole part
 
--- what is ahead of a reader that took nothing of its part
-pub ahead_at_first : (r : Reading) → r.source.past ≡ [] → ahead r ≡ whole (events_of r)
-ahead_at_first r fresh = rw fresh refl
-
 -- a part with a sheet's data, none of whose dimensions are refused, has no cause to be refused
 pub no_head_cause : (events ahead after : List Event) (dimensions : Option Dimensions)
     (error : XlsxError) → behind_start is_sheet_data ahead ≡ Some after

@@ -9,3 +9,4 @@ pub mod Passing
 pub mod Refusing
 pub mod SheetEntered
 pub mod SoundSheet
+pub mod Unstyled

@@ -14,7 +14,7 @@ use Rattle.xlsx_cells.specs.Counting.{AreKept}
 use Rattle.xlsx_cells.specs.Head.{AreDimensions, HeadCause, HeadFails}
 use Rattle.xlsx_cells.specs.SheetPart.{EntersData, OptionalHeadCause, OpenDataFails}
 use Rattle.xlsx_cells.specs.Stream.{Stream}
-use Rattle.xlsx_cells.proofs.HeadRead.{ahead_at_first}
+use Rattle.xlsx_sections.proofs.SectionsRead.{ahead_at_first}
 
 pub data_entered : {path : List ℕ} {area : Dimensions} {old : PackageState} (opened : Reading)
     (new : Stream) → EntersSection (codes "sheetData") path old new.reading

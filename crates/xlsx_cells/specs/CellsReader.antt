@@ -14,11 +14,12 @@ use Rattle.cell_data.specs.declared.cell.Cell.{Cell}
 use Rattle.cell_data.specs.declared.error.XlsxError.{XlsxError}
 use Rattle.cell_data.specs.declared.error.XlsxError.TheVariants.{OutOfMemory, Io, Failed}
 use Rattle.cell_data.specs.declared.value.DataRef.{DataRef}
+use Rattle.cell_styles.specs.declared.style.Style.{Style}
 use Rattle.xlsx_sections.specs.Elements.{KeepsElements}
 use Rattle.xlsx_sections.specs.PartSection.{section_in, section_left}
 use Rattle.xlsx_values.specs.Value.{Grounds, cell_value}
 use Rattle.xlsx_formulas.specs.Formula.{FormulaText, formulas_in, cell_formula}
-use Rattle.xlsx_cells.specs.Errors.{IsCellError}
+use Rattle.xlsx_cells.specs.CellErrors.{IsCellError}
 use Rattle.xlsx_cells.specs.Head.{AreDimensions, HeadCause}
 use Rattle.xlsx_cells.specs.Marks.{Mark, is_cell}
 use Rattle.xlsx_cells.specs.Position.{cell_position}
@@ -109,10 +110,15 @@ grounds_by reader = record {
   is_1904 = reader.is_1904;
 }
 
+-- the styles that the ids of cells name
+abbrev pub styles_held : {P : Type 0} → XlsxCellReader P CellStream → List Style
+styles_held reader = reader.styles.now
+
 -- a call keeps all but where the reader stands
 pub record KeepsHold {P : Type 0} (old new : XlsxCellReader P CellStream) : Type 0 where
   pub same_reference : reference_of new ≡ reference_of old
   pub grounds : grounds_by new ≡ grounds_by old
+  pub styles : styles_held new ≡ styles_held old
   pub dimensions : area_held new ≡ area_held old
 
 -- the sheet's data were entered, by a reader that had taken nothing of their part
@@ -136,10 +142,13 @@ EnterCellsFails old error =
     old.source.is_told ≡ true → HeadCause (events_of old) (whole (events_of old)) error
 
 abbrev pub values_alone : Wants
-values_alone = record { values = true; formulas = false }
+values_alone = record { values = true; formulas = false; styles = false }
 
 abbrev pub formulas_alone : Wants
-formulas_alone = record { values = false; formulas = true }
+formulas_alone = record { values = false; formulas = true; styles = false }
+
+abbrev pub styles_alone : Wants
+styles_alone = record { values = false; formulas = false; styles = true }
 
 -- where a reader stands by its answer
 abbrev pub CellTo : {A : Type 0} → Option (Cell A) → Flow → Flow → Type 0

@@ -95,7 +95,7 @@ pub record ReadsFormula
   pub steps : StepsFormula position found old new
 
 -- the formulas of a cell's children were taken: these are kept, and the text is the cell's
-pub record ReadsFormulas
+pub record ReadsFormulaChildren
     (earlier : List FormulaText) (position : ℕ × ℕ) (inside : List Event)
     (new : FormulaStep) : Type 0 where
   pub kept : List FormulaText

@@ -2,7 +2,7 @@ pub mod CellsReader
 pub mod Children
 pub mod Counting
 pub mod Ends
-pub mod Errors
+pub mod CellErrors
 pub mod Finding
 pub mod Head
 pub mod Marks
@@ -10,3 +10,5 @@ pub mod Position
 pub mod Sheet
 pub mod SheetPart
 pub mod Stream
+pub mod StyleIds
+pub mod StyleSteps

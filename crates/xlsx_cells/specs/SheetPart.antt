@@ -1,18 +1,20 @@
 -- The part of a sheet: what its data say, and why they can't be read.
 use Rattle.std.specs.Prelude.{◌≡◌, ◌⊎◌, ⊤, ℕ, ◌+◌, ◌≤◌, List, [], ◌∷◌, length, true, codes, Option}
-use Rattle.std.specs.Prelude.{Some, None, Ok, Err, map, string_bytes, IsSomeAnd, String}
+use Rattle.std.specs.Prelude.{Some, None, Ok, Err, map, string_bytes, IsSomeAnd, All, String}
 use Rattle.std.specs.declared.alloc.Global.{Global}
 use Rattle.cell_refs.specs.declared.dimensions.Dimensions.{Dimensions}
 use Rattle.part_events.specs.Event.{Event}
 use Rattle.part_events.specs.Nesting.{whole}
-use Rattle.part_events.specs.Package.{PackageState, SameParts, HasCause, part_of, events_in}
+use Rattle.part_events.specs.Package.{PackageState, SameParts, HasCause, part_of, event_count}
 use Rattle.part_events.specs.Reading.{events_of}
 use Rattle.part_events.specs.Section.{Element}
 use Rattle.cell_data.specs.CellValue.{CellValue, value_of_data}
+use Rattle.cell_data.specs.Cells.{IsInSheet}
 use Rattle.cell_data.specs.declared.cell.Cell.{Cell}
 use Rattle.cell_data.specs.declared.error.XlsxError.{XlsxError}
 use Rattle.cell_data.specs.declared.error.XlsxError.TheVariants.{OutOfMemory, Io}
 use Rattle.cell_data.specs.declared.value.Data.{Data}
+use Rattle.cell_styles.specs.StyleMap.{StyledCell, IsOnSheet}
 use Rattle.xlsx_sections.specs.PartSection.{PartSection, SectionCause, SectionFails, section_left}
 use Rattle.xlsx_sections.specs.PartSection.{section_in, inside_of, has_end}
 use Rattle.xlsx_sections.specs.Refusal.{Refusal}
@@ -25,6 +27,7 @@ use Rattle.xlsx_cells.specs.Position.{row_named}
 use Rattle.xlsx_cells.specs.Sheet.{values_in, formulas_written, used_values, used_formulas}
 use Rattle.xlsx_cells.specs.Sheet.{formulas_along}
 use Rattle.xlsx_cells.specs.Stream.{Stream, IsStreaming, StandsBehind, IsCellRefused}
+use Rattle.xlsx_cells.specs.StyleIds.{ids_in}
 use Rattle.xlsx_cells.specs.declared.children.Wants.{Wants}
 
 -- a mark of a sheet's data is refused, by the marks before it
@@ -63,7 +66,7 @@ SheetPartCause wants grounds events error =
 -- the part of a sheet is sound, with what its cells say
 pub record IsSoundSheet
     (grounds : Grounds) (events : List Event) (values : List ((ℕ × ℕ) × CellValue))
-    (formulas : List ((ℕ × ℕ) × List FormulaText)) : Type 0 where
+    (formulas : List ((ℕ × ℕ) × List FormulaText)) (ids : List StyledCell) : Type 0 where
   pub section : PartSection
   pub area : Option Dimensions
   pub found : section_in (codes "sheetData") events ≡ Some section
@@ -71,6 +74,7 @@ pub record IsSoundSheet
   pub closed : has_end section ≡ true
   pub valued : values_in grounds (inside_of section) ≡ Ok values
   pub written : formulas_written (inside_of section) ≡ Ok formulas
+  pub styled : ids_in (inside_of section) ≡ Ok ids
 
 -- the data of the sheet at a path were entered
 pub record EntersData (path : List ℕ) (area : Dimensions) (old : PackageState) (new : Stream)
@@ -82,7 +86,7 @@ pub record EntersData (path : List ℕ) (area : Dimensions) (old : PackageState)
   pub taken :
       old.is_told ≡ true →
       new.reading.source.taken + length new.reading.source.rest
-      ≤ old.taken + events_in old.parts path
+      ≤ old.taken + event_count old.parts path
   pub part : old.is_told ≡ true → part_of old.parts path ≡ Some (events_of new.reading)
   pub section :
       old.is_told ≡ true →
@@ -116,6 +120,11 @@ formula_entry own = (own.pos, string_bytes own.val)
 
 abbrev pub formula_entries : List (Cell (String Global)) → List ((ℕ × ℕ) × List ℕ)
 formula_entries cells = map formula_entry cells
+
+-- cells with values and formulas, and entries of styles, that lie in a worksheet
+abbrev pub LieInSheet : List (Cell Data) → List (Cell (String Global)) → List StyledCell → Type 0
+LieInSheet values formulas styled =
+    All IsInSheet values × All IsInSheet formulas × All IsOnSheet styled
 
 -- the values that count among those of a sheet's data, with the texts of shared strings
 abbrev pub HoldsValues :

@@ -23,6 +23,7 @@ use Rattle.xlsx_cells.specs.Ends.{end_in_contents, end_in_data}
 use Rattle.xlsx_cells.specs.Finding.{IsStepRefused}
 use Rattle.xlsx_cells.specs.Marks.{Mark, cell, is_cell, marks, behind_marks}
 use Rattle.xlsx_cells.specs.Position.{cell_position, PassesRows}
+use Rattle.xlsx_cells.specs.StyleIds.{id_named}
 use Rattle.xlsx_cells.specs.declared.children.Wants.{Wants}
 use Rattle.xlsx_cells.specs.declared.counters.Counters.{Counters}
 use Rattle.xlsx_cells.specs.declared.cell_read.CellRead.{CellRead}
@@ -65,11 +66,19 @@ pub record StandsBehind (before : List Mark) (earlier : List FormulaText) (s : S
     pub counters : AreKept before s.counters
     pub masters : AreMasters earlier s.masters
 
+-- why the start of a cell is refused, whatever stands in it
+abbrev pub IsHeadRefused : Wants → Grounds → Tag → Refusal → Type 0
+IsHeadRefused wants grounds tag refusal =
+    ((wants.values ≡ true)
+    × ((inside : List Event) → cell_value grounds tag inside ≡ Err refusal))
+    ⊎ ((wants.styles ≡ true) × (id_named tag ≡ Err refusal))
+
 -- why what stands in a cell is refused
 abbrev pub IsContentRefused : Wants → Grounds → Tag → PartSection → Refusal → Type 0
 IsContentRefused wants grounds tag s refusal =
     ((wants.values ≡ true) × (cell_value grounds tag (inside_of s) ≡ Err refusal))
-    ⊎ ((wants.formulas ≡ true) × (formulas_in (inside_of s) ≡ Err refusal))
+    ⊎ (((wants.formulas ≡ true) × (formulas_in (inside_of s) ≡ Err refusal))
+    ⊎ ((wants.styles ≡ true) × (id_named tag ≡ Err refusal)))
 
 -- when the cell at whose start a reader stands can't be read
 abbrev pub CellFails : Wants → Grounds → Tag → Reading → Reading → XlsxError → Type 0
@@ -83,8 +92,10 @@ IsCellRefused wants grounds before element refusal =
     (cell_position before element.tag ≡ Err refusal)
     ⊎ (((wants.values ≡ true)
     × (in_element element (cell_value grounds element.tag element.inside) ≡ Err refusal))
-    ⊎ ((wants.formulas ≡ true)
-    × (in_element element (formulas_in element.inside) ≡ Err refusal)))
+    ⊎ (((wants.formulas ≡ true)
+    × (in_element element (formulas_in element.inside) ≡ Err refusal))
+    ⊎ ((wants.styles ≡ true)
+    × (in_element element (id_named element.tag) ≡ Err refusal))))
 
 -- when a step is refused
 abbrev pub NextCellFails : Wants → Grounds → Stream → Stream → XlsxError → Type 0
@@ -105,6 +116,7 @@ pub record IsRead
   pub found :
       wants.formulas ≡ true → string_bytes read.formula ≡ cell_formula earlier read.pos kept
   pub none : wants.formulas ≡ false → kept ≡ []
+  pub styled : wants.styles ≡ true → id_named element.tag ≡ Ok read.style_id
 
 -- the next cell was taken, of which a fact holds
 pub record TakesCell
@@ -132,10 +144,14 @@ TakesNext wants grounds before earlier None old new = EndsData old
 TakesNext wants grounds before earlier (Some read) old new =
     TakesCell before earlier old new (IsRead wants grounds earlier read)
 
+-- it stands behind a cell at this position
+abbrev pub StandsBehindCell : ℕ × ℕ → Stream → Stream → Type 0
+StandsBehindCell position old new =
+    IsStreaming new × (new.base ≡ old.base) × (old.reading.at < new.reading.at)
+    × KeepsElements is_cell old.base old.reading new.reading
+    × (position.0 < MAX_ROWS) × (position.1 < MAX_COLUMNS)
+
 -- where it stands then
 abbrev pub StandsAfter : Option CellRead → Stream → Stream → Type 0
 StandsAfter None old new = ⊤
-StandsAfter (Some read) old new =
-    IsStreaming new × (new.base ≡ old.base) × (old.reading.at < new.reading.at)
-    × KeepsElements is_cell old.base old.reading new.reading
-    × (read.pos.0 < MAX_ROWS) × (read.pos.1 < MAX_COLUMNS)
+StandsAfter (Some read) old new = StandsBehindCell read.pos old new

@@ -1,5 +1,6 @@
 ghost use Rattle.std.specs.Prelude.{◌≡◌, suc, length, List, true, false, Ok, Err, IfOk, OnOk};
 ghost use Rattle.std.specs.Prelude.{IfErr, string_bytes};
+ghost use Rattle.std.specs.Option.{option_copied, unwrap_or};
 ghost use Rattle.part_events.specs.Event.{Event, tag_of};
 ghost use Rattle.part_events.specs.Reading.{reading, open_elements, IsReading, IsAtElement};
 ghost use Rattle.part_events.specs.Reading.{ReadsPart, Skips};
@@ -7,23 +8,24 @@ ghost use Rattle.part_events.specs.Section.{Element};
 ghost use Rattle.cell_data.specs.CellValue.{value_of_data_ref};
 ghost use Rattle.cell_data.specs.declared.error.XlsxError.TheVariants.{Io};
 ghost use Rattle.xlsx_values.specs.Book.{kind_of, grounds_of};
-ghost use Rattle.xlsx_values.specs.Value.{cell_value, value_in};
+ghost use Rattle.xlsx_values.specs.Value.{cell_value, value_in, style_number};
 ghost use Rattle.xlsx_formulas.specs.Formula.{FormulaText};
 ghost use Rattle.xlsx_formulas.specs.Kept.{AreMasters};
-ghost use Rattle.xlsx_cells.specs.Children.{StandsAtElement, ReadsFormulas};
-ghost use Rattle.xlsx_cells.specs.Counting.{IsStartRefused};
-ghost use Rattle.xlsx_cells.specs.Ends.{kind_of_cell};
-ghost use Rattle.xlsx_cells.specs.Errors.{IsCellError};
-ghost use Rattle.xlsx_cells.specs.Stream.{CellFails};
+ghost use Rattle.xlsx_cells.specs.Children.{StandsAtElement, ReadsFormulaChildren};
+ghost use Rattle.xlsx_cells.specs.Counting.{IsStartRefused, IsRefused, IsPositionError};
+ghost use Rattle.xlsx_cells.specs.Ends.{kind_of_cell, reads_children};
+ghost use Rattle.xlsx_cells.specs.CellErrors.{IsCellError, IsStyledError};
+ghost use Rattle.xlsx_cells.specs.Stream.{CellFails, IsHeadRefused};
+ghost use Rattle.xlsx_cells.specs.StyleIds.{id_named};
 
-use crate::children::{Asked, CellContents, CellStart, read_children};
+use crate::children::{Asked, CellContents, CellStart, Wants, read_children};
 use attr_text::{RawAttributes, get_attrs};
 use cell_data::{CellFormat, DataRef, XlsxError};
 use part_events::{Cursor, Package, StartTag};
 use std::alloc::Global;
 use xlsx_formulas::Masters;
 use xlsx_sections::{skip_element_in, start_tag};
-use xlsx_values::{CellType, cell_type, format_of_style};
+use xlsx_values::{CellType, cell_type, format_of_style, style_number};
 
 /// A cell as it was read: what wasn't wanted of it is empty.
 #[derive(Debug, Drop)]
@@ -32,10 +34,50 @@ pub struct CellRead {
     pub pos: (u32, u32),
     pub value: DataRef,
     pub formula: String,
+    pub style_id: usize,
 }
 
-/// What the start of the cell at this position says, by its attributes `r`, `s` and `t`, where its
-/// value is wanted.
+/// The style id that the start of a cell names: the number of its `s`, and 0 without one.
+fn id_named(tag: StartTag<'_>) -> Result<usize, XlsxError>
+    ensures ok { IfOk result (λ id. id_named (tag_of tag.entry) ≡ Ok id) }
+    ensures err { IfErr result (IsRefused (λ refusal. id_named (tag_of tag.entry) ≡ Err refusal)) }
+    ensures kind { IfErr result IsPositionError }
+{
+    Ok(style_number(tag.raw_attr("s")?).unwrap_or(0))
+}
+
+/// What the start of a cell says of its style id alone, where that is wanted.
+fn id_start(tag: StartTag<'_>, wants: Wants, pos: (u32, u32)) -> Result<CellStart, XlsxError>
+    ensures pos { IfOk result (λ start. start.pos ≡ pos) }
+    ensures styled { wants.styles ≡ true →
+        IfOk result (λ start. id_named (tag_of tag.entry) ≡ Ok start.style_id) }
+    ensures err { IfErr result (IsRefused (λ refusal.
+        (wants.styles ≡ true) × (id_named (tag_of tag.entry) ≡ Err refusal))) }
+    ensures kind { IfErr result IsPositionError }
+{
+    let style_id = if wants.styles { id_named(tag)? } else { 0 };
+    Ok(CellStart {
+        pos,
+        style_id,
+        format: CellFormat::Other,
+        typ: CellType::Untyped,
+    })
+}
+
+/// The style id that a text names, where it is wanted.
+fn wanted_id(style: Option<&str>, wants: Wants) -> usize
+    ensures { wants.styles ≡ true →
+        result ≡ unwrap_or (style_number (option_copied style.entry)) 0 }
+{
+    if wants.styles {
+        style_number(style).unwrap_or(0)
+    } else {
+        0
+    }
+}
+
+/// What the start of the cell at this position says, by its attributes `r`, `s` and `t` where its
+/// value is wanted, and by its `s` where its style id alone is.
 fn start_of(
     alloc: Global,
     tag: StartTag<'_>,
@@ -48,21 +90,20 @@ fn start_of(
         ≡ value_in (grounds_of asked.entry.book) start.format (kind_of start.typ) inside) }
     ensures typ { asked.entry.wants.values ≡ true →
         IfOk result (λ start. kind_of_cell (tag_of tag.entry) ≡ kind_of start.typ) }
-    ensures err { IfErr result (IsStartRefused (λ refusal. (asked.entry.wants.values ≡ true)
-        × ((inside : List Event) →
-        cell_value (grounds_of asked.entry.book) (tag_of tag.entry) inside ≡ Err refusal))) }
+    ensures styled { asked.entry.wants.styles ≡ true →
+        IfOk result (λ start. id_named (tag_of tag.entry) ≡ Ok start.style_id) }
+    ensures err { IfErr result (IsStartRefused (IsHeadRefused asked.entry.wants
+        (grounds_of asked.entry.book) (tag_of tag.entry))) }
     ensures kind { IfErr result IsCellError }
+    ensures plain { asked.entry.wants.values ≡ false → IfErr result IsPositionError }
 {
     if !asked.wants.values {
-        return Ok(CellStart {
-            pos,
-            format: CellFormat::Other,
-            typ: CellType::Untyped,
-        });
+        return id_start(tag, asked.wants, pos);
     }
     let (_, style, typ) = get_attrs!(tag, "r" => position, "s" => style, "t" => typ)?;
     Ok(CellStart {
         pos,
+        style_id: wanted_id(style, asked.wants),
         format: format_of_style(asked.book.formats, style),
         typ: cell_type(alloc, typ)?,
     })
@@ -97,14 +138,18 @@ pub fn read_cell<P: Package>(
         old.source.is_told ≡ true → asked.entry.wants.formulas ≡ true → (element : Element) →
         StandsAtElement element old → (earlier : List FormulaText) →
         AreMasters earlier masters.old →
-        IfOk result (λ read. ReadsFormulas earlier pos element.inside
+        IfOk result (λ read. ReadsFormulaChildren earlier pos element.inside
         (record { masters = masters.new; text = string_bytes read.formula })) }
     ensures same { asked.entry.wants.formulas ≡ false → OnOk result (masters.new ≡ masters.old) }
+    ensures styled { let old = reading (P.state «package».old) cursor.old in
+        asked.entry.wants.styles ≡ true → (element : Element) → StandsAtElement element old →
+        IfOk result (λ read. id_named element.tag ≡ Ok read.style_id) }
     ensures err { let old = reading (P.state «package».old) cursor.old in
         let new = reading (P.state «package».new) cursor.new in
         IfErr result (λ error. (element : Element) → StandsAtElement element old →
         CellFails asked.entry.wants (grounds_of asked.entry.book) element.tag old new error) }
     ensures kind { IfErr result IsCellError }
+    ensures plain { reads_children asked.entry.wants ≡ false → IfErr result IsStyledError }
 {
     let start = start_of(alloc, start_tag(package), asked, pos)?;
     if !asked.wants.values && !asked.wants.formulas {
@@ -113,6 +158,7 @@ pub fn read_cell<P: Package>(
             pos,
             value: DataRef::Empty,
             formula: String::new(alloc),
+            style_id: start.style_id,
         });
     }
     let contents = read_children(alloc, package, cursor, asked, &start, masters)?;
@@ -121,5 +167,6 @@ pub fn read_cell<P: Package>(
         pos,
         value: value.unwrap_or(DataRef::Empty),
         formula,
+        style_id: start.style_id,
     })
 }

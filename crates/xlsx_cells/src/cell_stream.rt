@@ -1,5 +1,7 @@
-ghost use Rattle.std.specs.Prelude.{◌≡◌, List, true, false, is_err, IfOk, IfErr, IsErrAnd};
+ghost use Rattle.std.specs.Prelude.{◌≡◌, List, true, false, is_err, IfOk, IfErr, IfSome};
+ghost use Rattle.std.specs.Prelude.{IsErrAnd};
 ghost use Rattle.part_events.specs.Reading.{ReadsPart};
+ghost use Rattle.cell_styles.specs.StyleMap.{is_explicit};
 ghost use Rattle.cell_data.specs.declared.error.XlsxError.TheVariants.{Io, Failed};
 ghost use Rattle.xlsx_values.specs.Book.{grounds_of};
 ghost use Rattle.xlsx_formulas.specs.Formula.{FormulaText};
@@ -7,6 +9,7 @@ ghost use Rattle.xlsx_cells.specs.CellsReader.{flow, IsFlowing, FlowsTo, TakesFr
 ghost use Rattle.xlsx_cells.specs.CellsReader.{RestsAtEnd, IsFlowError};
 ghost use Rattle.xlsx_cells.specs.Marks.{Mark};
 ghost use Rattle.xlsx_cells.specs.Stream.{StandsBehind};
+ghost use Rattle.xlsx_cells.specs.StyleSteps.{StyledTo, TakesStyleId, StyleIdFails, IsStyleIdError};
 
 use crate::cell_read::CellRead;
 use crate::children::Asked;
@@ -79,5 +82,55 @@ impl CellStream {
             Err(_) => self.failed = true,
         }
         outcome
+    }
+    /// Takes the next cell whose style id is above 0 and below the number of styles, and answers
+    /// its row, its column and this id. Answers None at the end of the data and from then on, and
+    /// `Failed` after a refusal.
+    pub fn next_styled<P: Package>(
+        &mut self,
+        package: &mut P,
+        style_count: usize,
+    ) -> Result<Option<(u32, u32, usize)>, XlsxError>
+        requires { IsFlowing (flow (P.state «package».old) self.old) }
+        ensures flowing { IsFlowing (flow (P.state «package».new) self.new) }
+        ensures reads { let old = flow (P.state «package».old) self.old in
+            let new = flow (P.state «package».new) self.new in
+            ReadsPart Io result old.stream.reading new.stream.reading }
+        ensures rests { RestsAtEnd (flow (P.state «package».old) self.old)
+            (flow (P.state «package».new) self.new) }
+        ensures stands { let old = flow (P.state «package».old) self.old in
+            let new = flow (P.state «package».new) self.new in
+            IfOk result (λ found. StyledTo found old new) }
+        ensures counts { IfOk result (λ found.
+            IfSome found (λ own. is_explicit style_count own ≡ true)) }
+        ensures takes { let old = flow (P.state «package».old) self.old in
+            let new = flow (P.state «package».new) self.new in
+            old.stream.reading.source.is_told ≡ true → (before : List Mark)
+            (earlier : List FormulaText) → StandsBehind before earlier old.stream →
+            IfOk result (λ found. TakesStyleId style_count before earlier found old new) }
+        ensures err { let old = flow (P.state «package».old) self.old in
+            let new = flow (P.state «package».new) self.new in
+            IfErr result (StyleIdFails style_count old new) }
+        ensures kind { IfErr result IsStyleIdError }
+        ensures after { self.old.failed ≡ true → IsErrAnd result (λ error. error ≡ Failed) }
+        ensures failed { self.new.failed ≡ is_err result }
+    {
+        if self.failed {
+            return Err(XlsxError::Failed);
+        }
+        if self.done {
+            return Ok(None);
+        }
+        match self.sheet.next_styled(package, style_count) {
+            Ok(Some(found)) => Ok(Some(found)),
+            Ok(None) => {
+                self.done = true;
+                Ok(None)
+            }
+            Err(error) => {
+                self.failed = true;
+                Err(error)
+            }
+        }
     }
 }

@@ -1,7 +1,8 @@
 ghost use Rattle.std.specs.Prelude.{◌≡◌, List, map, string_bytes, true, false, is_err};
-ghost use Rattle.std.specs.Prelude.{IfOk, IfErr, IsErrAnd};
+ghost use Rattle.std.specs.Prelude.{IfOk, IfErr, IfSome, IsErrAnd, length};
 ghost use Rattle.part_events.specs.Reader as xml_reader;
 ghost use Rattle.part_events.specs.Reading.{ReadsPart, IsReading};
+ghost use Rattle.cell_styles.specs.StyleMap.{is_explicit};
 ghost use Rattle.cell_data.specs.declared.error.XlsxError.TheVariants.{Io, Failed};
 ghost use Rattle.xlsx_formulas.specs.Formula.{FormulaText};
 ghost use Rattle.xlsx_cells.specs.Head.{IsHeadError};
@@ -15,6 +16,7 @@ use crate::head::enter_data;
 use crate::sheet_cursor::SheetCursor;
 use cell_data::{Cell, CellFormat, DataRef, XlsxError};
 use cell_refs::Dimensions;
+use cell_styles::Style;
 use part_events::{Package, XlReader};
 use std::alloc::Global;
 use xlsx_values::Book;
@@ -27,6 +29,7 @@ pub struct XlsxCellReader<'a, P: Package, S: Drop = CellStream> {
     package: &'a mut P,
     strings: &'a [String],
     formats: &'a [CellFormat],
+    styles: &'a [Style],
     is_1904: bool,
     dimensions: Dimensions,
     stream: S,
@@ -40,6 +43,7 @@ impl<P: Package, S: Drop> Drop for XlsxCellReader<'_, P, S> {
             package: _,
             strings: _,
             formats: _,
+            styles: _,
             is_1904: _,
             dimensions: _,
             stream: _,
@@ -53,12 +57,14 @@ impl<'a, P: Package> XlsxCellReader<'a, P> {
     ghost use Rattle.xlsx_cells.specs.CellsReader.{EnterCellsFails, CellTo, TakesCellValue};
     ghost use Rattle.xlsx_cells.specs.CellsReader.{TakesCellFormula};
     ghost use Rattle.xlsx_cells.specs.CellsReader.{FlowFails, RestsAtEnd, values_alone};
-    ghost use Rattle.xlsx_cells.specs.CellsReader.{formulas_alone};
+    ghost use Rattle.xlsx_cells.specs.CellsReader.{formulas_alone, styles_held};
+    ghost use Rattle.xlsx_cells.specs.StyleSteps.{StyledTo, TakesStyleId, StyleIdFails};
+    ghost use Rattle.xlsx_cells.specs.StyleSteps.{IsStyleIdError};
 
     /// A reader of the cells of the part that `xml` reads, of which it has taken nothing yet. It
     /// reads on behind the first start of the sheet's data. The values of cells rest on the shared
     /// strings by their places, on the number formats by the numbers of the styles, and on whether
-    /// dates count from 1904.
+    /// dates count from 1904. A style id counts where it is above 0 and one of the styles has it.
     ///
     /// A `dimension` without `ref` is refused as UnexpectedNode, one whose `ref` names no area by
     /// the fault of that text. Where the part ends before the data, the refusal is NotAWorksheet
@@ -69,17 +75,19 @@ impl<'a, P: Package> XlsxCellReader<'a, P> {
         xml: XlReader<'a, P>,
         strings: &'a [String],
         formats: &'a [CellFormat],
+        styles: &'a [Style],
         is_1904: bool,
     ) -> Result<XlsxCellReader<'a, P>, XlsxError>
         requires reading { IsReading (xml_reader.reading_by P.state xml) }
         requires first { (xml_reader.reading_by P.state xml).at ≡ 0 }
         ensures same_reference { IfOk result (λ reader.
-            reference_of reader ≡ xml_reader.reference_of xml.entry) }
+            reference_of reader ≡ xml_reader.held_package xml.entry) }
         ensures grounds { IfOk result (λ reader. grounds_by reader ≡ (record {
           strings = map string_bytes strings.now;
           formats = formats.now;
           is_1904 = is_1904;
         })) }
+        ensures styles { IfOk result (λ reader. styles_held reader ≡ styles.now) }
         ensures enters { IfOk result (λ reader. EntersCells (area_held reader)
             (xml_reader.reading_by P.state xml.entry) (flow_by P.state reader)) }
         ensures err { IfErr result (EnterCellsFails (xml_reader.reading_by P.state xml.entry)) }
@@ -92,6 +100,7 @@ impl<'a, P: Package> XlsxCellReader<'a, P> {
             package,
             strings,
             formats,
+            styles,
             is_1904,
             dimensions,
             stream: CellStream::new(sheet),
@@ -103,6 +112,7 @@ impl<'a, P: Package> XlsxCellReader<'a, P> {
         package: &'a mut P,
         strings: &'a [String],
         formats: &'a [CellFormat],
+        styles: &'a [Style],
         is_1904: bool,
         sheet: SheetCursor,
         dimensions: Dimensions,
@@ -115,6 +125,7 @@ impl<'a, P: Package> XlsxCellReader<'a, P> {
           formats = formats.now;
           is_1904 = is_1904;
         }) }
+        ensures styles { styles_held result ≡ styles.now }
         ensures dimensions { area_held result ≡ dimensions }
         ensures stream { (flow_by P.state result).stream ≡ stream (P.state «package».old) sheet }
         ensures going { ((flow_by P.state result).is_done ≡ false)
@@ -125,6 +136,7 @@ impl<'a, P: Package> XlsxCellReader<'a, P> {
             package,
             strings,
             formats,
+            styles,
             is_1904,
             dimensions,
             stream: CellStream::new(sheet),
@@ -137,6 +149,13 @@ impl<'a, P: Package> XlsxCellReader<'a, P> {
         ensures { result ≡ area_held self.now }
     {
         self.dimensions
+    }
+
+    /// The styles that the style ids of cells name.
+    pub fn styles(&self) -> &[Style]
+        ensures { result.now ≡ styles_held self.now }
+    {
+        self.styles
     }
 
     /// How often a call of the package failed.
@@ -183,13 +202,19 @@ impl<'a, P: Package> XlsxCellReader<'a, P> {
         let wants = Wants {
             values: true,
             formulas: false,
+            styles: false,
         };
         let book = Book {
             strings: self.strings,
             formats: self.formats,
             is_1904: self.is_1904,
         };
-        let Some(read) = self.stream.next(self.package, Asked { wants, book })? else {
+        let asked = Asked {
+            wants,
+            book,
+            style_count: self.styles.len(),
+        };
+        let Some(read) = self.stream.next(self.package, asked)? else {
             return Ok(None);
         };
         let CellRead { pos, value, .. } = read;
@@ -230,16 +255,61 @@ impl<'a, P: Package> XlsxCellReader<'a, P> {
         let wants = Wants {
             values: false,
             formulas: true,
+            styles: false,
         };
         let book = Book {
             strings: self.strings,
             formats: self.formats,
             is_1904: self.is_1904,
         };
-        let Some(read) = self.stream.next(self.package, Asked { wants, book })? else {
+        let asked = Asked {
+            wants,
+            book,
+            style_count: self.styles.len(),
+        };
+        let Some(read) = self.stream.next(self.package, asked)? else {
             return Ok(None);
         };
         let CellRead { pos, formula, .. } = read;
         Ok(Some(Cell::new(pos, formula)))
+    }
+
+    /// Takes the next cell whose style id counts, and answers its row and its column, counted from
+    /// 0, and this id: the number of its `s` (18.3.1.4), above 0 and below the number of styles.
+    /// Other cells are passed. Answers None where no such cell is left before the end of the
+    /// sheet's data, and from then on.
+    ///
+    /// Rows and positions are refused as by `next_cell`, and attributes that can't be read up to
+    /// `s` as XmlAttr. What stands in cells is not read: an end that breaks the nesting is
+    /// refused in it too, and a part that ends there as XmlEof. After a refusal the refusal is
+    /// Failed.
+    pub fn next_style_id(&mut self) -> Result<Option<(u32, u32, usize)>, XlsxError>
+        requires { IsFlowing (flow_by P.state self.old) }
+        ensures hold { KeepsHold self.old self.new }
+        ensures flowing { IsFlowing (flow_by P.state self.new) }
+        ensures reads { let old = flow_by P.state self.old in
+            let new = flow_by P.state self.new in
+            ReadsPart Io result old.stream.reading new.stream.reading }
+        ensures rests { RestsAtEnd (flow_by P.state self.old) (flow_by P.state self.new) }
+        ensures stands { let old = flow_by P.state self.old in
+            let new = flow_by P.state self.new in
+            IfOk result (λ found. StyledTo found old new) }
+        ensures counts { let count = length (styles_held self.old) in
+            IfOk result (λ found. IfSome found (λ own. is_explicit count own ≡ true)) }
+        ensures takes { let old = flow_by P.state self.old in
+            let new = flow_by P.state self.new in
+            let count = length (styles_held self.old) in
+            old.stream.reading.source.is_told ≡ true → (before : List Mark)
+            (earlier : List FormulaText) → StandsBehind before earlier old.stream →
+            IfOk result (λ found. TakesStyleId count before earlier found old new) }
+        ensures err { let old = flow_by P.state self.old in
+            let new = flow_by P.state self.new in
+            IfErr result (StyleIdFails (length (styles_held self.old)) old new) }
+        ensures kind { IfErr result IsStyleIdError }
+        ensures after { (flow_by P.state self.old).is_failed ≡ true →
+            IsErrAnd result (λ error. error ≡ Failed) }
+        ensures failed { (flow_by P.state self.new).is_failed ≡ is_err result }
+    {
+        self.stream.next_styled(self.package, self.styles.len())
     }
 }

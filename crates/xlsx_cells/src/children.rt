@@ -16,9 +16,9 @@ ghost use Rattle.xlsx_formulas.specs.Formula.{FormulaText};
 ghost use Rattle.xlsx_formulas.specs.Kept.{AreMasters};
 ghost use Rattle.xlsx_cells.specs.Children.{StandsAtElement, value_kept, IsNamedAs, value_name};
 ghost use Rattle.xlsx_cells.specs.Children.{ChildFails, AreChildrenRefused, FormulaStep};
-ghost use Rattle.xlsx_cells.specs.Children.{ReadsFormula, ReadsFormulas};
+ghost use Rattle.xlsx_cells.specs.Children.{ReadsFormula, ReadsFormulaChildren};
 ghost use Rattle.xlsx_cells.specs.declared.children.ChildName.TheVariants.{Formula};
-ghost use Rattle.xlsx_cells.specs.Errors.{IsCellError};
+ghost use Rattle.xlsx_cells.specs.CellErrors.{IsCellError};
 ghost use Rattle.xlsx_cells.specs.Ends.{reads_children, end_in_children};
 
 use cell_data::{CellFormat, DataRef, XlsxError};
@@ -33,6 +33,8 @@ use xlsx_values::{Book, CellType, read_inline, read_value};
 pub struct Wants {
     pub values: bool,
     pub formulas: bool,
+    /// The style ids.
+    pub styles: bool,
 }
 
 /// What the start of a cell says.
@@ -40,6 +42,8 @@ pub struct Wants {
 pub struct CellStart {
     /// The row and the column, counted from 0.
     pub pos: (u32, u32),
+    /// 0 where it isn't wanted.
+    pub style_id: usize,
     pub format: CellFormat,
     pub typ: CellType,
 }
@@ -57,6 +61,8 @@ pub struct CellContents {
 pub struct Asked<'a> {
     pub wants: Wants,
     pub book: Book<'a>,
+    /// How many styles there are: a style id counts above 0 and below this.
+    pub style_count: usize,
 }
 
 /// What a child of a cell is by its name.
@@ -271,7 +277,7 @@ pub fn read_children<P: Package>(
     ensures formula { let old = reading (P.state «package».old) cursor.old in
         old.source.is_told ≡ true → asked.entry.wants.formulas ≡ true →
         (earlier : List FormulaText) → AreMasters earlier masters.old →
-        IfOk result (λ contents. ReadsFormulas earlier start.now.pos (content 0 (ahead old))
+        IfOk result (λ contents. ReadsFormulaChildren earlier start.now.pos (content 0 (ahead old))
         (record { masters = masters.new; text = string_bytes contents.formula })) }
     ensures same { asked.entry.wants.formulas ≡ false → OnOk result (masters.new ≡ masters.old) }
     ensures err { let old = reading (P.state «package».old) cursor.old in

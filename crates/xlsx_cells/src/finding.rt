@@ -5,7 +5,7 @@ ghost use Rattle.part_events.specs.Reading.{reading, open_elements, IsReading, R
 ghost use Rattle.part_events.specs.Section.{Element};
 ghost use Rattle.cell_data.specs.declared.error.XlsxError.TheVariants.{Io};
 ghost use Rattle.xlsx_cells.specs.Counting.{AreKept, IsRefused, IsRowRefused, IsPositionError};
-ghost use Rattle.xlsx_cells.specs.Errors.{IsFindError};
+ghost use Rattle.xlsx_cells.specs.CellErrors.{IsFindError};
 ghost use Rattle.xlsx_cells.specs.Finding.{Finds, FindsCellElement, StandsAtCell, FindFails};
 ghost use Rattle.xlsx_cells.specs.Marks.{Mark, cell_start, marks_of, behind_marks};
 ghost use Rattle.xlsx_cells.specs.Position.{PassesRows};

@@ -8,8 +8,6 @@ mod children;
 mod counters;
 mod finding;
 mod head;
-#[cfg(test)]
-mod reader_tests;
 mod sheet_cells;
 mod sheet_cursor;
 

@@ -1,15 +1,18 @@
-ghost use Rattle.std.specs.Prelude.{◌≡◌, ◌<◌, ◌++◌, [], ◌∷◌, true, IfOk, OnOk, IfErr, All, map};
-ghost use Rattle.std.specs.Prelude.{string_bytes};
+ghost use Rattle.std.specs.Prelude.{◌≡◌, ◌<◌, ◌++◌, [], ◌∷◌, true, false, IfOk, OnOk, IfErr, All};
+ghost use Rattle.std.specs.Prelude.{string_bytes, map, filter};
 ghost use Rattle.cell_refs.specs.declared.TheConstants.{MAX_ROWS, MAX_COLUMNS};
 ghost use Rattle.cell_data.specs.CellValue.{value_of_data_ref};
 ghost use Rattle.xlsx_cells.specs.Sheet.{used_values, used_formulas};
 ghost use Rattle.part_events.specs.Reading.{ReadsPart};
 ghost use Rattle.cell_data.specs.Cells.{IsInSheet};
 ghost use Rattle.cell_data.specs.declared.error.XlsxError.TheVariants.{Io, OutOfMemory};
+ghost use Rattle.cell_styles.specs.StyleMap.{IsOnSheet, is_explicit};
 ghost use Rattle.xlsx_values.specs.Book.{grounds_of};
-ghost use Rattle.xlsx_cells.specs.Errors.{IsCellError};
+ghost use Rattle.xlsx_cells.specs.Ends.{reads_children};
+ghost use Rattle.xlsx_cells.specs.CellErrors.{IsCellError, IsStyledError};
 ghost use Rattle.xlsx_cells.specs.SheetPart.{DataFails, HoldsValues, HoldsFormulas, value_entries};
-ghost use Rattle.xlsx_cells.specs.SheetPart.{formula_entries};
+ghost use Rattle.xlsx_cells.specs.SheetPart.{formula_entries, LieInSheet};
+ghost use Rattle.xlsx_cells.specs.StyleIds.{HoldsIds};
 ghost use Rattle.xlsx_cells.specs.Stream.{stream, IsStreaming, StandsBehind, data_ahead};
 ghost use Rattle.xlsx_cells.specs.Stream.{are_closed_ahead};
 
@@ -28,6 +31,9 @@ pub struct SheetCells {
     pub values: Vec<Cell<Data>>,
     /// Those with a formula, where formulas were asked for.
     pub formulas: Vec<Cell<String>>,
+    /// The rows, the columns and the style ids of those whose id is above 0 and below the number of
+    /// styles, where style ids were asked for.
+    pub style_ids: Vec<(u32, u32, usize)>,
 }
 
 /// Keeps the value of a cell where it holds one.
@@ -76,6 +82,28 @@ fn keep_formula(
     Ok(())
 }
 
+/// Keeps the style id of a cell where it counts.
+fn keep_id(
+    cells: &mut Vec<(u32, u32, usize)>,
+    pos: (u32, u32),
+    style_id: usize,
+    style_count: usize,
+) -> Result<(), XlsxError>
+    requires row { pos.0 < MAX_ROWS }
+    requires column { pos.1 < MAX_COLUMNS }
+    requires inside { All IsOnSheet cells.old.items }
+    ensures id { let found = filter (is_explicit style_count) ((pos.0, pos.1, style_id) ∷ []) in
+        OnOk result (cells.new.items ≡ cells.old.items ++ found) }
+    ensures inside { OnOk result (All IsOnSheet cells.new.items) }
+    ensures err { IfErr result (λ error. error ≡ OutOfMemory) }
+{
+    if style_id == 0 || style_count <= style_id {
+        return Ok(());
+    }
+    cells.push((pos.0, pos.1, style_id))?;
+    Ok(())
+}
+
 /// Reads the rest of a sheet's data, of which nothing was taken yet, to their end.
 pub fn collect<P: Package>(
     alloc: Global,
@@ -90,8 +118,8 @@ pub fn collect<P: Package>(
         ReadsPart Io result old.reading new.reading }
     ensures closed { let old = stream (P.state «package».old) sheet.old in
         old.reading.source.is_told ≡ true → OnOk result (are_closed_ahead old ≡ true) }
-    ensures inside { IfOk result (λ cells.
-        All IsInSheet cells.values.items × All IsInSheet cells.formulas.items) }
+    ensures inside { IfOk result (λ cells. LieInSheet cells.values.items cells.formulas.items
+        cells.style_ids.items) }
     ensures values { let old = stream (P.state «package».old) sheet.old in
         old.reading.source.is_told ≡ true → asked.entry.wants.values ≡ true →
         IfOk result (λ cells. HoldsValues (grounds_of asked.entry.book) (data_ahead old)
@@ -100,23 +128,30 @@ pub fn collect<P: Package>(
         old.reading.source.is_told ≡ true → asked.entry.wants.formulas ≡ true →
         IfOk result (λ cells. HoldsFormulas (data_ahead old)
         (formula_entries cells.formulas.items)) }
+    ensures styles { let old = stream (P.state «package».old) sheet.old in
+        old.reading.source.is_told ≡ true → asked.entry.wants.styles ≡ true → IfOk result (λ cells.
+        HoldsIds asked.entry.style_count (data_ahead old) cells.style_ids.items) }
     ensures err { let old = stream (P.state «package».old) sheet.old in
         let new = stream (P.state «package».new) sheet.new in
         IfErr result (DataFails asked.entry.wants (grounds_of asked.entry.book) old new) }
     ensures kind { IfErr result IsCellError }
+    ensures plain { reads_children asked.entry.wants ≡ false → IfErr result IsStyledError }
 {
     let mut cells = SheetCells {
         values: Vec::new(alloc),
         formulas: Vec::new(alloc),
+        style_ids: Vec::new(alloc),
     };
     'cells: while let Some(read) = sheet.next(package, asked)? {
         let CellRead {
             pos,
             value,
             formula,
+            style_id,
         } = read;
         keep_value(alloc, &mut cells.values, pos, value, asked.book.strings)?;
         keep_formula(&mut cells.formulas, pos, formula)?;
+        keep_id(&mut cells.style_ids, pos, style_id, asked.style_count)?;
     }
     Ok(cells)
 }

@@ -1,21 +1,24 @@
-ghost use Rattle.std.specs.Prelude.{◌≡◌, List, [], length, true, None, IfOk, OnOk, IfErr};
+ghost use Rattle.std.specs.Prelude.{◌≡◌, List, [], length, true, false, None, IfOk, OnOk, IfErr};
 ghost use Rattle.std.specs.Prelude.{IfSome, IfNone};
-ghost use Rattle.part_events.specs.Package.{UsesPackage, LeavesPackage, part_of, events_in};
+ghost use Rattle.part_events.specs.Package.{UsesPackage, LeavesPackage, part_of, event_count};
 ghost use Rattle.xlsx_cells.specs.Head.{IsHeadError};
 ghost use Rattle.xlsx_cells.specs.SheetPart.{EntersData, OpenDataFails};
 ghost use Rattle.part_events.specs.Reading.{ReadsPart, open_elements};
+ghost use Rattle.cell_styles.specs.StyleMap.{is_explicit};
 ghost use Rattle.cell_data.specs.declared.error.XlsxError.TheVariants.{Io};
 ghost use Rattle.xlsx_values.specs.Book.{grounds_of};
 ghost use Rattle.xlsx_formulas.specs.Formula.{FormulaText};
 ghost use Rattle.xlsx_formulas.specs.Kept.{AreMasters};
 ghost use Rattle.xlsx_cells.specs.Counting.{AreKept};
-ghost use Rattle.xlsx_cells.specs.Errors.{IsCellError};
+ghost use Rattle.xlsx_cells.specs.Ends.{reads_children};
+ghost use Rattle.xlsx_cells.specs.CellErrors.{IsCellError, IsStyledError};
 ghost use Rattle.xlsx_cells.specs.Marks.{Mark};
 ghost use Rattle.xlsx_cells.specs.Stream.{stream, IsStreaming, StandsBehind, StandsAfter};
 ghost use Rattle.xlsx_cells.specs.Stream.{TakesNext, NextCellFails};
+ghost use Rattle.xlsx_cells.specs.StyleSteps.{StandsStyled, TakesStyled, StyledStepFails};
 
 use crate::cell_read::{CellRead, read_cell};
-use crate::children::Asked;
+use crate::children::{Asked, Wants};
 use crate::counters::Counters;
 use crate::finding::find_cell;
 use crate::head::enter_data;
@@ -24,6 +27,7 @@ use cell_refs::Dimensions;
 use part_events::{Cursor, Package};
 use std::alloc::Global;
 use xlsx_formulas::Masters;
+use xlsx_values::Book;
 
 /// Where reading stands in a sheet's data: behind the cells that were taken.
 #[derive(Drop)]
@@ -76,6 +80,7 @@ impl SheetCursor {
             let new = stream (P.state «package».new) self.new in
             IfErr result (NextCellFails asked.entry.wants (grounds_of asked.entry.book) old new) }
         ensures kind { IfErr result IsCellError }
+        ensures plain { reads_children asked.entry.wants ≡ false → IfErr result IsStyledError }
     {
         let alloc = self.cursor.alloc();
         let base = self.base;
@@ -84,6 +89,54 @@ impl SheetCursor {
         };
         let masters = &mut self.masters;
         Ok(Some(read_cell(alloc, package, &mut self.cursor, asked, pos, masters)?))
+    }
+
+    /// Takes the next cell of the sheet's data whose style id is above 0 and below the number of
+    /// styles, and answers its row, its column and this id. Answers None at the end of the data.
+    pub fn next_styled<P: Package>(
+        &mut self,
+        package: &mut P,
+        style_count: usize,
+    ) -> Result<Option<(u32, u32, usize)>, XlsxError>
+        requires { IsStreaming (stream (P.state «package».old) self.old) }
+        ensures reads { let old = stream (P.state «package».old) self.old in
+            let new = stream (P.state «package».new) self.new in
+            ReadsPart Io result old.reading new.reading }
+        ensures stands { let old = stream (P.state «package».old) self.old in
+            let new = stream (P.state «package».new) self.new in
+            IfOk result (λ found. StandsStyled found old new) }
+        ensures counts { IfOk result (λ found.
+            IfSome found (λ own. is_explicit style_count own ≡ true)) }
+        ensures takes { let old = stream (P.state «package».old) self.old in
+            let new = stream (P.state «package».new) self.new in
+            old.reading.source.is_told ≡ true → (before : List Mark)
+            (earlier : List FormulaText) → StandsBehind before earlier old →
+            IfOk result (λ found. TakesStyled style_count before earlier found old new) }
+        ensures err { let old = stream (P.state «package».old) self.old in
+            let new = stream (P.state «package».new) self.new in
+            IfErr result (StyledStepFails style_count old new) }
+        ensures kind { IfErr result IsStyledError }
+    {
+        let asked = Asked {
+            wants: Wants {
+                values: false,
+                formulas: false,
+                styles: true,
+            },
+            book: Book {
+                strings: &[],
+                formats: &[],
+                is_1904: false,
+            },
+            style_count,
+        };
+        'cells: while let Some(read) = self.next(package, asked)? {
+            let CellRead { pos, style_id, .. } = read;
+            if 0 < style_id && style_id < style_count {
+                return Ok(Some((pos.0, pos.1, style_id)));
+            }
+        }
+        Ok(None)
     }
 }
 
@@ -103,7 +156,7 @@ pub fn open_data<P: Package>(
         EntersData path.now entered.1 old (stream (P.state «package».new) entered.0))) }
     ensures leaves { let old = P.state «package».old in
         let new = P.state «package».new in
-        IfErr result (LeavesPackage (events_in old.parts path.now) Io old new) }
+        IfErr result (LeavesPackage (event_count old.parts path.now) Io old new) }
     ensures err { IfErr result
         (OpenDataFails path.now (P.state «package».old) (P.state «package».new)) }
     ensures kind { IfErr result IsHeadError }

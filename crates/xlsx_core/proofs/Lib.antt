@@ -2,3 +2,4 @@ pub mod LastOfEach
 pub mod RangesMade
 pub mod SheetLaws
 pub mod SheetsRead
+pub mod StylesMade

@@ -1,29 +1,42 @@
 -- A package opens as one workbook, and its sheets are read in one way.
 use Rattle.std.proofs.Common.{◌≡◌, ℕ, List, [], ap, sym, ◌∙◌, subst, inl, inr, ◌⊎◌, Option, Some}
-use Rattle.std.proofs.Common.{None, Ok, codes}
-use Rattle.std.specs.Prelude.{IsSome, IsSomeAnd, MatchOption}
+use Rattle.std.proofs.Common.{None, Result, Ok, Err, codes, refl, map, length}
+use Rattle.std.proofs.lemmas.List.{length-map}
+use Rattle.std.specs.Prelude.{IsSomeAnd, IsOkAnd, MatchOption, filter}
+use Rattle.cell_refs.specs.declared.dimensions.Dimensions.{Dimensions}
 use Rattle.part_events.specs.Event.{Event}
 use Rattle.part_events.specs.Package.{Part, part_of}
 use Rattle.cell_data.specs.CellValue.{CellValue}
 use Rattle.cell_data.specs.Positions.{last_of_each}
 use Rattle.cell_data.specs.declared.error.XlsxError.{XlsxError}
-use Rattle.cell_data.specs.declared.error.XlsxError.TheVariants.{NotBuilt, WorksheetNotFound}
+use Rattle.cell_data.specs.declared.error.XlsxError.TheVariants.{WorksheetNotFound}
+use Rattle.cell_data.specs.declared.format.CellFormat.{CellFormat}
 use Rattle.xlsx_sections.specs.PartSection.{PartSection, inside_of, closed_section_of}
 use Rattle.xlsx_strings.specs.Strings.{strings_in, HasStrings}
+use Rattle.cell_styles.specs.StyleMap.{StyledCell, StyleMap, styles_of, styles_in, first_id_at}
+use Rattle.cell_styles.specs.StyleMap.{position_in, places, covering_area, is_explicit}
+use Rattle.cell_styles.specs.declared.color.Color.{Color}
+use Rattle.cell_styles.specs.declared.style.Style.{Style}
+use Rattle.xlsx_formats.specs.Formattings.{StyleSaid, style_said}
+use Rattle.xlsx_theme.specs.ThemePart.{theme_colors}
+use Rattle.xlsx_stylesheet.specs.StyleSheet.{cell_formats_in, AreStyles, HasStyles}
 use Rattle.xlsx_values.specs.Value.{Grounds}
 use Rattle.xlsx_formulas.specs.Formula.{FormulaText}
 use Rattle.xlsx_cells.specs.Sheet.{values_in, formulas_written, used_values, used_formulas}
 use Rattle.xlsx_cells.specs.Sheet.{formulas_along}
 use Rattle.xlsx_cells.specs.SheetPart.{SheetPartCause, IsSoundSheet}
+use Rattle.xlsx_cells.specs.StyleIds.{ids_in}
 use Rattle.xlsx_cells.proofs.SoundSheet.{no_part_cause}
 use Rattle.xlsx_open.specs.Opening.{Opening, HasRelationships, HasWorkbook, IsOpening, OpensAs}
-use Rattle.xlsx_open.specs.Opening.{HasNothing, IsBuilt, IsNotBuilt, OpeningCause}
-use Rattle.xlsx_open.specs.Paths.{folder_of, workbook_part, strings_part, styles_part}
+use Rattle.xlsx_open.specs.Opening.{HasNothing, OpeningCause}
+use Rattle.xlsx_open.specs.Paths.{folder_of, workbook_part, strings_part, theme_part, styles_part}
 use Rattle.xlsx_open.specs.Relationships.{Related}
+use Rattle.xlsx_open.specs.SharedParts.{SharedSaid, HasShared}
 use Rattle.xlsx_open.specs.Sheets.{PlacedSheet}
 use Rattle.xlsx_open.proofs.Sound.{both_at, same_path, same_related, no_cause}
-use Rattle.xlsx_core.specs.SheetReading.{events_named, grounds_with, grounds_by, both_wanted}
-use Rattle.xlsx_core.specs.SheetReading.{ReadsAs, LacksSheet, HasPartCause, SheetCause}
+use Rattle.xlsx_core.specs.SheetReading.{events_named, grounds_with, opened_grounds, all_wanted}
+use Rattle.xlsx_core.specs.SheetReading.{SayTheSame, ReadsAs, LacksSheet, HasPartCause}
+use Rattle.xlsx_core.specs.SheetReading.{SheetCause}
 
 -- ---- one opening
 
@@ -82,6 +95,12 @@ are_alike parts one two first second =
     (subst (λ (r : List ℕ → Option Related). HasWorkbook parts first.path r two) related
     workbook)
 
+-- what its sheets share is said once
+pub record ShareAlike (one two : SharedSaid) : Type 0 where
+  pub strings : one.strings ≡ two.strings
+  pub formats : one.formats ≡ two.formats
+  pub styles : one.styles ≡ two.styles
+
 strings_alike : (parts : List Part) (path : List ℕ) (one two : List (List ℕ))
     → HasStrings parts path one → HasStrings parts path two → one ≡ two
 strings_alike parts path one two first second =
@@ -90,19 +109,52 @@ strings_alike parts path one two first second =
     (λ none other. none ∙ sym other)
     (λ inside is other. let both : Ok one ≡ Ok two = sym is ∙ other in cc) first second
 
-same_strings : (parts : List Part) (one two : Opening) → OpensAs parts one → OpensAs parts two
-    → one.strings ≡ two.strings
-same_strings parts one two first second =
-    strings_alike parts (strings_part first.path) one.strings two.strings first.strings
-    (subst (λ (p : List ℕ). HasStrings parts (strings_part p) two.strings)
-    (same_path parts second.path first.path second.found first.found) second.strings)
+both_ok : {A E : Type 0} (answer : Result A E) (P Q : A → Type 0) → IsOkAnd answer P
+    → IsOkAnd answer Q → (x : A) × P x × Q x
+both_ok (Ok x) P Q p q = (x, p, q)
+both_ok (Err e) P Q p q = absurd p
+
+styles_alike : (theme : List Color) (parts : List Part) (path : List ℕ)
+    (formats others : List CellFormat) (styles again : List StyleSaid)
+    → HasStyles theme parts path formats styles → HasStyles theme parts path others again
+    → (formats ≡ others) × (styles ≡ again)
+styles_alike theme parts path formats others styles again first second =
+    both_of (part_of parts path) (closed_section_of (codes "styleSheet") path parts)
+    ((formats ≡ []) × (styles ≡ [])) ((others ≡ []) × (again ≡ []))
+    (λ inside. IsOkAnd (cell_formats_in theme inside) (AreStyles formats styles))
+    (λ inside. IsOkAnd (cell_formats_in theme inside) (AreStyles others again))
+    (λ none other. (none.0 ∙ sym other.0, none.1 ∙ sym other.1))
+    (λ inside is other. let both = both_ok (cell_formats_in theme inside)
+    (AreStyles formats styles) (AreStyles others again) is other in
+    (both.1.0 ∙ sym both.2.0, both.1.1 ∙ sym both.2.1)) first second
+
+share_alike : (parts : List Part) (path : List ℕ) (one two : SharedSaid)
+    → HasShared parts path one → HasShared parts path two → ShareAlike one two
+share_alike parts path one two first second =
+    let styles = styles_alike (theme_colors parts (theme_part path)) parts (styles_part path)
+    one.formats two.formats one.styles two.styles first.styles second.styles in
+    record {
+      strings = strings_alike parts (strings_part path) one.strings two.strings first.strings
+          second.strings;
+      formats = styles.0;
+      styles = styles.1;
+    }
+
+same_shared : (parts : List Part) (one two : Opening) → OpensAs parts one → OpensAs parts two
+    → ShareAlike one.shared two.shared
+same_shared parts one two first second =
+    share_alike parts first.path one.shared two.shared first.shared
+    (subst (λ (p : List ℕ). HasShared parts p two.shared)
+    (same_path parts second.path first.path second.found first.found) second.shared)
 
 same_grounds : (parts : List Part) (one two : Opening) → OpensAs parts one → OpensAs parts two
-    → grounds_by one ≡ grounds_by two
+    → opened_grounds one ≡ opened_grounds two
 same_grounds parts one two first second =
-    ap (λ (own : List (List ℕ)). grounds_with own one.is_1904)
-    (same_strings parts one two first second)
-    ∙ ap (grounds_with two.strings) (are_alike parts one two first second).epoch
+    let shared = same_shared parts one two first second in
+    ap (λ (own : List (List ℕ)). grounds_with own one.shared.formats one.is_1904) shared.strings
+    ∙ ap (λ (own : List CellFormat). grounds_with two.shared.strings own one.is_1904) shared.formats
+    ∙ ap (grounds_with two.shared.strings two.shared.formats)
+    (are_alike parts one two first second).epoch
 
 -- the sheet of a name is one
 pub same_events : (parts : List Part) (name : List ℕ) (one two : Opening)
@@ -116,96 +168,122 @@ same_events parts name one two events others first second is again =
 -- ---- one reading
 
 sounds_alike : (grounds : Grounds) (events : List Event) (all more : List ((ℕ × ℕ) × CellValue))
-    (written others : List ((ℕ × ℕ) × List FormulaText)) → IsSoundSheet grounds events all written
-    → IsSoundSheet grounds events more others → (all ≡ more) × (written ≡ others)
-sounds_alike grounds events all more written others first second =
+    (written others : List ((ℕ × ℕ) × List FormulaText)) (ids again : List StyledCell)
+    → IsSoundSheet grounds events all written ids → IsSoundSheet grounds events more others again
+    → (all ≡ more) × (written ≡ others) × (ids ≡ again)
+sounds_alike grounds events all more written others ids again first second =
     let both : Some first.section ≡ Some second.section = sym first.found ∙ second.found in
     let section : first.section ≡ second.section = cc in
     let values : Ok all ≡ Ok more = sym first.valued
     ∙ ap (λ (s : PartSection). values_in grounds (inside_of s)) section ∙ second.valued in
     let formulas : Ok written ≡ Ok others = sym first.written
     ∙ ap (λ (s : PartSection). formulas_written (inside_of s)) section ∙ second.written in
-    (cc, cc)
+    let styles : Ok ids ≡ Ok again = sym first.styled
+    ∙ ap (λ (s : PartSection). ids_in (inside_of s)) section ∙ second.styled in
+    (cc, cc, cc)
+
+-- the styles of ids by palettes that say the same
+styles_in_alike : (area : Option Dimensions) (palette other : List Style) (ids : List StyledCell)
+    → length palette ≡ length other → map style_said palette ≡ map style_said other
+    → SayTheSame (styles_in area palette ids) (styles_in area other ids)
+styles_in_alike None palette other ids sizes same =
+    record { bounds = refl; palette = refl; ids = refl }
+styles_in_alike (Some area) palette other ids sizes same = record {
+  bounds = refl;
+  palette = same;
+  ids = ap (λ (n : ℕ). map (λ (place : ℕ). first_id_at n ids (position_in area place))
+      (places area)) sizes;
+}
+
+styles_of_alike : (palette other : List Style) (ids : List StyledCell)
+    → map style_said palette ≡ map style_said other
+    → SayTheSame (styles_of palette ids) (styles_of other ids)
+styles_of_alike palette other ids same =
+    let sizes : length palette ≡ length other =
+    sym (length-map palette style_said) ∙ ap length same ∙ length-map other style_said in
+    subst (λ (n : ℕ). SayTheSame
+    (styles_in (covering_area (filter (is_explicit n) ids)) palette ids) (styles_of other ids))
+    (sym sizes)
+    (styles_in_alike (covering_area (filter (is_explicit (length other)) ids)) palette other ids
+    sizes same)
 
 pub one_reading : (parts : List Part) (name : List ℕ) (values others : List ((ℕ × ℕ) × CellValue))
-    (formulas more : List ((ℕ × ℕ) × List ℕ)) → ReadsAs parts name values formulas
-    → ReadsAs parts name others more → (values ≡ others) × (formulas ≡ more)
-one_reading parts name values others formulas more reads again =
-    let same : Some again.events ≡ Some reads.events =
-    same_events parts name again.opening reads.opening (Some again.events) (Some reads.events)
-    again.opens reads.opens again.found reads.found in
-    let events : again.events ≡ reads.events = cc in
-    let sheet : IsSoundSheet (grounds_by reads.opening) reads.events again.all again.written =
-    subst (λ (own : Grounds). IsSoundSheet own reads.events again.all again.written)
-    (same_grounds parts again.opening reads.opening again.opens reads.opens)
-    (subst (λ (own : List Event). IsSoundSheet (grounds_by again.opening) own again.all
-    again.written) events again.sheet) in
-    let both = sounds_alike (grounds_by reads.opening) reads.events reads.all again.all
-    reads.written again.written reads.sheet sheet in
-    let strings = same_strings parts reads.opening again.opening reads.opens again.opens in (
-      reads.valued
-          ∙ ap (λ (own : List (List ℕ)). last_of_each (used_values own reads.all)) strings
+    (formulas more : List ((ℕ × ℕ) × List ℕ)) (styles again : StyleMap)
+    → ReadsAs parts name values formulas styles → ReadsAs parts name others more again
+    → (values ≡ others) × (formulas ≡ more) × SayTheSame styles again
+one_reading parts name values others formulas more styles again first second =
+    let same : Some second.events ≡ Some first.events =
+    same_events parts name second.opening first.opening (Some second.events) (Some first.events)
+    second.opens first.opens second.found first.found in
+    let events : second.events ≡ first.events = cc in
+    let sheet : IsSoundSheet (opened_grounds first.opening) first.events second.all second.written
+    second.ids = subst (λ (own : Grounds). IsSoundSheet own first.events second.all second.written
+    second.ids)
+    (same_grounds parts second.opening first.opening second.opens first.opens)
+    (subst (λ (own : List Event). IsSoundSheet (opened_grounds second.opening) own second.all
+    second.written second.ids) events second.sheet) in
+    let both = sounds_alike (opened_grounds first.opening) first.events first.all second.all
+    first.written second.written first.ids second.ids first.sheet sheet in
+    let shared = same_shared parts first.opening second.opening first.opens second.opens in
+    let styles = styles_of_alike first.palette second.palette first.ids
+    (first.named ∙ shared.styles ∙ sym second.named) in (
+      first.valued
+          ∙ ap (λ (own : List (List ℕ)). last_of_each (used_values own first.all)) shared.strings
           ∙ ap (λ (all : List ((ℕ × ℕ) × CellValue)).
-          last_of_each (used_values again.opening.strings all)) both.0
-          ∙ sym again.valued,
-      reads.listed
+          last_of_each (used_values second.opening.shared.strings all)) both.0
+          ∙ sym second.valued,
+      first.listed
           ∙ ap (λ (written : List ((ℕ × ℕ) × List FormulaText)).
           last_of_each (used_formulas (formulas_along [] written))) both.1
-          ∙ sym again.listed,
+          ∙ sym second.listed,
+      subst (λ (own : StyleMap). SayTheSame own again) (sym first.styled)
+          (subst (SayTheSame (styles_of first.palette first.ids)) (sym second.styled)
+          (subst (λ (ids : List StyledCell). SayTheSame (styles_of first.palette first.ids)
+          (styles_of second.palette ids)) both.2 styles)),
     )
 
 -- ---- what is read isn't refused
 
-never_absent : {A : Type 0} (o : Option A) → o ≡ None → IsSome o → ⊥
-never_absent o none some = let there = rw none at some in absurd cc
-
-pub built_or_not : (parts : List Part) → IsBuilt parts → IsNotBuilt parts → ⊥
-built_or_not parts built (path, found, styles) =
-    never_absent (part_of parts (styles_part path))
-    (ap (λ (p : List ℕ). part_of parts (styles_part p))
-    (same_path parts path built.path found built.found) ∙ built.no_styles) styles
-
 lacks_never : (parts : List Part) (name : List ℕ) (values : List ((ℕ × ℕ) × CellValue))
-    (formulas : List ((ℕ × ℕ) × List ℕ)) → ReadsAs parts name values formulas
-    → LacksSheet parts name → ⊥
-lacks_never parts name values formulas reads lacks =
+    (formulas : List ((ℕ × ℕ) × List ℕ)) (styles : StyleMap)
+    → ReadsAs parts name values formulas styles → LacksSheet parts name → ⊥
+lacks_never parts name values formulas styles reads lacks =
     let same : Some reads.events ≡ None =
     same_events parts name reads.opening lacks.opening (Some reads.events) None reads.opens
     lacks.opens reads.found lacks.none in
     absurd cc
 
 part_never : (parts : List Part) (name : List ℕ) (values : List ((ℕ × ℕ) × CellValue))
-    (formulas : List ((ℕ × ℕ) × List ℕ)) (error : XlsxError)
-    → ReadsAs parts name values formulas → HasPartCause parts name error → ⊥
-part_never parts name values formulas error reads has =
+    (formulas : List ((ℕ × ℕ) × List ℕ)) (styles : StyleMap) (error : XlsxError)
+    → ReadsAs parts name values formulas styles → HasPartCause parts name error → ⊥
+part_never parts name values formulas styles error reads has =
     let same : Some has.events ≡ Some reads.events =
     same_events parts name has.opening reads.opening (Some has.events) (Some reads.events)
     has.opens reads.opens has.found reads.found in
     let events : has.events ≡ reads.events = cc in
-    let cause : SheetPartCause both_wanted (grounds_by reads.opening) reads.events error =
-    subst (λ (own : Grounds). SheetPartCause both_wanted own reads.events error)
+    let cause : SheetPartCause all_wanted (opened_grounds reads.opening) reads.events error =
+    subst (λ (own : Grounds). SheetPartCause all_wanted own reads.events error)
     (same_grounds parts has.opening reads.opening has.opens reads.opens)
-    (subst (λ (own : List Event). SheetPartCause both_wanted (grounds_by has.opening) own error)
+    (subst (λ (own : List Event). SheetPartCause all_wanted (opened_grounds has.opening) own error)
     events has.cause) in
-    no_part_cause both_wanted (grounds_by reads.opening) reads.events reads.all reads.written
-    error reads.sheet cause
+    no_part_cause all_wanted (opened_grounds reads.opening) reads.events reads.all reads.written
+    reads.ids error reads.sheet cause
 
 either_never : (parts : List Part) (name : List ℕ) (values : List ((ℕ × ℕ) × CellValue))
-    (formulas : List ((ℕ × ℕ) × List ℕ)) (error : XlsxError)
-    → ReadsAs parts name values formulas → OpeningCause parts error ⊎ HasPartCause parts name error
-    → ⊥
-either_never parts name values formulas error reads (inl cause) =
+    (formulas : List ((ℕ × ℕ) × List ℕ)) (styles : StyleMap) (error : XlsxError)
+    → ReadsAs parts name values formulas styles
+    → OpeningCause parts error ⊎ HasPartCause parts name error → ⊥
+either_never parts name values formulas styles error reads (inl cause) =
     no_cause parts reads.opening error reads.opens cause
-either_never parts name values formulas error reads (inr has) =
-    part_never parts name values formulas error reads has
+either_never parts name values formulas styles error reads (inr has) =
+    part_never parts name values formulas styles error reads has
 
 -- what is read has no cause to be refused
 pub sheet_never_refused : (parts : List Part) (name : List ℕ)
     (values : List ((ℕ × ℕ) × CellValue)) (formulas : List ((ℕ × ℕ) × List ℕ))
-    (error : XlsxError) → ReadsAs parts name values formulas → SheetCause parts name error → ⊥
-sheet_never_refused parts name values formulas NotBuilt reads cause =
-    built_or_not parts reads.built cause
-sheet_never_refused parts name values formulas (WorksheetNotFound asked) reads cause =
-    lacks_never parts name values formulas reads cause.1
-sheet_never_refused parts name values formulas error reads cause =
-    either_never parts name values formulas error reads cause
+    (styles : StyleMap) (error : XlsxError) → ReadsAs parts name values formulas styles
+    → SheetCause parts name error → ⊥
+sheet_never_refused parts name values formulas styles (WorksheetNotFound asked) reads cause =
+    lacks_never parts name values formulas styles reads cause.1
+sheet_never_refused parts name values formulas styles error reads cause =
+    either_never parts name values formulas styles error reads cause

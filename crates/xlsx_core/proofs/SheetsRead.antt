@@ -7,18 +7,23 @@ use Rattle.part_events.specs.Event.{Event}
 use Rattle.part_events.specs.Package.{Part, PackageState, SameParts}
 use Rattle.cell_data.specs.CellValue.{CellValue}
 use Rattle.cell_data.specs.declared.error.XlsxError.{XlsxError}
-use Rattle.cell_data.specs.declared.error.XlsxError.TheVariants.{OutOfMemory, Io, NotBuilt}
+use Rattle.cell_data.specs.declared.error.XlsxError.TheVariants.{OutOfMemory, Io}
 use Rattle.cell_data.specs.declared.error.XlsxError.TheVariants.{WorksheetNotFound}
+use Rattle.cell_styles.specs.StyleMap.{StyleMap, styles_of}
+use Rattle.cell_styles.specs.declared.style.Style.{Style}
 use Rattle.xlsx_values.specs.Value.{Grounds}
 use Rattle.xlsx_cells.specs.SheetPart.{SheetPartCause}
 use Rattle.xlsx_open.specs.Opening.{Opening, ListedSheet, listed_sheet, without_path}
-use Rattle.xlsx_open.specs.Opening.{HoldsOpening, OpensAs, IsBuilt}
+use Rattle.xlsx_open.specs.Opening.{HoldsOpening, OpensAs}
+use Rattle.xlsx_open.specs.SharedParts.{SharedSaid}
 use Rattle.xlsx_open.specs.Sheets.{PlacedSheet}
+use Rattle.xlsx_open.specs.declared.shared_parts.SharedParts.{SharedParts}
 use Rattle.xlsx_open.specs.declared.sheet.Metadata.{Metadata}
 use Rattle.xlsx_open.specs.declared.sheet.Sheet.{Sheet}
 use Rattle.xlsx_core.specs.Opened.{path_listed}
 use Rattle.xlsx_core.specs.SheetReading.{path_named, events_at, events_named, grounds_with}
-use Rattle.xlsx_core.specs.SheetReading.{grounds_by, both_wanted, HoldsSheet, ReadsAs}
+use Rattle.xlsx_core.specs.SheetReading.{opened_grounds, all_wanted, HoldsSheet, IsPaletteOf}
+use Rattle.xlsx_core.specs.SheetReading.{ReadsAs}
 use Rattle.xlsx_core.specs.SheetReading.{SheetFails, PlacedSheetFails}
 
 some_of : {A : Type 0} (o : Option A) (fact : A → Type 0) → IsSomeAnd o fact → (x : A)
@@ -48,37 +53,42 @@ listed_is_named name (sheet ∷ sheets) (path ∷ paths) (own ∷ placed) listed
     ∙ ap (λ (rest : Option (List ℕ)). if bytes_eq own.name name then Some own.path else rest)
     (listed_is_named name sheets paths placed others further)
 
--- a workbook that opened: in its lists the sheet of a name has its part at this path, and the
--- values of its cells rest on these grounds
+-- a workbook that opened: in its lists the sheet of a name has its part at this path, the values of
+-- its cells rest on these grounds, and their ids name styles of this palette
 pub record OpensPlaced
-    (name : List ℕ) (path : Option (List ℕ)) (grounds : Grounds) (parts : List Part) : Type 0 where
+    (name : List ℕ) (path : Option (List ℕ)) (grounds : Grounds) (palette : List Style)
+    (parts : List Part) : Type 0 where
   pub opening : Opening
   pub opens : OpensAs parts opening
   pub listed : path ≡ path_named name opening.sheets
-  pub rests : grounds ≡ grounds_by opening
+  pub rests : grounds ≡ opened_grounds opening
+  pub styled : IsPaletteOf opening palette
 
-pub opens_placed : {metadata : Metadata} {paths strings : List (String Global)} {is_1904 : Bool}
-    {parts : List Part} (name : List ℕ) (opening : Opening)
-    → HoldsOpening metadata paths strings is_1904 opening → OpensAs parts opening
+pub opens_placed : {metadata : Metadata} {paths : List (String Global)} {shared : SharedParts}
+    {is_1904 : Bool} {parts : List Part} (name : List ℕ) (opening : Opening)
+    → HoldsOpening metadata paths shared is_1904 opening → OpensAs parts opening
     → OpensPlaced name (path_listed name metadata.sheets.items paths)
-    (grounds_with (map string_bytes strings) is_1904) parts
-opens_placed {metadata = metadata} {paths = paths} {strings = strings} {is_1904 = is_1904} name
-    opening holds opens = record {
+    (grounds_with (map string_bytes shared.strings.items) shared.style_sheet.formats.items is_1904)
+    shared.style_sheet.styles.items parts
+opens_placed {metadata = metadata} {paths = paths} {is_1904 = is_1904} name opening holds opens =
+    record {
       opening = opening;
       opens = opens;
       listed = listed_is_named name metadata.sheets.items paths opening.sheets holds.sheets
           holds.paths;
-      rests = ap (λ (own : List (List ℕ)). grounds_with own is_1904) holds.strings
-          ∙ ap (grounds_with opening.strings) holds.epoch;
+      rests = ap (λ (own : SharedSaid). grounds_with own.strings own.formats is_1904) holds.shared
+          ∙ ap (grounds_with opening.shared.strings opening.shared.formats) holds.epoch;
+      styled = ap (λ (own : SharedSaid). own.styles) holds.shared;
     }
 
 -- what is said of the part of its sheet
-of_opening : (name : List ℕ) (path : Option (List ℕ)) (grounds : Grounds) (parts : List Part)
-    (opens : OpensPlaced name path grounds parts) (fact : Grounds → List Event → Type 0)
+of_opening : (name : List ℕ) (path : Option (List ℕ)) (grounds : Grounds) (palette : List Style)
+    (parts : List Part) (opens : OpensPlaced name path grounds palette parts)
+    (fact : Grounds → List Event → Type 0)
     → IsSomeAnd (events_at path parts) (fact grounds) → (events : List Event)
     × (events_named name opens.opening.sheets parts ≡ Some events)
-    × fact (grounds_by opens.opening) events
-of_opening name path grounds parts opens fact has =
+    × fact (opened_grounds opens.opening) events
+of_opening name path grounds palette parts opens fact has =
     let there = some_of (events_at path parts) (fact grounds) has in (
       there.0,
       ap (λ (own : Option (List ℕ)). events_at own parts) (sym opens.listed) ∙ there.1,
@@ -86,42 +96,44 @@ of_opening name path grounds parts opens fact has =
     )
 
 pub reads_as : (name : List ℕ) (path : Option (List ℕ)) (grounds : Grounds)
-    (old mid : PackageState) (values : List ((ℕ × ℕ) × CellValue))
-    (formulas : List ((ℕ × ℕ) × List ℕ)) → SameParts old mid
-    → OpensPlaced name path grounds old.parts → IsBuilt old.parts
+    (palette : List Style) (old mid : PackageState) (values : List ((ℕ × ℕ) × CellValue))
+    (formulas : List ((ℕ × ℕ) × List ℕ)) (styles : StyleMap) → SameParts old mid
+    → OpensPlaced name path grounds palette old.parts
     → IsSomeAnd (events_at path mid.parts)
-    (λ events. HoldsSheet grounds events values formulas)
-    → ReadsAs old.parts name values formulas
-reads_as name path grounds old mid values formulas same opens built has =
+    (λ events. HoldsSheet grounds palette events values formulas styles)
+    → ReadsAs old.parts name values formulas styles
+reads_as name path grounds palette old mid values formulas styles same opens has =
     let holds : Grounds → List Event → Type 0 = λ own events.
-    HoldsSheet own events values formulas in
-    let there = of_opening name path grounds old.parts opens holds
+    HoldsSheet own palette events values formulas styles in
+    let there = of_opening name path grounds palette old.parts opens holds
     (subst (λ (parts : List Part). IsSomeAnd (events_at path parts) (holds grounds)) same.parts
     has) in
     record {
       opening = opens.opening;
+      palette = palette;
       events = there.0;
       all = there.2.all;
       written = there.2.written;
+      ids = there.2.ids;
       opens = opens.opens;
-      built = built;
+      named = opens.styled;
       found = there.1;
       sheet = there.2.sheet;
       valued = there.2.valued;
       listed = there.2.listed;
+      styled = there.2.styled;
     }
 
 -- a workbook that opens, and whose sheet isn't read
 pub sheet_fails : (name : List ℕ) (path : Option (List ℕ)) (grounds : Grounds)
-    (old mid new : PackageState) (error : XlsxError) → SameParts old mid
+    (palette : List Style) (old mid new : PackageState) (error : XlsxError) → SameParts old mid
     → mid.faults ≡ old.faults
-    → (old.is_told ≡ true → OpensPlaced name path grounds old.parts)
-    → PlacedSheetFails name both_wanted grounds path mid new error → SheetFails name old new error
-sheet_fails name path grounds old mid new OutOfMemory same faults opens fails = tt
-sheet_fails name path grounds old mid new Io same faults opens fails = rw faults at fails
-sheet_fails name path grounds old mid new NotBuilt same faults opens fails = absurd fails
-sheet_fails name path grounds old mid new (WorksheetNotFound asked) same faults opens fails =
-    λ told.
+    → (old.is_told ≡ true → OpensPlaced name path grounds palette old.parts)
+    → PlacedSheetFails name all_wanted grounds path mid new error → SheetFails name old new error
+sheet_fails name path grounds palette old mid new OutOfMemory same faults opens fails = tt
+sheet_fails name path grounds palette old mid new Io same faults opens fails = rw faults at fails
+sheet_fails name path grounds palette old mid new (WorksheetNotFound asked) same faults opens
+    fails = λ told.
     let none : events_at path old.parts ≡ None =
     ap (λ (parts : List Part). events_at path parts) (sym same.parts)
     ∙ fails.1 (same.is_told ∙ told) in
@@ -133,11 +145,11 @@ sheet_fails name path grounds old mid new (WorksheetNotFound asked) same faults 
         none = ap (λ (own : Option (List ℕ)). events_at own old.parts) (sym here.listed) ∙ none;
       },
     )
-sheet_fails name path grounds old mid new error same faults opens fails = λ told.
+sheet_fails name path grounds palette old mid new error same faults opens fails = λ told.
     let here = opens told in
     let fact : Grounds → List Event → Type 0 = λ own events.
-    SheetPartCause both_wanted own events error in
-    let there = of_opening name path grounds old.parts here fact
+    SheetPartCause all_wanted own events error in
+    let there = of_opening name path grounds palette old.parts here fact
     (subst (λ (parts : List Part). IsSomeAnd (events_at path parts) (fact grounds)) same.parts
     (fails (same.is_told ∙ told))) in
     inr (record {

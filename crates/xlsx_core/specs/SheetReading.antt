@@ -10,20 +10,23 @@ use Rattle.cell_data.specs.CellValue.{CellValue, value_of_data}
 use Rattle.cell_data.specs.Positions.{last_of_each}
 use Rattle.cell_data.specs.Range.{cells_of}
 use Rattle.cell_data.specs.declared.error.XlsxError.{XlsxError}
-use Rattle.cell_data.specs.declared.error.XlsxError.TheVariants.{OutOfMemory, Io, NotBuilt}
+use Rattle.cell_data.specs.declared.format.CellFormat.{CellFormat}
+use Rattle.cell_data.specs.declared.error.XlsxError.TheVariants.{OutOfMemory, Io}
 use Rattle.cell_data.specs.declared.error.XlsxError.TheVariants.{WorksheetNotFound}
 use Rattle.cell_data.specs.declared.range.Range.{Range}
 use Rattle.cell_data.specs.declared.value.Data.{Data}
+use Rattle.cell_styles.specs.StyleMap.{StyledCell, StyleMap, styles_of}
+use Rattle.cell_styles.specs.declared.style.Style.{Style}
+use Rattle.xlsx_formats.specs.Formattings.{style_said}
 use Rattle.xlsx_values.specs.Value.{Grounds}
 use Rattle.xlsx_formulas.specs.Formula.{FormulaText}
-use Rattle.xlsx_cells.specs.Errors.{IsCellError}
+use Rattle.xlsx_cells.specs.CellErrors.{IsCellError}
 use Rattle.xlsx_cells.specs.Head.{HeadCause, IsHeadError}
 use Rattle.xlsx_cells.specs.Sheet.{used_values, used_formulas}
 use Rattle.xlsx_cells.specs.Sheet.{formulas_along}
 use Rattle.xlsx_cells.specs.SheetPart.{SheetPartCause, IsSoundSheet}
 use Rattle.xlsx_cells.specs.declared.children.Wants.{Wants}
-use Rattle.xlsx_open.specs.Opening.{Opening, OpensAs, IsBuilt, IsNotBuilt, IsOpeningError}
-use Rattle.xlsx_open.specs.Opening.{OpeningCause}
+use Rattle.xlsx_open.specs.Opening.{Opening, OpensAs, IsOpeningError, OpeningCause}
 use Rattle.xlsx_open.specs.Sheets.{PlacedSheet}
 use Rattle.xlsx_core.specs.declared.sheet_reading.SheetReading.{SheetReading}
 
@@ -41,16 +44,30 @@ events_at path parts = option_and_then (part_of parts) path
 abbrev pub events_named : List ℕ → List PlacedSheet → List Part → Option (List Event)
 events_named name sheets parts = events_at (path_named name sheets) parts
 
--- what the values of cells rest on, where styles aren't read
-abbrev pub grounds_with : List (List ℕ) → Bool → Grounds
-grounds_with strings is_1904 = record { strings = strings; formats = []; is_1904 = is_1904 }
+-- what the values of cells rest on
+abbrev pub grounds_with : List (List ℕ) → List CellFormat → Bool → Grounds
+grounds_with strings formats is_1904 = record {
+  strings = strings;
+  formats = formats;
+  is_1904 = is_1904;
+}
 
-abbrev pub grounds_by : Opening → Grounds
-grounds_by opening = grounds_with opening.strings opening.is_1904
+abbrev pub opened_grounds : Opening → Grounds
+opened_grounds opening = grounds_with opening.shared.strings opening.shared.formats opening.is_1904
 
--- values and formulas are read together
-abbrev pub both_wanted : Wants
-both_wanted = record { values = true; formulas = true }
+-- the styles that the ids of cells name are those of the opening
+abbrev pub IsPaletteOf : Opening → List Style → Type 0
+IsPaletteOf opening palette = map style_said palette ≡ opening.shared.styles
+
+-- two sheets have their styles in the same area, by the same ids, of palettes that say the same
+pub record SayTheSame (one two : StyleMap) : Type 0 where
+  pub bounds : one.bounds ≡ two.bounds
+  pub palette : map style_said one.palette ≡ map style_said two.palette
+  pub ids : one.ids ≡ two.ids
+
+-- values, formulas and style ids are read together
+abbrev pub all_wanted : Wants
+all_wanted = record { values = true; formulas = true; styles = true }
 
 -- a position with what something is at it
 abbrev pub with_meaning : {X Y : Type 0} → (X → Y) → (ℕ × ℕ) × X → (ℕ × ℕ) × Y
@@ -63,36 +80,43 @@ value_pairs range = map (with_meaning value_of_data) (cells_of range)
 abbrev pub formula_pairs : Range (String Global) → List ((ℕ × ℕ) × List ℕ)
 formula_pairs range = map (with_meaning string_bytes) (cells_of range)
 
--- the part of a sheet is sound, and these are the last value and the last formula at each position
+-- the part of a sheet is sound, and these are the last value and the last formula at each position,
+-- and the styles of its cells
 pub record HoldsSheet
-    (grounds : Grounds) (events : List Event) (values : List ((ℕ × ℕ) × CellValue))
-    (formulas : List ((ℕ × ℕ) × List ℕ)) : Type 0 where
+    (grounds : Grounds) (palette : List Style) (events : List Event)
+    (values : List ((ℕ × ℕ) × CellValue)) (formulas : List ((ℕ × ℕ) × List ℕ))
+    (styles : StyleMap) : Type 0 where
   pub all : List ((ℕ × ℕ) × CellValue)
   pub written : List ((ℕ × ℕ) × List FormulaText)
-  pub sheet : IsSoundSheet grounds events all written
+  pub ids : List StyledCell
+  pub sheet : IsSoundSheet grounds events all written ids
   pub valued : values ≡ last_of_each (used_values grounds.strings all)
   pub listed : formulas ≡ last_of_each (used_formulas (formulas_along [] written))
+  pub styled : styles ≡ styles_of palette ids
 
--- the workbook opens, and its sheet of this name has these values and these formulas
+-- the workbook opens, and its sheet of this name has these values, these formulas and these styles
 pub record ReadsAs
     (parts : List Part) (name : List ℕ) (values : List ((ℕ × ℕ) × CellValue))
-    (formulas : List ((ℕ × ℕ) × List ℕ)) : Type 0 where
+    (formulas : List ((ℕ × ℕ) × List ℕ)) (styles : StyleMap) : Type 0 where
   pub opening : Opening
+  pub palette : List Style
   pub events : List Event
   pub all : List ((ℕ × ℕ) × CellValue)
   pub written : List ((ℕ × ℕ) × List FormulaText)
+  pub ids : List StyledCell
   pub opens : OpensAs parts opening
-  pub built : IsBuilt parts
+  pub named : IsPaletteOf opening palette
   pub found : events_named name opening.sheets parts ≡ Some events
-  pub sheet : IsSoundSheet (grounds_by opening) events all written
-  pub valued : values ≡ last_of_each (used_values opening.strings all)
+  pub sheet : IsSoundSheet (opened_grounds opening) events all written ids
+  pub valued : values ≡ last_of_each (used_values opening.shared.strings all)
   pub listed : formulas ≡ last_of_each (used_formulas (formulas_along [] written))
+  pub styled : styles ≡ styles_of palette ids
 
 -- the package has a sheet of this name that is read
 abbrev pub IsReadable : List Part → List ℕ → Type 0
 IsReadable parts name =
     (values : List ((ℕ × ℕ) × CellValue)) × (formulas : List ((ℕ × ℕ) × List ℕ))
-    × ReadsAs parts name values formulas
+    × (styles : StyleMap) × ReadsAs parts name values formulas styles
 
 -- the workbook opens, and has no sheet of this name, or the first such sheet has no part
 pub record LacksSheet (parts : List Part) (name : List ℕ) : Type 0 where
@@ -106,11 +130,10 @@ pub record HasPartCause (parts : List Part) (name : List ℕ) (error : XlsxError
   pub events : List Event
   pub opens : OpensAs parts opening
   pub found : events_named name opening.sheets parts ≡ Some events
-  pub cause : SheetPartCause both_wanted (grounds_by opening) events error
+  pub cause : SheetPartCause all_wanted (opened_grounds opening) events error
 
 -- why the sheet of this name isn't read
 abbrev pub SheetCause : List Part → List ℕ → XlsxError → Type 0
-SheetCause parts name NotBuilt = IsNotBuilt parts
 SheetCause parts name (WorksheetNotFound asked) =
     (string_bytes asked ≡ name) × LacksSheet parts name
 SheetCause parts name error = OpeningCause parts error ⊎ HasPartCause parts name error
@@ -136,7 +159,6 @@ abbrev pub PlacedHeadFails :
     List ℕ → Option (List ℕ) → PackageState → PackageState → XlsxError → Type 0
 PlacedHeadFails name path old new Io = HasCause old new
 PlacedHeadFails name path old new OutOfMemory = ⊤
-PlacedHeadFails name path old new NotBuilt = ⊥
 PlacedHeadFails name path old new (WorksheetNotFound asked) =
     (string_bytes asked ≡ name) × (old.is_told ≡ true → events_at path old.parts ≡ None)
 PlacedHeadFails name path old new error =
@@ -148,7 +170,6 @@ abbrev pub PlacedSheetFails :
     List ℕ → Wants → Grounds → Option (List ℕ) → PackageState → PackageState → XlsxError → Type 0
 PlacedSheetFails name wants grounds path old new Io = HasCause old new
 PlacedSheetFails name wants grounds path old new OutOfMemory = ⊤
-PlacedSheetFails name wants grounds path old new NotBuilt = ⊥
 PlacedSheetFails name wants grounds path old new (WorksheetNotFound asked) =
     (string_bytes asked ≡ name) × (old.is_told ≡ true → events_at path old.parts ≡ None)
 PlacedSheetFails name wants grounds path old new error =
@@ -167,7 +188,9 @@ IsPlacedError name (WorksheetNotFound asked) = string_bytes asked ≡ name
 IsPlacedError name error = IsPartError error
 
 -- what was read of it, where the package is told
-abbrev pub ReadsPlaced : Grounds → Option (List ℕ) → List Part → SheetReading → Type 0
-ReadsPlaced grounds path parts found =
+abbrev pub ReadsPlaced :
+    Grounds → List Style → Option (List ℕ) → List Part → SheetReading → Type 0
+ReadsPlaced grounds palette path parts found =
     IsSomeAnd (events_at path parts)
-    (λ events. HoldsSheet grounds events (value_pairs found.values) (formula_pairs found.formulas))
+    (λ events. HoldsSheet grounds palette events (value_pairs found.values)
+    (formula_pairs found.formulas) found.styles)

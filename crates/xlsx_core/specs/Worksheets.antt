@@ -12,16 +12,21 @@ use Rattle.cell_data.specs.Positions.{last_of_each, least_area}
 use Rattle.cell_data.specs.Range.{bounds_of, blank_of}
 use Rattle.cell_data.specs.declared.error.XlsxError.{XlsxError}
 use Rattle.cell_data.specs.declared.error.XlsxError.TheVariants.{OutOfMemory, Io, NotAWorksheet}
+use Rattle.cell_data.specs.declared.error.XlsxError.TheVariants.{WorksheetNotFound}
 use Rattle.cell_data.specs.declared.range.Range.{Range}
 use Rattle.cell_data.specs.declared.value.Data.{Data}
 use Rattle.cell_data.specs.declared.value.Data.TheVariants.{Empty}
 use Rattle.cell_data.specs.declared.value.HeaderRow.{HeaderRow}
 use Rattle.cell_data.specs.declared.value.HeaderRow.TheVariants.{FirstNonEmptyRow, Row}
+use Rattle.cell_styles.specs.StyleMap.{StyledCell, StyleMap, styles_of}
+use Rattle.cell_styles.specs.declared.style.Style.{Style}
 use Rattle.xlsx_sections.specs.PartSection.{PartSection, section_in, inside_of, has_end}
 use Rattle.xlsx_values.specs.Value.{Grounds}
 use Rattle.xlsx_cells.specs.CellsReader.{Flow, IsFlowing}
-use Rattle.xlsx_cells.specs.Head.{dimensions_in, HasNoData, other_in}
+use Rattle.xlsx_cells.specs.CellErrors.{IsStyledError}
+use Rattle.xlsx_cells.specs.Head.{dimensions_in, HasNoData, other_in, IsHeadError}
 use Rattle.xlsx_cells.specs.SheetPart.{EntersData, HoldsValues, HoldsFormulas}
+use Rattle.xlsx_cells.specs.StyleIds.{ids_in, HoldsIds}
 use Rattle.xlsx_cells.specs.declared.children.Wants.{Wants}
 use Rattle.xlsx_core.specs.Opened.{path_listed}
 use Rattle.xlsx_core.specs.SheetReading.{grounds_with, events_at, value_pairs, formula_pairs}
@@ -35,13 +40,19 @@ path_of xlsx name = path_listed name xlsx.metadata.sheets.items xlsx.paths.items
 
 -- what the values of its cells rest on
 abbrev pub grounds_of_book : {P : Type 0} → Xlsx P → Grounds
-grounds_of_book xlsx = grounds_with (map string_bytes xlsx.strings.items) xlsx.is_1904
+grounds_of_book xlsx =
+    grounds_with (map string_bytes xlsx.shared.strings.items) xlsx.shared.style_sheet.formats.items
+    xlsx.is_1904
+
+-- the styles that the ids of its cells name
+abbrev pub palette_of_book : {P : Type 0} → Xlsx P → List Style
+palette_of_book xlsx = xlsx.shared.style_sheet.styles.items
 
 -- a call keeps all of a workbook but its package
 pub record KeepsWorkbook {P : Type 0} (old new : Xlsx P) : Type 0 where
   pub metadata : new.metadata ≡ old.metadata
   pub paths : new.paths ≡ old.paths
-  pub strings : new.strings ≡ old.strings
+  pub shared : new.shared ≡ old.shared
   pub is_1904 : new.is_1904 ≡ old.is_1904
   pub header_row : new.header_row ≡ old.header_row
 
@@ -50,7 +61,7 @@ pub record SetsHeaderRow {P : Type 0} (header : HeaderRow) (old new : Xlsx P) : 
   pub «package» : new.package ≡ old.package
   pub metadata : new.metadata ≡ old.metadata
   pub paths : new.paths ≡ old.paths
-  pub strings : new.strings ≡ old.strings
+  pub shared : new.shared ≡ old.shared
   pub is_1904 : new.is_1904 ≡ old.is_1904
   pub header_row : new.header_row ≡ header
 
@@ -61,14 +72,17 @@ pub record HasSheetData (events : List Event) (section : PartSection) : Type 0 w
   pub dimensions : dimensions_in (whole events) ≡ Ok area
   pub closed : has_end section ≡ true
 
--- a sheet's part holds what is wanted of it: these values, and these formulas
+-- a sheet's part holds what is wanted of it: these values, these formulas, and these style ids of
+-- so many styles
 pub record HoldsWanted
-    (wants : Wants) (grounds : Grounds) (events : List Event)
-    (values : List ((ℕ × ℕ) × CellValue)) (formulas : List ((ℕ × ℕ) × List ℕ)) : Type 0 where
+    (wants : Wants) (grounds : Grounds) (count : ℕ) (events : List Event)
+    (values : List ((ℕ × ℕ) × CellValue)) (formulas : List ((ℕ × ℕ) × List ℕ))
+    (ids : List StyledCell) : Type 0 where
   pub section : PartSection
   pub sheet : HasSheetData events section
   pub valued : wants.values ≡ true → HoldsValues grounds (inside_of section) values
   pub written : wants.formulas ≡ true → HoldsFormulas (inside_of section) formulas
+  pub styled : wants.styles ≡ true → HoldsIds count (inside_of section) ids
 
 -- a sheet's part is sound but for its formulas, and these are its values that count
 abbrev pub HasValues : Grounds → List Event → List ((ℕ × ℕ) × CellValue) → Type 0
@@ -82,6 +96,13 @@ HasFormulas events formulas =
     (section : PartSection) × HasSheetData events section
     × HoldsFormulas (inside_of section) formulas
 
+-- it is sound but for what stands in its cells, and these are their styles
+abbrev pub HasStyledCells : List Style → List Event → StyleMap → Type 0
+HasStyledCells palette events styles =
+    (section : PartSection) × HasSheetData events section
+    × (ids : List StyledCell) × (ids_in (inside_of section) ≡ Ok ids)
+    × (styles ≡ styles_of palette ids)
+
 -- a part that is no worksheet: it ends before a sheet's data, and has a start that is no dimension
 pub record IsNoWorksheet (events : List Event) : Type 0 where
   pub nested : whole events ≡ events
@@ -90,9 +111,10 @@ pub record IsNoWorksheet (events : List Event) : Type 0 where
 
 -- what is read of a part, which may be no worksheet and has no cells then
 abbrev pub AnswersCells :
-    Wants → Grounds → List ((ℕ × ℕ) × CellValue) → List ((ℕ × ℕ) × List ℕ) → List Event → Type 0
-AnswersCells wants grounds values formulas events =
-    HoldsWanted wants grounds events values formulas
+    Wants → Grounds → ℕ → List ((ℕ × ℕ) × CellValue) → List ((ℕ × ℕ) × List ℕ) →
+    List StyledCell → List Event → Type 0
+AnswersCells wants grounds count values formulas ids events =
+    HoldsWanted wants grounds count events values formulas ids
     ⊎ (IsNoWorksheet events × (values ≡ []) × (formulas ≡ []))
 
 abbrev pub AnswersValues : Grounds → List Event → List ((ℕ × ℕ) × CellValue) → Type 0
@@ -150,6 +172,16 @@ ReadsFormulas path parts range =
     IsSomeAnd (events_at path parts)
     (λ events. (formulas : List ((ℕ × ℕ) × List ℕ)) × AnswersFormulas events formulas
     × IsFormulaRange formulas range)
+
+-- and its styles, over a palette
+abbrev pub ReadsStyles : List Style → Option (List ℕ) → List Part → StyleMap → Type 0
+ReadsStyles palette path parts styles =
+    IsSomeAnd (events_at path parts) (λ events. HasStyledCells palette events styles)
+
+-- the refusals that reading them can have, whatever the package tells
+abbrev pub IsStyleRangeError : List ℕ → XlsxError → Type 0
+IsStyleRangeError name (WorksheetNotFound asked) = string_bytes asked ≡ name
+IsStyleRangeError name error = IsHeadError error ⊎ IsStyledError error
 
 -- when a range isn't read: a part that is no worksheet is no reason
 abbrev pub RangeFails :

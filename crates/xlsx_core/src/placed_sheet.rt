@@ -1,16 +1,17 @@
-ghost use Rattle.std.specs.Prelude.{◌≡◌, true, option_map, IfOk, OnOk, IfErr, All, IsSomeAnd};
+ghost use Rattle.std.specs.Prelude.{◌≡◌, true, false, option_map, IfOk, OnOk, IfErr, IsSomeAnd};
 ghost use Rattle.std.specs.Option.{option_copied};
 ghost use Rattle.part_events.specs.Package.{SameParts, KeepsFaults};
-ghost use Rattle.cell_data.specs.Cells.{IsInSheet};
 ghost use Rattle.cell_data.specs.declared.error.XlsxError.TheVariants.{Io};
 ghost use Rattle.xlsx_values.specs.Book.{grounds_of};
 ghost use Rattle.xlsx_cells.specs.SheetPart.{EntersData, value_entries, formula_entries};
+ghost use Rattle.xlsx_cells.specs.SheetPart.{LieInSheet};
+ghost use Rattle.xlsx_cells.specs.Ends.{reads_children};
 ghost use Rattle.xlsx_cells.specs.Stream.{stream};
 ghost use Rattle.xlsx_core.specs.Opened.{path_listed};
 ghost use Rattle.xlsx_core.specs.SheetReading.{events_at};
 ghost use Rattle.xlsx_core.specs.SheetReading.{PlacedHeadFails, PlacedSheetFails};
 ghost use Rattle.xlsx_core.specs.SheetReading.{IsPlacedHeadError, IsPlacedError};
-ghost use Rattle.xlsx_core.specs.Worksheets.{HoldsWanted};
+ghost use Rattle.xlsx_core.specs.Worksheets.{HoldsWanted, IsStyleRangeError};
 
 use cell_data::XlsxError;
 use cell_refs::Dimensions;
@@ -74,20 +75,23 @@ pub fn read_placed<P: Package>(
     ensures faults { OnOk result
         ((P.state «package».new).faults ≡ (P.state «package».old).faults) }
     ensures inside { IfOk result (λ cells.
-        All IsInSheet cells.values.items × All IsInSheet cells.formulas.items) }
+        LieInSheet cells.values.items cells.formulas.items cells.style_ids.items) }
     ensures reads { let old = P.state «package».old in
         let wants = asked.entry.wants in
         let grounds = grounds_of asked.entry.book in
         let path = option_copied path.entry in
+        let count = asked.entry.style_count in
         old.is_told ≡ true → IfOk result (λ cells. IsSomeAnd (events_at path old.parts)
-        (λ events. HoldsWanted wants grounds events (value_entries cells.values.items)
-        (formula_entries cells.formulas.items))) }
+        (λ events. HoldsWanted wants grounds count events (value_entries cells.values.items)
+        (formula_entries cells.formulas.items) cells.style_ids.items)) }
     ensures err { IfErr result (PlacedSheetFails name.now asked.entry.wants
         (grounds_of asked.entry.book) (option_copied path.entry) (P.state «package».old)
         (P.state «package».new)) }
     ensures counts { IfErr result
         (KeepsFaults Io (P.state «package».old) (P.state «package».new)) }
     ensures kind { IfErr result (IsPlacedError name.now) }
+    ensures plain { reads_children asked.entry.wants ≡ false →
+        IfErr result (IsStyleRangeError name.now) }
 {
     let (sheet, _) = open_placed(alloc, package, path, name)?;
     let mut sheet = sheet;

@@ -1,11 +1,13 @@
-ghost use Rattle.std.specs.Prelude.{IfOk, All};
+ghost use Rattle.std.specs.Prelude.{◌≡◌, List, length, filter, IfOk, All};
 ghost use Rattle.cell_data.specs.Cells.{IsInSheet};
 ghost use Rattle.cell_data.specs.declared.value.HeaderRow.TheVariants.{FirstNonEmptyRow};
-ghost use Rattle.xlsx_cells.specs.SheetPart.{value_entries, formula_entries};
+ghost use Rattle.cell_styles.specs.StyleMap.{StyledCell, IsOnSheet, is_explicit, styles_of};
+ghost use Rattle.xlsx_cells.specs.SheetPart.{value_entries, formula_entries, LieInSheet};
 ghost use Rattle.xlsx_core.specs.Worksheets.{IsValueRange, IsFormulaRange};
 
 use crate::sheet_reading::SheetReading;
 use cell_data::{Cell, Data, HeaderRow, Range};
+use cell_styles::{Style, StyleRange, copied_palette};
 use std::alloc::{AllocError, Global};
 use xlsx_cells::SheetCells;
 
@@ -41,17 +43,40 @@ pub fn formula_range(alloc: Global, cells: Vec<Cell<String>>) -> Result<Range<St
     Range::from_sparse(alloc, cells, String::new(alloc))
 }
 
-/// The cells of a sheet as ranges: the last value and the last formula of each position.
-pub fn ranges_of(alloc: Global, cells: SheetCells) -> Result<SheetReading, AllocError>
-    requires values { All IsInSheet cells.values.items }
-    requires formulas { All IsInSheet cells.formulas.items }
+/// The styles of the entries, each a row, a column and a style id, over these styles. Entries that
+/// don't count may be left out.
+pub fn style_range(
+    alloc: Global,
+    ids: Vec<(u32, u32, usize)>,
+    styles: &[Style],
+) -> Result<StyleRange, AllocError>
+    requires { All IsOnSheet ids.items }
+    ensures { (all : List StyledCell) → ids.items ≡ filter (is_explicit (length styles.now)) all →
+        IfOk result (λ range. range ≡ styles_of styles.now all) }
+{
+    let palette = copied_palette(alloc, styles)?;
+    StyleRange::from_style_ids(alloc, ids, palette)
+}
+
+/// The cells of a sheet as ranges: the last value and the last formula of each position, and its
+/// first style id.
+pub fn ranges_of(
+    alloc: Global,
+    cells: SheetCells,
+    styles: &[Style],
+) -> Result<SheetReading, AllocError>
+    requires { LieInSheet cells.values.items cells.formulas.items cells.style_ids.items }
     ensures values { IfOk result (λ found.
         IsValueRange FirstNonEmptyRow (value_entries cells.values.items) found.values) }
     ensures formulas { IfOk result (λ found.
         IsFormulaRange (formula_entries cells.formulas.items) found.formulas) }
+    ensures styles { (all : List StyledCell) →
+        cells.style_ids.items ≡ filter (is_explicit (length styles.now)) all →
+        IfOk result (λ found. found.styles ≡ styles_of styles.now all) }
 {
     Ok(SheetReading {
         values: value_range(alloc, cells.values, HeaderRow::FirstNonEmptyRow)?,
         formulas: formula_range(alloc, cells.formulas)?,
+        styles: style_range(alloc, cells.style_ids, styles)?,
     })
 }

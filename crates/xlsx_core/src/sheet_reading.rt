@@ -6,6 +6,7 @@ ghost use Rattle.xlsx_core.specs.SheetReading.{value_pairs, formula_pairs};
 
 use crate::xlsx::{OpenFailure, Xlsx};
 use cell_data::{Data, Range, XlsxError};
+use cell_styles::StyleRange;
 use part_events::Package;
 use std::alloc::Global;
 
@@ -16,18 +17,20 @@ pub struct SheetReading {
     pub values: Range<Data>,
     /// The formulas, without `=`, and empty texts where a cell has none.
     pub formulas: Range<String>,
+    /// The styles, over those of the workbook.
+    pub styles: StyleRange,
 }
 
-/// The values and the formulas of a sheet, or why they were not read, with the package that was
-/// handed in.
+/// The values, the formulas and the styles of a sheet, or why they were not read, with the package
+/// that was handed in.
 #[derive(Drop)]
 pub struct SheetAnswer<P: Package> {
     pub result: Result<SheetReading, XlsxError>,
     pub package: P,
 }
 
-/// The values and the formulas of the first sheet of this name, read in one pass over its part
-/// (ECMA-376 part 1, section 18.3.1.80).
+/// The values, the formulas and the styles of the first sheet of this name, read in one pass over
+/// its part (ECMA-376 part 1, section 18.3.1.80).
 ///
 /// Fails as `Xlsx::new` where the workbook doesn't open, and with `WorksheetNotFound` where it has
 /// no sheet of this name or the first such sheet no part. Else the first start, row or cell of the
@@ -38,7 +41,7 @@ pub fn read_sheet<P: Package>(alloc: Global, package: P, name: &str) -> SheetAns
         ((P.state result.package).faults ≡ (P.state «package»).faults) }
     ensures reading { (P.state «package»).is_told ≡ true → IfOk result.result (λ found.
         ReadsAs (P.state «package»).parts name.now (value_pairs found.values)
-        (formula_pairs found.formulas)) }
+        (formula_pairs found.formulas) found.styles) }
     ensures err { IfErr result.result
         (SheetFails name.now (P.state «package») (P.state result.package)) }
     ensures counts { IfErr result.result

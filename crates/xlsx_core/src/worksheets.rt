@@ -1,21 +1,23 @@
-ghost use Rattle.std.specs.Prelude.{◌≡◌, true, IfOk, OnOk, IfErr, All, IsSomeAnd};
+ghost use Rattle.std.specs.Prelude.{◌≡◌, true, false, length, IfOk, OnOk, IfErr, IsSomeAnd};
 ghost use Rattle.part_events.specs.Package.{SameParts, KeepsFaults};
-ghost use Rattle.cell_data.specs.Cells.{IsInSheet};
 ghost use Rattle.cell_data.specs.declared.error.XlsxError.TheVariants.{Io};
 ghost use Rattle.xlsx_cells.specs.CellsReader.{values_alone, formulas_alone, area_held, flow_by};
-ghost use Rattle.xlsx_cells.specs.CellsReader.{grounds_by};
-ghost use Rattle.xlsx_cells.specs.SheetPart.{value_entries, formula_entries};
-ghost use Rattle.xlsx_core.specs.SheetReading.{both_wanted, events_at, PlacedSheetFails};
+ghost use Rattle.xlsx_cells.specs.CellsReader.{grounds_by, styles_held, styles_alone};
+ghost use Rattle.xlsx_cells.specs.Ends.{reads_children};
+ghost use Rattle.xlsx_cells.specs.SheetPart.{value_entries, formula_entries, LieInSheet};
+ghost use Rattle.xlsx_core.specs.SheetReading.{all_wanted, events_at, PlacedSheetFails};
 ghost use Rattle.xlsx_core.specs.SheetReading.{IsPlacedHeadError, IsPlacedError, ReadsPlaced};
 ghost use Rattle.xlsx_core.specs.Worksheets.{path_of, grounds_of_book, KeepsWorkbook, HoldsWanted};
 ghost use Rattle.xlsx_core.specs.Worksheets.{AnswersCells, ReadsValues, ReadsFormulas, RangeFails};
-ghost use Rattle.xlsx_core.specs.Worksheets.{IsRangeError, EntersSheet, ReaderFails};
+ghost use Rattle.xlsx_core.specs.Worksheets.{IsRangeError, EntersSheet, ReaderFails, ReadsStyles};
+ghost use Rattle.xlsx_core.specs.Worksheets.{IsStyleRangeError, palette_of_book};
 
 use crate::placed_sheet::{open_placed, path_named, read_placed};
-use crate::ranges::{formula_range, ranges_of, value_range};
+use crate::ranges::{formula_range, ranges_of, style_range, value_range};
 use crate::sheet_reading::SheetReading;
 use crate::xlsx::Xlsx;
 use cell_data::{Data, Range, XlsxError};
+use cell_styles::StyleRange;
 use part_events::Package;
 use xlsx_cells::{Asked, SheetCells, Wants, XlsxCellReader};
 use xlsx_values::Book;
@@ -29,35 +31,36 @@ impl<P: Package> Xlsx<P> {
         ensures faults { OnOk result
             ((P.state self.new.package).faults ≡ (P.state self.old.package).faults) }
         ensures inside { IfOk result (λ cells.
-            All IsInSheet cells.values.items × All IsInSheet cells.formulas.items) }
+            LieInSheet cells.values.items cells.formulas.items cells.style_ids.items) }
         ensures reads { let old = P.state self.old.package in
             let path = path_of self.old name.now in
             let grounds = grounds_of_book self.old in
+            let count = length (palette_of_book self.old) in
             old.is_told ≡ true → IfOk result (λ cells. IsSomeAnd (events_at path old.parts)
-            (λ events. HoldsWanted wants grounds events (value_entries cells.values.items)
-            (formula_entries cells.formulas.items))) }
+            (λ events. HoldsWanted wants grounds count events (value_entries cells.values.items)
+            (formula_entries cells.formulas.items) cells.style_ids.items)) }
         ensures err { IfErr result (PlacedSheetFails name.now wants (grounds_of_book self.old)
             (path_of self.old name.now) (P.state self.old.package) (P.state self.new.package)) }
         ensures counts { IfErr result
             (KeepsFaults Io (P.state self.old.package) (P.state self.new.package)) }
         ensures kind { IfErr result (IsPlacedError name.now) }
+        ensures plain { reads_children wants ≡ false → IfErr result (IsStyleRangeError name.now) }
     {
         let path = path_named(&self.metadata.sheets, &self.paths, name);
         let book = Book {
-            strings: &self.strings,
-            formats: &[],
+            strings: &self.shared.strings,
+            formats: &self.shared.style_sheet.formats,
             is_1904: self.is_1904,
         };
-        read_placed(
-            self.alloc,
-            &mut self.package,
-            path,
-            name,
-            Asked { wants, book },
-        )
+        let asked = Asked {
+            wants,
+            book,
+            style_count: self.shared.style_sheet.styles.len(),
+        };
+        read_placed(self.alloc, &mut self.package, path, name, asked)
     }
 
-    /// The values and the formulas of the first sheet of this name.
+    /// The values, the formulas and the styles of the first sheet of this name.
     pub(crate) fn sheet(&mut self, name: &str) -> Result<SheetReading, XlsxError>
         ensures keeps { SameParts (P.state self.old.package) (P.state self.new.package) }
         ensures rest { KeepsWorkbook self.old self.new }
@@ -65,8 +68,9 @@ impl<P: Package> Xlsx<P> {
             ((P.state self.new.package).faults ≡ (P.state self.old.package).faults) }
         ensures reads { let old = P.state self.old.package in
             old.is_told ≡ true → IfOk result
-            (ReadsPlaced (grounds_of_book self.old) (path_of self.old name.now) old.parts) }
-        ensures err { IfErr result (PlacedSheetFails name.now both_wanted
+            (ReadsPlaced (grounds_of_book self.old) (palette_of_book self.old)
+            (path_of self.old name.now) old.parts) }
+        ensures err { IfErr result (PlacedSheetFails name.now all_wanted
             (grounds_of_book self.old) (path_of self.old name.now) (P.state self.old.package)
             (P.state self.new.package)) }
         ensures counts { IfErr result
@@ -76,9 +80,10 @@ impl<P: Package> Xlsx<P> {
         let wants = Wants {
             values: true,
             formulas: true,
+            styles: true,
         };
         let cells = self.placed_cells(name, wants)?;
-        Ok(ranges_of(self.alloc, cells)?)
+        Ok(ranges_of(self.alloc, cells, &self.shared.style_sheet.styles)?)
     }
 
     /// What is wanted of the first sheet of this name, and nothing where its part is no worksheet.
@@ -88,13 +93,14 @@ impl<P: Package> Xlsx<P> {
         ensures faults { OnOk result
             ((P.state self.new.package).faults ≡ (P.state self.old.package).faults) }
         ensures inside { IfOk result (λ cells.
-            All IsInSheet cells.values.items × All IsInSheet cells.formulas.items) }
+            LieInSheet cells.values.items cells.formulas.items cells.style_ids.items) }
         ensures reads { let old = P.state self.old.package in
             let path = path_of self.old name.now in
             let grounds = grounds_of_book self.old in
+            let count = length (palette_of_book self.old) in
             old.is_told ≡ true → IfOk result (λ cells. IsSomeAnd (events_at path old.parts)
-            (AnswersCells wants grounds (value_entries cells.values.items)
-            (formula_entries cells.formulas.items))) }
+            (AnswersCells wants grounds count (value_entries cells.values.items)
+            (formula_entries cells.formulas.items) cells.style_ids.items)) }
         ensures err { IfErr result (RangeFails name.now wants (grounds_of_book self.old)
             (path_of self.old name.now) (P.state self.old.package) (P.state self.new.package)) }
         ensures counts { IfErr result
@@ -106,6 +112,7 @@ impl<P: Package> Xlsx<P> {
             Err(XlsxError::NotAWorksheet(_)) => Ok(SheetCells {
                 values: Vec::new(self.alloc),
                 formulas: Vec::new(self.alloc),
+                style_ids: Vec::new(self.alloc),
             }),
             Err(error) => Err(error),
         }
@@ -136,6 +143,7 @@ impl<P: Package> Xlsx<P> {
         let wants = Wants {
             values: true,
             formulas: false,
+            styles: false,
         };
         let cells = self.worksheet_cells(name, wants)?;
         Ok(value_range(self.alloc, cells.values, self.header_row)?)
@@ -164,9 +172,43 @@ impl<P: Package> Xlsx<P> {
         let wants = Wants {
             values: false,
             formulas: true,
+            styles: false,
         };
         let cells = self.worksheet_cells(name, wants)?;
         Ok(formula_range(self.alloc, cells.formulas)?)
+    }
+
+    /// The styles of the first sheet of this name, over those of the workbook: the style id of a
+    /// position, counted from 0, is the first one there that is above 0 and below the number of
+    /// styles (the `s` of 18.3.1.4). What stands in cells is not read, and the header row doesn't
+    /// count.
+    ///
+    /// Fails with `WorksheetNotFound` where no sheet has the name or the first such sheet has no
+    /// part, with `NotAWorksheet` where its part is none, and else as
+    /// `XlsxCellReader::next_style_id`.
+    pub fn worksheet_style(&mut self, name: &str) -> Result<StyleRange, XlsxError>
+        ensures keeps { SameParts (P.state self.old.package) (P.state self.new.package) }
+        ensures rest { KeepsWorkbook self.old self.new }
+        ensures faults { OnOk result
+            ((P.state self.new.package).faults ≡ (P.state self.old.package).faults) }
+        ensures reads { let old = P.state self.old.package in
+            old.is_told ≡ true → IfOk result (ReadsStyles (palette_of_book self.old)
+            (path_of self.old name.now) old.parts) }
+        ensures err { IfErr result (PlacedSheetFails name.now styles_alone
+            (grounds_of_book self.old) (path_of self.old name.now) (P.state self.old.package)
+            (P.state self.new.package)) }
+        ensures counts { IfErr result
+            (KeepsFaults Io (P.state self.old.package) (P.state self.new.package)) }
+        ensures kind { IfErr result (IsStyleRangeError name.now) }
+    {
+        let wants = Wants {
+            values: false,
+            formulas: false,
+            styles: true,
+        };
+        let found = self.placed_cells(name, wants)?;
+        let styles = &self.shared.style_sheet.styles;
+        Ok(style_range(self.alloc, found.style_ids, styles)?)
     }
 
     /// A reader of the cells of the first sheet of this name, which stands behind the start of its
@@ -181,6 +223,7 @@ impl<P: Package> Xlsx<P> {
         ensures enters { IfOk result (λ reader. EntersSheet (path_of self.old name.now)
             (area_held reader) (P.state self.old.package) (flow_by P.state reader)) }
         ensures grounds { IfOk result (λ reader. grounds_by reader ≡ grounds_of_book self.old) }
+        ensures styles { IfOk result (λ reader. styles_held reader ≡ palette_of_book self.old) }
         ensures err { IfErr result (ReaderFails name.now (path_of self.old name.now)
             (P.state self.old.package)) }
         ensures kind { IfErr result (IsPlacedHeadError name.now) }
@@ -188,10 +231,16 @@ impl<P: Package> Xlsx<P> {
         let path = path_named(&self.metadata.sheets, &self.paths, name);
         let (sheet, dimensions) = open_placed(self.alloc, &mut self.package, path, name)?;
         let is_1904 = self.is_1904;
+        let Xlsx {
+            package,
+            shared,
+            ..
+        } = self;
         Ok(XlsxCellReader::resume(
-            &mut self.package,
-            &self.strings,
-            &[],
+            package,
+            &shared.strings,
+            &shared.style_sheet.formats,
+            &shared.style_sheet.styles,
             is_1904,
             sheet,
             dimensions,

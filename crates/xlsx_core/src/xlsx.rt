@@ -1,14 +1,15 @@
 ghost use Rattle.std.specs.Prelude.{◌≡◌, true, map, option_map, slice_get, string_bytes};
-ghost use Rattle.std.specs.Prelude.{MatchResult, IfOk, OnOk, IfErr};
+ghost use Rattle.std.specs.Prelude.{MatchResult, IfOk, IfErr};
 ghost use Rattle.cell_data.specs.declared.error.XlsxError.TheVariants.{Io};
-ghost use Rattle.xlsx_open.specs.Opening.{Opening, HoldsOpening, OpensAs, OpensSoundly, IsBuilt};
+ghost use Rattle.xlsx_open.specs.Opening.{Opening, HoldsOpening, OpensAs, OpensSoundly};
 ghost use Rattle.xlsx_open.specs.Opening.{IsOpeningError, OpensFrom, FailsToOpen, OpeningFails};
 ghost use Rattle.xlsx_open.specs.Opening.{SoundFails};
 
 use cell_data::{HeaderRow, XlsxError};
+use cell_styles::Style;
 use part_events::Package;
 use std::alloc::Global;
-use xlsx_open::{Metadata, open};
+use xlsx_open::{Metadata, SharedParts, open};
 
 /// An open workbook, and the package that it is read from.
 #[derive(Drop)]
@@ -16,7 +17,7 @@ pub struct Xlsx<P: Package> {
     pub(crate) package: P,
     pub(crate) metadata: Metadata,
     pub(crate) paths: Vec<String>,
-    pub(crate) strings: Vec<String>,
+    pub(crate) shared: SharedParts,
     pub(crate) is_1904: bool,
     pub(crate) header_row: HeaderRow,
     pub(crate) alloc: Global,
@@ -40,7 +41,8 @@ impl<P: Package> Xlsx<P> {
     /// target being taken. Relationships of the workbook are by Id, of which the last stands. Each
     /// section is read to its end and no further.
     ///
-    /// The shared strings are read first, and a package with styles is refused as not built yet.
+    /// The shared strings are read first, then the theme and the styles (sections 18.4, 20.1.6 and
+    /// 18.8), each of which may be absent. A faulty theme refuses nothing.
     pub fn new(alloc: Global, package: P) -> Result<Xlsx<P>, OpenFailure<P>>
         ensures uses { MatchResult result
             (λ xlsx. OpensFrom (P.state «package») (P.state xlsx.package))
@@ -48,11 +50,9 @@ impl<P: Package> Xlsx<P> {
             FailsToOpen Io (P.state «package») (P.state failure.package) failure.error) }
         ensures opens { let old = P.state «package» in
             old.is_told ≡ true → IfOk result (λ xlsx. (opening : Opening)
-            × HoldsOpening xlsx.metadata xlsx.paths.items xlsx.strings.items xlsx.is_1904 opening
+            × HoldsOpening xlsx.metadata xlsx.paths.items xlsx.shared xlsx.is_1904 opening
             × OpensAs old.parts opening) }
         ensures header_row { IfOk result (λ xlsx. xlsx.header_row ≡ FirstNonEmptyRow) }
-        ensures built { let old = P.state «package» in
-            old.is_told ≡ true → OnOk result (IsBuilt old.parts) }
         ensures err { IfErr result (λ failure.
             OpeningFails (P.state «package») (P.state failure.package) failure.error) }
         ensures kind { IfErr result (λ failure. IsOpeningError failure.error) }
@@ -66,7 +66,7 @@ impl<P: Package> Xlsx<P> {
                 package,
                 metadata: opened.metadata,
                 paths: opened.paths,
-                strings: opened.strings,
+                shared: opened.shared,
                 is_1904: opened.is_1904,
                 header_row: HeaderRow::FirstNonEmptyRow,
                 alloc,
@@ -93,7 +93,7 @@ impl<P: Package> Xlsx<P> {
             package,
             metadata: _,
             paths: _,
-            strings: _,
+            shared: _,
             is_1904: _,
             header_row: _,
             alloc: _,
@@ -111,9 +111,24 @@ impl<P: Package> Xlsx<P> {
     /// The shared string at this index, counted from 0.
     pub fn shared_string(&self, index: usize) -> Option<&str>
         ensures { option_map (λ text. text.now) result
-            ≡ slice_get (map string_bytes self.now.strings.items) index }
+            ≡ slice_get (map string_bytes self.now.shared.strings.items) index }
     {
-        Some(self.strings.get(index)?.as_str())
+        Some(self.shared.strings.get(index)?.as_str())
+    }
+
+    /// The styles that the style ids of cells name, by these ids.
+    pub fn styles(&self) -> &[Style]
+        ensures { result.now ≡ self.now.shared.style_sheet.styles.items }
+    {
+        &self.shared.style_sheet.styles
+    }
+
+    /// Whether the styles name their colors by the default theme, because the workbook's theme is
+    /// absent or faulty, or has fewer than four colors.
+    pub fn theme_defaulted(&self) -> bool
+        ensures { result ≡ self.now.shared.theme_defaulted }
+    {
+        self.shared.theme_defaulted
     }
 
     /// Whether dates count from 1904, and not from 1900.

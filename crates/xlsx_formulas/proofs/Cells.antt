@@ -4,7 +4,8 @@ use Rattle.std.proofs.Common.{Result, Ok, Err, refl, sym, ◌∙◌, ap, subst, 
 use Rattle.part_events.specs.Section.{Element, is_named}
 use Rattle.xlsx_sections.specs.Answers.{and_others_if, some_answers, prepended}
 use Rattle.xlsx_sections.specs.Refusal.{Refusal}
-use Rattle.xlsx_sections.proofs.Kept.{prepended-and_others, prepended-nil}
+use Rattle.xlsx_sections.proofs.Kept.{prepended-nil, some_taken, some_passed, some_refused}
+use Rattle.xlsx_sections.proofs.Kept.{all_taken}
 use Rattle.xlsx_formulas.specs.Formula.{FormulaText, child_formula, formula_of}
 use Rattle.xlsx_formulas.specs.Formula.{behind_formulas, cell_formula}
 use Rattle.xlsx_formulas.specs.Kept.{AreMasters}
@@ -25,44 +26,6 @@ pub behind_further : (passed earlier : List FormulaText) (found : FormulaText)
     → behind_formulas (passed ++ found ∷ []) earlier ≡ found ∷ behind_formulas passed earlier
 behind_further [] earlier found = refl
 behind_further (first ∷ others) earlier found = behind_further others (first ∷ earlier) found
-
--- one that gives something was taken of those that are left
-pub some_taken : {X A : Type 0} {x : X} {xs rest : List X} {own : A} {all : Result (List A) Refusal}
-    (answer : X → Result (Option A) Refusal) (kept : List A) → xs ≡ x ∷ rest
-    → answer x ≡ Ok (Some own) → prepended kept (some_answers answer xs) ≡ all
-    → prepended (kept ++ own ∷ []) (some_answers answer rest) ≡ all
-some_taken {x = x} {rest = rest} {own = own} answer kept same is holds =
-    prepended-and_others kept own (Ok own) (some_answers answer rest) refl
-    ∙ ap (λ (first : Result (Option _) Refusal). prepended kept
-    (and_others_if first (some_answers answer rest))) (sym is)
-    ∙ (rw same at holds)
-
--- one that gives nothing was
-pub some_passed : {X A : Type 0} {x : X} {xs rest : List X} {all : Result (List A) Refusal}
-    (answer : X → Result (Option A) Refusal) (kept : List A) → xs ≡ x ∷ rest → answer x ≡ Ok None
-    → prepended kept (some_answers answer xs) ≡ all
-    → prepended kept (some_answers answer rest) ≡ all
-some_passed {rest = rest} answer kept same is holds =
-    ap (λ (first : Result (Option _) Refusal). prepended kept
-    (and_others_if first (some_answers answer rest))) (sym is)
-    ∙ (rw same at holds)
-
--- one of those that are left is refused
-pub some_refused : {X A : Type 0} {x : X} {xs rest : List X} {all : Result (List A) Refusal}
-    {refusal : Refusal} (answer : X → Result (Option A) Refusal) (kept : List A) → xs ≡ x ∷ rest
-    → answer x ≡ Err refusal → prepended kept (some_answers answer xs) ≡ all → all ≡ Err refusal
-some_refused {xs = xs} {refusal = refusal} answer kept same refuses holds =
-    let here : prepended kept (some_answers answer xs) ≡ Err refusal = rw (same, refuses) refl in
-    sym holds ∙ here
-
--- none of them is left
-pub all_taken : {X A : Type 0} {xs : List X} {all : Result (List A) Refusal}
-    (answer : X → Result (Option A) Refusal) (kept : List A) → xs ≡ []
-    → prepended kept (some_answers answer xs) ≡ all → all ≡ Ok kept
-all_taken {xs = xs} answer kept same holds =
-    let here : prepended kept (some_answers answer xs) ≡ Ok kept = rw (same, append-nil kept) refl
-    in
-    sym holds ∙ here
 
 -- The children of a cell were read but for those that are left: the formulas of groups are kept of
 -- the sheet up to here, and the text is that of the cell so far. `all` is what all children say,

@@ -12,11 +12,9 @@ use Rattle.cell_data.specs.declared.error.XlsxError.TheVariants.{RowNumberOverfl
 use Rattle.xlsx_sections.specs.Elements.{ElementReadFails}
 use Rattle.xlsx_sections.specs.PartSection.{always, inside_of, section_left}
 use Rattle.xlsx_sections.specs.Refusal.{ElementFails}
+use Rattle.xlsx_sections.proofs.SectionsRead.{same_tag}
 use Rattle.xlsx_formulas.specs.Formula.{sharing_of, with_sharing, formula_text}
 use Rattle.xlsx_formulas.specs.Refused.{IsShareError}
-
-same_tag : (one two : Tag) → start one ≡ start two → one ≡ two
-same_tag one two same = cc
 
 -- the sharing of a start is refused, and so is its formula
 share_refused : (tag : Tag) (old new : Reading) (error : XlsxError) → IsShareError error
@@ -51,4 +49,4 @@ pub start_refused : (own tag : Tag) (current : Event) (old new : Reading) (error
 start_refused own tag current old new error one two is fails =
     share_refused tag old new error is
     (subst (λ (t : Tag). ElementFails (sharing_of t) 0 0 error)
-    (same_tag own tag (one ∙ sym two)) fails)
+    (same_tag (one ∙ sym two)) fails)

@@ -4,8 +4,6 @@
 
 mod formula;
 mod masters;
-#[cfg(test)]
-mod tests;
 
 pub use formula::{Formula, Share, read_formula, share_of};
 pub use masters::Masters;

@@ -1,5 +1,7 @@
 -- How what is kept of a workbook's section goes on with the events that are taken.
-use Rattle.std.proofs.Common.{◌≡◌, ℕ, suc, ◌+◌, ◌≤◌, List, ◌∷◌, ◌++◌, length, Bool, true, false, Option, Some, None, Result, Ok, Err, refl, sym, ◌∙◌, ap, inl, inr, append_assoc, string_bytes, String, Global}
+use Rattle.std.proofs.Common.{◌≡◌, ℕ, suc, ◌+◌, ◌≤◌, List, ◌∷◌, ◌++◌, length, Bool, true, false}
+use Rattle.std.proofs.Common.{Option, Some, None, Result, Ok, Err, refl, sym, ◌∙◌, ap, inl, inr}
+use Rattle.std.proofs.Common.{append_assoc, string_bytes, String, Global}
 use Rattle.std.specs.Prelude.{is_some, option_map}
 use Rattle.part_events.specs.Event.{Tag, Event, start, end, leaf, is_start}
 use Rattle.part_events.specs.JoinedText.{joined_text, event_text, is_unknown, unknown_entity}
@@ -13,10 +15,12 @@ use Rattle.cell_data.specs.declared.error.XlsxError.TheVariants.{OutOfMemory, Xm
 use Rattle.xlsx_sections.specs.Answers.{some_answers, and_others_if, or_earlier, prepended}
 use Rattle.xlsx_sections.specs.PartSection.{PartSection, inside_of}
 use Rattle.xlsx_sections.specs.Refusal.{Refusal, RefusedAt, no_character, placed_at}
-use Rattle.xlsx_open.specs.DefinedNames.{name_by, with_text, defined_name, is_defined_name, names_in, behind_in_section}
+use Rattle.xlsx_open.specs.DefinedNames.{name_by, with_text, defined_name, is_defined_name}
+use Rattle.xlsx_open.specs.DefinedNames.{names_in, behind_in_section}
 use Rattle.xlsx_open.specs.Relationships.{Related}
 use Rattle.xlsx_open.specs.Sheets.{is_sheet, is_properties, sheet_of, epoch_of, sheets_in, epoch_in}
-use Rattle.xlsx_open.specs.Workbook.{KeepsSheets, AreSheetsRefused, AreContentsRefused, TextRefused, KeepsName, sheets_of, names_of}
+use Rattle.xlsx_open.specs.Workbook.{KeepsSheets, AreSheetsRefused, AreContentsRefused, TextRefused}
+use Rattle.xlsx_open.specs.Workbook.{KeepsName, sheets_of, names_of}
 use Rattle.xlsx_open.specs.declared.workbook.WorkbookContents.{WorkbookContents}
 
 -- sheets, names and dates that are kept, with what the events say that are left

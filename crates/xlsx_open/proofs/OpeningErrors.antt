@@ -1,11 +1,15 @@
 -- Which refusals of the layers below are refusals of opening.
 use Rattle.std.proofs.Common.{◌≡◌, ℕ, List, Option, Result, Err, codes, ap, inl, inr}
+use Rattle.part_events.specs.Package.{PackageState}
 use Rattle.part_events.specs.declared.fault.XmlFault.TheVariants.{EndMismatch, Entity}
 use Rattle.cell_data.specs.declared.error.XlsxError.{XlsxError}
-use Rattle.cell_data.specs.declared.error.XlsxError.TheVariants.{OutOfMemory, Io, Xml, XmlAttr, XmlEof}
+use Rattle.cell_data.specs.declared.error.XlsxError.TheVariants.{OutOfMemory, Io, Xml, XmlAttr}
+use Rattle.cell_data.specs.declared.error.XlsxError.TheVariants.{XmlEof}
 use Rattle.xlsx_sections.specs.PartSection.{IsStepError}
 use Rattle.xlsx_sections.specs.Refusal.{Refusal, ElementFails, IsDecodeError}
 use Rattle.xlsx_sections.proofs.Refused.{refused_at_weaker}
+use Rattle.xlsx_theme.specs.ThemePart.{ThemeFails}
+use Rattle.xlsx_stylesheet.specs.StylesErrors.{AreStylesError}
 use Rattle.xlsx_strings.specs.Strings.{AreStringsError}
 use Rattle.xlsx_open.specs.Opening.{IsOpeningError}
 use Rattle.xlsx_open.specs.Relationships.{Related, some_text}
@@ -33,8 +37,24 @@ strings_step Io is = tt
 strings_step (Xml (EndMismatch at)) is = tt
 strings_step (Xml (Entity at)) is = tt
 strings_step (XmlAttr fault) is = tt
-strings_step (XmlEof element) is = inr (inr is)
+strings_step (XmlEof element) is = inr (inr (inl is))
 strings_step _ is = absurd is
+
+pub styles_step : (error : XlsxError) → AreStylesError error → IsOpeningError error
+styles_step OutOfMemory is = tt
+styles_step Io is = tt
+styles_step (Xml (EndMismatch at)) is = tt
+styles_step (Xml (Entity at)) is = tt
+styles_step (XmlAttr fault) is = tt
+styles_step (XmlEof element) is = inr (inr (inr is))
+styles_step _ is = absurd is
+
+-- a theme is refused only for want of memory, or by a fault of the package
+pub theme_step : (old new : PackageState) (error : XlsxError) → ThemeFails old new error
+    → IsOpeningError error
+theme_step old new OutOfMemory fails = tt
+theme_step old new Io fails = tt
+theme_step old new _ fails = absurd fails
 
 pub decoding : (error : XlsxError) → IsDecodeError error → IsOpeningError error
 decoding OutOfMemory is = tt

@@ -1,20 +1,33 @@
 -- How the readings of a package's parts make an opening.
-use Rattle.std.proofs.Common.{◌≡◌, ◌+◌, ◌≤◌, ℕ, List, [], ◌∷◌, Bool, true, false, Option, Some, None, Result, Ok, Err, map, refl, sym, ◌∙◌, ap, subst, inl, inr, arith, codes, string_bytes, String, Global}
-use Rattle.std.specs.Prelude.{option_and_then, unwrap_or, IsSome, IsSomeAnd, MatchOption, OnOk}
-use Rattle.part_events.specs.Event.{Event}
-use Rattle.part_events.specs.Package.{Part, PackageState, SameParts, UsesPackage, LeavesPackage, Uses, part_of, events_in}
+use Rattle.std.proofs.Common.{◌≡◌, ◌+◌, ◌≤◌, ℕ, List, [], ◌∷◌, Bool, true, false, Option, Some}
+use Rattle.std.proofs.Common.{None, Result, Ok, Err, map, refl, sym, ◌∙◌, ap, subst, inl, inr}
+use Rattle.std.proofs.Common.{arith, codes, string_bytes, String, Global}
+use Rattle.std.specs.Prelude.{option_and_then, unwrap_or, IsSomeAnd, MatchOption}
+use Rattle.part_events.specs.Package.{Part, PackageState, SameParts, UsesPackage, LeavesPackage}
+use Rattle.part_events.specs.Package.{Uses, part_of, event_count}
 use Rattle.cell_data.specs.declared.error.XlsxError.{XlsxError}
-use Rattle.cell_data.specs.declared.error.XlsxError.TheVariants.{OutOfMemory, Io, NotBuilt}
+use Rattle.cell_data.specs.declared.error.XlsxError.TheVariants.{OutOfMemory, Io}
+use Rattle.cell_styles.specs.declared.color.Color.{Color}
 use Rattle.xlsx_sections.specs.Elements.{IsInsideRefused}
-use Rattle.xlsx_sections.specs.PartSection.{PartSection, always, section_in, StartCause, SectionCause, OptionalPartCause, OptionalPartFails, PartFails, closed_section, closed_section_of}
-use Rattle.xlsx_sections.specs.Refusal.{Refusal}
+use Rattle.xlsx_sections.specs.PartSection.{always, OptionalPartCause, OptionalPartFails}
+use Rattle.xlsx_sections.specs.PartSection.{PartFails, closed_section, closed_section_of}
+use Rattle.xlsx_theme.specs.ThemePart.{theme_colors, HasTheme, ThemeFails}
+use Rattle.xlsx_theme.specs.declared.theme_part.ThemeColors.{ThemeColors}
+use Rattle.xlsx_stylesheet.specs.StyleSheet.{cell_formats_in, end_in_styles, HasStyles}
 use Rattle.xlsx_strings.specs.Strings.{strings_in, end_in_strings, HasStrings}
-use Rattle.xlsx_open.specs.Kept.{pair_of, sheet_of_entry}
-use Rattle.xlsx_open.specs.Opening.{Opening, HoldsOpening, ListedSheet, listed_sheet, without_path, HasPath, HasWorkbook, HasNothing, IsOpening, OpensAs, OpeningFails, WorkbookCause, WorkbookOpens, WorkbookFails, OpensPackage, FailsToOpen, BookCause, BookOpens, BookFails, UnbuiltFails, epoch_or_1900, book_events}
-use Rattle.xlsx_open.specs.Paths.{folder_of, workbook_part, relationships_part, strings_part, styles_part}
-use Rattle.xlsx_open.specs.Relationships.{Related, IsPathRefused, AreRelationshipsRefused}
+use Rattle.xlsx_open.specs.KeptContents.{pair_of, sheet_of_entry}
+use Rattle.xlsx_open.specs.Opening.{Opening, HoldsOpening, ListedSheet, listed_sheet, without_path}
+use Rattle.xlsx_open.specs.Opening.{HasPath, HasRelationships, HasWorkbook, HasNothing, IsOpening}
+use Rattle.xlsx_open.specs.Opening.{OpensAs}
+use Rattle.xlsx_open.specs.Opening.{OpeningFails, WorkbookCause, WorkbookOpens, WorkbookFails}
+use Rattle.xlsx_open.specs.Opening.{OpensPackage, FailsToOpen, BookCause, BookOpens, BookFails}
+use Rattle.xlsx_open.specs.Opening.{epoch_or_1900, book_events}
+use Rattle.xlsx_open.specs.Paths.{folder_of, workbook_part, strings_part, theme_part, styles_part}
+use Rattle.xlsx_open.specs.Relationships.{Related, IsPathRefused}
+use Rattle.xlsx_open.specs.SharedParts.{SharedSaid, shared_said, HasShared, SharedFails}
 use Rattle.xlsx_open.specs.Sheets.{PlacedSheet}
 use Rattle.xlsx_open.specs.Workbook.{IsContents, AreContentsRefused}
+use Rattle.xlsx_open.specs.declared.shared_parts.SharedParts.{SharedParts}
 use Rattle.xlsx_open.specs.declared.sheet.Metadata.{Metadata}
 use Rattle.xlsx_open.specs.declared.sheet.SheetEntry.{SheetEntry}
 use Rattle.xlsx_open.specs.declared.workbook.WorkbookContents.{WorkbookContents}
@@ -104,40 +117,41 @@ matched None f Q P is = absurd is
 matched (Some x) f Q P is = is
 
 -- what the contents of a workbook's section open as
-abbrev pub opening_of : WorkbookContents → List (List ℕ) → Opening
-opening_of found strings = record {
+abbrev pub opening_of : WorkbookContents → SharedSaid → Opening
+opening_of found shared = record {
   sheets = map sheet_of_entry found.entries.items;
   names = map pair_of found.names.items;
-  strings = strings;
+  shared = shared;
   is_1904 = unwrap_or found.epoch false;
 }
 
 pub holds_contents : (found : WorkbookContents) (metadata : Metadata)
-    (paths strings own : List (String Global)) (is_1904 : Bool) → metadata.sheets.items
+    (paths : List (String Global)) (shared own : SharedParts) (is_1904 : Bool)
+    → metadata.sheets.items
     ≡ map (λ (entry : SheetEntry). entry.sheet) found.entries.items → paths
     ≡ map (λ (entry : SheetEntry). entry.path) found.entries.items → metadata.names.items
-    ≡ found.names.items → own ≡ strings → is_1904 ≡ unwrap_or found.epoch false
-    → HoldsOpening metadata paths own is_1904 (opening_of found (map string_bytes strings))
-holds_contents found metadata paths strings own is_1904 sheets places names same epoch = record {
+    ≡ found.names.items → own ≡ shared → is_1904 ≡ unwrap_or found.epoch false
+    → HoldsOpening metadata paths own is_1904 (opening_of found (shared_said shared))
+holds_contents found metadata paths shared own is_1904 sheets places names same epoch = record {
   sheets = ap (map listed_sheet) sheets ∙ sheets_listed found.entries.items;
   paths = ap (map string_bytes) places ∙ paths_listed found.entries.items;
   names = ap (map pair_of) names;
-  strings = ap (map string_bytes) same;
+  shared = ap shared_said same;
   epoch = epoch;
 }
 
 pub has_contents : (parts : List Part) (path : List ℕ) (related : List ℕ
-    → Option Related) (found : WorkbookContents) (strings : List (List ℕ))
+    → Option Related) (found : WorkbookContents) (shared : SharedSaid)
     → IsSomeAnd (closed_section_of (codes "workbook") (workbook_part path) parts)
     (λ inside. IsContents (folder_of path) related inside found)
-    → HasWorkbook parts path related (opening_of found strings)
-has_contents parts path related found strings is =
+    → HasWorkbook parts path related (opening_of found shared)
+has_contents parts path related found shared is =
     matched (part_of parts (workbook_part path)) (closed_section (codes "workbook"))
-    (HasNothing (opening_of found strings))
-    (λ inside. IsOpening (folder_of path) related inside (opening_of found strings))
+    (HasNothing (opening_of found shared))
+    (λ inside. IsOpening (folder_of path) related inside (opening_of found shared))
     (some_weaker (closed_section_of (codes "workbook") (workbook_part path) parts)
     (λ inside. IsContents (folder_of path) related inside found)
-    (λ inside. IsOpening (folder_of path) related inside (opening_of found strings))
+    (λ inside. IsOpening (folder_of path) related inside (opening_of found shared))
     (λ inside holds. record {
       sheets = holds.sheets;
       names = holds.names;
@@ -146,25 +160,11 @@ has_contents parts path related found strings is =
     }) is)
 
 pub has_nothing : (parts : List Part) (path : List ℕ) (related : List ℕ → Option Related)
-    (strings : List (List ℕ)) → part_of parts (workbook_part path) ≡ None
+    (shared : SharedSaid) → part_of parts (workbook_part path) ≡ None
     → HasWorkbook parts path related
-    (record { sheets = []; names = []; strings = strings; is_1904 = false })
-has_nothing parts path related strings absent =
+    (record { sheets = []; names = []; shared = shared; is_1904 = false })
+has_nothing parts path related shared absent =
     rw absent (record { sheets = refl; names = refl; epoch = refl })
-
-start_not_built : (name : List ℕ) (ending : List Event → Option (List ℕ)) (refused : PartSection
-    → Refusal → Type 0) (events : List Event) (found : Option PartSection)
-    → MatchOption found (StartCause name events NotBuilt)
-    (λ s. SectionCause ending refused s NotBuilt) → ⊥
-start_not_built name ending refused events None cause = cause
-start_not_built name ending refused events (Some s) cause = cause
-
-part_not_built : (name : List ℕ) (ending : List Event → Option (List ℕ)) (refused : PartSection
-    → Refusal → Type 0) (part : Option (List Event))
-    → OptionalPartCause name ending refused part NotBuilt → ⊥
-part_not_built name ending refused None cause = cause
-part_not_built name ending refused (Some events) cause =
-    start_not_built name ending refused events (section_in name events) cause
 
 -- the package's relationships are refused
 pub root_fails : (old new : PackageState) (error : XlsxError)
@@ -172,49 +172,82 @@ pub root_fails : (old new : PackageState) (error : XlsxError)
     (codes "_rels/.rels") old new error → OpeningFails old new error
 root_fails old new Io fails = fails
 root_fails old new OutOfMemory fails = tt
-root_fails old new NotBuilt fails =
-    λ told. absurd (part_not_built (codes "Relationships") (always (codes "Relationships"))
-    IsPathRefused (part_of old.parts (codes "_rels/.rels")) (fails told))
 root_fails old new error fails = λ told. inl (fails told)
 
-workbook_not_built : (parts : List Part) (path : List ℕ) → WorkbookCause parts path NotBuilt → ⊥
-workbook_not_built parts path (inl cause) =
-    part_not_built (codes "Relationships") (always (codes "Relationships")) AreRelationshipsRefused
-    (part_of parts (relationships_part path)) cause
-workbook_not_built parts path (inr (related, has, cause)) =
-    part_not_built (codes "workbook") (always (codes "workbook"))
-    (AreContentsRefused (folder_of path) related) (part_of parts (workbook_part path)) cause
+-- the workbook's own part is refused behind its relationships
+pub contents_fail : (old mid new : PackageState) (path : List ℕ) (related : List ℕ
+    → Option Related) (error : XlsxError) → SameParts old mid → mid.faults ≡ old.faults
+    → (old.is_told ≡ true → HasRelationships old.parts path related)
+    → OptionalPartFails (codes "workbook") (always (codes "workbook"))
+    (AreContentsRefused (folder_of path) related) (workbook_part path) mid new error
+    → WorkbookFails path old new error
+contents_fail old mid new path related Io same faults has fails = omega (arith, faults, fails)
+contents_fail old mid new path related OutOfMemory same faults has fails = tt
+contents_fail old mid new path related error same faults has fails = λ told. inr (
+  related,
+  has told,
+  subst (λ (parts : List Part). OptionalPartCause (codes "workbook") (always (codes "workbook"))
+      (AreContentsRefused (folder_of path) related) (part_of parts (workbook_part path)) error)
+      same.parts (fails (same.is_told ∙ told)),
+)
 
 -- the shared strings are refused
 pub strings_fail : (old new : PackageState) (path : List ℕ) (error : XlsxError)
     → OptionalPartFails (codes "sst") end_in_strings (IsInsideRefused strings_in)
-    (strings_part path) old new error → BookFails path old new error
+    (strings_part path) old new error → SharedFails path old new error
 strings_fail old new path Io fails = fails
 strings_fail old new path OutOfMemory fails = tt
-strings_fail old new path NotBuilt fails =
-    λ told. absurd (part_not_built (codes "sst") end_in_strings (IsInsideRefused strings_in)
-    (part_of old.parts (strings_part path)) (fails told))
 strings_fail old new path error fails = λ told. inl (fails told)
 
--- the workbook has styles, and is refused behind its shared strings
-pub styles_fail : (old mid new : PackageState) (path : List ℕ) (error : XlsxError)
-    → SameParts old mid → mid.faults ≡ old.faults → UnbuiltFails path mid new error
-    → BookFails path old new error
-styles_fail old mid new path Io same faults fails = omega (arith, faults, fails)
-styles_fail old mid new path OutOfMemory same faults fails = tt
-styles_fail old mid new path NotBuilt same faults fails = λ told.
-    subst (λ (parts : List Part). IsSome (part_of parts (styles_part path))) same.parts
-    (fails (same.is_told ∙ told))
-styles_fail old mid new path error same faults fails = absurd fails
+-- the theme is refused behind them
+pub theme_fails : (old mid new : PackageState) (path : List ℕ) (error : XlsxError)
+    → mid.faults ≡ old.faults → ThemeFails mid new error → SharedFails path old new error
+theme_fails old mid new path Io faults fails = omega (arith, faults, fails)
+theme_fails old mid new path OutOfMemory faults fails = tt
+theme_fails old mid new path error faults fails = absurd fails
 
--- the workbook is refused behind them
+-- the styles are refused behind the theme, by whose colors they name theirs
+pub styles_fail : (old mid new : PackageState) (path : List ℕ) (theme : List Color)
+    (error : XlsxError) → SameParts old mid → mid.faults ≡ old.faults
+    → (old.is_told ≡ true → theme ≡ theme_colors old.parts (theme_part path))
+    → OptionalPartFails (codes "styleSheet") end_in_styles
+    (IsInsideRefused (cell_formats_in theme)) (styles_part path) mid new error
+    → SharedFails path old new error
+styles_fail old mid new path theme Io same faults is fails = omega (arith, faults, fails)
+styles_fail old mid new path theme OutOfMemory same faults is fails = tt
+styles_fail old mid new path theme error same faults is fails = λ told.
+    inr (subst (λ (colors : List Color). OptionalPartCause (codes "styleSheet") end_in_styles
+    (IsInsideRefused (cell_formats_in colors)) (part_of old.parts (styles_part path)) error)
+    (is told) (subst (λ (parts : List Part). OptionalPartCause (codes "styleSheet") end_in_styles
+    (IsInsideRefused (cell_formats_in theme)) (part_of parts (styles_part path)) error) same.parts
+    (fails (same.is_told ∙ told))))
+
+-- what was read of the strings, the theme and the styles
+pub has_shared : (parts : List Part) (path : List ℕ) (theme : ThemeColors) (shared : SharedSaid)
+    → HasStrings parts (strings_part path) shared.strings → HasTheme parts (theme_part path) theme
+    → shared.theme_defaulted ≡ theme.defaulted
+    → HasStyles theme.colors.items parts (styles_part path) shared.formats shared.styles
+    → HasShared parts path shared
+has_shared parts path theme shared strings colors defaulted styles = record {
+  strings = strings;
+  theme = defaulted ∙ colors.defaulted;
+  styles = subst (λ (own : List Color). HasStyles own parts (styles_part path) shared.formats
+      shared.styles) colors.colors styles;
+}
+
+-- what the sheets share is refused
+pub shared_fails : (old new : PackageState) (path : List ℕ) (error : XlsxError)
+    → SharedFails path old new error → BookFails path old new error
+shared_fails old new path Io fails = fails
+shared_fails old new path OutOfMemory fails = tt
+shared_fails old new path error fails = λ told. inl (fails told)
+
+-- the workbook is refused behind that
 pub workbook_fails : (old mid new : PackageState) (path : List ℕ) (error : XlsxError)
     → SameParts old mid → mid.faults ≡ old.faults → WorkbookFails path mid new error
     → BookFails path old new error
 workbook_fails old mid new path Io same faults fails = omega (arith, faults, fails)
 workbook_fails old mid new path OutOfMemory same faults fails = tt
-workbook_fails old mid new path NotBuilt same faults fails =
-    λ told. absurd (workbook_not_built mid.parts path (fails (same.is_told ∙ told)))
 workbook_fails old mid new path error same faults fails = λ told.
     inr (subst (λ (parts : List Part). WorkbookCause parts path error) same.parts
     (fails (same.is_told ∙ told)))
@@ -225,12 +258,6 @@ pub book_fails : (old mid new : PackageState) (path : List ℕ) (error : XlsxErr
     → BookFails path mid new error → OpeningFails old new error
 book_fails old mid new path Io same faults found fails = omega (arith, faults, fails)
 book_fails old mid new path OutOfMemory same faults found fails = tt
-book_fails old mid new path NotBuilt same faults found fails = λ told. (
-  path,
-  found told,
-  subst (λ (parts : List Part). IsSome (part_of parts (styles_part path))) same.parts
-      (fails (same.is_told ∙ told)),
-)
 book_fails old mid new path error same faults found fails = λ told.
     inr (
       path,
@@ -239,13 +266,13 @@ book_fails old mid new path error same faults found fails = λ told.
           (fails (same.is_told ∙ told)),
     )
 
--- the workbook was opened behind its shared strings
-pub book_opens : (old mid : PackageState) (path : List ℕ) (strings : List (List ℕ))
-    (opening : Opening) → SameParts old mid → HasStrings old.parts (strings_part path) strings
-    → opening.strings ≡ strings → WorkbookOpens mid.parts path opening
+-- the workbook was opened behind what its sheets share
+pub book_opens : (old mid : PackageState) (path : List ℕ) (shared : SharedSaid)
+    (opening : Opening) → SameParts old mid → HasShared old.parts path shared
+    → opening.shared ≡ shared → WorkbookOpens mid.parts path opening
     → BookOpens old.parts path opening
-book_opens old mid path strings opening same has own opens = (
-  subst (HasStrings old.parts (strings_part path)) (sym own) has,
+book_opens old mid path shared opening same has own opens = (
+  subst (HasShared old.parts path) (sym own) has,
   subst (λ (parts : List Part). WorkbookOpens parts path opening) same.parts opens,
 )
 
@@ -260,7 +287,7 @@ opens_as old mid path opening same found opens =
       related = workbook.0;
       found = found;
       relationships = workbook.1;
-      strings = here.0;
+      shared = here.0;
       workbook = workbook.2;
     }
 
@@ -271,15 +298,9 @@ pub uses_result : {A : Type 0} {few most : ℕ} {old mid : PackageState} (more :
 uses_result more new (Ok value) less first second = uses_then less first second
 uses_result more new (Err error) less first second = leaves_then less first second
 
--- what is known of an answer is known in weaker form
-pub on_ok_weaker : {A E First Second : Type 0} (answer : Result A E) → (First → Second)
-    → OnOk answer First → OnOk answer Second
-on_ok_weaker (Ok value) weaker fact = weaker fact
-on_ok_weaker (Err error) weaker fact = tt
-
 -- what opening takes, where its first call was refused, and where it went on
 pub root_left : {error : XlsxError} {old new : PackageState}
-    → LeavesPackage (events_in old.parts (codes "_rels/.rels")) Io old new error
+    → LeavesPackage (event_count old.parts (codes "_rels/.rels")) Io old new error
     → FailsToOpen Io old new error
 root_left leaves = record {
   parts = leaves.parts;
@@ -289,12 +310,12 @@ root_left leaves = record {
 }
 
 pub opens_package : {A : Type 0} (result : Result A XlsxError) (old mid new : PackageState)
-    (path : List ℕ) → UsesPackage (events_in old.parts (codes "_rels/.rels")) old mid
+    (path : List ℕ) → UsesPackage (event_count old.parts (codes "_rels/.rels")) old mid
     → (old.is_told ≡ true → HasPath old.parts path)
     → Uses (book_events mid.parts path) Io result mid new → OpensPackage Io result old new
 opens_package (Ok value) old mid new path first found second =
     let both : UsesPackage
-    (events_in old.parts (codes "_rels/.rels") + book_events mid.parts path) old new =
+    (event_count old.parts (codes "_rels/.rels") + book_events mid.parts path) old new =
     uses_then (omega arith) first second in
     record {
       parts = both.parts;
@@ -303,13 +324,13 @@ opens_package (Ok value) old mid new path first found second =
         path,
         found told,
         subst (λ (parts : List Part). new.taken ≤ old.taken +
-            (events_in old.parts (codes "_rels/.rels") + book_events parts path))
+            (event_count old.parts (codes "_rels/.rels") + book_events parts path))
             first.parts.parts (both.taken told),
       );
     }
 opens_package (Err error) old mid new path first found second =
     let both : LeavesPackage
-    (events_in old.parts (codes "_rels/.rels") + book_events mid.parts path) Io old new
+    (event_count old.parts (codes "_rels/.rels") + book_events mid.parts path) Io old new
     error = leaves_then (omega arith) first second in
     record {
       parts = both.parts;
@@ -318,7 +339,7 @@ opens_package (Err error) old mid new path first found second =
         path,
         found told,
         subst (λ (parts : List Part). new.taken ≤ old.taken +
-            (events_in old.parts (codes "_rels/.rels") + book_events parts path))
+            (event_count old.parts (codes "_rels/.rels") + book_events parts path))
             first.parts.parts (both.taken told),
       );
     }

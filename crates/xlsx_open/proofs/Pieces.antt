@@ -1,5 +1,7 @@
 -- The last piece of a path, by where its last slash stands.
-use Rattle.std.proofs.Common.{◌≡◌, ◌≢◌, ℕ, ◌+◌, ◌-◌, ◌<◌, Bool, false, not, Option, Some, None, MatchOption, Bor, refl, List, [], ◌∷◌, length, take, drop, get_or, sym, ap, ◌∙◌, arith, ne_eqb, length-drop}
+use Rattle.std.proofs.Common.{◌≡◌, ◌≢◌, ℕ, ◌+◌, ◌-◌, ◌<◌, Bool, false, not, Option, Some, None}
+use Rattle.std.proofs.Common.{MatchOption, Bor, refl, List, [], ◌∷◌, length, take, drop, get_or}
+use Rattle.std.proofs.Common.{sym, ap, ◌∙◌, arith, ne_eqb, length-drop}
 use Rattle.std.specs.List.{suffix_len}
 use Rattle.std.proofs.lemmas.List.Sums.{suffix_len_is}
 use Rattle.std.specs.Option.{option_copied}

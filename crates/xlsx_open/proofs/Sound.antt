@@ -1,19 +1,27 @@
 -- No cause of a refusal stands where a package opens, and it opens as one workbook.
-use Rattle.std.proofs.Common.{◌≡◌, ℕ, List, [], true, Option, Some, None, Ok, Err, refl, sym, ◌∙◌, ap, subst, inl, inr, ◌⊎◌, codes}
+use Rattle.std.proofs.Common.{◌≡◌, ℕ, List, [], true, Option, Some, None, Ok, Err, refl, sym, ◌∙◌}
+use Rattle.std.proofs.Common.{ap, subst, inl, inr, ◌⊎◌, codes}
 use mathlib.Core.Path.{fun_ext}
 use Rattle.std.specs.Prelude.{IsSomeAnd, MatchOption}
 use Rattle.part_events.specs.Event.{Event}
 use Rattle.part_events.specs.Package.{Part, PackageState, part_of}
 use Rattle.cell_data.specs.declared.error.XlsxError.{XlsxError}
-use Rattle.cell_data.specs.declared.error.XlsxError.TheVariants.{OutOfMemory, Io, NotBuilt}
+use Rattle.cell_data.specs.declared.error.XlsxError.TheVariants.{OutOfMemory, Io}
 use Rattle.xlsx_sections.specs.PartSection.{PartSection, inside_of, always, closed_section_of}
 use Rattle.xlsx_sections.specs.Refusal.{Refusal}
 use Rattle.xlsx_sections.proofs.Sound.{is_sound_part, no_optional_cause, no_part_cause}
-use Rattle.xlsx_strings.specs.Strings.{HasStrings}
+use Rattle.xlsx_theme.specs.ThemePart.{theme_colors}
+use Rattle.xlsx_stylesheet.proofs.Sound.{no_styles_cause}
 use Rattle.xlsx_strings.proofs.Sound.{no_strings_cause}
-use Rattle.xlsx_open.specs.Opening.{Opening, HasPath, HasRelationships, HasWorkbook, HasNothing, IsOpening, OpensAs, OpensSoundly, OpeningCause, ContentsCause, WorkbookCause, BookCause, OpeningFails, SoundFails, epoch_or_1900}
+use Rattle.xlsx_open.specs.Opening.{Opening, HasPath, HasRelationships, HasWorkbook, HasNothing}
+use Rattle.xlsx_open.specs.Opening.{IsOpening, OpensAs, OpensSoundly, OpeningCause, ContentsCause}
+use Rattle.xlsx_open.specs.Opening.{WorkbookCause, BookCause, OpeningFails, SoundFails}
+use Rattle.xlsx_open.specs.Opening.{epoch_or_1900}
 use Rattle.xlsx_open.specs.Paths.{folder_of, workbook_part, relationships_part, strings_part}
-use Rattle.xlsx_open.specs.Relationships.{Related, path_in, related_in, IsTargetRefused, IsPathRefused, AreRelationshipsRefused}
+use Rattle.xlsx_open.specs.Paths.{theme_part, styles_part}
+use Rattle.xlsx_open.specs.Relationships.{Related, path_in, related_in, IsTargetRefused}
+use Rattle.xlsx_open.specs.Relationships.{IsPathRefused, AreRelationshipsRefused}
+use Rattle.xlsx_open.specs.SharedParts.{SharedSaid, HasShared, SharedCause}
 use Rattle.xlsx_open.specs.Workbook.{AreContentsRefused}
 
 path_never : (path : List ℕ) (s : PartSection) → path_in (inside_of s) ≡ Ok (Some path)
@@ -102,13 +110,21 @@ no_workbook_cause parts path related opening error has workbook
     (subst (λ (r : List ℕ → Option Related). ContentsCause parts path r error)
     (same_related parts path other_related related other_has has) cause)
 
+no_shared_cause : (parts : List Part) (path : List ℕ) (shared : SharedSaid) (error : XlsxError)
+    → HasShared parts path shared → SharedCause parts path error → ⊥
+no_shared_cause parts path shared error has (inl cause) =
+    no_strings_cause parts (strings_part path) shared.strings error has.strings cause
+no_shared_cause parts path shared error has (inr cause) =
+    no_styles_cause (theme_colors parts (theme_part path)) parts (styles_part path) shared.formats
+    shared.styles error has.styles cause
+
 no_book_cause : (parts : List Part) (path : List ℕ) (related : List ℕ
     → Option Related) (opening : Opening) (error : XlsxError) → HasRelationships parts path related
-    → HasStrings parts (strings_part path) opening.strings
-    → HasWorkbook parts path related opening → BookCause parts path error → ⊥
-no_book_cause parts path related opening error has strings workbook (inl cause) =
-    no_strings_cause parts (strings_part path) opening.strings error strings cause
-no_book_cause parts path related opening error has strings workbook (inr cause) =
+    → HasShared parts path opening.shared → HasWorkbook parts path related opening
+    → BookCause parts path error → ⊥
+no_book_cause parts path related opening error has shared workbook (inl cause) =
+    no_shared_cause parts path opening.shared error shared cause
+no_book_cause parts path related opening error has shared workbook (inr cause) =
     no_workbook_cause parts path related opening error has workbook cause
 
 pub no_cause : (parts : List Part) (opening : Opening) (error : XlsxError) → OpensAs parts opening
@@ -120,15 +136,14 @@ no_cause parts opening error is (inl cause) =
     no_part_cause name (codes "_rels/.rels") parts good (always name) IsPathRefused error sound
     (path_never is.path sound.section sound.holds) cause
 no_cause parts opening error is (inr (path, found, cause)) =
-    no_book_cause parts is.path is.related opening error is.relationships is.strings is.workbook
+    no_book_cause parts is.path is.related opening error is.relationships is.shared is.workbook
     (subst (λ (p : List ℕ). BookCause parts p error)
     (same_path parts path is.path found is.found) cause)
 
--- a package that opens is refused only for want of memory, a fault, or what isn't built yet
+-- a package that opens is refused only for want of memory, or by a fault
 pub sound_fails : (old new : PackageState) (error : XlsxError) → old.is_told ≡ true
     → OpensSoundly old.parts → OpeningFails old new error → SoundFails old new error
 sound_fails old new OutOfMemory told sound fails = tt
 sound_fails old new Io told sound fails = fails
-sound_fails old new NotBuilt told sound fails = fails told
 sound_fails old new error told sound fails =
     absurd (no_cause old.parts sound.0 error sound.1 (fails told))

@@ -1,32 +1,41 @@
 -- What opening a workbook finds in the parts of a package, and why it is refused.
-use Rattle.std.specs.Prelude.{◌≡◌, ◌⊎◌, ⊤, ℕ, ◌+◌, ◌≤◌, List, [], Bool, true, false, codes, Option, Some, None, map, unwrap_or, Result, Ok, Err, IsSome, IsSomeAnd, MatchOption, MatchResult, string_bytes, String}
+use Rattle.std.specs.Prelude.{◌≡◌, ◌⊎◌, ⊤, ℕ, ◌+◌, ◌≤◌, List, [], Bool, true, false, codes, Option}
+use Rattle.std.specs.Prelude.{Some, map, unwrap_or, Result, Ok, Err, IsSomeAnd}
+use Rattle.std.specs.Prelude.{MatchOption, MatchResult, string_bytes, String}
 use Rattle.std.specs.declared.alloc.Global.{Global}
 use Rattle.part_events.specs.Event.{Event}
-use Rattle.part_events.specs.Package.{Part, PackageState, HasCause, KeepsFaults, SameParts, part_of, events_in}
+use Rattle.part_events.specs.Package.{Part, PackageState, HasCause, KeepsFaults, SameParts, part_of}
+use Rattle.part_events.specs.Package.{event_count}
 use Rattle.part_events.specs.declared.fault.XmlFault.TheVariants.{EndMismatch, Entity}
 use Rattle.cell_data.specs.declared.error.XlsxError.{XlsxError}
-use Rattle.cell_data.specs.declared.error.XlsxError.TheVariants.{OutOfMemory, Io, NotBuilt, Xml, XmlAttr, XmlEof, FileNotFound, RelationshipNotFound, Unrecognized}
-use Rattle.xlsx_sections.specs.Elements.{IsInsideRefused}
+use Rattle.cell_data.specs.declared.error.XlsxError.TheVariants.{OutOfMemory, Io, Xml}
+use Rattle.cell_data.specs.declared.error.XlsxError.TheVariants.{XmlAttr, XmlEof, FileNotFound}
+use Rattle.cell_data.specs.declared.error.XlsxError.TheVariants.{RelationshipNotFound, Unrecognized}
 use Rattle.xlsx_sections.specs.PartSection.{always, closed_section_of, PartCause, OptionalPartCause}
 use Rattle.xlsx_sections.specs.Refusal.{Refusal}
-use Rattle.xlsx_strings.specs.Strings.{strings_in, end_in_strings, HasStrings, IsStringsEnd}
+use Rattle.xlsx_stylesheet.specs.StylesErrors.{IsStylesEnd}
+use Rattle.xlsx_strings.specs.Strings.{IsStringsEnd}
 use Rattle.xlsx_open.specs.DefinedNames.{names_in}
-use Rattle.xlsx_open.specs.Kept.{pair_of}
-use Rattle.xlsx_open.specs.Paths.{folder_of, workbook_part, relationships_part, strings_part, styles_part}
-use Rattle.xlsx_open.specs.Relationships.{Related, path_in, related_in, IsPathRefused, AreRelationshipsRefused}
+use Rattle.xlsx_open.specs.KeptContents.{pair_of}
+use Rattle.xlsx_open.specs.Paths.{folder_of, workbook_part, relationships_part}
+use Rattle.xlsx_open.specs.Relationships.{Related, path_in, related_in, IsPathRefused}
+use Rattle.xlsx_open.specs.Relationships.{AreRelationshipsRefused}
+use Rattle.xlsx_open.specs.SharedParts.{SharedSaid, shared_said, HasShared, SharedCause}
+use Rattle.xlsx_open.specs.SharedParts.{shared_events}
 use Rattle.xlsx_open.specs.Sheets.{PlacedSheet, sheets_in, epoch_in}
 use Rattle.xlsx_open.specs.Workbook.{AreContentsRefused}
+use Rattle.xlsx_open.specs.declared.shared_parts.SharedParts.{SharedParts}
 use Rattle.xlsx_open.specs.declared.sheet.Sheet.{Sheet}
 use Rattle.xlsx_open.specs.declared.sheet.Metadata.{Metadata}
 use Rattle.xlsx_open.specs.declared.sheet.SheetType.{SheetType}
 use Rattle.xlsx_open.specs.declared.sheet.SheetVisible.{SheetVisible}
 
 -- what a workbook opens as: its sheets with the paths of their parts, its defined names with their
--- texts, its shared strings, and whether its dates count from 1904
+-- texts, what its sheets share, and whether its dates count from 1904
 pub record Opening : Type 0 where
   pub sheets : List PlacedSheet
   pub names : List (List ℕ × List ℕ)
-  pub strings : List (List ℕ)
+  pub shared : SharedSaid
   pub is_1904 : Bool
 
 -- a sheet as it is listed, without the path of its part
@@ -47,12 +56,12 @@ listed_sheet sheet = record {
 
 -- these lists and the first year are those of an opening
 pub record HoldsOpening
-    (metadata : Metadata) (part_paths texts : List (String Global)) (is_1904 : Bool)
-    (opening : Opening) : Type 0 where
+    (metadata : Metadata) (part_paths : List (String Global)) (parts : SharedParts)
+    (is_1904 : Bool) (opening : Opening) : Type 0 where
   pub sheets : map listed_sheet metadata.sheets.items ≡ map without_path opening.sheets
   pub paths : map string_bytes part_paths ≡ map (λ (sheet : PlacedSheet). sheet.path) opening.sheets
   pub names : map pair_of metadata.names.items ≡ opening.names
-  pub strings : map string_bytes texts ≡ opening.strings
+  pub shared : shared_said parts ≡ opening.shared
   pub epoch : is_1904 ≡ opening.is_1904
 
 -- the package's relationships lead to the workbook at this path
@@ -99,7 +108,7 @@ pub record OpensAs (parts : List Part) (opening : Opening) : Type 0 where
   pub related : List ℕ → Option Related
   pub found : HasPath parts path
   pub relationships : HasRelationships parts path related
-  pub strings : HasStrings parts (strings_part path) opening.strings
+  pub shared : HasShared parts path opening.shared
   pub workbook : HasWorkbook parts path related opening
 
 abbrev pub OpensSoundly : List Part → Type 0
@@ -116,12 +125,6 @@ RelationshipsCause parts path error =
     PartCause (codes "Relationships") (always (codes "Relationships")) AreRelationshipsRefused parts
     (relationships_part path) error
 
--- why the shared strings can't be read
-abbrev pub StringsCause : List Part → List ℕ → XlsxError → Type 0
-StringsCause parts path error =
-    OptionalPartCause (codes "sst") end_in_strings (IsInsideRefused strings_in)
-    (part_of parts (strings_part path)) error
-
 -- why the workbook's own part can't be read
 abbrev pub ContentsCause : List Part → List ℕ → (List ℕ → Option Related) → XlsxError → Type 0
 ContentsCause parts path related error =
@@ -135,37 +138,25 @@ WorkbookCause parts path error =
     ⊎ ((related : List ℕ → Option Related)
     × HasRelationships parts path related × ContentsCause parts path related error)
 
--- or by its shared strings
+-- or by what its sheets share
 abbrev pub BookCause : List Part → List ℕ → XlsxError → Type 0
-BookCause parts path error = StringsCause parts path error ⊎ WorkbookCause parts path error
+BookCause parts path error = SharedCause parts path error ⊎ WorkbookCause parts path error
 
 -- or by the package's relationships
 abbrev pub OpeningCause : List Part → XlsxError → Type 0
 OpeningCause parts error =
     RootCause parts error ⊎ ((path : List ℕ) × HasPath parts path × BookCause parts path error)
 
--- the workbook has styles, which aren't read yet
-abbrev pub IsNotBuilt : List Part → Type 0
-IsNotBuilt parts =
-    (path : List ℕ) × HasPath parts path × IsSome (part_of parts (styles_part path))
-
--- the workbook has no styles
-pub record IsBuilt (parts : List Part) : Type 0 where
-  pub path : List ℕ
-  pub found : HasPath parts path
-  pub no_styles : part_of parts (styles_part path) ≡ None
-
 -- the refusals that opening can have, whatever the package tells
 abbrev pub IsOpeningError : XlsxError → Type 0
 IsOpeningError OutOfMemory = ⊤
 IsOpeningError Io = ⊤
-IsOpeningError NotBuilt = ⊤
 IsOpeningError (Xml (EndMismatch at)) = ⊤
 IsOpeningError (Xml (Entity at)) = ⊤
 IsOpeningError (XmlAttr fault) = ⊤
 IsOpeningError (XmlEof element) =
     (element.now ≡ codes "Relationships")
-    ⊎ ((element.now ≡ codes "workbook") ⊎ IsStringsEnd element.now)
+    ⊎ ((element.now ≡ codes "workbook") ⊎ (IsStringsEnd element.now ⊎ IsStylesEnd element.now))
 IsOpeningError (FileNotFound path) = ⊤
 IsOpeningError RelationshipNotFound = ⊤
 IsOpeningError (Unrecognized typ val) =
@@ -176,32 +167,31 @@ IsOpeningError _ = ⊥
 abbrev pub OpeningFails : PackageState → PackageState → XlsxError → Type 0
 OpeningFails old new Io = HasCause old new
 OpeningFails old new OutOfMemory = ⊤
-OpeningFails old new NotBuilt = old.is_told ≡ true → IsNotBuilt old.parts
 OpeningFails old new error = old.is_told ≡ true → OpeningCause old.parts error
 
 -- when a package that opens soundly is refused
 abbrev pub SoundFails : PackageState → PackageState → XlsxError → Type 0
 SoundFails old new Io = HasCause old new
 SoundFails old new OutOfMemory = ⊤
-SoundFails old new NotBuilt = IsNotBuilt old.parts
 SoundFails old new _ = ⊥
 
 -- how many events the parts have that lead to a workbook at this path, and its own
 abbrev pub workbook_events : List Part → List ℕ → ℕ
 workbook_events parts path =
-    events_in parts (relationships_part path) + events_in parts (workbook_part path)
+    event_count parts (relationships_part path) + event_count parts (workbook_part path)
 
--- and its shared strings
+-- and what its sheets share
 abbrev pub book_events : List Part → List ℕ → ℕ
-book_events parts path = events_in parts (strings_part path) + workbook_events parts path
+book_events parts path = shared_events parts path + workbook_events parts path
 
 -- How many events an opening may take: those of the package's relationships, and where these lead
--- to a workbook, those of its shared strings, its relationships and its own part.
+-- to a workbook, those of its shared strings, its theme, its styles, its relationships and its own
+-- part.
 abbrev pub TakesOpening : List Part → ℕ → ℕ → Type 0
 TakesOpening parts before after =
-    (after ≤ before + events_in parts (codes "_rels/.rels"))
+    (after ≤ before + event_count parts (codes "_rels/.rels"))
     ⊎ ((path : List ℕ) × HasPath parts path
-    × (after ≤ before + (events_in parts (codes "_rels/.rels") + book_events parts path)))
+    × (after ≤ before + (event_count parts (codes "_rels/.rels") + book_events parts path)))
 
 -- what opening keeps of its package that isn't refused, and what it keeps that is
 pub record OpensFrom (old new : PackageState) : Type 0 where
@@ -218,19 +208,6 @@ abbrev pub OpensPackage : {A E : Type 0} → E → Result A E → PackageState �
 OpensPackage fault result old new =
     MatchResult result (λ _. OpensFrom old new) (FailsToOpen fault old new)
 
--- when the look for a part that isn't read yet is refused
-abbrev pub PresenceFails : List ℕ → PackageState → PackageState → XlsxError → Type 0
-PresenceFails part old new Io = HasCause old new
-PresenceFails part old new NotBuilt = old.is_told ≡ true → IsSome (part_of old.parts part)
-PresenceFails part old new _ = ⊥
-
-abbrev pub UnbuiltFails : List ℕ → PackageState → PackageState → XlsxError → Type 0
-UnbuiltFails path old new Io = HasCause old new
-UnbuiltFails path old new OutOfMemory = ⊤
-UnbuiltFails path old new NotBuilt =
-    old.is_told ≡ true → IsSome (part_of old.parts (styles_part path))
-UnbuiltFails path old new _ = ⊥
-
 -- the workbook at this path opens
 abbrev pub WorkbookOpens : List Part → List ℕ → Opening → Type 0
 WorkbookOpens parts path opening =
@@ -242,14 +219,12 @@ WorkbookFails path old new Io = HasCause old new
 WorkbookFails path old new OutOfMemory = ⊤
 WorkbookFails path old new error = old.is_told ≡ true → WorkbookCause old.parts path error
 
--- the workbook at this path opens, with its shared strings
+-- the workbook at this path opens, with what its sheets share
 abbrev pub BookOpens : List Part → List ℕ → Opening → Type 0
 BookOpens parts path opening =
-    HasStrings parts (strings_part path) opening.strings × WorkbookOpens parts path opening
+    HasShared parts path opening.shared × WorkbookOpens parts path opening
 
 abbrev pub BookFails : List ℕ → PackageState → PackageState → XlsxError → Type 0
 BookFails path old new Io = HasCause old new
 BookFails path old new OutOfMemory = ⊤
-BookFails path old new NotBuilt =
-    old.is_told ≡ true → IsSome (part_of old.parts (styles_part path))
 BookFails path old new error = old.is_told ≡ true → BookCause old.parts path error

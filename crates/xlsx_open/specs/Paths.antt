@@ -1,5 +1,6 @@
 -- The paths of a workbook's parts.
-use Rattle.std.specs.Prelude.{ℕ, ◌-◌, List, [], ◌∷◌, ◌++◌, length, take, Bool, ◌==◌, if◌then◌else◌, codes, Option, Some, None, unwrap_or}
+use Rattle.std.specs.Prelude.{ℕ, ◌-◌, List, [], ◌∷◌, ◌++◌, length, take, Bool, ◌==◌, if◌then◌else◌}
+use Rattle.std.specs.Prelude.{codes, Option, Some, None, unwrap_or}
 use Rattle.std.specs.List.{after_last}
 
 abbrev pub is_slash : ℕ → Bool
@@ -29,7 +30,7 @@ folder_of path = without_slash (front_pieces path)
 abbrev pub file_of : List ℕ → List ℕ
 file_of path = if length (last_piece path) == 0 then codes "workbook.xml" else last_piece path
 
--- where the workbook's own part is, and its relationships, shared strings and styles
+-- where the workbook's own part is, and its relationships, shared strings, theme and styles
 abbrev pub workbook_part : List ℕ → List ℕ
 workbook_part path = folder_of path ++ file_of path
 
@@ -38,6 +39,9 @@ relationships_part path = ((folder_of path ++ codes "_rels/") ++ file_of path) +
 
 abbrev pub strings_part : List ℕ → List ℕ
 strings_part path = folder_of path ++ codes "sharedStrings.xml"
+
+abbrev pub theme_part : List ℕ → List ℕ
+theme_part path = folder_of path ++ codes "theme/theme1.xml"
 
 abbrev pub styles_part : List ℕ → List ℕ
 styles_part path = folder_of path ++ codes "styles.xml"

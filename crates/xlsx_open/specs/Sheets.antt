@@ -1,12 +1,14 @@
 -- What the starts of sheets say, and whether the workbook counts its dates from 1904.
-use Rattle.std.specs.Prelude.{ℕ, List, [], ◌∷◌, Bool, ◌||◌, if◌then◌else◌, codes, Option, Some, None, unwrap_or, option_map, Result, Ok, Err}
+use Rattle.std.specs.Prelude.{ℕ, List, [], ◌∷◌, Bool, ◌||◌, if◌then◌else◌, codes, Option, Some}
+use Rattle.std.specs.Prelude.{None, unwrap_or, option_map, Result, Ok, Err}
 use Rattle.std.specs.Str.{bytes_eq}
 use Rattle.attr_text.specs.Attributes.{lookup, value_of, value_of_local}
 use Rattle.attr_text.specs.declared.fault.AttrFault.{AttrFault}
 use Rattle.part_events.specs.Event.{Tag, Event}
 use Rattle.part_events.specs.Section.{PlacedTag, starts_by, is_named}
 use Rattle.xlsx_sections.specs.Answers.{all_answers, last_answer, with_two}
-use Rattle.xlsx_sections.specs.Refusal.{Refusal, lookup_fault, unknown_state, unrelated, unknown_type, decoded_at}
+use Rattle.xlsx_sections.specs.Refusal.{Refusal, lookup_fault, unknown_state, unrelated}
+use Rattle.xlsx_sections.specs.Refusal.{unknown_type, decoded_at}
 use Rattle.xlsx_open.specs.Paths.{sheet_part, last_piece}
 use Rattle.xlsx_open.specs.Relationships.{Related}
 use Rattle.xlsx_open.specs.declared.sheet.SheetType.{SheetType}

@@ -1,5 +1,6 @@
 -- What is kept of a workbook's section while it is read.
-use Rattle.std.specs.Prelude.{◌≡◌, ◌⊎◌, ⊤, ℕ, List, length, map, Bool, true, false, Option, Result, Ok, Err}
+use Rattle.std.specs.Prelude.{◌≡◌, ◌⊎◌, ⊤, ℕ, List, length, map, Bool, true, false, Option, Result}
+use Rattle.std.specs.Prelude.{Ok, Err}
 use Rattle.part_events.specs.Event.{Event, start, end, leaf}
 use Rattle.part_events.specs.JoinedText.{is_unknown}
 use Rattle.part_events.specs.Section.{content}
@@ -10,7 +11,7 @@ use Rattle.xlsx_sections.specs.Answers.{and_others_if, or_earlier, prepended}
 use Rattle.xlsx_sections.specs.PartSection.{PartSection, inside_of}
 use Rattle.xlsx_sections.specs.Refusal.{Refusal}
 use Rattle.xlsx_open.specs.DefinedNames.{with_text, is_defined_name, names_in}
-use Rattle.xlsx_open.specs.Kept.{pair_of, sheet_of_entry}
+use Rattle.xlsx_open.specs.KeptContents.{pair_of, sheet_of_entry}
 use Rattle.xlsx_open.specs.Relationships.{Related}
 use Rattle.xlsx_open.specs.Sheets.{PlacedSheet, sheets_in, epoch_in}
 use Rattle.xlsx_open.specs.declared.workbook.WorkbookContents.{WorkbookContents}

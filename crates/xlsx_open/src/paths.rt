@@ -1,6 +1,7 @@
 ghost use Rattle.std.specs.Prelude.{◌≡◌, ◌++◌, string_bytes, IfOk};
 ghost use Rattle.std.specs.Option.{option_copied};
-ghost use Rattle.xlsx_open.specs.Paths.{behind_slash, last_piece, front_pieces, folder_of, file_of, sheet_part};
+ghost use Rattle.xlsx_open.specs.Paths.{behind_slash, last_piece, front_pieces, folder_of, file_of};
+ghost use Rattle.xlsx_open.specs.Paths.{sheet_part};
 
 use std::alloc::{AllocError, Global};
 

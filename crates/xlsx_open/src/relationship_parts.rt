@@ -1,12 +1,15 @@
-ghost use Rattle.std.specs.Prelude.{◌≡◌, ◌≤◌, ℕ, List, Ok, Some, codes, length, true, option_map, string_bytes, IfOk, OnOk, IfErr, IsSomeAnd};
-ghost use Rattle.part_events.specs.Package.{Uses, events_in};
+ghost use Rattle.std.specs.Prelude.{◌≡◌, ◌≤◌, ℕ, List, Ok, Some, codes, length, true, option_map};
+ghost use Rattle.std.specs.Prelude.{string_bytes, IfOk, OnOk, IfErr, IsSomeAnd};
+ghost use Rattle.part_events.specs.Package.{Uses, event_count};
 ghost use Rattle.part_events.specs.Reading.{reading, open_elements, IsReading, ReadsPart};
 ghost use Rattle.part_events.specs.Walk.{section_ahead, is_closed_ahead};
 ghost use Rattle.cell_data.specs.declared.error.XlsxError.TheVariants.{Io};
-ghost use Rattle.xlsx_sections.specs.PartSection.{always, SectionFails, PartFails, closed_section_of};
-ghost use Rattle.xlsx_open.specs.Kept.{related_by_id};
+ghost use Rattle.xlsx_sections.specs.PartSection.{always, SectionFails, PartFails};
+ghost use Rattle.xlsx_sections.specs.PartSection.{closed_section_of};
+ghost use Rattle.xlsx_open.specs.KeptContents.{related_by_id};
 ghost use Rattle.xlsx_open.specs.Opening.{IsOpeningError};
-ghost use Rattle.xlsx_open.specs.Relationships.{path_in, related_in, IsTargetRefused, IsPathRefused, AreRelationshipsRefused};
+ghost use Rattle.xlsx_open.specs.Relationships.{path_in, related_in, IsTargetRefused};
+ghost use Rattle.xlsx_open.specs.Relationships.{IsPathRefused, AreRelationshipsRefused};
 
 use crate::relationships::{Relationship, keep_relationship, keep_target};
 use cell_data::XlsxError;
@@ -102,7 +105,7 @@ pub fn read_path<P: Package>(
 ) -> Result<String, XlsxError>
     ensures uses { let old = P.state «package».old in
         let new = P.state «package».new in
-        Uses (events_in old.parts part.now) Io result old new }
+        Uses (event_count old.parts part.now) Io result old new }
     ensures path { let old = P.state «package».old in
         let new = P.state «package».new in
         let inside = closed_section_of (codes "Relationships") part.now old.parts in
@@ -133,7 +136,7 @@ pub fn read_relationships<P: Package>(
 ) -> Result<BTreeMap<String, Relationship>, XlsxError>
     ensures uses { let old = P.state «package».old in
         let new = P.state «package».new in
-        Uses (events_in old.parts part.now) Io result old new }
+        Uses (event_count old.parts part.now) Io result old new }
     ensures related { let old = P.state «package».old in
         let new = P.state «package».new in
         let inside = closed_section_of (codes "Relationships") part.now old.parts in

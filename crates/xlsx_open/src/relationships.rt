@@ -1,4 +1,5 @@
-ghost use Rattle.std.specs.Prelude.{◌≡◌, ℕ, List, Ok, Some, option_map, unwrap_or, string_bytes, if◌then◌else◌, IfOk, OnOk, IfErr};
+ghost use Rattle.std.specs.Prelude.{◌≡◌, ℕ, List, Ok, Some, option_map, unwrap_or, string_bytes};
+ghost use Rattle.std.specs.Prelude.{if◌then◌else◌, IfOk, OnOk, IfErr};
 ghost use Rattle.std.specs.Option.{option_copied};
 ghost use Rattle.std.specs.Str.{bytes_eq};
 ghost use Rattle.part_events.specs.Event.{tag_of};
@@ -6,7 +7,7 @@ ghost use Rattle.part_events.specs.Section.{PlacedTag};
 ghost use Rattle.cell_data.specs.declared.error.XlsxError.TheVariants.{OutOfMemory};
 ghost use Rattle.xlsx_sections.specs.Answers.{or_earlier};
 ghost use Rattle.xlsx_sections.specs.Refusal.{ElementFails, placed_at};
-ghost use Rattle.xlsx_open.specs.Kept.{relationship_of, related_by_id};
+ghost use Rattle.xlsx_open.specs.KeptContents.{relationship_of, related_by_id};
 ghost use Rattle.xlsx_open.specs.Opening.{IsOpeningError};
 ghost use Rattle.xlsx_open.specs.Relationships.{is_office_document, target_of, related_of};
 

@@ -1,11 +1,13 @@
-ghost use Rattle.std.specs.Prelude.{◌≡◌, ℕ, List, Bool, map, Option, Result, Ok, Err, option_map, string_bytes, IfOk, OnOk, IfErr, MatchResult};
+ghost use Rattle.std.specs.Prelude.{◌≡◌, ℕ, List, Bool, map, Option, Result, Ok, Err, option_map};
+ghost use Rattle.std.specs.Prelude.{string_bytes, IfOk, OnOk, IfErr, MatchResult};
 ghost use Rattle.std.specs.Option.{option_copied};
 ghost use Rattle.part_events.specs.Event.{tag_of};
 ghost use Rattle.xlsx_sections.specs.Answers.{and_others, prepended, or_earlier, or_later};
 ghost use Rattle.xlsx_sections.specs.Refusal.{Refusal, ElementFails, lookup_fault, placed_at};
-ghost use Rattle.xlsx_open.specs.Kept.{relationship_of, related_by_id, sheet_of_entry};
+ghost use Rattle.xlsx_open.specs.KeptContents.{relationship_of, related_by_id, sheet_of_entry};
 ghost use Rattle.xlsx_open.specs.Opening.{IsOpeningError};
-ghost use Rattle.xlsx_open.specs.Sheets.{PlacedSheet, state_named, type_named, sheet_of, related_sheet, is_true_text, epoch_of};
+ghost use Rattle.xlsx_open.specs.Sheets.{PlacedSheet, state_named, type_named, sheet_of};
+ghost use Rattle.xlsx_open.specs.Sheets.{related_sheet, is_true_text, epoch_of};
 
 use crate::paths::{last_piece, sheet_part};
 use crate::relationships::{Relationship, find_relationship, text_or};

@@ -1,17 +1,23 @@
-ghost use Rattle.std.specs.Prelude.{◌≡◌, ◌<◌, ◌≤◌, ℕ, List, ◌∷◌, ◌++◌, suc, codes, length, map, true, false, None, Ok, option_map, option_to_list, string_bytes, IfOk, OnOk, IfErr, MatchOption, IsSomeAnd};
+ghost use Rattle.std.specs.Prelude.{◌≡◌, ◌<◌, ◌≤◌, ℕ, List, ◌∷◌, ◌++◌, suc, codes, length, map};
+ghost use Rattle.std.specs.Prelude.{true, false, None, Ok, option_map, option_to_list};
+ghost use Rattle.std.specs.Prelude.{string_bytes, IfOk, OnOk, IfErr, MatchOption, IsSomeAnd};
 ghost use Rattle.part_events.specs.Event.{Event, start, tag_of, event_of};
 ghost use Rattle.part_events.specs.JoinedText.{event_text, is_unknown};
-ghost use Rattle.part_events.specs.Package.{Uses, part_of, events_in};
-ghost use Rattle.part_events.specs.Reading.{reading, open_elements, IsReading, IsAtElement, ReadsPart, Skips, ahead};
+ghost use Rattle.part_events.specs.Package.{Uses, part_of, event_count};
+ghost use Rattle.part_events.specs.Reading.{reading, open_elements, IsReading, IsAtElement};
+ghost use Rattle.part_events.specs.Reading.{ReadsPart, Skips, ahead};
 ghost use Rattle.part_events.specs.Section.{content};
 ghost use Rattle.part_events.specs.Walk.{section_ahead, is_closed_ahead};
 ghost use Rattle.cell_data.specs.declared.error.XlsxError.TheVariants.{Io, OutOfMemory};
-ghost use Rattle.xlsx_sections.specs.PartSection.{always, KeepsSection, SectionFails, OptionalPartFails, closed_section_of};
+ghost use Rattle.xlsx_sections.specs.PartSection.{always, KeepsSection, SectionFails};
+ghost use Rattle.xlsx_sections.specs.PartSection.{OptionalPartFails, closed_section_of};
 ghost use Rattle.xlsx_sections.specs.Refusal.{RefusedAt, ElementFails, placed_at};
 ghost use Rattle.xlsx_open.specs.DefinedNames.{name_by, is_defined_name};
-ghost use Rattle.xlsx_open.specs.Kept.{pair_of, related_by_id};
+ghost use Rattle.xlsx_open.specs.KeptContents.{pair_of, related_by_id};
 ghost use Rattle.xlsx_open.specs.Opening.{IsOpeningError};
-ghost use Rattle.xlsx_open.specs.Workbook.{KeepsSheets, AreSheetsRefused, names_of, TextRefused, KeepsName, IsNameRefused, is_name_start, IsContents, AreContentsRefused};
+ghost use Rattle.xlsx_open.specs.Workbook.{KeepsSheets, AreSheetsRefused, names_of, TextRefused};
+ghost use Rattle.xlsx_open.specs.Workbook.{KeepsName, IsNameRefused, is_name_start, IsContents};
+ghost use Rattle.xlsx_open.specs.Workbook.{AreContentsRefused};
 
 use crate::relationships::Relationship;
 use crate::sheet::SheetEntry;
@@ -291,7 +297,7 @@ pub fn read_contents<P: Package>(
 ) -> Result<Option<WorkbookContents>, XlsxError>
     ensures uses { let old = P.state «package».old in
         let new = P.state «package».new in
-        Uses (events_in old.parts part.now) Io result old new }
+        Uses (event_count old.parts part.now) Io result old new }
     ensures contents { let old = P.state «package».old in
         let new = P.state «package».new in
         let folder = places.entry.folder.now in

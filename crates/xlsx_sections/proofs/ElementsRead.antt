@@ -1,22 +1,29 @@
 -- How the elements of a section are read, and how one that is refused makes the section refused.
-use Rattle.std.proofs.Common.{◌≡◌, ℕ, zero, suc, ◌+◌, ◌-◌, ◌≤◌, ◌<◌, List, [], ◌∷◌, ◌++◌, length, Bool, true, false, Some, None, Option, refl, sym, ◌∙◌, ap, subst, arith}
+use Rattle.std.proofs.Common.{◌≡◌, ℕ, zero, suc, ◌+◌, ◌-◌, ◌≤◌, ◌<◌, List, [], ◌∷◌, ◌++◌, length}
+use Rattle.std.proofs.Common.{Bool, true, false, Some, None, Option, refl, sym, ◌∙◌, ap, subst}
+use Rattle.std.proofs.Common.{arith}
 use Rattle.std.proofs.lemmas.List.{length-append, length-reverse}
 use Rattle.std.specs.Prelude.{reverse, if◌then◌else◌}
 use Rattle.part_events.specs.Event.{Tag, Event, start, end, leaf, IsStartAnd}
 use Rattle.part_events.specs.Nesting.{whole}
-use Rattle.part_events.specs.Reading.{Reading, IsReading, ReadsOn, Skips, IsAtEnd, BreaksAt, ahead, events_of}
+use Rattle.part_events.specs.Reading.{Reading, IsReading, ReadsOn, Skips, IsAtEnd, BreaksAt, ahead}
+use Rattle.part_events.specs.Reading.{events_of}
 use Rattle.part_events.specs.Section.{Element, content, is_closed, behind, outermost, unclosed}
-use Rattle.part_events.specs.Walk.{inside, element_at, section_ahead, section_behind, is_closed_ahead, behind_section, section_end, IsNextElement, ClosesSection}
+use Rattle.part_events.specs.Walk.{inside, element_at, section_ahead, section_behind}
+use Rattle.part_events.specs.Walk.{is_closed_ahead, behind_section, section_end, IsNextElement}
+use Rattle.part_events.specs.Walk.{ClosesSection}
 use Rattle.part_events.specs.declared.fault.XmlFault.TheVariants.{EndMismatch, Unclosed}
 use Rattle.part_events.proofs.Nested.{whole_split}
 use Rattle.part_events.proofs.Onward.{reads_nothing}
 use Rattle.part_events.proofs.Sections.{GoesOnBehind, goes_on_behind}
 use Rattle.cell_data.specs.declared.error.XlsxError.{XlsxError}
 use Rattle.cell_data.specs.declared.error.XlsxError.TheVariants.{OutOfMemory, Io, Xml, XmlEof}
-use Rattle.xlsx_sections.specs.Elements.{KeepsElements, ReachesEnd, FindsElementIn, end_outside, end_among}
-use Rattle.xlsx_sections.specs.PartSection.{PartSection, KeepsSection, SectionFails, StandsAtStart, section_left, last_of, has_end, inside_of}
+use Rattle.xlsx_sections.specs.Elements.{KeepsElements, ReachesEnd, FindsElementIn, end_outside}
+use Rattle.xlsx_sections.specs.Elements.{end_among}
+use Rattle.xlsx_sections.specs.PartSection.{PartSection, KeepsSection, SectionFails, StandsAtStart}
+use Rattle.xlsx_sections.specs.PartSection.{Never, section_left, last_of, has_end, inside_of}
 use Rattle.xlsx_sections.specs.Refusal.{Refusal, RefusedAs, further, events_behind}
-use Rattle.xlsx_sections.proofs.Refused.{refused_further}
+use Rattle.xlsx_sections.proofs.Refused.{refused_further, refused_later}
 use Rattle.xlsx_sections.proofs.SectionsRead.{section_further}
 
 -- an element that is closed takes its events, its end, and leaves what stands behind
@@ -319,3 +326,15 @@ element_refused {base = base} {tag = tag} {first = first} {old = old} {new = new
       length-append (content 0 (ahead new)) way.others,
     ))
     (fails (found.read.reads.moves.parts.is_told ∙ told))
+
+-- the step to the next element is refused, and so is the section
+pub step_refused : {base : ℕ} {first mid : Reading} {wanted : Tag → Bool} (name : List ℕ)
+    (inner : Element → Option (List ℕ)) (before : PartSection → Refusal → Type 0) (new : Reading)
+    (error : XlsxError) → KeepsElements wanted base first mid
+    → SectionFails (end_among wanted name inner) Never base mid new error
+    → SectionFails (end_among wanted name inner) before base first new error
+step_refused {base = base} {first = first} {mid = mid} {wanted =
+    wanted} name inner before new error keeps fails =
+    refused_later base first mid (end_among wanted name inner) Never before new error keeps.section
+    (λ told. ap (end_outside name inner) (keeps.unclosed told)) (λ _ refusal never. absurd never)
+    fails

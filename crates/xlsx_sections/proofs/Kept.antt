@@ -1,7 +1,10 @@
 -- What is kept of many elements, with one more of them.
-use Rattle.std.proofs.Common.{◌≡◌, List, [], ◌∷◌, ◌++◌, Option, Some, None, Result, Ok, Err, refl, sym, ◌∙◌, append_assoc}
+use Rattle.std.proofs.Common.{◌≡◌, List, [], ◌∷◌, ◌++◌, Option, Some, None, Result, Ok, Err, refl}
+use Rattle.std.proofs.Common.{sym, ◌∙◌, ap, append_assoc, append-nil}
+use Rattle.xlsx_sections.specs.Changes.{all_changes, changed_by}
 use Rattle.xlsx_sections.specs.Refusal.{Refusal}
-use Rattle.xlsx_sections.specs.Answers.{or_earlier, or_later, and_others, prepended, last_answer}
+use Rattle.xlsx_sections.specs.Answers.{or_earlier, or_later, and_others, and_others_if}
+use Rattle.xlsx_sections.specs.Answers.{all_answers, prepended, last_answer, some_answers}
 
 -- what the last of some gives, with one before them
 pub or_earlier-or_later : {A : Type 0} (kept next : Option A)
@@ -48,3 +51,80 @@ pub last_refused : {X A : Type 0} {x : X} {xs rest : List X} {all : Result (Opti
 last_refused {xs = xs} {refusal = refusal} answer kept same refuses holds =
     let here : or_earlier kept (last_answer answer xs) ≡ Err refusal = rw (same, refuses) refl in
     sym holds ∙ here
+
+-- one more change was made
+pub change_further : {X A : Type 0} {x : X} {xs rest : List X} {all : Result A Refusal} {next : A}
+    (change : X → A → Result A Refusal) (now : A) → xs ≡ x ∷ rest → change x now ≡ Ok next
+    → all_changes change xs now ≡ all → all_changes change rest next ≡ all
+change_further {X = X} {rest = rest} change now same is holds =
+    sym (ap (changed_by (all_changes change rest)) is)
+    ∙ (sym (ap (λ (elements : List X). all_changes change elements now) same) ∙ holds)
+
+-- one of those that are left is refused
+pub change_refused : {X A : Type 0} {x : X} {xs rest : List X} {all : Result A Refusal}
+    {refusal : Refusal} (change : X → A → Result A Refusal) (now : A) → xs ≡ x ∷ rest
+    → change x now ≡ Err refusal → all_changes change xs now ≡ all → all ≡ Err refusal
+change_refused {X = X} {rest = rest} change now same refuses holds =
+    sym holds ∙ (ap (λ (elements : List X). all_changes change elements now) same
+    ∙ ap (changed_by (all_changes change rest)) refuses)
+
+-- one that gives something was taken of those that are left
+pub some_taken : {X A : Type 0} {x : X} {xs rest : List X} {own : A} {all : Result (List A) Refusal}
+    (answer : X → Result (Option A) Refusal) (kept : List A) → xs ≡ x ∷ rest
+    → answer x ≡ Ok (Some own) → prepended kept (some_answers answer xs) ≡ all
+    → prepended (kept ++ own ∷ []) (some_answers answer rest) ≡ all
+some_taken {x = x} {rest = rest} {own = own} answer kept same is holds =
+    prepended-and_others kept own (Ok own) (some_answers answer rest) refl
+    ∙ ap (λ (first : Result (Option _) Refusal). prepended kept
+    (and_others_if first (some_answers answer rest))) (sym is)
+    ∙ (rw same at holds)
+
+-- one that gives nothing was
+pub some_passed : {X A : Type 0} {x : X} {xs rest : List X} {all : Result (List A) Refusal}
+    (answer : X → Result (Option A) Refusal) (kept : List A) → xs ≡ x ∷ rest → answer x ≡ Ok None
+    → prepended kept (some_answers answer xs) ≡ all
+    → prepended kept (some_answers answer rest) ≡ all
+some_passed {rest = rest} answer kept same is holds =
+    ap (λ (first : Result (Option _) Refusal). prepended kept
+    (and_others_if first (some_answers answer rest))) (sym is)
+    ∙ (rw same at holds)
+
+-- one of those that are left is refused
+pub some_refused : {X A : Type 0} {x : X} {xs rest : List X} {all : Result (List A) Refusal}
+    {refusal : Refusal} (answer : X → Result (Option A) Refusal) (kept : List A) → xs ≡ x ∷ rest
+    → answer x ≡ Err refusal → prepended kept (some_answers answer xs) ≡ all → all ≡ Err refusal
+some_refused {xs = xs} {refusal = refusal} answer kept same refuses holds =
+    let here : prepended kept (some_answers answer xs) ≡ Err refusal = rw (same, refuses) refl in
+    sym holds ∙ here
+
+-- none of them is left
+pub all_taken : {X A : Type 0} {xs : List X} {all : Result (List A) Refusal}
+    (answer : X → Result (Option A) Refusal) (kept : List A) → xs ≡ []
+    → prepended kept (some_answers answer xs) ≡ all → all ≡ Ok kept
+all_taken {xs = xs} answer kept same holds =
+    let here : prepended kept (some_answers answer xs) ≡ Ok kept = rw (same, append-nil kept) refl
+    in
+    sym holds ∙ here
+
+-- with one of those that are left, what all give is the same
+pub all_further : {X A : Type 0} {x : X} {xs rest : List X} {all : Result (List A) Refusal}
+    (answer : X → Result A Refusal) (kept : List A) (own : A) → xs ≡ x ∷ rest → answer x ≡ Ok own
+    → prepended kept (all_answers answer xs) ≡ all
+    → prepended (kept ++ own ∷ []) (all_answers answer rest) ≡ all
+all_further {x = x} {rest = rest} answer kept own same is holds =
+    prepended-and_others kept own (answer x) (all_answers answer rest) is ∙ (rw same at holds)
+
+-- one of those that are left is refused
+pub all_refused : {X A : Type 0} {x : X} {xs rest : List X} {all : Result (List A) Refusal}
+    {refusal : Refusal} (answer : X → Result A Refusal) (kept : List A) → xs ≡ x ∷ rest
+    → answer x ≡ Err refusal → prepended kept (all_answers answer xs) ≡ all → all ≡ Err refusal
+all_refused {xs = xs} {refusal = refusal} answer kept same refuses holds =
+    let here : prepended kept (all_answers answer xs) ≡ Err refusal = rw (same, refuses) refl in
+    sym holds ∙ here
+
+-- what stands behind what was kept is refused
+pub behind_refused : {A : Type 0} {refusal : Refusal} (kept : List A)
+    (answer : Result (List A) Refusal) → prepended kept answer ≡ Err refusal
+    → answer ≡ Err refusal
+behind_refused kept (Ok others) is = absurd (cc)
+behind_refused kept (Err own) is = is

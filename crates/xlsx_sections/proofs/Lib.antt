@@ -4,4 +4,5 @@ pub mod NumbersRead
 pub mod Refused
 pub mod SectionsRead
 pub mod Sound
+pub mod StartsRead
 pub mod TextsRead

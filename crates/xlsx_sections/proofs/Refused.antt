@@ -1,5 +1,7 @@
 -- How a refusal passes from a call to the section and the part that it reads.
-use Rattle.std.proofs.Common.{◌≡◌, ℕ, suc, ◌+◌, ◌≤◌, List, true, false, Option, Some, None, refl, ◌∙◌, sym, subst, inl, inr, arith, codes, length, Result, Err, String, Global, string_bytes, ap}
+use Rattle.std.proofs.Common.{◌≡◌, ℕ, suc, ◌+◌, ◌≤◌, List, true, false, Option, Some, None, refl}
+use Rattle.std.proofs.Common.{◌∙◌, sym, subst, inl, inr, arith, codes, length, Result, Err, String}
+use Rattle.std.proofs.Common.{Global, string_bytes, ap}
 use Rattle.std.specs.Prelude.{MatchOption}
 use Rattle.part_events.specs.Event.{Event}
 use Rattle.part_events.specs.Nesting.{whole}
@@ -8,7 +10,8 @@ use Rattle.part_events.specs.Reading.{Reading, IsReading, BreaksAt}
 use Rattle.part_events.specs.declared.fault.XmlFault.TheVariants.{EndMismatch, Unclosed, Entity}
 use Rattle.part_events.proofs.Onward.{reads_nothing}
 use Rattle.cell_data.specs.declared.error.XlsxError.{XlsxError}
-use Rattle.cell_data.specs.declared.error.XlsxError.TheVariants.{OutOfMemory, Io, Xml, XmlAttr, XmlEof}
+use Rattle.cell_data.specs.declared.error.XlsxError.TheVariants.{OutOfMemory, Io, Xml, XmlAttr}
+use Rattle.cell_data.specs.declared.error.XlsxError.TheVariants.{XmlEof}
 use Rattle.cell_data.specs.declared.error.XlsxError.TheVariants.{FileNotFound}
 use Rattle.cell_data.specs.declared.error.XlsxError.TheVariants.{RelationshipNotFound, Unrecognized}
 use Rattle.cell_data.specs.declared.error.XlsxError.TheVariants.{Alphanumeric, DimensionCount}
@@ -18,7 +21,11 @@ use Rattle.cell_data.specs.declared.error.XlsxError.TheVariants.{ColumnNumberOve
 use Rattle.cell_data.specs.declared.error.XlsxError.TheVariants.{RowNumberOverflow, UnexpectedNode}
 use Rattle.cell_data.specs.declared.error.XlsxError.TheVariants.{Unexpected, CellTAttribute}
 use Rattle.cell_data.specs.declared.error.XlsxError.TheVariants.{CellError, ParseFloat}
-use Rattle.xlsx_sections.specs.PartSection.{PartSection, KeepsSection, inside_of, has_end, last_of, section_left, section_in, EndsOpenIn, SectionCause, SectionFails, StartCause, EntersSection, OptionalPartCause, OptionalPartFails, PartFails, EnterFails, LacksSection, always, Never}
+use Rattle.xlsx_sections.specs.PartSection.{PartSection, KeepsSection, inside_of, has_end, last_of}
+use Rattle.xlsx_sections.specs.PartSection.{section_left, section_in, EndsOpenIn, SectionCause}
+use Rattle.xlsx_sections.specs.PartSection.{SectionFails, StartCause, EntersSection}
+use Rattle.xlsx_sections.specs.PartSection.{OptionalPartCause, OptionalPartFails, PartFails}
+use Rattle.xlsx_sections.specs.PartSection.{EnterFails, LacksSection, always, Never}
 use Rattle.xlsx_sections.specs.Refusal.{Refusal, RefusedAs, RefusedAt, further, lookup_fault}
 use Rattle.xlsx_sections.specs.Refusal.{no_character, unknown_state, unrelated, unknown_type}
 use Rattle.xlsx_sections.specs.Refusal.{misplaced, lacks_area, stray_child, lacks_index}

@@ -1,18 +1,37 @@
 -- How a section is read on.
-use Rattle.std.proofs.Common.{◌≡◌, ℕ, suc, ◌+◌, ◌-◌, ◌≤◌, List, [], ◌∷◌, length, Bool, true, Some, None, Option, refl, sym, ◌∙◌, ap, subst, arith}
+use Rattle.std.proofs.Common.{◌≡◌, ℕ, suc, ◌+◌, ◌-◌, ◌≤◌, List, [], ◌∷◌, length, Bool, true, Some}
+use Rattle.std.proofs.Common.{None, Option, refl, sym, ◌∙◌, ap, subst, arith}
 use Rattle.std.specs.Option.{option_map_or}
 use Rattle.std.proofs.lemmas.List.{length-append, length-reverse}
 use Rattle.std.specs.Prelude.{option_map, option_and_then, reverse, ◌++◌}
-use Rattle.part_events.specs.Event.{Tag, Event, start, IsStartAnd}
+use Rattle.part_events.specs.Event.{Tag, Event, start, end, leaf, IsStartAnd}
 use Rattle.part_events.specs.Nesting.{whole, whole_rest}
-use Rattle.part_events.specs.Package.{PackageState, SameParts, OpenCounts, Opens, part_of, events_in}
-use Rattle.part_events.specs.Reading.{Reading, ReadsOn, IsTracked, IsAtElement, Skips, TakesEvent, StepsAhead, ahead, events_of}
-use Rattle.part_events.specs.Section.{PlacedTag, content, is_closed, behind, starts_by, behind_start, is_named}
-use Rattle.part_events.specs.Walk.{inside, section_ahead, is_closed_ahead, behind_section, section_end, TakesInside, IsNextStart}
+use Rattle.part_events.specs.Package.{PackageState, SameParts, OpenCounts, Opens, part_of}
+use Rattle.part_events.specs.Package.{event_count}
+use Rattle.part_events.specs.Reading.{Reading, IsReading, ReadsOn, IsTracked, IsAtElement, Skips}
+use Rattle.part_events.specs.Reading.{TakesEvent, StepsAhead, ahead, events_of}
+use Rattle.part_events.specs.Section.{PlacedTag, content, is_closed, behind, starts_by}
+use Rattle.part_events.specs.Section.{behind_start, is_named}
+use Rattle.part_events.specs.Walk.{inside, section_ahead, is_closed_ahead, behind_section}
+use Rattle.part_events.specs.Walk.{section_end, TakesInside, IsNextStart}
 use Rattle.part_events.proofs.Nested.{whole_split}
 use Rattle.part_events.proofs.Onward.{reads_further}
 use Rattle.part_events.proofs.Walking.{takes_inside}
-use Rattle.xlsx_sections.specs.PartSection.{PartSection, KeepsSection, EntersSection, section_left, section_behind, section_in, last_of, has_end, inside_of, if_closed, closed_section, closed_section_of, StandsAtEvent, FindsEvent, StandsAtStart, FindsStartIn}
+use Rattle.xlsx_sections.specs.PartSection.{PartSection, KeepsSection, EntersSection, section_left}
+use Rattle.xlsx_sections.specs.PartSection.{section_from, section_in, last_of, has_end, inside_of}
+use Rattle.xlsx_sections.specs.PartSection.{if_closed, closed_section, closed_section_of}
+use Rattle.xlsx_sections.specs.PartSection.{StandsAtEvent, FindsEvent, StandsAtStart, FindsStartIn}
+
+-- an event is the start of one tag
+pub same_tag : {first second : Tag} → start first ≡ start second → first ≡ second
+same_tag same = cc
+
+-- the start at which a reader stands
+pub start_there : (event : Event) (P : Tag → Type 0) → IsStartAnd event P
+    → (tag : Tag) × (start tag ≡ event) × P tag
+start_there (start tag) P is = (tag, refl, is)
+start_there (end name) P is = absurd is
+start_there (leaf kind) P is = absurd is
 
 pub section_further : {base : ℕ} {first old new : Reading} → KeepsSection base first old
     → ReadsOn old new → base ≤ length new.names
@@ -119,6 +138,20 @@ start_found {base = base} {place = place} {tag = tag} {first = first} {old = old
       there = λ told. omega (arith, stands.3, here.last told);
     }
 
+empty_by_length : (events : List Event) → length events ≡ 0 → events ≡ []
+empty_by_length [] none = refl
+empty_by_length (event ∷ events) none = absurd (omega (arith, none))
+
+-- a reader that took nothing has nothing behind it
+pub nothing_past : (r : Reading) → IsReading r → r.at ≡ 0 → r.source.is_told ≡ true
+    → r.source.past ≡ []
+nothing_past r is first told =
+    empty_by_length r.source.past (omega (arith, (is.tracked told).at, first))
+
+-- and the whole part ahead of it
+pub ahead_at_first : (r : Reading) → r.source.past ≡ [] → ahead r ≡ whole (events_of r)
+ahead_at_first r fresh = rw fresh refl
+
 -- what is left behind the start of the first section of a name is that section
 pub first_section_left : (name : List ℕ) (opened entered : Reading) → opened.source.past ≡ []
     → IsTracked entered → events_of entered ≡ events_of opened
@@ -142,15 +175,15 @@ first_section_left name opened entered fresh tracked same found =
     )
     in
     let none : inside (length entered.names) entered ≡ 0 = omega arith in
-    let there : section_behind (events_of entered) (ahead entered)
+    let there : section_from (events_of entered) (ahead entered)
     ≡ section_left (length entered.names) entered =
     rw none (ap (λ (n : ℕ). let s : PartSection =
     record { events = events_of entered; first = n; within = 0; ahead = ahead entered } in
     s) place)
     in
-    ap (λ (all : List Event). option_map (section_behind (events_of entered))
+    ap (λ (all : List Event). option_map (section_from (events_of entered))
     (behind_start (is_named (name ∷ [])) all)) at_first
-    ∙ ap (option_map (section_behind (events_of entered))) found
+    ∙ ap (option_map (section_from (events_of entered))) found
     ∙ ap (λ (s : PartSection). Some s) there
 
 -- the part was opened, and read on behind the start of its first section of this name
@@ -179,7 +212,7 @@ section_entered {name = name} {path = path} {old = old} {opened = opened} {enter
       };
       faults = reads.stays.faults ∙ counts.faults;
       taken = λ told.
-          let size : events_in old.parts path ≡ length opened.source.rest =
+          let size : event_count old.parts path ≡ length opened.source.rest =
           ap (λ (part : Option (List Event)). option_map_or length part 0)
           (opening told).part in
           omega (arith, reads.moves.within (same.is_told ∙ told), counts.taken, size);
@@ -194,11 +227,11 @@ section_entered {name = name} {path = path} {old = old} {opened = opened} {enter
     }
 
 closed_in : (name : List ℕ) (events : List Event) (found : Option (List Event)) (s : PartSection)
-    → option_map (section_behind events) found ≡ Some s → has_end s ≡ true
+    → option_map (section_from events) found ≡ Some s → has_end s ≡ true
     → option_and_then if_closed found ≡ Some (inside_of s)
 closed_in name events None s is closed = absurd (cc)
 closed_in name events (Some ahead) s is closed =
-    let same : section_behind events ahead ≡ s = cc in
+    let same : section_from events ahead ≡ s = cc in
     let here : is_closed 0 ahead ≡ true = ap has_end same ∙ closed in
     rw here (ap (λ (own : PartSection). Some (inside_of own)) same)
 

@@ -1,5 +1,6 @@
 -- A section that is closed, and none of whose elements is refused, has no cause to be refused.
-use Rattle.std.proofs.Common.{◌≡◌, ℕ, List, [], ◌∷◌, Bool, true, false, Option, Some, None, refl, ap, subst, inl, inr, string_bytes}
+use Rattle.std.proofs.Common.{◌≡◌, ◌⊎◌, ℕ, List, [], ◌∷◌, Bool, true, false, Option, Some, None}
+use Rattle.std.proofs.Common.{refl, ap, subst, inl, inr, string_bytes}
 use Rattle.std.specs.Prelude.{option_map, option_and_then, IsSomeAnd, MatchOption, if◌then◌else◌}
 use Rattle.part_events.specs.Event.{Event}
 use Rattle.part_events.specs.Nesting.{whole}
@@ -7,8 +8,12 @@ use Rattle.part_events.specs.Package.{Part, part_of}
 use Rattle.part_events.specs.Section.{content, is_closed, behind_start, is_named}
 use Rattle.part_events.specs.declared.fault.XmlFault.TheVariants.{EndMismatch, Unclosed, Entity}
 use Rattle.cell_data.specs.declared.error.XlsxError.{XlsxError}
-use Rattle.cell_data.specs.declared.error.XlsxError.TheVariants.{Xml, XmlAttr, XmlEof, FileNotFound, RelationshipNotFound, Unrecognized}
-use Rattle.xlsx_sections.specs.PartSection.{PartSection, inside_of, has_end, last_of, section_behind, section_in, if_closed, closed_section, closed_section_of, StartCause, SectionCause, OptionalPartCause, PartCause}
+use Rattle.cell_data.specs.declared.error.XlsxError.TheVariants.{Xml, XmlAttr, XmlEof, FileNotFound}
+use Rattle.cell_data.specs.declared.error.XlsxError.TheVariants.{RelationshipNotFound, Unrecognized}
+use Rattle.xlsx_sections.specs.PartSection.{PartSection, inside_of, has_end, last_of, section_from}
+use Rattle.xlsx_sections.specs.PartSection.{section_in, if_closed, closed_section}
+use Rattle.xlsx_sections.specs.PartSection.{closed_section_of, StartCause, SectionCause}
+use Rattle.xlsx_sections.specs.PartSection.{OptionalPartCause, PartCause}
 use Rattle.xlsx_sections.specs.Refusal.{Refusal}
 use Rattle.xlsx_sections.proofs.Refused.{never_refused}
 
@@ -35,12 +40,12 @@ if_true false inside good is = absurd is
 
 in_section : (events : List Event) (found : Option (List Event)) (good : List Event → Type 0)
     → IsSomeAnd (option_and_then if_closed found) good → (section : PartSection)
-    × (option_map (section_behind events) found ≡ Some section) × (has_end section ≡ true)
+    × (option_map (section_from events) found ≡ Some section) × (has_end section ≡ true)
     × good (inside_of section)
 in_section events None good is = absurd is
 in_section events (Some ahead) good is = let both =
     if_true (is_closed 0 ahead) (content 0 ahead) good is in
-    (section_behind events ahead, refl, both.0, both.1)
+    (section_from events ahead, refl, both.0, both.1)
 
 pub is_sound_part : (name path : List ℕ) (parts : List Part) (good : List Event → Type 0)
     → IsSomeAnd (closed_section_of name path parts) good → IsSoundPart name path parts good
@@ -98,3 +103,26 @@ no_part_cause name path parts good ending refused (FileNotFound wanted) is never
     absurd (cc)
 no_part_cause name path parts good ending refused error is never cause =
     no_optional_cause name path parts good ending refused error is never cause
+
+absent_or_there : {A : Type 0} (found : Option A) (absent there : Type 0)
+    → MatchOption found absent (λ _. there) → (found ≡ None) ⊎ there
+absent_or_there None absent there is = inl refl
+absent_or_there (Some a) absent there is = inr is
+
+-- a part that may be absent
+pub no_cause_if_sound : (name path : List ℕ) (parts : List Part) (absent : Type 0)
+    (good : List Event → Type 0) (ending : List Event → Option (List ℕ))
+    (refused : PartSection → Refusal → Type 0) (error : XlsxError)
+    → MatchOption (part_of parts path) absent
+    (λ _. IsSomeAnd (closed_section_of name path parts) good)
+    → ((s : PartSection) → good (inside_of s) → (refusal : Refusal) → refused s refusal → ⊥)
+    → OptionalPartCause name ending refused (part_of parts path) error → ⊥
+no_cause_if_sound name path parts absent good ending refused error is never cause =
+    elim (absent_or_there (part_of parts path) absent
+    (IsSomeAnd (closed_section_of name path parts) good) is) [
+      | inl none ↦ rw none at cause
+      | inr there ↦
+          let sound = is_sound_part name path parts good there in
+          no_optional_cause name path parts good ending refused error sound
+          (never sound.section sound.holds) cause
+    ]

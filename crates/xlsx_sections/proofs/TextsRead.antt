@@ -1,5 +1,6 @@
 -- How a text that can't be read makes its element refused.
-use Rattle.std.proofs.Common.{◌≡◌, ℕ, suc, ◌+◌, List, length, Bool, true, Some, None, Option, sym, ◌∙◌, ap, subst, refl, arith}
+use Rattle.std.proofs.Common.{◌≡◌, ℕ, suc, ◌+◌, List, length, Bool, true, Some, None, Option, sym}
+use Rattle.std.proofs.Common.{◌∙◌, ap, subst, refl, arith}
 use Rattle.std.specs.Prelude.{Ok, Err, IsSomeAnd}
 use Rattle.part_events.specs.Event.{Event}
 use Rattle.part_events.specs.JoinedText.{TextFails, joined_text, unknown_entity}

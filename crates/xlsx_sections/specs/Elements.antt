@@ -1,9 +1,11 @@
 -- How the elements of a section are read one by one, and where its part ends.
-use Rattle.std.specs.Prelude.{◌≡◌, ⊤, ℕ, suc, List, [], ◌∷◌, length, Bool, true, Option, Some, None, Result, Ok, Err}
+use Rattle.std.specs.Prelude.{◌≡◌, ⊤, ℕ, suc, List, [], ◌∷◌, length, Bool, true, Option, Some, None}
+use Rattle.std.specs.Prelude.{Result, Ok, Err}
 use Rattle.part_events.specs.Event.{Tag, Event, IsStartAnd}
 use Rattle.part_events.specs.Reading.{Reading, ahead}
 use Rattle.part_events.specs.Section.{Element, content, unclosed}
-use Rattle.part_events.specs.Walk.{IsNextElement, ClosesSection, section_ahead, is_closed_ahead, behind_section, section_end}
+use Rattle.part_events.specs.Walk.{IsNextElement, ClosesSection, section_ahead, is_closed_ahead}
+use Rattle.part_events.specs.Walk.{behind_section, section_end}
 use Rattle.part_events.specs.declared.fault.XmlFault.TheVariants.{EndMismatch, Unclosed, Entity}
 use Rattle.cell_data.specs.declared.error.XlsxError.{XlsxError}
 use Rattle.cell_data.specs.declared.error.XlsxError.TheVariants.{OutOfMemory, Io, Xml, XmlEof}
@@ -48,6 +50,12 @@ pub record KeepsElements (wanted : Tag → Bool) (base : ℕ) (first now : Readi
   pub unclosed :
       first.source.is_told ≡ true →
       unclosed wanted (section_ahead base now) ≡ unclosed wanted (section_ahead base first)
+  pub behind :
+      first.source.is_told ≡ true → behind_section base now ≡ behind_section base first
+
+-- the starts of a section were read up to here, and the same stands behind it
+pub record KeepsStarts (base : ℕ) (first now : Reading) : Type 0 where
+  pub section : KeepsSection base first now
   pub behind :
       first.source.is_told ≡ true → behind_section base now ≡ behind_section base first
 

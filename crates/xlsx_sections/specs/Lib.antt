@@ -1,4 +1,5 @@
 pub mod Answers
+pub mod Changes
 pub mod ElementText
 pub mod Elements
 pub mod NumberText

@@ -1,14 +1,19 @@
 -- When a section of a part can't be taken.
-use Rattle.std.specs.Prelude.{◌≡◌, ⊤, ℕ, suc, ◌+◌, ◌-◌, ◌<◌, ◌≤◌, List, [], ◌∷◌, length, Bool, true, false, if◌then◌else◌, Option, Some, None, option_map, option_and_then, MatchOption, string_bytes}
+use Rattle.std.specs.Prelude.{◌≡◌, ⊤, ℕ, suc, ◌+◌, ◌-◌, ◌<◌, ◌≤◌, List, [], ◌∷◌, length, Bool, true}
+use Rattle.std.specs.Prelude.{false, if◌then◌else◌, Option, Some, None, option_map, option_and_then}
+use Rattle.std.specs.Prelude.{MatchOption, string_bytes}
 use Rattle.part_events.specs.Event.{Tag, Event, IsStartAnd}
 use Rattle.part_events.specs.Nesting.{whole}
-use Rattle.part_events.specs.Package.{Part, PackageState, HasCause, SameParts, part_of, events_in}
-use Rattle.part_events.specs.Reading.{Reading, ReadsOn, IsReading, TakesEvent, IsAtElement, BreaksAt, ahead, events_of}
+use Rattle.part_events.specs.Package.{Part, PackageState, HasCause, SameParts, part_of, event_count}
+use Rattle.part_events.specs.Reading.{Reading, ReadsOn, IsReading, TakesEvent, IsAtElement}
+use Rattle.part_events.specs.Reading.{BreaksAt, ahead, events_of}
 use Rattle.part_events.specs.Section.{content, is_closed, behind_start, is_named}
-use Rattle.part_events.specs.Walk.{is_closed_ahead, TakesInside, TakesLastEnd, IsNextStart, ClosesSection, inside}
+use Rattle.part_events.specs.Walk.{is_closed_ahead, TakesInside, TakesLastEnd, IsNextStart}
+use Rattle.part_events.specs.Walk.{ClosesSection, inside}
 use Rattle.part_events.specs.declared.fault.XmlFault.TheVariants.{EndMismatch, Unclosed}
 use Rattle.cell_data.specs.declared.error.XlsxError.{XlsxError}
-use Rattle.cell_data.specs.declared.error.XlsxError.TheVariants.{OutOfMemory, Io, Xml, XmlEof, FileNotFound}
+use Rattle.cell_data.specs.declared.error.XlsxError.TheVariants.{OutOfMemory, Io, Xml, XmlEof}
+use Rattle.cell_data.specs.declared.error.XlsxError.TheVariants.{FileNotFound}
 use Rattle.xlsx_sections.specs.Refusal.{Refusal, RefusedAs}
 
 -- What is left of a section: all events of its part, the number of the first event that is left,
@@ -40,8 +45,8 @@ section_left base r = record {
 }
 
 -- the first section of this name, from behind its start
-abbrev pub section_behind : List Event → List Event → PartSection
-section_behind events ahead = record {
+abbrev pub section_from : List Event → List Event → PartSection
+section_from events ahead = record {
   events = events;
   first = length (whole events) - length ahead;
   within = 0;
@@ -50,7 +55,7 @@ section_behind events ahead = record {
 
 abbrev pub section_in : List ℕ → List Event → Option PartSection
 section_in name events =
-    option_map (section_behind events) (behind_start (is_named (name ∷ [])) (whole events))
+    option_map (section_from events) (behind_start (is_named (name ∷ [])) (whole events))
 
 -- the section whose element is number `base` of the open ones was read on
 pub record KeepsSection (base : ℕ) (first now : Reading) : Type 0 where
@@ -119,7 +124,7 @@ pub record EntersSection (name path : List ℕ) (old : PackageState) (new : Read
   pub faults : new.source.faults ≡ old.faults
   pub taken :
       old.is_told ≡ true →
-      new.source.taken + length new.source.rest ≤ old.taken + events_in old.parts path
+      new.source.taken + length new.source.rest ≤ old.taken + event_count old.parts path
   pub part : old.is_told ≡ true → part_of old.parts path ≡ Some (events_of new)
   pub section :
       old.is_told ≡ true →

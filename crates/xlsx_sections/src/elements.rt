@@ -1,11 +1,15 @@
-ghost use Rattle.std.specs.Prelude.{◌≡◌, ◌≤◌, ◌++◌, List, ℕ, suc, length, map, true, Ok, Option, option_map, string_bytes, IfOk, OnOk, IfErr};
+ghost use Rattle.std.specs.Prelude.{◌≡◌, ◌≤◌, ◌++◌, List, ℕ, suc, length, map, true, Ok, Option};
+ghost use Rattle.std.specs.Prelude.{option_map, string_bytes, IfOk, OnOk, IfErr};
 ghost use Rattle.part_events.specs.JoinedText.{joined_text};
-ghost use Rattle.part_events.specs.Reading.{reading, open_elements, IsReading, IsAtElement, ReadsPart, Skips, ahead};
+ghost use Rattle.part_events.specs.Reading.{reading, open_elements, IsReading, IsAtElement};
+ghost use Rattle.part_events.specs.Reading.{ReadsPart, Skips, ahead};
 ghost use Rattle.part_events.specs.Section.{Element, content, is_any, is_named};
 ghost use Rattle.cell_data.specs.declared.error.XlsxError.TheVariants.{Io};
-ghost use Rattle.xlsx_sections.specs.Elements.{end_among, named_end, ElementReadFails, FindsElementIn, IsTextError, IsEndError, ReachesEnd};
+ghost use Rattle.xlsx_sections.specs.Elements.{end_among, named_end, ElementReadFails};
+ghost use Rattle.xlsx_sections.specs.Elements.{FindsElementIn, IsTextError, IsEndError, ReachesEnd};
 ghost use Rattle.xlsx_sections.specs.ElementText.{element_text};
-ghost use Rattle.xlsx_sections.specs.PartSection.{always, Never, IsStepError, SectionFails, StandsAtStart};
+ghost use Rattle.xlsx_sections.specs.PartSection.{always, Never, IsStepError, SectionFails};
+ghost use Rattle.xlsx_sections.specs.PartSection.{StandsAtStart};
 
 use cell_data::XlsxError;
 use part_events::{Cursor, Package, Step, XmlFault};

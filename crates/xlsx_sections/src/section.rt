@@ -1,10 +1,15 @@
-ghost use Rattle.std.specs.Prelude.{◌≡◌, ◌≤◌, [], ◌∷◌, length, true, Some, None, IfOk, OnOk, IfErr, IfSome, IfNone};
+ghost use Rattle.std.specs.Prelude.{◌≡◌, ◌≤◌, [], ◌∷◌, length, map, true, Some, None, IfOk, OnOk};
+ghost use Rattle.std.specs.Prelude.{IfErr, IfSome, IfNone};
 ghost use Rattle.part_events.specs.Event.{tag_of, start, is_start};
-ghost use Rattle.part_events.specs.Package.{UsesPackage, LeavesPackage, part_of, events_in};
-ghost use Rattle.part_events.specs.Reading.{reading, open_elements, IsReading, IsAtElement, ReadsPart, ahead};
+ghost use Rattle.part_events.specs.Package.{UsesPackage, LeavesPackage, part_of, event_count};
+ghost use Rattle.part_events.specs.Reading.{reading, open_elements, IsReading, IsAtElement};
+ghost use Rattle.part_events.specs.Reading.{ReadsPart, ahead};
 ghost use Rattle.part_events.specs.Section.{is_named, behind_start};
 ghost use Rattle.cell_data.specs.declared.error.XlsxError.TheVariants.{Io};
-ghost use Rattle.xlsx_sections.specs.PartSection.{always, Never, IsStepError, EntersSection, EnterFails, SectionFails, StartFails, StandsAtEvent, FindsEvent, StandsAtStart, FindsStartIn};
+ghost use Rattle.xlsx_sections.specs.PartSection.{always, Never, IsStepError, EntersSection};
+ghost use Rattle.xlsx_sections.specs.PartSection.{EnterFails, SectionFails, StartFails};
+ghost use Rattle.xlsx_sections.specs.PartSection.{StandsAtEvent, FindsEvent, StandsAtStart};
+ghost use Rattle.xlsx_sections.specs.PartSection.{FindsStartIn};
 
 use cell_data::XlsxError;
 use part_events::{Cursor, Package, PartEvent, StartTag, Step};
@@ -49,6 +54,42 @@ pub fn enter<P: Package>(
     }
 }
 
+/// Reads on to the next start of one of these local names in a section, whose element is number
+/// `base` of the open ones, counted from 1. Answers the number of the start in its part, counted
+/// from 0, and None at the section's end.
+pub fn next_start_among<P: Package>(
+    package: &mut P,
+    cursor: &mut Cursor,
+    base: usize,
+    names: &[&str],
+    section: &'static str,
+) -> Result<Option<u64>, XlsxError>
+    requires reading { IsReading (reading (P.state «package».old) cursor.old) }
+    requires within { base ≤ length (open_elements cursor.old) }
+    ensures reads { let old = reading (P.state «package».old) cursor.old in
+        let new = reading (P.state «package».new) cursor.new in
+        ReadsPart Io result old new }
+    ensures stands { let old = reading (P.state «package».old) cursor.old in
+        let new = reading (P.state «package».new) cursor.new in
+        let wanted = is_named (map (λ name. name.now) names.now) in
+        IfOk result (λ found. StandsAtStart wanted base found old new) }
+    ensures found { let old = reading (P.state «package».old) cursor.old in
+        let new = reading (P.state «package».new) cursor.new in
+        let wanted = is_named (map (λ name. name.now) names.now) in
+        old.source.is_told ≡ true →
+        IfOk result (λ found. FindsStartIn wanted base found old new) }
+    ensures err { let old = reading (P.state «package».old) cursor.old in
+        let new = reading (P.state «package».new) cursor.new in
+        IfErr result (SectionFails (always section.now) Never base old new) }
+    ensures kind { IfErr result (IsStepError section.now) }
+{
+    match cursor.next_start(package, base, names)? {
+        Step::Found => Ok(Some(cursor.at() - 1)),
+        Step::Closed => Ok(None),
+        Step::Ended => Err(XlsxError::XmlEof(section)),
+    }
+}
+
 /// Reads on to the next start of this local name in a section, whose element is number `base` of
 /// the open ones, counted from 1. Answers the number of the start in its part, counted from 0, and
 /// None at the section's end.
@@ -76,11 +117,7 @@ pub fn next_start_in<P: Package>(
         IfErr result (SectionFails (always section.now) Never base old new) }
     ensures kind { IfErr result (IsStepError section.now) }
 {
-    match cursor.next_start(package, base, &[name])? {
-        Step::Found => Ok(Some(cursor.at() - 1)),
-        Step::Closed => Ok(None),
-        Step::Ended => Err(XlsxError::XmlEof(section)),
-    }
+    next_start_among(package, cursor, base, &[name], section)
 }
 
 /// Takes the next event of a section, whose element is number `base` of the open ones, counted from
@@ -132,7 +169,7 @@ pub fn enter_part<P: Package>(
         EntersSection name.now path.now old (reading (P.state «package».new) cursor))) }
     ensures leaves { let old = P.state «package».old in
         let new = P.state «package».new in
-        IfErr result (LeavesPackage (events_in old.parts path.now) Io old new) }
+        IfErr result (LeavesPackage (event_count old.parts path.now) Io old new) }
     ensures err { IfErr result (EnterFails name.now path.now (P.state «package».old)
         (P.state «package».new)) }
     ensures kind { IfErr result (IsStepError name.now) }

@@ -1,31 +1,23 @@
 -- How the elements of a string, and the strings of their section, are read one by one.
-use Rattle.std.proofs.Common.{◌≡◌, ℕ, List, [], ◌∷◌, ◌++◌, Bool, true, false, Option, Some, Result, Ok, Err, refl, sym, ◌∙◌, ap, subst, codes, append_assoc, length}
+use Rattle.std.proofs.Common.{◌≡◌, ℕ, List, [], ◌∷◌, ◌++◌, Bool, true, false, Some, Result, Ok, Err}
+use Rattle.std.proofs.Common.{refl, sym, ◌∙◌, ap, subst, codes, append_assoc, length}
 use Rattle.std.specs.Prelude.{◌||◌, if◌then◌else◌, IfErr}
 use Rattle.std.specs.List.{flat_map}
 use Rattle.std.specs.Str.{bytes_eq}
 use Rattle.attr_text.specs.Attributes.{local_name_of}
-use Rattle.part_events.specs.Event.{Tag, Event, start, end, leaf, is_start}
+use Rattle.part_events.specs.Event.{Tag, Event, start}
 use Rattle.part_events.specs.Reading.{Reading, ahead}
 use Rattle.part_events.specs.Section.{Element, content}
 use Rattle.part_events.specs.Walk.{element_at}
 use Rattle.cell_data.specs.declared.error.XlsxError.{XlsxError}
-use Rattle.xlsx_sections.specs.Answers.{with_first, and_others, all_answers, prepended}
-use Rattle.xlsx_sections.specs.Elements.{ElementReadFails, KeepsElements, end_outside, end_among}
-use Rattle.xlsx_sections.specs.PartSection.{PartSection, SectionFails, Never, always, inside_of, section_left}
+use Rattle.xlsx_sections.specs.Answers.{with_first, and_others, all_answers}
+use Rattle.xlsx_sections.specs.Elements.{ElementReadFails}
+use Rattle.xlsx_sections.specs.PartSection.{always, inside_of, section_left}
 use Rattle.xlsx_sections.specs.Refusal.{Refusal, in_element}
 use Rattle.xlsx_sections.proofs.ElementsRead.{own_inside}
-use Rattle.xlsx_sections.proofs.Kept.{prepended-and_others}
-use Rattle.xlsx_sections.proofs.Refused.{refused_later}
-use Rattle.xlsx_strings.specs.Strings.{is_text, text_of, piece_of, end_in_piece, string_piece, all_joined}
-
--- the start at which a reader stands
-pub start_of : (event : Event) → is_start event ≡ true → (tag : Tag) × (start tag ≡ event)
-start_of (start tag) is = (tag, refl)
-start_of (end name) is = absurd (cc)
-start_of (leaf kind) is = absurd (cc)
-
-same_tag : (tag own : Tag) → start tag ≡ start own → tag ≡ own
-same_tag tag own same = cc
+use Rattle.xlsx_sections.proofs.SectionsRead.{same_tag}
+use Rattle.xlsx_strings.specs.Strings.{is_text, text_within, piece_of, end_in_piece, string_piece}
+use Rattle.xlsx_strings.specs.Strings.{all_joined}
 
 or_false : (b : Bool) → (b || false) ≡ b
 or_false true = refl
@@ -35,33 +27,22 @@ or_false false = refl
 pub is_text_by : {event : Event} {own : Tag} {b : Bool} (tag : Tag) → start tag ≡ event
     → start own ≡ event → b ≡ bytes_eq (local_name_of own.name) (codes "t") → is_text tag ≡ b
 is_text_by {own = own} {b = b} tag first second is =
-    let same : tag ≡ own = same_tag tag own (first ∙ sym second) in
+    let same : tag ≡ own = same_tag (first ∙ sym second) in
     ap is_text same ∙ or_false (bytes_eq (local_name_of own.name) (codes "t")) ∙ sym is
 
 pub text_piece_fails : (tag : Tag) (old new : Reading) (error : XlsxError) → is_text tag ≡ true
-    → ElementReadFails (always (codes "t")) (text_of tag) old new error
+    → ElementReadFails (always (codes "t")) (text_within tag) old new error
     → ElementReadFails (end_in_piece tag) (piece_of tag) old new error
 text_piece_fails tag old new error is fails =
     subst (λ (b : Bool). ElementReadFails
     (λ (inside : List Event). if b then Some (codes "t") else Some [])
-    (λ (inside : List Event). if b then text_of tag inside else Ok []) old new error) (sym is) fails
+    (λ (inside : List Event). if b then text_within tag inside else Ok []) old new error)
+    (sym is) fails
 
 pub if_err_map : {A E : Type 0} {P Q : E → Type 0} (result : Result A E)
     → ((error : E) → P error → Q error) → IfErr result P → IfErr result Q
 if_err_map (Ok a) weaker is = tt
 if_err_map (Err error) weaker is = weaker error is
-
--- the step to the next element is refused, and so is the section
-pub step_refused : {base : ℕ} {first mid : Reading} {wanted : Tag → Bool} (name : List ℕ)
-    (inner : Element → Option (List ℕ)) (before : PartSection → Refusal → Type 0) (new : Reading)
-    (error : XlsxError) → KeepsElements wanted base first mid
-    → SectionFails (end_among wanted name inner) Never base mid new error
-    → SectionFails (end_among wanted name inner) before base first new error
-step_refused {base = base} {first = first} {mid = mid} {wanted =
-    wanted} name inner before new error keeps fails =
-    refused_later base first mid (end_among wanted name inner) Never before new error keeps.section
-    (λ told. ap (end_outside name inner) (keeps.unclosed told)) (λ _ refusal never. absurd never)
-    fails
 
 -- what is said of the element at whose start a reader stands, as an element of its section
 pub own_answer : {A : Type 0} {answer : Result A Refusal} (base : ℕ) (tag : Tag) (new : Reading)
@@ -119,19 +100,3 @@ piece_refused {rest = rest} {all = all} {refusal = refusal} kept first same refu
     ∙ ap (λ (elements : List Element). onto kept (all_joined (all_answers string_piece elements)))
     (sym same)
     ∙ holds)
-
--- with one of those that are left, what all give is the same
-pub all_further : {X A : Type 0} {x : X} {xs rest : List X} {all : Result (List A) Refusal}
-    (answer : X → Result A Refusal) (kept : List A) (own : A) → xs ≡ x ∷ rest → answer x ≡ Ok own
-    → prepended kept (all_answers answer xs) ≡ all
-    → prepended (kept ++ own ∷ []) (all_answers answer rest) ≡ all
-all_further {x = x} {rest = rest} answer kept own same is holds =
-    prepended-and_others kept own (answer x) (all_answers answer rest) is ∙ (rw same at holds)
-
--- one of those that are left is refused
-pub all_refused : {X A : Type 0} {x : X} {xs rest : List X} {all : Result (List A) Refusal}
-    {refusal : Refusal} (answer : X → Result A Refusal) (kept : List A) → xs ≡ x ∷ rest
-    → answer x ≡ Err refusal → prepended kept (all_answers answer xs) ≡ all → all ≡ Err refusal
-all_refused {xs = xs} {refusal = refusal} answer kept same refuses holds =
-    let here : prepended kept (all_answers answer xs) ≡ Err refusal = rw (same, refuses) refl in
-    sym holds ∙ here

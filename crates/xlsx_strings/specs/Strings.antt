@@ -12,7 +12,8 @@ use Rattle.part_events.specs.Package.{Part, part_of}
 use Rattle.part_events.specs.Section.{Element, outermost, is_named}
 use Rattle.part_events.specs.declared.fault.XmlFault.TheVariants.{EndMismatch, Entity}
 use Rattle.cell_data.specs.declared.error.XlsxError.{XlsxError}
-use Rattle.cell_data.specs.declared.error.XlsxError.TheVariants.{OutOfMemory, Io, Xml, XmlAttr, XmlEof}
+use Rattle.cell_data.specs.declared.error.XlsxError.TheVariants.{OutOfMemory, Io, Xml, XmlAttr}
+use Rattle.cell_data.specs.declared.error.XlsxError.TheVariants.{XmlEof}
 use Rattle.xlsx_sections.specs.Answers.{all_answers}
 use Rattle.xlsx_sections.specs.Elements.{end_among}
 use Rattle.xlsx_sections.specs.ElementText.{element_text}
@@ -54,8 +55,8 @@ text_by inside (Ok kept) = all_spaced kept (element_text true inside)
 text_by inside (Err fault) = Err (lookup_fault fault)
 
 -- the text of an element of this start, by what stands in it
-abbrev pub text_of : Tag → List Event → Result (List ℕ) Refusal
-text_of tag inside = text_by inside (blanks_kept tag)
+abbrev pub text_within : Tag → List Event → Result (List ℕ) Refusal
+text_within tag inside = text_by inside (blanks_kept tag)
 
 abbrev pub is_text : Tag → Bool
 is_text tag = is_named (codes "t" ∷ []) tag
@@ -66,7 +67,7 @@ is_text_or_phonetic tag = is_named (codes "t" ∷ codes "rPh" ∷ []) tag
 
 -- what such an element adds to its string
 abbrev pub piece_of : Tag → List Event → Result (List ℕ) Refusal
-piece_of tag inside = if is_text tag then text_of tag inside else Ok []
+piece_of tag inside = if is_text tag then text_within tag inside else Ok []
 
 abbrev pub string_piece : Element → Result (List ℕ) Refusal
 string_piece element = in_element element (piece_of element.tag element.inside)

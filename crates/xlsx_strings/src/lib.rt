@@ -7,6 +7,3 @@ mod trim;
 
 pub use shared::read_shared_strings;
 pub use string_element::read_string;
-
-#[cfg(test)]
-mod tests;

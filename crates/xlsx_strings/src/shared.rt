@@ -1,11 +1,13 @@
-ghost use Rattle.std.specs.Prelude.{◌≡◌, ◌≤◌, [], ◌∷◌, ◌++◌, codes, length, map, true, Ok, string_bytes, IfOk, OnOk, IfErr};
-ghost use Rattle.part_events.specs.Package.{Uses, events_in};
+ghost use Rattle.std.specs.Prelude.{◌≡◌, ◌≤◌, [], ◌∷◌, ◌++◌, codes, length, map, true, Ok};
+ghost use Rattle.std.specs.Prelude.{string_bytes, IfOk, OnOk, IfErr};
+ghost use Rattle.part_events.specs.Package.{Uses, event_count};
 ghost use Rattle.part_events.specs.Reading.{reading, open_elements, IsReading, ReadsPart};
 ghost use Rattle.part_events.specs.Walk.{section_ahead, is_closed_ahead};
 ghost use Rattle.cell_data.specs.declared.error.XlsxError.TheVariants.{Io};
 ghost use Rattle.xlsx_sections.specs.Elements.{IsInsideRefused};
 ghost use Rattle.xlsx_sections.specs.PartSection.{SectionFails, OptionalPartFails};
-ghost use Rattle.xlsx_strings.specs.Strings.{strings_in, end_in_strings, HasStrings, AreStringsError};
+ghost use Rattle.xlsx_strings.specs.Strings.{strings_in, end_in_strings, HasStrings};
+ghost use Rattle.xlsx_strings.specs.Strings.{AreStringsError};
 
 use crate::string_element::read_string;
 use cell_data::XlsxError;
@@ -65,7 +67,7 @@ pub fn read_shared_strings<P: Package>(
 ) -> Result<Vec<String>, XlsxError>
     ensures uses { let old = P.state «package».old in
         let new = P.state «package».new in
-        Uses (events_in old.parts path.now) Io result old new }
+        Uses (event_count old.parts path.now) Io result old new }
     ensures strings { let old = P.state «package».old in
         old.is_told ≡ true → IfOk result (λ strings.
         HasStrings old.parts path.now (map string_bytes strings.items)) }

@@ -1,13 +1,16 @@
-ghost use Rattle.std.specs.Prelude.{◌≡◌, ◌==◌, ◌++◌, List, ℕ, suc, codes, length, true, Ok, string_bytes, OnOk, IfErr};
+ghost use Rattle.std.specs.Prelude.{◌≡◌, ◌==◌, ◌++◌, List, ℕ, suc, codes, length, true, Ok};
+ghost use Rattle.std.specs.Prelude.{string_bytes, OnOk, IfErr};
 ghost use Rattle.std.specs.List.{list_any};
 ghost use Rattle.attr_text.specs.Text.{unescaped};
 ghost use Rattle.part_events.specs.Event.{Tag, start, tag_of};
-ghost use Rattle.part_events.specs.Reading.{reading, open_elements, IsReading, IsAtElement, ReadsPart, Skips, ahead};
+ghost use Rattle.part_events.specs.Reading.{reading, open_elements, IsReading, IsAtElement};
+ghost use Rattle.part_events.specs.Reading.{ReadsPart, Skips, ahead};
 ghost use Rattle.part_events.specs.Section.{content};
 ghost use Rattle.cell_data.specs.declared.error.XlsxError.TheVariants.{Io};
 ghost use Rattle.xlsx_sections.specs.Elements.{ElementReadFails};
 ghost use Rattle.xlsx_sections.specs.PartSection.{always};
-ghost use Rattle.xlsx_strings.specs.Strings.{blanks_kept, spaced, text_of, piece_of, string_of, end_in_piece, end_in_string, IsStringError};
+ghost use Rattle.xlsx_strings.specs.Strings.{blanks_kept, spaced, text_within, piece_of, string_of};
+ghost use Rattle.xlsx_strings.specs.Strings.{end_in_piece, end_in_string, IsStringError};
 
 use crate::trim::trimmed;
 use attr_text::{AttrFault, RawAttributes, unescape_hex};
@@ -78,12 +81,12 @@ fn read_text<P: Package>(
         old.source.is_told ≡ true → OnOk result (Skips old new) }
     ensures text { let old = reading (P.state «package».old) cursor.old in
         old.source.is_told ≡ true → OnOk result ((tag : Tag) → start tag ≡ old.source.current →
-        (text : List ℕ) × (text_of tag (content 0 (ahead old)) ≡ Ok text)
+        (text : List ℕ) × (text_within tag (content 0 (ahead old)) ≡ Ok text)
         × (string_bytes out.new ≡ string_bytes out.old ++ text)) }
     ensures err { let old = reading (P.state «package».old) cursor.old in
         let new = reading (P.state «package».new) cursor.new in
         IfErr result (λ error. (tag : Tag) → start tag ≡ old.source.current →
-        ElementReadFails (always (codes "t")) (text_of tag) old new error) }
+        ElementReadFails (always (codes "t")) (text_within tag) old new error) }
     ensures kind { IfErr result IsStringError }
 {
     let kept = keeps_blanks(start_tag(package))?;

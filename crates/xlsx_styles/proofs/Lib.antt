@@ -4,4 +4,4 @@ pub mod Orders
 pub mod Shades
 pub mod Sides
 pub mod Sizes
-pub mod StartsRead
+pub mod StepErrors

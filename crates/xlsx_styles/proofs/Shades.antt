@@ -1,9 +1,12 @@
 -- Fractions of channels: none is below 0 or above 255.
-use Rattle.std.proofs.Common.{◌≡◌, ℕ, ◌+◌, ◌-◌, ◌*◌, ◌/◌, ◌^◌, ◌<◌, ◌≤◌, min, ap, subst, sym, ◌∙◌, arith}
+use Rattle.std.proofs.Common.{◌≡◌, ℕ, ◌+◌, ◌-◌, ◌*◌, ◌/◌, ◌^◌, ◌<◌, ◌≤◌, min, ap, subst, sym, ◌∙◌}
+use Rattle.std.proofs.Common.{arith}
 use Rattle.std.specs.Prelude.{ℤ, pos, negsuc, true}
 use Rattle.std.specs.Int.Signed.{le_z}
 use Rattle.xlsx_styles.specs.Tint.{unit, parts_of}
-use Rattle.std.proofs.Math.Nat.{mul-le-mul_left, mul-add, add-mul, mul_comm, mul_assoc, mul-div_cancel, mul-le-mul_right, mul-le-mul, one-le-pow, pow-le-pow_right, div-eq_of_lt, div-div-eq-div-mul}
+use Rattle.std.proofs.Math.Nat.{mul-le-mul_left, mul-add, add-mul, mul_comm, mul_assoc}
+use Rattle.std.proofs.Math.Nat.{mul-div_cancel, mul-le-mul_right, mul-le-mul, one-le-pow}
+use Rattle.std.proofs.Math.Nat.{pow-le-pow_right, div-eq_of_lt, div-div-eq-div-mul}
 use Rattle.std.proofs.lemmas.Nat.{pow-add}
 
 pub above_zero : (tinted room swing sum twice : ℕ) → swing ≤ tinted → sum ≤ twice + room

@@ -8,10 +8,8 @@ use Rattle.cell_styles.specs.declared.color.Color.{Color}
 use Rattle.xlsx_sections.specs.Elements.{ElementReadFails, IsInsideRefused}
 use Rattle.xlsx_sections.specs.PartSection.{always, inside_of, section_left}
 use Rattle.xlsx_sections.proofs.Refused.{refused_as}
+use Rattle.xlsx_sections.proofs.SectionsRead.{same_tag}
 use Rattle.xlsx_styles.specs.Borders.{color_in, colored, side_by, side_line, side_of}
-
-pub same_tag : (tag own : Tag) → start tag ≡ start own → tag ≡ own
-same_tag tag own same = cc
 
 -- a color that is refused refuses its side
 pub side_fails : (theme : List Color) (tag own : Tag) (style : BorderStyle) (old new : Reading)
@@ -26,6 +24,6 @@ side_fails theme tag own style old new error is here line fails there =
     (omega arith)
     (λ refusal refuses.
     ap (side_by theme (inside_of (section_left (length old.names) old)))
-    (ap side_line (same_tag tag own (there ∙ sym here)) ∙ line)
+    (ap side_line (same_tag (there ∙ sym here)) ∙ line)
     ∙ ap (colored style) refuses)
     fails

@@ -1,5 +1,6 @@
 -- How the content of a cell is placed, and what of it is protected.
-use Rattle.std.specs.Prelude.{ℕ, ◌==◌, List, [], ◌∷◌, get_or, true, false, if◌then◌else◌, codes, Option, Some, None, Result, Ok, Err}
+use Rattle.std.specs.Prelude.{ℕ, ◌==◌, List, [], ◌∷◌, get_or, true, false, if◌then◌else◌, codes}
+use Rattle.std.specs.Prelude.{Option, Some, None, Result, Ok, Err}
 use Rattle.std.specs.Option.{option_and_then}
 use Rattle.attr_text.specs.Attributes.{lookup}
 use Rattle.attr_text.specs.declared.fault.AttrFault.{AttrFault}

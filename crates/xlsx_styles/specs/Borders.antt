@@ -1,5 +1,6 @@
 -- What the elements of borders say (ECMA-376 part 1, section 18.8.4).
-use Rattle.std.specs.Prelude.{ℕ, List, [], ◌∷◌, Bool, if◌then◌else◌, codes, Option, Some, None, Result, Ok, Err}
+use Rattle.std.specs.Prelude.{ℕ, List, [], ◌∷◌, Bool, if◌then◌else◌, codes, Option, Some, None}
+use Rattle.std.specs.Prelude.{Result, Ok, Err}
 use Rattle.std.specs.Str.{bytes_eq}
 use Rattle.attr_text.specs.Attributes.{value_of, local_name_of}
 use Rattle.attr_text.specs.declared.fault.AttrFault.{AttrFault}
@@ -14,7 +15,7 @@ use Rattle.cell_styles.specs.declared.color.Color.{Color}
 use Rattle.xlsx_sections.specs.Answers.{last_answer}
 use Rattle.xlsx_sections.specs.Elements.{end_among}
 use Rattle.xlsx_sections.specs.Refusal.{Refusal, lookup_fault, in_element}
-use Rattle.xlsx_styles.specs.Changes.{all_changes, or_fault}
+use Rattle.xlsx_sections.specs.Changes.{all_changes, or_fault}
 use Rattle.xlsx_styles.specs.Colors.{color_of}
 use Rattle.xlsx_styles.specs.Texts.{named}
 use Rattle.xlsx_styles.specs.declared.border.Side.{Side}
@@ -31,9 +32,9 @@ line_named text = named (
     ∷ (codes "mediumDashDotDot", line.MediumDashDotDot)
     ∷ (codes "slantDashDot", line.SlantDashDot) ∷ []) line.None text
 
-abbrev pub line_of : Option (List ℕ) → BorderStyle
-line_of None = line.None
-line_of (Some text) = line_named text
+abbrev pub border_line : Option (List ℕ) → BorderStyle
+border_line None = line.None
+border_line (Some text) = line_named text
 
 abbrev pub is_color : Tag → Bool
 is_color tag = is_named (codes "color" ∷ []) tag
@@ -50,7 +51,7 @@ colored style (Ok color) = Ok (record { style = style; color = color })
 colored style (Err refusal) = Err refusal
 
 abbrev pub lined : Result (Option (List ℕ)) AttrFault → Result BorderStyle AttrFault
-lined (Ok text) = Ok (line_of text)
+lined (Ok text) = Ok (border_line text)
 lined (Err fault) = Err fault
 
 abbrev pub side_line : Tag → Result BorderStyle AttrFault

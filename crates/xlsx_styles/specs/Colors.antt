@@ -1,5 +1,7 @@
 -- The color that an element names by its attributes.
-use Rattle.std.specs.Prelude.{ℕ, ◌+◌, ◌*◌, ◌/◌, ◌==◌, nat_abs, List, [], ◌∷◌, map, length, get_or, if◌then◌else◌, codes, Option, Some, None, option_map, Result, Ok, Err, ℤ}
+use Rattle.std.specs.Prelude.{ℕ, ◌+◌, ◌*◌, ◌/◌, ◌==◌, nat_abs, List, [], ◌∷◌, map, length, get_or}
+use Rattle.std.specs.Prelude.{if◌then◌else◌, codes, Option, Some, None, option_map, Result, Ok, Err}
+use Rattle.std.specs.Prelude.{ℤ}
 use Rattle.std.specs.Option.{option_and_then}
 use Rattle.std.specs.Str.Parse.{digits_value}
 use Rattle.attr_text.specs.Attributes.{lookup}

@@ -1,5 +1,6 @@
 -- What the elements of fills say (ECMA-376 part 1, section 18.8.20).
-use Rattle.std.specs.Prelude.{ℕ, List, [], ◌∷◌, Bool, if◌then◌else◌, codes, Option, Some, None, Result}
+use Rattle.std.specs.Prelude.{ℕ, List, [], ◌∷◌, Bool, if◌then◌else◌, codes, Option, Some, None}
+use Rattle.std.specs.Prelude.{Result}
 use Rattle.attr_text.specs.Attributes.{value_of}
 use Rattle.attr_text.specs.declared.fault.AttrFault.{AttrFault}
 use Rattle.part_events.specs.Event.{Tag, Event}
@@ -10,7 +11,7 @@ use Rattle.cell_styles.specs.declared.fill.Fill.{Fill}
 use Rattle.cell_styles.specs.declared.fill.FillPattern.{FillPattern}
 use Rattle.cell_styles.specs.declared.fill.FillPattern.TheVariants as pattern
 use Rattle.xlsx_sections.specs.Refusal.{Refusal}
-use Rattle.xlsx_styles.specs.Changes.{all_changes, or_fault, changed_with}
+use Rattle.xlsx_sections.specs.Changes.{all_changes, or_fault, changed_with}
 use Rattle.xlsx_styles.specs.Colors.{color_of}
 use Rattle.xlsx_styles.specs.Texts.{named}
 

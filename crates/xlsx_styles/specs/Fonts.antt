@@ -1,5 +1,6 @@
 -- What the elements of fonts say (ECMA-376 part 1, section 18.8.22).
-use Rattle.std.specs.Prelude.{ℕ, nat_le, ℤ, List, [], ◌∷◌, Bool, true, if◌then◌else◌, codes, Option, Some, None, option_map, Result, Ok, Err}
+use Rattle.std.specs.Prelude.{ℕ, nat_le, ℤ, List, [], ◌∷◌, Bool, true, if◌then◌else◌, codes, Option}
+use Rattle.std.specs.Prelude.{Some, None, option_map, Result, Ok, Err}
 use Rattle.std.specs.Option.{option_and_then, option_or}
 use Rattle.std.specs.Str.{bytes_eq}
 use Rattle.attr_text.specs.Attributes.{value_of, local_name_of}
@@ -18,7 +19,7 @@ use Rattle.cell_styles.specs.declared.font.FontWeight.TheVariants as weight
 use Rattle.cell_styles.specs.declared.font.UnderlineStyle.{UnderlineStyle}
 use Rattle.cell_styles.specs.declared.font.UnderlineStyle.TheVariants as underline
 use Rattle.xlsx_sections.specs.Refusal.{Refusal, lookup_fault, decoded_at}
-use Rattle.xlsx_styles.specs.Changes.{all_changes, or_fault, changed_with}
+use Rattle.xlsx_sections.specs.Changes.{all_changes, or_fault, changed_with}
 use Rattle.xlsx_styles.specs.Colors.{color_of}
 use Rattle.xlsx_styles.specs.Texts.{truth_or, number_below, named}
 

@@ -1,11 +1,9 @@
 pub mod Alignments
 pub mod Borders
-pub mod Changes
 pub mod Colors
 pub mod Errors
 pub mod Fills
 pub mod Fonts
-pub mod Starts
 pub mod Texts
 pub mod Theme
 pub mod Tint

@@ -2,7 +2,9 @@ ghost use Rattle.std.specs.Prelude.{◌≡◌, [], ◌∷◌, MatchResult, Ok, E
 ghost use Rattle.std.specs.Option.{option_copied};
 ghost use Rattle.attr_text.specs.Attributes.{lookup};
 ghost use Rattle.part_events.specs.Event.{tag_of};
-ghost use Rattle.xlsx_styles.specs.Alignments.{horizontal_named, vertical_named, rotation_of, indent_of, alignment_keys, alignment_of, protection_of};
+ghost use Rattle.xlsx_styles.specs.Alignments.{horizontal_named, vertical_named, rotation_of};
+ghost use Rattle.xlsx_styles.specs.Alignments.{indent_of, alignment_keys, alignment_of};
+ghost use Rattle.xlsx_styles.specs.Alignments.{protection_of};
 
 use crate::texts::{byte_text, short_text, truth_or};
 use attr_text::{AttrFault, AttrValue, RawAttributes, get_attrs, six_values};

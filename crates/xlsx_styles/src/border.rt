@@ -1,15 +1,19 @@
-ghost use Rattle.std.specs.Prelude.{◌≡◌, ◌≤◌, List, ℕ, suc, codes, length, true, Ok, Err, IfOk, OnOk, IfErr, MatchResult};
+ghost use Rattle.std.specs.Prelude.{◌≡◌, ◌≤◌, List, ℕ, suc, codes, length, true, Ok, Err, IfOk};
+ghost use Rattle.std.specs.Prelude.{OnOk, IfErr, MatchResult};
 ghost use Rattle.std.specs.Option.{option_copied};
 ghost use Rattle.attr_text.specs.Attributes.{local_name_of};
 ghost use Rattle.part_events.specs.Event.{Tag, start, tag_of};
-ghost use Rattle.part_events.specs.Reading.{reading, open_elements, IsReading, IsAtElement, ReadsPart, Skips, ahead};
+ghost use Rattle.part_events.specs.Reading.{reading, open_elements, IsReading, IsAtElement};
+ghost use Rattle.part_events.specs.Reading.{ReadsPart, Skips, ahead};
 ghost use Rattle.part_events.specs.Section.{content};
 ghost use Rattle.cell_data.specs.declared.error.XlsxError.TheVariants.{Io};
 ghost use Rattle.xlsx_sections.specs.Answers.{or_earlier};
 ghost use Rattle.xlsx_sections.specs.Elements.{ElementReadFails};
 ghost use Rattle.xlsx_sections.specs.PartSection.{always};
 ghost use Rattle.xlsx_sections.specs.Refusal.{lookup_fault, placed_at};
-ghost use Rattle.xlsx_styles.specs.Borders.{line_named, line_of, side_line, side_color, color_in, side_of, side_named, with_side, border_of, end_in_border};
+ghost use Rattle.xlsx_styles.specs.Borders.{line_named, border_line, side_line, side_color};
+ghost use Rattle.xlsx_styles.specs.Borders.{color_in, side_of, side_named, with_side, border_of};
+ghost use Rattle.xlsx_styles.specs.Borders.{end_in_border};
 ghost use Rattle.xlsx_styles.specs.Errors.{IsPlainError, IsBorderError};
 
 use crate::color_text::parse_color;
@@ -69,8 +73,8 @@ fn line_named(text: &str) -> BorderStyle
     }
 }
 
-fn line_of(text: Option<&str>) -> BorderStyle
-    ensures { result ≡ line_of (option_copied text.entry) }
+fn border_line(text: Option<&str>) -> BorderStyle
+    ensures { result ≡ border_line (option_copied text.entry) }
 {
     match text {
         Some(text) => line_named(text),
@@ -81,7 +85,7 @@ fn line_of(text: Option<&str>) -> BorderStyle
 fn side_line(tag: StartTag<'_>) -> Result<BorderStyle, AttrFault>
     ensures { side_line (tag_of tag.entry) ≡ result }
 {
-    Ok(line_of(tag.raw_attr("style")?))
+    Ok(border_line(tag.raw_attr("style")?))
 }
 
 /// Keeps the color that a start names, where it names one.
@@ -104,7 +108,7 @@ fn keep_color(
 }
 
 /// The color of the side at whose start the package stands, which is read to its end.
-#[tactic(auto, using(crate::proofs::StartsRead::plain_step))]
+#[tactic(auto, using(crate::proofs::StepErrors::plain_step))]
 fn read_side_color<P: Package>(
     package: &mut P,
     cursor: &mut Cursor,
@@ -138,7 +142,7 @@ fn read_side_color<P: Package>(
 }
 
 /// The side at whose start the package stands, which is read to its end.
-#[tactic(auto, using(crate::proofs::StartsRead::side_step, crate::proofs::Sides::side_fails))]
+#[tactic(auto, using(crate::proofs::StepErrors::side_step, crate::proofs::Sides::side_fails))]
 fn read_side<P: Package>(
     package: &mut P,
     cursor: &mut Cursor,
@@ -197,7 +201,7 @@ fn place_side(borders: &mut Borders, side: Side, border: Border, down: bool, up:
 ///
 /// A part that ends in a side is `XmlEof("border side")`, and one that ends elsewhere in the
 /// element `XmlEof("border")`.
-#[tactic(auto, using(crate::proofs::StartsRead::border_step))]
+#[tactic(auto, using(crate::proofs::StepErrors::border_step))]
 pub fn read_border<P: Package>(
     package: &mut P,
     cursor: &mut Cursor,

@@ -1,11 +1,14 @@
 ghost use Rattle.attr_text.specs.Attributes.{lookup};
 ghost use Rattle.cell_styles.specs.Color.{color_of_argb};
-ghost use Rattle.std.specs.Prelude.{◌≡◌, ◌≤◌, ◌<◌, ◌^◌, [], ◌∷◌, length, map, true, false, MatchOption, MatchResult, Ok, Err};
+ghost use Rattle.std.specs.Prelude.{◌≡◌, ◌≤◌, ◌<◌, ◌^◌, [], ◌∷◌, length, map, true, false};
+ghost use Rattle.std.specs.Prelude.{MatchOption, MatchResult, Ok, Err};
 ghost use Rattle.std.specs.Option.{option_copied};
 ghost use Rattle.std.specs.Str.Parse.{digits_value};
 ghost use Rattle.attr_text.specs.Text.{all_digits};
 ghost use Rattle.part_events.specs.Event.{tag_of};
-ghost use Rattle.xlsx_styles.specs.Colors.{hex_color, color_at, placed_color, indexed_colors, indexed_color, theme_color, plain_color, tint_of, tinted_if, color_keys, color_of};
+ghost use Rattle.xlsx_styles.specs.Colors.{hex_color, color_at, placed_color, indexed_colors};
+ghost use Rattle.xlsx_styles.specs.Colors.{indexed_color, theme_color, plain_color, tint_of};
+ghost use Rattle.xlsx_styles.specs.Colors.{tinted_if, color_keys, color_of};
 
 use crate::texts::byte_text;
 use crate::tint::apply_tint;
@@ -41,7 +44,9 @@ fn hex_number(digits: &[u8]) -> Option<u32>
     Some(number)
 }
 
-fn hex_color(text: &str) -> Option<Color>
+/// The color of six hexadecimal digits, red, green and blue, or of eight, alpha before them, and
+/// None of another text (ECMA-376 part 1, section 18.8.3).
+pub fn hex_color(text: &str) -> Option<Color>
     ensures { result ≡ hex_color text.now }
 {
     let digits = text.as_bytes();

@@ -1,23 +1,25 @@
-ghost use Rattle.std.specs.Prelude.{◌≡◌, ◌≤◌, List, ℕ, suc, codes, length, true, Ok, Err, IfOk, OnOk, IfErr, MatchResult};
+ghost use Rattle.std.specs.Prelude.{◌≡◌, ◌≤◌, List, ℕ, suc, codes, length, true, Ok, Err, IfOk};
+ghost use Rattle.std.specs.Prelude.{OnOk, IfErr, MatchResult};
 ghost use Rattle.std.specs.Option.{option_copied};
 ghost use Rattle.attr_text.specs.Attributes.{value_of};
 ghost use Rattle.part_events.specs.Event.{tag_of};
-ghost use Rattle.part_events.specs.Reading.{reading, open_elements, IsReading, IsAtElement, ReadsPart, Skips, ahead};
+ghost use Rattle.part_events.specs.Reading.{reading, open_elements, IsReading, IsAtElement};
+ghost use Rattle.part_events.specs.Reading.{ReadsPart, Skips, ahead};
 ghost use Rattle.part_events.specs.Section.{content};
 ghost use Rattle.cell_data.specs.declared.error.XlsxError.TheVariants.{Io};
 ghost use Rattle.xlsx_sections.specs.Elements.{ElementReadFails};
 ghost use Rattle.xlsx_sections.specs.PartSection.{always};
-ghost use Rattle.xlsx_styles.specs.Changes.{changed_with};
+ghost use Rattle.xlsx_sections.specs.Changes.{changed_with};
 ghost use Rattle.xlsx_styles.specs.Errors.{IsPlainError};
-ghost use Rattle.xlsx_styles.specs.Fills.{pattern_named, with_pattern, with_foreground, with_background, fill_changed, fill_of};
+ghost use Rattle.xlsx_styles.specs.Fills.{pattern_named, with_pattern, with_foreground};
+ghost use Rattle.xlsx_styles.specs.Fills.{with_background, fill_changed, fill_of};
 
 use crate::color_text::parse_color;
-use crate::starts::next_start_among;
 use attr_text::{AttrFault, RawAttributes};
 use cell_data::XlsxError;
 use cell_styles::{Color, Fill, FillPattern};
 use part_events::{Cursor, Package, StartTag};
-use xlsx_sections::start_tag;
+use xlsx_sections::{next_start_among, start_tag};
 
 #[tactic(auto, unfolding(crate::specs::Fills::pattern_named))]
 fn pattern_named(text: &str) -> FillPattern
@@ -96,7 +98,7 @@ fn change_fill(fill: &mut Fill, tag: StartTag<'_>, theme_colors: &[Color]) -> Re
 
 /// Reads the fill at whose start the package stands, to its end (ECMA-376 part 1, section
 /// 18.8.20). Colors are named by the colors of the theme.
-#[tactic(auto, using(crate::proofs::StartsRead::plain_step))]
+#[tactic(auto, using(crate::proofs::StepErrors::plain_step))]
 pub fn read_fill<P: Package>(
     package: &mut P,
     cursor: &mut Cursor,

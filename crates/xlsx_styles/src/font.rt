@@ -1,7 +1,9 @@
-ghost use Rattle.std.specs.Prelude.{◌≡◌, ◌≤◌, List, ℕ, suc, codes, length, true, Ok, Err, IfOk, OnOk, IfErr};
+ghost use Rattle.std.specs.Prelude.{◌≡◌, ◌≤◌, List, ℕ, suc, codes, length, true, Ok, Err, IfOk};
+ghost use Rattle.std.specs.Prelude.{OnOk, IfErr};
 ghost use Rattle.attr_text.specs.Attributes.{value_of};
 ghost use Rattle.part_events.specs.Event.{tag_of};
-ghost use Rattle.part_events.specs.Reading.{reading, open_elements, IsReading, IsAtElement, ReadsPart, Skips, ahead};
+ghost use Rattle.part_events.specs.Reading.{reading, open_elements, IsReading, IsAtElement};
+ghost use Rattle.part_events.specs.Reading.{ReadsPart, Skips, ahead};
 ghost use Rattle.part_events.specs.Section.{content};
 ghost use Rattle.cell_data.specs.declared.error.XlsxError.TheVariants.{Io};
 ghost use Rattle.xlsx_sections.specs.Elements.{ElementReadFails};
@@ -11,13 +13,12 @@ ghost use Rattle.xlsx_styles.specs.Errors.{IsFontError};
 ghost use Rattle.xlsx_styles.specs.Fonts.{said_of, name_changed, font_change, font_of};
 
 use crate::font_parts::{change_color, change_value};
-use crate::starts::next_start_among;
 use attr_text::RawAttributes;
 use cell_data::XlsxError;
 use cell_styles::{Color, Font};
 use part_events::{Cursor, Package, StartTag};
 use std::alloc::Global;
-use xlsx_sections::{decode_at, start_tag};
+use xlsx_sections::{decode_at, next_start_among, start_tag};
 
 /// Names the font by a start, which is event number `at` of its part.
 #[tactic(auto, using(crate::proofs::FontErrors::decode_step))]

@@ -10,18 +10,18 @@ mod font;
 mod font_parts;
 mod laws;
 mod parsing;
-mod starts;
 mod texts;
 mod theme;
 mod tint;
 
 pub use alignment::{parse_alignment, parse_protection};
 pub use border::read_border;
-pub use color_text::parse_color;
+pub use color_text::{hex_color, parse_color};
 pub use fill::read_fill;
 pub use font::read_font;
 pub use laws::{tints_keep_the_order, tints_of_zero_change_nothing};
 pub use parsing::{parse_border, parse_fill, parse_font};
+pub use texts::truth_or;
 pub use theme::default_theme_colors;
 pub use tint::apply_tint;
 

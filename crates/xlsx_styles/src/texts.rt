@@ -10,7 +10,8 @@ fn is_truth(text: &str) -> bool
     !(text == "0" || text == "false")
 }
 
-/// The truth value of a text, or another one where there is no text.
+/// The truth value of a text, which is false exactly for `0` and `false`, or another one where
+/// there is no text.
 pub fn truth_or(text: Option<&str>, other: bool) -> bool
     ensures { result ≡ truth_or other (option_copied text.entry) }
 {

@@ -1,5 +1,6 @@
 ghost use Rattle.std.specs.Prelude.{◌≡◌, ◌+◌, ◌-◌, ◌*◌, ◌/◌, ◌^◌, ◌<◌, ◌≤◌, min};
-ghost use Rattle.xlsx_styles.specs.Tint.{IsNearest, Fraction, unit, is_negative, tint_size, channel_sum, room_of, tinted_sum, shade, tint_fraction};
+ghost use Rattle.xlsx_styles.specs.Tint.{IsNearest, Fraction, unit, is_negative, tint_size};
+ghost use Rattle.xlsx_styles.specs.Tint.{channel_sum, room_of, tinted_sum, shade, tint_fraction};
 
 use cell_data::Decimal;
 use cell_styles::Color;

@@ -8,6 +8,7 @@ use Rattle.part_events.specs.Memory.{Contents, state_of}
 use Rattle.part_events.specs.Package.{Part}
 use Rattle.xlsx_core.specs.SheetReading.{ReadsAs, IsReadable, SheetCause, SheetFails}
 use Rattle.cell_data.specs.CellValue.{CellValue}
+use Rattle.cell_styles.specs.StyleMap.{StyleMap}
 use Rattle.cell_data.specs.declared.error.XlsxError.{XlsxError}
 use Rattle.cell_data.specs.declared.error.XlsxError.TheVariants as workbook
 use Rattle.xlsx_tool.specs.Input.{InputRead, InputFails}
@@ -21,9 +22,8 @@ use Rattle.xlsx_tool.specs.Source.{SourceState}
 use Rattle.xlsx_tool.specs.Status.{of_workbook}
 use Rattle.xlsx_tool.specs.declared.error.ToolError.{ToolError}
 use Rattle.xlsx_tool.specs.declared.error.ToolError.TheVariants.{Usage, ReadFault, InputTooLarge}
-use Rattle.xlsx_tool.specs.declared.error.ToolError.TheVariants.{NotAPackage}
-use Rattle.xlsx_tool.specs.declared.error.ToolError.TheVariants.{NotBuilt, Workbook, WriteFault}
-use Rattle.xlsx_tool.specs.declared.error.ToolError.TheVariants.{OutOfMemory}
+use Rattle.xlsx_tool.specs.declared.error.ToolError.TheVariants.{NotAPackage, Workbook}
+use Rattle.xlsx_tool.specs.declared.error.ToolError.TheVariants.{WriteFault, OutOfMemory}
 
 -- what holds of the answer that was given
 pub ok_at :
@@ -45,10 +45,8 @@ pub workbook_fails :
     → LinesFail old.parts name (of_workbook error)
 workbook_fails name old new workbook.Io fails = absurd (omega (arith, fails))
 workbook_fails name old new workbook.OutOfMemory fails = tt
-workbook_fails name old new workbook.NotBuilt fails = fails refl
-workbook_fails name old new (workbook.WorksheetNotFound asked) fails =
-    (λ is. absurd (cc), fails refl)
-workbook_fails name old new error fails = (λ is. absurd (cc), fails refl)
+workbook_fails name old new (workbook.WorksheetNotFound asked) fails = fails refl
+workbook_fails name old new error fails = fails refl
 
 -- ---- the lines of a source
 
@@ -87,20 +85,11 @@ pub from_lines :
     (name bytes : List ℕ) (parts : List Part) (old new : SourceState) (error : ToolError)
     → InputRead bytes old new → package_in bytes ≡ Some parts
     → LinesFail parts name error → ReadingFails name old new error
-from_lines name bytes parts old new NotBuilt input spelled fails = (
+from_lines name bytes parts old new (Workbook error) input spelled fails = (
   input.faults,
   record {
     parts = parts;
     cause = fails;
-    spells = spelled_by bytes parts old new input spelled;
-  },
-)
-from_lines name bytes parts old new (Workbook error) input spelled fails = (
-  input.faults,
-  fails.0,
-  record {
-    parts = parts;
-    cause = fails.1;
     spells = spelled_by bytes parts old new input spelled;
   },
 )
@@ -168,6 +157,7 @@ not_written words name lines old new WriteFault asked read fails = record {
     parts = read.parts;
     values = read.lists.values;
     formulas = read.lists.formulas;
+    styles = read.lists.styles;
     spells = (read.whole told).0;
     reads = read.lists.reads;
     whole = (read.whole told).1;
@@ -191,6 +181,7 @@ succeeded words name lines old new asked read sent = record {
     parts = read.parts;
     values = read.lists.values;
     formulas = read.lists.formulas;
+    styles = read.lists.styles;
     spells = (read.whole told).0;
     reads = read.lists.reads;
     whole = (read.whole told).1;
@@ -221,8 +212,8 @@ same_some x y found first second = ap (some_of x) (sym first ∙ second)
 abbrev pub NeverBoth : Type 0
 NeverBoth =
     (parts : List Part) (name : List ℕ) (values : List ((ℕ × ℕ) × CellValue))
-    (formulas : List ((ℕ × ℕ) × List ℕ)) (error : XlsxError)
-    → ReadsAs parts name values formulas → SheetCause parts name error → ⊥
+    (formulas : List ((ℕ × ℕ) × List ℕ)) (styles : StyleMap) (error : XlsxError)
+    → ReadsAs parts name values formulas styles → SheetCause parts name error → ⊥
 
 -- the words are a command on the package that the source spells
 record IsCommand
@@ -242,48 +233,51 @@ same_package source parts others first second =
 no_package_cause :
     NeverBoth → (words : List (List ℕ)) (source : SourceState) (name asked : List ℕ)
     (parts : List Part) (values : List ((ℕ × ℕ) × CellValue)) (formulas : List ((ℕ × ℕ) × List ℕ))
-    (error : XlsxError)
-    → IsCommand words source name parts → ReadsAs parts name values formulas
+    (styles : StyleMap) (error : XlsxError)
+    → IsCommand words source name parts → ReadsAs parts name values formulas styles
     → sheet_asked words ≡ Some asked → HasPackageCause asked source error → ⊥
-no_package_cause never words source name asked parts values formulas error command reads same
-    cause =
+no_package_cause never words source name asked parts values formulas styles error command reads
+    same cause =
     let name_is = same_some asked name (sheet_asked words) same command.asked in
     let package_is =
     same_package source cause.parts parts (cause.spells command.is_told) command.spells
     in
     let named = subst (λ (name : List ℕ). SheetCause cause.parts name error) name_is cause.cause in
-    never parts name values formulas error reads
+    never parts name values formulas styles error reads
     (subst (λ (parts : List Part). SheetCause parts name error) package_is named)
 
 -- a package whose sheet is read was not refused for any cause of its own
 not_refused :
     NeverBoth → (words : List (List ℕ)) (old new : Streams) (name : List ℕ)
     (parts : List Part) (values : List ((ℕ × ℕ) × CellValue)) (formulas : List ((ℕ × ℕ) × List ℕ))
-    (error : ToolError)
-    → IsCommand words old.source name parts → ReadsAs parts name values formulas
+    (styles : StyleMap) (error : ToolError)
+    → IsCommand words old.source name parts → ReadsAs parts name values formulas styles
     → (error ≢ OutOfMemory) × (error ≢ ReadFault) × (error ≢ WriteFault)
     → Refuses words old new error → ⊥
-not_refused never words old new name parts values formulas Usage command reads own refuses =
+not_refused never words old new name parts values formulas styles Usage command reads own
+    refuses =
     not_some name (sheet_asked words) command.asked refuses.0
-not_refused never words old new name parts values formulas ReadFault command reads own refuses =
+not_refused never words old new name parts values formulas styles ReadFault command reads own
+    refuses =
     own.1 refl
-not_refused never words old new name parts values formulas InputTooLarge command reads own refuses =
+not_refused never words old new name parts values formulas styles InputTooLarge command reads own
+    refuses =
     let took = refuses.cause.1 command.is_told in
     let long = length-append took.taken new.source.left in
     omega (arith, took.many, command.spells.fits, ap length took.from, long)
-not_refused never words old new name parts values formulas NotAPackage command reads own refuses =
+not_refused never words old new name parts values formulas styles NotAPackage command reads own
+    refuses =
     let none = (refuses.cause.1 command.is_told).spelled in
     not_some parts (package_in old.source.left) command.spells.spelled none
-not_refused never words old new name parts values formulas NotBuilt command reads own refuses =
-    no_package_cause never words old.source name refuses.name parts values formulas
-    workbook.NotBuilt command reads refuses.asked refuses.cause.1
-not_refused never words old new name parts values formulas (Workbook error) command reads own
+not_refused never words old new name parts values formulas styles (Workbook error) command reads
+    own refuses =
+    no_package_cause never words old.source name refuses.name parts values formulas styles error
+    command reads refuses.asked refuses.cause.1
+not_refused never words old new name parts values formulas styles WriteFault command reads own
     refuses =
-    no_package_cause never words old.source name refuses.name parts values formulas error
-    command reads refuses.asked refuses.cause.2
-not_refused never words old new name parts values formulas WriteFault command reads own refuses =
     own.2 refl
-not_refused never words old new name parts values formulas OutOfMemory command reads own refuses =
+not_refused never words old new name parts values formulas styles OutOfMemory command reads own
+    refuses =
     own.0 refl
 
 -- a sheet whose lines were written is read
@@ -295,11 +289,14 @@ is_readable words old new name parts command succeeds =
     let listed = succeeds.reads command.is_told in
     let name_is = same_some succeeds.name name (sheet_asked words) succeeds.asked command.asked in
     let package_is = same_package old.source listed.parts parts listed.spells command.spells in
-    let named = subst (λ name. ReadsAs listed.parts name listed.values listed.formulas) name_is
+    let named = subst
+    (λ name. ReadsAs listed.parts name listed.values listed.formulas listed.styles) name_is
     listed.reads in (
       listed.values,
       listed.formulas,
-      subst (λ parts. ReadsAs parts name listed.values listed.formulas) package_is named,
+      listed.styles,
+      subst (λ parts. ReadsAs parts name listed.values listed.formulas listed.styles) package_is
+          named,
     )
 
 pub answers :
@@ -322,8 +319,8 @@ answers never words old new (Err error) told ok err = record {
       in (
         λ is_ok. absurd (true≢false (sym is_ok)),
         λ readable. absurd (
-            not_refused never words old new name parts readable.0 readable.1 error command
-            readable.2
+            not_refused never words old new name parts readable.0 readable.1 readable.2 error
+            command readable.3
             (λ is. memory (ap Err is), λ is. read (ap Err is), λ is. write (ap Err is)) err
             ),
       )

@@ -9,8 +9,8 @@ use Rattle.xlsx_tool.specs.declared.error.ToolError.{ToolError}
 abbrev pub help_text : List ℕ
 help_text =
     codes "Usage: xlsx_tool cells NAME < package.json\n\n"
-    ++ (codes "Prints one line for each cell of worksheet NAME with a value or a formula:\n"
-    ++ codes "its position, value, formula and fill, with tabs between them.\n")
+    ++ (codes "Prints one line for each cell of worksheet NAME with a value, a formula or a\n"
+    ++ codes "style: its position, value, formula and fill, with tabs between them.\n")
 
 abbrev pub version_text : List ℕ
 version_text = codes "xlsx_tool 0.1.0\n"

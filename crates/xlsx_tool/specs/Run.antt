@@ -8,8 +8,8 @@ use Rattle.part_events.specs.Memory.{Contents, closed}
 use Rattle.part_events.specs.Package.{Part, RisesByOne}
 use Rattle.xlsx_core.specs.SheetReading.{ReadsAs, IsReadable, SheetCause}
 use Rattle.cell_data.specs.CellValue.{CellValue}
+use Rattle.cell_styles.specs.StyleMap.{StyleMap}
 use Rattle.cell_data.specs.declared.error.XlsxError.{XlsxError}
-use Rattle.cell_data.specs.declared.error.XlsxError.TheVariants as workbook
 use Rattle.xlsx_tool.specs.Input.{TookTooMany, longest_input}
 use Rattle.xlsx_tool.specs.SheetListing.{listing}
 use Rattle.xlsx_tool.specs.PackageText.{package_in}
@@ -17,9 +17,8 @@ use Rattle.xlsx_tool.specs.Sink.{SinkState}
 use Rattle.xlsx_tool.specs.Source.{SourceState}
 use Rattle.xlsx_tool.specs.declared.error.ToolError.{ToolError}
 use Rattle.xlsx_tool.specs.declared.error.ToolError.TheVariants.{Usage, ReadFault, InputTooLarge}
-use Rattle.xlsx_tool.specs.declared.error.ToolError.TheVariants.{NotAPackage}
-use Rattle.xlsx_tool.specs.declared.error.ToolError.TheVariants.{NotBuilt, Workbook, WriteFault}
-use Rattle.xlsx_tool.specs.declared.error.ToolError.TheVariants.{OutOfMemory}
+use Rattle.xlsx_tool.specs.declared.error.ToolError.TheVariants.{NotAPackage, Workbook}
+use Rattle.xlsx_tool.specs.declared.error.ToolError.TheVariants.{WriteFault, OutOfMemory}
 
 -- the words as texts
 abbrev pub texts : List (String Global) → List (List ℕ)
@@ -52,11 +51,13 @@ pub record ListsSheet (name : List ℕ) (old new : Streams) : Type 0 where
   pub parts : List Part
   pub values : List ((ℕ × ℕ) × CellValue)
   pub formulas : List ((ℕ × ℕ) × List ℕ)
+  pub styles : StyleMap
   pub spells : Spells old.source.left parts
-  pub reads : ReadsAs parts name values formulas
+  pub reads : ReadsAs parts name values formulas styles
   pub whole : new.source.left ≡ []
   pub written :
-      old.sink.is_told ≡ true → new.sink.written ≡ old.sink.written ++ listing values formulas
+      old.sink.is_told ≡ true
+      → new.sink.written ≡ old.sink.written ++ listing values formulas styles
 
 -- a run that answers Ok
 pub record Succeeds (words : List (List ℕ)) (old new : Streams) : Type 0 where
@@ -81,12 +82,13 @@ pub record WroteFront (name : List ℕ) (old new : Streams) : Type 0 where
   pub parts : List Part
   pub values : List ((ℕ × ℕ) × CellValue)
   pub formulas : List ((ℕ × ℕ) × List ℕ)
+  pub styles : StyleMap
   pub spells : Spells old.source.left parts
-  pub reads : ReadsAs parts name values formulas
+  pub reads : ReadsAs parts name values formulas styles
   pub whole : new.source.left ≡ []
   pub front : List ℕ
   pub behind : List ℕ
-  pub lines : listing values formulas ≡ front ++ behind
+  pub lines : listing values formulas styles ≡ front ++ behind
   pub written : old.sink.is_told ≡ true → new.sink.written ≡ old.sink.written ++ front
 
 -- why a command's lines were not had
@@ -96,10 +98,8 @@ ReadingFails name old new InputTooLarge =
     (new.faults ≡ old.faults) × (old.is_told ≡ true → TookTooMany old new)
 ReadingFails name old new NotAPackage =
     (new.faults ≡ old.faults) × (old.is_told ≡ true → IsNoPackage old)
-ReadingFails name old new NotBuilt =
-    (new.faults ≡ old.faults) × HasPackageCause name old workbook.NotBuilt
 ReadingFails name old new (Workbook error) =
-    (new.faults ≡ old.faults) × (error ≢ workbook.NotBuilt) × HasPackageCause name old error
+    (new.faults ≡ old.faults) × HasPackageCause name old error
 ReadingFails name old new OutOfMemory = new.faults ≡ old.faults
 ReadingFails name old new _ = ⊥
 
@@ -151,12 +151,12 @@ NoPackage spelled _ = ⊥
 pub record ListsLines (parts : List Part) (name lines : List ℕ) : Type 0 where
   pub values : List ((ℕ × ℕ) × CellValue)
   pub formulas : List ((ℕ × ℕ) × List ℕ)
-  pub reads : ReadsAs parts name values formulas
-  pub listed : lines ≡ listing values formulas
+  pub styles : StyleMap
+  pub reads : ReadsAs parts name values formulas styles
+  pub listed : lines ≡ listing values formulas styles
 
 abbrev pub LinesFail : List Part → List ℕ → ToolError → Type 0
-LinesFail parts name NotBuilt = SheetCause parts name workbook.NotBuilt
-LinesFail parts name (Workbook error) = (error ≢ workbook.NotBuilt) × SheetCause parts name error
+LinesFail parts name (Workbook error) = SheetCause parts name error
 LinesFail parts name OutOfMemory = Unit {0}
 LinesFail parts name _ = ⊥
 

@@ -1,8 +1,8 @@
--- The lines that `cells` prints of the values and the formulas of a sheet: one for each position
--- that has a value or a formula, row by row.
+-- The lines that `cells` prints of the values, the formulas and the fills of a sheet: one for each
+-- position that has a value, a formula or a style id above 0, row by row.
 use Rattle.std.specs.Prelude.{◌≡◌, ℕ, ◌<◌, Bool, true, false, ◌||◌, ◌++◌, codes, map}
 use Rattle.std.specs.Prelude.{if◌then◌else◌, List, [], ◌∷◌, Option, Some, None, is_some}
-use Rattle.std.specs.Prelude.{All, String, string_bytes, ◌⊎◌}
+use Rattle.std.specs.Prelude.{All, String, string_bytes, ◌⊎◌, nat_lt, option_and_then}
 use Rattle.std.specs.Ordering.{is_le}
 use Rattle.std.specs.FinMap.{find, from_entries, keys}
 use Rattle.std.specs.FinMap.Entries.{below_all}
@@ -22,6 +22,14 @@ use Rattle.cell_data.specs.declared.cell.Cell.{Cell}
 use Rattle.cell_data.specs.declared.value.Data.{Data}
 use Rattle.cell_data.specs.declared.value.ExcelDateTimeType.{ExcelDateTimeType}
 use Rattle.cell_data.specs.declared.value.ExcelDateTimeType.TheVariants.{DateTime, TimeDelta}
+use Rattle.cell_styles.specs.Color.{color_text}
+use Rattle.cell_styles.specs.Fill.{fill_color}
+use Rattle.cell_styles.specs.StyleItems.{styled_entry, styled_of}
+use Rattle.cell_styles.specs.StyleMap.{StyleMap, style_at}
+use Rattle.cell_styles.specs.declared.color.Color.{Color}
+use Rattle.cell_styles.specs.declared.fill.FillPattern.{FillPattern}
+use Rattle.cell_styles.specs.declared.fill.FillPattern.TheVariants as pattern
+use Rattle.cell_styles.specs.declared.style.Style.{Style}
 use Rattle.xlsx_tool.specs.Escaped.{escaped}
 
 abbrev pub truth_text : Bool → List ℕ
@@ -61,17 +69,31 @@ formula_field (byte ∷ bytes) = Some (codes "=" ++ escaped (byte ∷ bytes))
 abbrev pub field : Option (List ℕ) → List ℕ
 field content = unwrap_or content (codes "-")
 
--- the fields of a position, with tabs between them: fills are none yet
-abbrev pub line : ℕ × ℕ → Option (List ℕ) → Option (List ℕ) → List ℕ
-line position value formula =
-    reference position
-    ++ (codes "\t" ++ (field value ++ (codes "\t" ++ (field formula ++ codes "\t-\n"))))
+-- a fill without a pattern shows no color
+abbrev pub shown_color : FillPattern → Option Color → Option Color
+shown_color pattern.None color = None
+shown_color _ color = color
 
--- the line of a position, where it has a value or a formula
-abbrev pub line_of : ℕ × ℕ → CellValue → List ℕ → List ℕ
-line_of position value formula =
-    if is_some (value_field value) || is_some (formula_field formula)
-    then line position (value_field value) (formula_field formula) else []
+-- the color that the fill of a style shows
+abbrev pub fill_shown : Style → Option Color
+fill_shown style = option_and_then (λ fill. shown_color fill.pattern (fill_color fill)) style.fill
+
+-- the color of the style's fill as it is printed
+abbrev pub fill_field : Option Style → Option (List ℕ)
+fill_field style = option_map color_text (option_and_then fill_shown style)
+
+-- the fields of a position, with tabs between them
+abbrev pub line : ℕ × ℕ → Option (List ℕ) → Option (List ℕ) → Option (List ℕ) → List ℕ
+line position value formula fill =
+    reference position
+    ++ (codes "\t" ++ (field value ++ (codes "\t"
+    ++ (field formula ++ (codes "\t" ++ (field fill ++ codes "\n"))))))
+
+-- the line of a position, where it has a value, a formula or a style id above 0
+abbrev pub line_of : ℕ × ℕ → CellValue → List ℕ → ℕ → Option (List ℕ) → List ℕ
+line_of position value formula id fill =
+    if is_some (value_field value) || (is_some (formula_field formula) || nat_lt 0 id)
+    then line position (value_field value) (formula_field formula) fill else []
 
 abbrev pub value_placed : ℕ × ℕ → List ((ℕ × ℕ) × CellValue) → CellValue
 value_placed position values = unwrap_or (find position_cmp position values) nothing
@@ -79,22 +101,39 @@ value_placed position values = unwrap_or (find position_cmp position values) not
 abbrev pub formula_placed : ℕ × ℕ → List ((ℕ × ℕ) × List ℕ) → List ℕ
 formula_placed position formulas = unwrap_or (find position_cmp position formulas) []
 
+abbrev pub id_placed : ℕ × ℕ → List ((ℕ × ℕ) × ℕ) → ℕ
+id_placed position ids = unwrap_or (find position_cmp position ids) 0
+
 -- the positions alone, as entries of a map
 abbrev pub used : {X : Type 0} → List ((ℕ × ℕ) × X) → List ((ℕ × ℕ) × Unit {0})
 used cells = map (λ cell. (cell.0, tt)) cells
 
--- the positions that are in one list or the other, each once, row by row
+-- the positions that some list has, each once, row by row
 abbrev pub used_positions :
-    {X Y : Type 0} → List ((ℕ × ℕ) × X) → List ((ℕ × ℕ) × Y) → List (ℕ × ℕ)
-used_positions values formulas =
-    keys (from_entries {R = position_cmp} (used values ++ used formulas))
+    {X Y Z : Type 0} → List ((ℕ × ℕ) × X) → List ((ℕ × ℕ) × Y) → List ((ℕ × ℕ) × Z)
+    → List (ℕ × ℕ)
+used_positions values formulas ids =
+    keys (from_entries {R = position_cmp} (used values ++ (used formulas ++ used ids)))
 
--- the lines of a sheet's values and formulas
-unfoldable pub listing : List ((ℕ × ℕ) × CellValue) → List ((ℕ × ℕ) × List ℕ) → List ℕ
-listing values formulas =
+-- the lines of values, formulas and style ids, where this is the style of each position
+unfoldable pub lines_with :
+    (ℕ × ℕ → Option Style) → List ((ℕ × ℕ) × CellValue) → List ((ℕ × ℕ) × List ℕ)
+    → List ((ℕ × ℕ) × ℕ) → List ℕ
+lines_with style values formulas ids =
     flat_map
-    (λ position. line_of position (value_placed position values) (formula_placed position formulas))
-    (used_positions values formulas)
+    (λ position. line_of position (value_placed position values) (formula_placed position formulas)
+    (id_placed position ids) (fill_field (style position)))
+    (used_positions values formulas ids)
+
+-- the positions that have a style id above 0, with that id
+abbrev pub placed_ids : StyleMap → List ((ℕ × ℕ) × ℕ)
+placed_ids styles = map styled_entry (styled_of styles)
+
+-- the lines of a sheet's values, formulas and styles
+abbrev pub listing :
+    List ((ℕ × ℕ) × CellValue) → List ((ℕ × ℕ) × List ℕ) → StyleMap → List ℕ
+listing values formulas styles =
+    lines_with (style_at styles) values formulas (placed_ids styles)
 
 -- ---- the cells of ranges
 
@@ -110,7 +149,10 @@ value_given value = unwrap_or (option_map value_of_data value) nothing
 abbrev pub formula_given : Option (String Global) → List ℕ
 formula_given formula = unwrap_or (option_map string_bytes formula) []
 
--- ---- the steps through two lists
+abbrev pub id_given : Option ℕ → ℕ
+id_given id = unwrap_or id 0
+
+-- ---- the steps through the lists
 
 -- cells row by row, on a sheet
 pub record AreInOrder {X : Type 0} (cells : List (Cell X)) : Type 0 where
@@ -127,22 +169,44 @@ abbrev pub IsOfFirst : {X : Type 0} → ℕ × ℕ → List ((ℕ × ℕ) × X) 
 IsOfFirst position [] = ⊥
 IsOfFirst position (cell ∷ cells) = cell.0 ≡ position
 
+-- the position isn't behind the other one, where there is one
+abbrev pub StandsUpTo : ℕ × ℕ → Option (ℕ × ℕ) → Type 0
+StandsUpTo position None = Unit {0}
+StandsUpTo position (Some other) = is_le (position_cmp position other) ≡ true
+
+-- the earlier one of two positions
+pub record IsEarlier (one other : Option (ℕ × ℕ)) (position : ℕ × ℕ) : Type 0 where
+  pub before_one : StandsUpTo position one
+  pub before_other : StandsUpTo position other
+  pub is_one : (one ≡ Some position) ⊎ (other ≡ Some position)
+
+-- where the first cell stands
+abbrev pub first_place : {X : Type 0} → List (Cell X) → Option (ℕ × ℕ)
+first_place [] = None
+first_place (cell ∷ cells) = Some cell.pos
+
 -- a cell at the position, or none
 abbrev pub given : {X : Type 0} → ℕ × ℕ → Option X → List ((ℕ × ℕ) × X)
 given position None = []
 given position (Some value) = (position, value) ∷ []
 
--- the first position that one list or the other has
+-- a position among those that the lists begin with
+abbrev pub IsOfSome :
+    {X Y Z : Type 0} → ℕ × ℕ → List ((ℕ × ℕ) × X) → List ((ℕ × ℕ) × Y) → List ((ℕ × ℕ) × Z)
+    → Type 0
+IsOfSome position values formulas ids =
+    IsOfFirst position values ⊎ (IsOfFirst position formulas ⊎ IsOfFirst position ids)
+
+-- the first position that some list has
 pub record IsFirstOf
-    {X Y : Type 0} (values : List (Cell X)) (formulas : List (Cell Y)) (position : ℕ × ℕ)
-    : Type 0 where
+    {X Y Z : Type 0} (values : List (Cell X)) (formulas : List (Cell Y)) (ids : List (Cell Z))
+    (position : ℕ × ℕ) : Type 0 where
   pub in_rows : position.0 < MAX_ROWS
   pub in_columns : position.1 < MAX_COLUMNS
   pub before_values : StandsFirst position (placed_cells values)
   pub before_formulas : StandsFirst position (placed_cells formulas)
-  pub is_used :
-      IsOfFirst position (placed_cells values)
-      ⊎ IsOfFirst position (placed_cells formulas)
+  pub before_ids : StandsFirst position (placed_cells ids)
+  pub is_used : IsOfSome position (placed_cells values) (placed_cells formulas) (placed_cells ids)
 
 -- the cell at the position and the ones behind it
 pub record Splits

@@ -5,7 +5,7 @@ use Rattle.cell_data.specs.declared.error.XlsxError.{XlsxError}
 use Rattle.cell_data.specs.declared.error.XlsxError.TheVariants as workbook
 use Rattle.xlsx_tool.specs.declared.error.ToolError.{ToolError}
 use Rattle.xlsx_tool.specs.declared.error.ToolError.TheVariants.{Usage, ReadFault, InputTooLarge}
-use Rattle.xlsx_tool.specs.declared.error.ToolError.TheVariants.{NotAPackage, NotBuilt, Workbook}
+use Rattle.xlsx_tool.specs.declared.error.ToolError.TheVariants.{NotAPackage, Workbook}
 use Rattle.xlsx_tool.specs.declared.error.ToolError.TheVariants.{WriteFault, OutOfMemory}
 
 -- 0 is success, and 1 is kept for the system
@@ -17,7 +17,6 @@ status_of NotAPackage = 5
 status_of (Workbook error) = 6
 status_of WriteFault = 7
 status_of OutOfMemory = 8
-status_of NotBuilt = 9
 
 abbrev pub error_text : ToolError → Option (List ℕ)
 error_text Usage = Some (codes "usage")
@@ -27,10 +26,8 @@ error_text NotAPackage = Some (codes "not a package")
 error_text (Workbook error) = text_of error
 error_text WriteFault = Some (codes "write fault")
 error_text OutOfMemory = Some (codes "out of memory")
-error_text NotBuilt = Some (codes "not built yet")
 
 -- what the refusal of a workbook becomes
 abbrev pub of_workbook : XlsxError → ToolError
-of_workbook workbook.NotBuilt = NotBuilt
 of_workbook workbook.OutOfMemory = OutOfMemory
 of_workbook error = Workbook error

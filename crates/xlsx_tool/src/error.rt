@@ -17,8 +17,6 @@ pub enum ToolError {
     InputTooLarge,
     /// The input spells no package.
     NotAPackage,
-    /// The package needs what isn't built yet.
-    NotBuilt,
     /// The workbook can't be opened, or its sheet not be read.
     Workbook(XlsxError),
     /// The sink failed; what was written is a front of the output.
@@ -39,7 +37,6 @@ impl ToolError {
             ToolError::Workbook(_) => 6,
             ToolError::WriteFault => 7,
             ToolError::OutOfMemory => 8,
-            ToolError::NotBuilt => 9,
         }
     }
 }
@@ -55,7 +52,6 @@ impl fmt::Display for ToolError {
             ToolError::ReadFault => f.write_str("read fault"),
             ToolError::InputTooLarge => f.write_str("input too large"),
             ToolError::NotAPackage => f.write_str("not a package"),
-            ToolError::NotBuilt => f.write_str("not built yet"),
             ToolError::Workbook(error) => write!(f, "{error}"),
             ToolError::WriteFault => f.write_str("write fault"),
             ToolError::OutOfMemory => f.write_str("out of memory"),
@@ -92,7 +88,6 @@ impl From<XlsxError> for ToolError {
 
     fn from(refusal: XlsxError) -> ToolError {
         match refusal {
-            XlsxError::NotBuilt => ToolError::NotBuilt,
             XlsxError::OutOfMemory => ToolError::OutOfMemory,
             other => ToolError::Workbook(other),
         }

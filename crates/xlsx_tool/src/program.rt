@@ -14,8 +14,8 @@ use std::process::ExitCode;
 const HELP: &str = "\
 Usage: xlsx_tool cells NAME < package.json
 
-Prints one line for each cell of worksheet NAME with a value or a formula:
-its position, value, formula and fill, with tabs between them.
+Prints one line for each cell of worksheet NAME with a value, a formula or a
+style: its position, value, formula and fill, with tabs between them.
 ";
 
 const VERSION: &str = "xlsx_tool 0.1.0\n";

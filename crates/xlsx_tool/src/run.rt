@@ -74,7 +74,7 @@ fn lines_of(alloc: Global, package: MemoryPackage, name: &str) -> Result<String,
     // What is read needs the package no more.
     drop(package);
     let reading = result?;
-    Ok(listing_of(alloc, &reading.values, &reading.formulas)?)
+    Ok(listing_of(alloc, &reading)?)
 }
 
 /// The lines of the sheet of this name, of the package that the source spells.

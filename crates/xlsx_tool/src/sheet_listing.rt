@@ -1,22 +1,30 @@
-ghost use Rattle.std.specs.Prelude.{◌≡◌, ◌<◌, ◌++◌, [], is_some, MatchOption, IfOk, OnOk};
-ghost use Rattle.std.specs.Prelude.{codes, string_bytes};
+ghost use Rattle.std.specs.Prelude.{◌≡◌, ◌<◌, ◌++◌, ◌||◌, [], is_some, MatchOption, IfOk, OnOk};
+ghost use Rattle.std.specs.Prelude.{codes, string_bytes, nat_lt, option_and_then, None};
 ghost use Rattle.std.specs.Fmt.{signed_decimal};
 ghost use Rattle.std.specs.Option.{option_copied};
 ghost use Rattle.cell_data.specs.CellValue.{value_of_data, time_value};
 ghost use Rattle.cell_data.specs.Cells.{placed_cells};
 ghost use Rattle.cell_data.specs.Range.{cells_of};
+ghost use Rattle.cell_refs.specs.Reference.{reference};
+ghost use Rattle.cell_styles.specs.Fill.{fill_color};
+ghost use Rattle.cell_styles.specs.StyleMap.{style_at};
 ghost use Rattle.xlsx_tool.specs.Escaped.{escaped};
 ghost use Rattle.xlsx_tool.specs.SheetListing.{kind_text, calendar_text, value_field};
 ghost use Rattle.xlsx_tool.specs.SheetListing.{formula_field};
-ghost use Rattle.xlsx_tool.specs.SheetListing.{field, line_of, listing, cell_values, cell_formulas};
+ghost use Rattle.xlsx_tool.specs.SheetListing.{field, line, line_of, listing};
+ghost use Rattle.xlsx_tool.specs.SheetListing.{cell_values, cell_formulas};
 ghost use Rattle.xlsx_tool.specs.SheetListing.{value_given, formula_given, AreInOrder, IsFirstOf};
-ghost use Rattle.xlsx_tool.specs.SheetListing.{StandsFirst, Splits};
+ghost use Rattle.xlsx_tool.specs.SheetListing.{StandsFirst, Splits, IsEarlier, first_place};
+ghost use Rattle.xlsx_tool.specs.SheetListing.{shown_color, fill_shown, fill_field, id_given};
+ghost use Rattle.xlsx_tool.specs.SheetListing.{lines_with, placed_ids};
 
 use crate::escaping::push_escaped;
-use cell_data::{Cell, Data, ExcelDateTime, ExcelDateTimeType, Range};
+use cell_data::{Cell, Data, ExcelDateTime, ExcelDateTimeType};
 use cell_refs::{MAX_COLUMNS, MAX_ROWS, push_reference};
+use cell_styles::{Color, Fill, Style, StyleRange};
 use itoa::Buffer;
 use std::alloc::{AllocError, Global};
+use xlsx_core::SheetReading;
 
 fn kind_text(kind: ExcelDateTimeType) -> &'static str
     ensures { result.now ≡ kind_text kind }
@@ -132,43 +140,147 @@ fn has_formula(formula: Option<&String>) -> bool
     }
 }
 
-/// Appends the line of a position, counted from 0, where it has a value or a formula.
+fn has_id(id: Option<&usize>) -> bool
+    ensures { result ≡ nat_lt 0 (id_given (option_copied id.entry)) }
+{
+    match id {
+        Some(id) => *id > 0,
+        None => false,
+    }
+}
+
+fn shown_color(fill: &Fill) -> Option<Color>
+    ensures { result ≡ shown_color fill.now.pattern (fill_color fill.now) }
+{
+    if fill.is_visible() {
+        fill.get_color()
+    } else {
+        None
+    }
+}
+
+fn fill_shown(style: Option<&Style>) -> Option<Color>
+    ensures { result ≡ option_and_then fill_shown (option_copied style.entry) }
+{
+    let fill = style?.fill.as_ref()?;
+    shown_color(fill)
+}
+
+fn push_fill(out: &mut String, style: Option<&Style>) -> Result<(), AllocError>
+    ensures { let printed = field (fill_field (option_copied style.entry)) in
+        OnOk result (string_bytes out.new ≡ string_bytes out.old ++ printed) }
+{
+    match fill_shown(style) {
+        Some(color) => write!(out, "{color}"),
+        None => out.push_str("-"),
+    }
+}
+
+fn has_line(value: Option<&Data>, formula: Option<&String>, id: Option<&usize>) -> bool
+    ensures { let has_value = is_some (value_field (value_given (option_copied value.entry))) in
+        let has_formula = is_some (formula_field (formula_given (option_copied formula.entry))) in
+        let has_id = nat_lt 0 (id_given (option_copied id.entry)) in
+        result ≡ (has_value || (has_formula || has_id)) }
+{
+    has_value(value) || has_formula(formula) || has_id(id)
+}
+
+/// Appends a position, counted from 0, and the value there, each with a tab behind it.
+fn push_front(
+    out: &mut String,
+    position: (u32, u32),
+    value: Option<&Data>,
+) -> Result<(), AllocError>
+    requires in_rows { position.0 < MAX_ROWS }
+    requires in_columns { position.1 < MAX_COLUMNS }
+    ensures { let printed = field (value_field (value_given (option_copied value.entry))) in
+        OnOk result (string_bytes out.new ≡ string_bytes out.old
+        ++ (reference position ++ (codes "\t" ++ (printed ++ codes "\t")))) }
+{
+    push_reference(out, position.0, position.1)?;
+    out.push_str("\t")?;
+    push_value(out, value)?;
+    out.push_str("\t")
+}
+
+/// Appends the fields of a position, counted from 0, with tabs between them.
+fn push_fields(
+    out: &mut String,
+    position: (u32, u32),
+    value: Option<&Data>,
+    formula: Option<&String>,
+    style: Option<&Style>,
+) -> Result<(), AllocError>
+    requires in_rows { position.0 < MAX_ROWS }
+    requires in_columns { position.1 < MAX_COLUMNS }
+    ensures { let printed = line position (value_field (value_given (option_copied value.entry)))
+        (formula_field (formula_given (option_copied formula.entry)))
+        (fill_field (option_copied style.entry)) in
+        OnOk result (string_bytes out.new ≡ string_bytes out.old ++ printed) }
+{
+    push_front(out, position, value)?;
+    push_formula(out, formula)?;
+    out.push_str("\t")?;
+    push_fill(out, style)?;
+    out.push_str("\n")
+}
+
+/// Appends the line of a position, counted from 0, where it has a value, a formula or a style id
+/// above 0.
 fn push_line(
     out: &mut String,
     position: (u32, u32),
     value: Option<&Data>,
     formula: Option<&String>,
+    id: Option<&usize>,
+    style: Option<&Style>,
 ) -> Result<(), AllocError>
     requires in_rows { position.0 < MAX_ROWS }
     requires in_columns { position.1 < MAX_COLUMNS }
     ensures { let printed = line_of position (value_given (option_copied value.entry))
-        (formula_given (option_copied formula.entry)) in
+        (formula_given (option_copied formula.entry)) (id_given (option_copied id.entry))
+        (fill_field (option_copied style.entry)) in
         OnOk result (string_bytes out.new ≡ string_bytes out.old ++ printed) }
 {
-    if !has_value(value) && !has_formula(formula) {
+    if !has_line(value, formula, id) {
         return Ok(());
     }
-    push_reference(out, position.0, position.1)?;
-    out.push_str("\t")?;
-    push_value(out, value)?;
-    out.push_str("\t")?;
-    push_formula(out, formula)?;
-    out.push_str("\t-\n")
+    push_fields(out, position, value, formula, style)
 }
 
-/// The first position that one list or the other has.
-fn first_position(values: &[Cell<Data>], formulas: &[Cell<String>]) -> Option<(u32, u32)>
+fn first_place<T>(cells: &[Cell<T>]) -> Option<(u32, u32)>
+    ensures { result ≡ first_place cells.now }
+{
+    match cells.first() {
+        Some(cell) => Some(cell.pos),
+        None => None,
+    }
+}
+
+fn earlier(one: Option<(u32, u32)>, other: Option<(u32, u32)>) -> Option<(u32, u32)>
+    ensures { MatchOption result ((one ≡ None) × (other ≡ None)) (IsEarlier one other) }
+{
+    match (one, other) {
+        (Some(one), Some(other)) => Some(one.min(other)),
+        (Some(one), None) => Some(one),
+        (None, other) => other,
+    }
+}
+
+/// The first position that some list has.
+fn first_position(
+    values: &[Cell<Data>],
+    formulas: &[Cell<String>],
+    ids: &[Cell<usize>],
+) -> Option<(u32, u32)>
     requires values { AreInOrder values.now }
     requires formulas { AreInOrder formulas.now }
-    ensures { MatchOption result ((values.now ≡ []) × (formulas.now ≡ []))
-        (IsFirstOf values.now formulas.now) }
+    requires ids { AreInOrder ids.now }
+    ensures { MatchOption result ((values.now ≡ []) × (formulas.now ≡ []) × (ids.now ≡ []))
+        (IsFirstOf values.now formulas.now ids.now) }
 {
-    match (values.first(), formulas.first()) {
-        (Some(value), Some(formula)) => Some(value.pos.min(formula.pos)),
-        (Some(value), None) => Some(value.pos),
-        (None, Some(formula)) => Some(formula.pos),
-        (None, None) => None,
-    }
+    let behind_values = earlier(first_place(formulas), first_place(ids));
+    earlier(first_place(values), behind_values)
 }
 
 /// What the first cell has, where it stands at the position, and the cells behind.
@@ -187,57 +299,71 @@ fn split_at_position<T>(cells: &[Cell<T>], position: (u32, u32)) -> (Option<&T>,
     }
 }
 
-/// Appends the lines of the positions that one list or the other has, row by row.
+/// Appends the lines of the positions that some list has, row by row.
 fn push_lines(
     out: &mut String,
     values: &[Cell<Data>],
     formulas: &[Cell<String>],
+    ids: &[Cell<usize>],
+    styles: &StyleRange,
 ) -> Result<(), AllocError>
     requires values { AreInOrder values.now }
     requires formulas { AreInOrder formulas.now }
-    ensures { let printed = listing (cell_values (placed_cells values.now))
-        (cell_formulas (placed_cells formulas.now)) in
+    requires ids { AreInOrder ids.now }
+    ensures { let printed = lines_with (style_at styles.now) (cell_values (placed_cells values.now))
+        (cell_formulas (placed_cells formulas.now)) (placed_cells ids.now) in
         OnOk result (string_bytes out.new ≡ string_bytes out.old ++ printed) }
 {
     let mut values_left = values;
     let mut formulas_left = formulas;
-    'positions: while let Some(position) = first_position(values_left, formulas_left) {
+    let mut ids_left = ids;
+    'positions: while let Some(position) = first_position(values_left, formulas_left, ids_left) {
         let (value, values_behind) = split_at_position(values_left, position);
         let (formula, formulas_behind) = split_at_position(formulas_left, position);
-        push_line(out, position, value, formula)?;
+        let (id, ids_behind) = split_at_position(ids_left, position);
+        push_line(out, position, value, formula, id, styles.get(position))?;
         values_left = values_behind;
         formulas_left = formulas_behind;
+        ids_left = ids_behind;
     }
     Ok(())
 }
 
-/// Appends one line for each position of a sheet that has a value or a formula, row by row
-/// (docs/FORMAT.md). It goes over the used cells of both ranges once.
-///
-/// Where memory runs out, some of the lines may have been appended.
-pub fn push_listing(
-    out: &mut String,
-    values: &Range<Data>,
-    formulas: &Range<String>,
-) -> Result<(), AllocError>
-    ensures { let printed = listing (cell_values (cells_of values.now))
-        (cell_formulas (cells_of formulas.now)) in
-        OnOk result (string_bytes out.new ≡ string_bytes out.old ++ printed) }
+/// The positions that have a style id above 0, with that id, row by row.
+fn styled_cells(alloc: Global, styles: &StyleRange) -> Result<Vec<Cell<usize>>, AllocError>
+    ensures cells { IfOk result (λ cells. placed_cells cells.items ≡ placed_ids styles.now) }
+    ensures order { IfOk result (λ cells. AreInOrder cells.items) }
 {
-    push_lines(out, values.used(), formulas.used())
+    let mut cells = Vec::new(alloc);
+    for (row, column, id) in styles.styled() {
+        cells.push(Cell::new((row, column), id))?;
+    }
+    Ok(cells)
 }
 
-/// The lines of a sheet's values and formulas.
-pub fn listing_of(
-    alloc: Global,
-    values: &Range<Data>,
-    formulas: &Range<String>,
-) -> Result<String, AllocError>
-    ensures { let printed = listing (cell_values (cells_of values.now))
-        (cell_formulas (cells_of formulas.now)) in
+/// Appends one line for each position of a sheet that has a value, a formula or a style id above 0,
+/// row by row (docs/FORMAT.md). It goes over what is used of the ranges once, and looks up the
+/// style of each line.
+///
+/// Where memory runs out, some of the lines may have been appended.
+pub fn push_listing(out: &mut String, reading: &SheetReading) -> Result<(), AllocError>
+    ensures { let printed = listing (cell_values (cells_of reading.now.values))
+        (cell_formulas (cells_of reading.now.formulas)) reading.now.styles in
+        OnOk result (string_bytes out.new ≡ string_bytes out.old ++ printed) }
+{
+    let alloc = *out.allocator();
+    let ids = styled_cells(alloc, &reading.styles)?;
+    let (values, formulas) = (reading.values.used(), reading.formulas.used());
+    push_lines(out, values, formulas, &ids, &reading.styles)
+}
+
+/// The lines of a sheet's values, formulas and styles.
+pub fn listing_of(alloc: Global, reading: &SheetReading) -> Result<String, AllocError>
+    ensures { let printed = listing (cell_values (cells_of reading.now.values))
+        (cell_formulas (cells_of reading.now.formulas)) reading.now.styles in
         IfOk result (λ out. string_bytes out ≡ printed) }
 {
     let mut out = String::new(alloc);
-    push_listing(&mut out, values, formulas)?;
+    push_listing(&mut out, reading)?;
     Ok(out)
 }

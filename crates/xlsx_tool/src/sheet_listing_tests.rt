@@ -3,8 +3,10 @@ ghost use Rattle.cell_data.specs.Cells.{IsInSheet};
 
 use crate::sheet_listing::push_listing;
 use cell_data::{Cell, CellErrorType, Data, Decimal, ExcelDateTime, ExcelDateTimeType, Range};
+use cell_styles::{Color, Fill, FillPattern, Style, StyleRange};
 use std::alloc::{AllocError, Global};
 use std::test::Fail;
+use xlsx_core::SheetReading;
 
 fn number(text: &str) -> Data {
     match Decimal::parse(text) {
@@ -40,16 +42,34 @@ fn formulas(alloc: Global, cells: Vec<Cell<String>>) -> Result<Range<String>, Al
     Range::from_sparse(alloc, cells, String::new(alloc))
 }
 
+fn unstyled(alloc: Global, values: Range<Data>, formulas: Range<String>) -> SheetReading {
+    SheetReading {
+        values,
+        formulas,
+        styles: StyleRange::empty(alloc),
+    }
+}
+
 /// The lines of one value, at C5, and no formula.
 fn lines_of_value(alloc: Global, value: Data) -> Result<String, AllocError> {
     let cells = Vec::from_array(alloc, [Cell::new((4, 2), value)])?;
+    let none = formulas(alloc, Vec::new(alloc))?;
     let mut out = String::new(alloc);
-    push_listing(
-        &mut out,
-        &values(alloc, cells)?,
-        &formulas(alloc, Vec::new(alloc))?,
-    )?;
+    push_listing(&mut out, &unstyled(alloc, values(alloc, cells)?, none))?;
     Ok(out)
+}
+
+/// A style with a fill of this pattern and these colors.
+fn filled(pattern: FillPattern, foreground: Option<Color>, background: Option<Color>) -> Style {
+    let fill = Fill {
+        pattern,
+        foreground_color: foreground,
+        background_color: background,
+    };
+    Style {
+        fill: Some(fill),
+        ..Style::default()
+    }
 }
 
 #[test]
@@ -117,7 +137,8 @@ fn formulas_stand_beside_their_values(rt: HostRuntime) -> Result<(), Fail> {
         ],
     )?;
     let mut out = String::new(alloc);
-    push_listing(&mut out, &values(alloc, sales)?, &formulas(alloc, sums)?)?;
+    let (sales, sums) = (values(alloc, sales)?, formulas(alloc, sums)?);
+    push_listing(&mut out, &unstyled(alloc, sales, sums))?;
     let wanted = "A1\ts:Date\t-\t-\nB1\ts:Amount\t-\t-\nC1\ts: Total\t-\t-\n\
         A2\tt:45292 date 1900\t-\t-\nB2\tn:10.5\t-\t-\nC2\tn:10.5\t=SUM(B$2:B2)\t-\n\
         A3\tt:45293 date 1900\t-\t-\nB3\tn:4\t-\t-\nC3\tn:14.5\t=SUM(B$2:B3)\t-\n";
@@ -146,9 +167,62 @@ fn positions_of_both_lists_are_listed_row_by_row(rt: HostRuntime) -> Result<(), 
         ],
     )?;
     let mut out = String::from_str(alloc, "lines:\n")?;
-    push_listing(&mut out, &values(alloc, numbers)?, &formulas(alloc, texts)?)?;
+    let (numbers, texts) = (values(alloc, numbers)?, formulas(alloc, texts)?);
+    push_listing(&mut out, &unstyled(alloc, numbers, texts))?;
     let wanted = "lines:\nC1\t-\t=A1\t-\nC2\t-\t=B2\t-\nD2\tn:2\t-\t-\n\
         C5\tn:1\t=1\\t1\t-\nA1048576\tn:1\t-\t-\n";
+    assert_eq!(rt; out.as_str(), wanted);
+    Ok(())
+}
+
+/// Styles without a fill, with a fill that can't be seen, with a color behind another one, with a
+/// color behind none, and with a pattern alone.
+fn styles(alloc: Global) -> Result<Vec<Style>, AllocError> {
+    let color = Color::new(128, 221, 217, 195);
+    let behind = Color::rgb(0, 0, 1);
+    Ok(Vec::from_array(
+        alloc,
+        [
+            filled(FillPattern::Gray125, Some(behind), None),
+            Style::default(),
+            filled(FillPattern::None, Some(color), None),
+            filled(FillPattern::Solid, Some(color), Some(behind)),
+            filled(FillPattern::LightGrid, None, Some(behind)),
+            filled(FillPattern::Solid, None, None),
+        ],
+    )?)
+}
+
+#[test]
+fn fills_are_told(rt: HostRuntime) -> Result<(), Fail> {
+    let alloc = rt.alloc();
+    let numbers = [
+        Cell::new((0, 0), number("1")),
+        Cell::new((1, 1), number("2")),
+        Cell::new((2, 1), number("3")),
+    ];
+    let texts = [
+        Cell::new((1, 2), String::from_str(alloc, "A1")?),
+        Cell::new((2, 2), String::from_str(alloc, "A1")?),
+    ];
+    let ids = [
+        (2, 3, 1),
+        (1, 0, 2),
+        (1, 1, 3),
+        (2, 0, 4),
+        (3, 3, 5),
+        (3, 1, 6),
+    ];
+    let reading = SheetReading {
+        values: values(alloc, Vec::from_array(alloc, numbers)?)?,
+        formulas: formulas(alloc, Vec::from_array(alloc, texts)?)?,
+        styles: StyleRange::from_style_ids(alloc, Vec::from_array(alloc, ids)?, styles(alloc)?)?,
+    };
+    let mut out = String::new(alloc);
+    push_listing(&mut out, &reading)?;
+    let wanted = "A1\tn:1\t-\t-\nA2\t-\t-\t-\nB2\tn:2\t-\t#DDD9C3\nC2\t-\t=A1\t#000001\n\
+        A3\t-\t-\t#000001\nB3\tn:3\t-\t#000001\nC3\t-\t=A1\t#000001\nD3\t-\t-\t-\n\
+        D4\t-\t-\t-\n";
     assert_eq!(rt; out.as_str(), wanted);
     Ok(())
 }

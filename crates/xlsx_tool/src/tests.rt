@@ -38,15 +38,6 @@ pub const NUTS: &str = r#",["s","row"," r=\"1\""],
 ["s","c"," r=\"B1\" t=\"str\""],["s","f",""],["t","UPPER(A1)"],["e","f"],
 ["s","v",""],["t","NUT"],["e","v"],["e","c"],["e","row"]"#;
 
-/// A number, a text without a type, a shared formula and one that is derived from it.
-const MIXED: &str = r#",["s","row"," r=\"1\""],["s","c"," r=\"A1\""],["s","v",""],["t","-0.50"],
-["e","v"],["e","c"],["s","c",""],["s","v",""],["t","nut"],["e","v"],["e","c"],
-["s","c"," r=\"C1\""],["s","f"," t=\"shared\" ref=\"B1:C3\" si=\"7\""],["t","A1"],["e","f"],
-["e","c"],["e","row"],["s","row",""],["s","c"," r=\"C2\""],
-["s","f"," t=\"shared\" si=\"7\""],["e","f"],["e","c"],["e","row"]"#;
-
-const MIXED_LINES: &str = "A1\tn:-0.5\t-\t-\nB1\ts:nut\t-\t-\nC1\t-\t=A1\t-\nC2\t-\t=B2\t-\n";
-
 /// A part of styles, behind the sheet's.
 const STYLES: &str = r#",["e","sheetData"],["e","worksheet"]]},
 {"name":"xl/styles.xml","events":[]}]}"#;
@@ -117,7 +108,7 @@ fn run_on(alloc: Global, words: &[&str], input: &[u8], setting: Setting) -> Resu
 
 #[test]
 fn a_sheet_is_listed(rt: HostRuntime) -> Result<(), Fail> {
-    for (inside, lines) in [(NUTS, NUTS_LINES), (MIXED, MIXED_LINES), ("", "")] {
+    for (inside, lines) in [(NUTS, NUTS_LINES), ("", "")] {
         let input = package_of(rt.alloc(), inside)?;
         for piece in [1, 2, 3, 1_000] {
             let setting = Setting { piece, ..EASY };
@@ -156,7 +147,12 @@ fn each_refusal_has_its_cause(rt: HostRuntime) -> Result<(), Fail> {
         (&["cells"], nuts.as_str(), 2, "usage"),
         (&["cells", "S", "S"], nuts.as_str(), 2, "usage"),
         (&["cells", "X"], nuts.as_str(), 6, "Worksheet 'X' not found"),
-        (cells, styled.as_str(), 9, "not built yet"),
+        (
+            cells,
+            styled.as_str(),
+            6,
+            "Unexpected end of xml, expecting '</styleSheet>'",
+        ),
     ];
     for (words, input, status, text) in table {
         let told = run_on(alloc, words, input.as_bytes(), EASY)?;
@@ -244,7 +240,6 @@ fn refusals_have_statuses_and_texts(rt: HostRuntime) -> Result<(), Fail> {
         ),
         (ToolError::WriteFault, 7, "write fault"),
         (ToolError::OutOfMemory, 8, "out of memory"),
-        (ToolError::NotBuilt, 9, "not built yet"),
     ] {
         assert_eq!(rt; error.status(), status);
         assert_eq!(rt; error.to_string(rt.alloc())?.as_str(), text);
@@ -329,5 +324,8 @@ fn pages_are_printed_where_their_words_stand_alone(rt: HostRuntime) -> Result<()
 #[test]
 fn an_answer_has_an_ending(rt: HostRuntime) {
     assert_eq!(rt; ending(&rt, &Ok(())), ExitCode::SUCCESS);
-    assert_eq!(rt; ending(&rt, &Err(ToolError::NotBuilt)), ExitCode::from(9));
+    assert_eq!(rt;
+        ending(&rt, &Err(ToolError::OutOfMemory)),
+        ExitCode::from(8)
+    );
 }

@@ -147,8 +147,9 @@ of_joined read (Ok written) = read written
 of_joined read (Err refusal) = Err refusal
 
 -- what a `v` says of the value of a cell of a type by its first event, and by its joined text
-abbrev pub first_value : Grounds → CellFormat → CellKind → List Event → Result CellValue Refusal
-first_value grounds format kind inside =
+abbrev pub first_event_value :
+    Grounds → CellFormat → CellKind → List Event → Result CellValue Refusal
+first_event_value grounds format kind inside =
     of_first (value_of_first grounds format kind) (first_text inside)
 
 abbrev pub joined_value : CellKind → List Event → Result CellValue Refusal
@@ -157,7 +158,8 @@ joined_value kind inside = of_joined (value_of_joined kind) (element_text false 
 -- what a `v` says of the value of a cell of a type, where it counts
 abbrev pub counted_value : Grounds → CellFormat → CellKind → List Event → Result CellValue Refusal
 counted_value grounds format kind inside =
-    if is_joined kind then joined_value kind inside else first_value grounds format kind inside
+    if is_joined kind then joined_value kind inside
+    else first_event_value grounds format kind inside
 
 abbrev pub some_value : Result CellValue Refusal → Result (Option CellValue) Refusal
 some_value (Ok found) = Ok (Some found)

@@ -3,13 +3,11 @@
 
 mod book;
 mod resolving;
-#[cfg(test)]
-mod tests;
 mod text_value;
 mod types;
 mod value;
 
-pub use book::{Book, format_of_style};
+pub use book::{Book, format_of_style, style_number};
 pub use resolving::to_data;
 pub use types::{CellType, cell_type};
 pub use value::{read_inline, read_value};

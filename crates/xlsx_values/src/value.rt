@@ -9,7 +9,8 @@ ghost use Rattle.xlsx_sections.specs.Elements.{ElementReadFails};
 ghost use Rattle.xlsx_sections.specs.PartSection.{always};
 ghost use Rattle.xlsx_strings.specs.Strings.{end_in_string, IsStringError};
 ghost use Rattle.xlsx_values.specs.Book.{kind_of, grounds_of, IsValueError};
-ghost use Rattle.xlsx_values.specs.Value.{first_value, joined_value, value_element, inline_value};
+ghost use Rattle.xlsx_values.specs.Value.{first_event_value, joined_value, value_element};
+ghost use Rattle.xlsx_values.specs.Value.{inline_value};
 ghost use Rattle.xlsx_values.specs.Value.{end_in_first, end_in_value};
 
 use crate::book::Book;
@@ -42,12 +43,12 @@ fn read_first<P: Package>(
         let new = reading (P.state «package».new) cursor.new in
         old.source.is_told ≡ true → OnOk result (Skips old new) }
     ensures value { let old = reading (P.state «package».old) cursor.old in
-        let answer = first_value (grounds_of book.entry) format (kind_of typ.now) in
+        let answer = first_event_value (grounds_of book.entry) format (kind_of typ.now) in
         old.source.is_told ≡ true → IfOk result (λ own.
         answer (content 0 (ahead old)) ≡ Ok (value_of_data_ref own)) }
     ensures err { let old = reading (P.state «package».old) cursor.old in
         let new = reading (P.state «package».new) cursor.new in
-        let answer = first_value (grounds_of book.entry) format (kind_of typ.now) in
+        let answer = first_event_value (grounds_of book.entry) format (kind_of typ.now) in
         IfErr result (ElementReadFails end_in_first answer old new) }
     ensures kind { IfErr result IsValueError }
 {

@@ -3,10 +3,10 @@ use Rattle.std.proofs.lemmas.Result.{err_from_is_err_and}
 use Rattle.part_events.specs.Event.{Tag, tag_of}
 use Rattle.part_events.specs.Reading.{reading}
 use Rattle.xlsx_values.specs.Book.{kind_of, grounds_of}
+use Rattle.xlsx_sections.proofs.SectionsRead.{same_tag}
 use Rattle.xlsx_cells.specs.Ends.{reads_children}
 use Rattle.xlsx_cells.specs.Stream.{CellFails}
 use Rattle.xlsx_cells.proofs.CellsRead.{started_fail, contents_fail, some_wanted}
-use Rattle.xlsx_cells.proofs.ChildrenRead.{same_tag}
 use Rattle.xlsx_cells.proofs.cell_read.read_cell.Goals as goal
 use Rattle.xlsx_cells.proofs.cell_read.read_cell.Goals.{else-not-asked-via-then-not-asked+else-not-asked-2}
 use Rattle.xlsx_cells.proofs.cell_read.read_cell.Goals.{else-not-asked-via-else-not-asked}

@@ -3,9 +3,10 @@ use Rattle.part_events.specs.Event.{Tag, tag_of}
 use Rattle.part_events.specs.Reading.{reading}
 use Rattle.xlsx_sections.specs.PartSection.{section_left}
 use Rattle.xlsx_values.specs.Book.{kind_of, grounds_of}
+use Rattle.xlsx_sections.proofs.SectionsRead.{same_tag}
 use Rattle.xlsx_cells.specs.Children.{IsNamedAs}
 use Rattle.xlsx_cells.specs.declared.children.ChildName.TheVariants.{Stray}
-use Rattle.xlsx_cells.proofs.ChildrenRead.{same_tag, stray_refused}
+use Rattle.xlsx_cells.proofs.ChildrenRead.{stray_refused}
 use Rattle.xlsx_cells.proofs.children.read_child.Goals as goal
 
 pub returns-in-Stray-clause-err : goal.returns-in-Stray-clause-err

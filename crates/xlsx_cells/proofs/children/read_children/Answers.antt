@@ -14,7 +14,8 @@ use Rattle.xlsx_sections.proofs.Kept.{last_further, last_refused}
 use Rattle.xlsx_sections.proofs.Refused.{refused_later}
 use Rattle.xlsx_values.specs.Book.{kind_of, grounds_of}
 use Rattle.xlsx_values.specs.Value.{child_value, said_value, or_nothing}
-use Rattle.xlsx_cells.specs.Children.{StandsAtElement, FormulaStep, ReadsFormulas, value_kept}
+use Rattle.xlsx_cells.specs.Children.{StandsAtElement, FormulaStep, ReadsFormulaChildren}
+use Rattle.xlsx_cells.specs.Children.{value_kept}
 use Rattle.xlsx_cells.specs.Children.{IsChildRefused, AreChildrenRefused}
 use Rattle.xlsx_cells.specs.Ends.{end_in_child, end_in_child_element, end_in_children}
 use Rattle.xlsx_cells.proofs.ChildrenRead.{start_there, leaves_further, or_earlier_in_element}
@@ -166,6 +167,6 @@ returns-clause-formula g c = λ told wanted earlier kept.
     let behind : FormulaStep =
     record { masters = c.children.masters; text = string_bytes c.children.contents.formula } in
     let none : inside base old ≡ 0 = omega (arith, now.base) in
-    subst (λ (n : ℕ). ReadsFormulas earlier c.args.start.now.pos (content n
+    subst (λ (n : ℕ). ReadsFormulaChildren earlier c.args.start.now.pos (content n
     (ahead old)) behind) none
     (formulas_whole behind (now.formulas told wanted earlier kept) closes.elements)

@@ -7,7 +7,7 @@ use Rattle.xlsx_cells.specs.Marks.{is_cell}
 use Rattle.xlsx_cells.specs.SheetPart.{value_entries, formula_entries}
 use Rattle.xlsx_cells.specs.Stream.{stream, StandsAfter, EndsData, TakesCell, IsRead, IsCellRefused}
 use Rattle.xlsx_cells.specs.Stream.{marks_ahead}
-use Rattle.xlsx_cells.proofs.Collecting.{collected_further, values_whole, formulas_whole}
+use Rattle.xlsx_cells.proofs.Collecting.{collected_further, values_whole, formulas_whole, ids_whole}
 use Rattle.xlsx_cells.proofs.Collecting.{taken_is_mark, keeps_on, step_refused}
 use Rattle.xlsx_cells.proofs.sheet_cells.collect.Goals as goal
 
@@ -46,6 +46,7 @@ cells-preserved g c =
       streaming = stands.0;
       values_inside = c.in_ok-keep_value.ensures.inside;
       formulas_inside = c.in_ok-keep_formula.ensures.inside;
+      ids_inside = c.in_ok-keep_id.ensures.inside;
       collected = λ told.
           let been = now.collected told in
           let takes : TakesCell been.before been.earlier mid new
@@ -53,9 +54,15 @@ cells-preserved g c =
           rw c.in-Some.is at (c.in_ok-read.ensures.takes
           (now.keeps.section.reads.moves.parts.is_told
           ∙ told) been.before been.earlier been.stands) in
-          rw (c.in_ok-keep_value.ensures.value, c.in_ok-keep_formula.ensures.formula)
-          (collected_further wants grounds old mid new (value_entries c.cells.cells.values.items)
-          (formula_entries c.cells.cells.formulas.items) read been takes);
+          rw (
+            c.in_ok-keep_value.ensures.value,
+            c.in_ok-keep_formula.ensures.formula,
+            c.in_ok-keep_id.ensures.id,
+          )
+          (collected_further wants grounds c.args.asked.style_count old mid new
+          (value_entries c.cells.cells.values.items)
+          (formula_entries c.cells.cells.formulas.items) c.cells.cells.style_ids.items read been
+          takes);
     }
 
 pub returns-clause-closed : goal.returns-clause-closed
@@ -79,8 +86,9 @@ returns-clause-values g c = λ told wanted.
     let been = now.collected told in
     let ends : EndsData mid = rw c.in_default.is at (c.in_ok-read.ensures.takes
     (now.keeps.section.reads.moves.parts.is_told ∙ told) been.before been.earlier been.stands) in
-    values_whole wants grounds old mid (value_entries c.cells.cells.values.items)
-    (formula_entries c.cells.cells.formulas.items) been ends wanted
+    values_whole wants grounds c.args.asked.style_count old mid
+    (value_entries c.cells.cells.values.items) (formula_entries c.cells.cells.formulas.items)
+    c.cells.cells.style_ids.items been ends wanted
 
 pub returns-clause-formulas : goal.returns-clause-formulas
 returns-clause-formulas g c = λ told wanted.
@@ -92,5 +100,20 @@ returns-clause-formulas g c = λ told wanted.
     let been = now.collected told in
     let ends : EndsData mid = rw c.in_default.is at (c.in_ok-read.ensures.takes
     (now.keeps.section.reads.moves.parts.is_told ∙ told) been.before been.earlier been.stands) in
-    formulas_whole wants grounds old mid (value_entries c.cells.cells.values.items)
-    (formula_entries c.cells.cells.formulas.items) been ends wanted
+    formulas_whole wants grounds c.args.asked.style_count old mid
+    (value_entries c.cells.cells.values.items) (formula_entries c.cells.cells.formulas.items)
+    c.cells.cells.style_ids.items been ends wanted
+
+pub returns-clause-styles : goal.returns-clause-styles
+returns-clause-styles g c = λ told wanted.
+    let old = stream (g.P.Package.state c.args.package.now) c.args.sheet.now in
+    let mid = stream (g.P.Package.state c.cells.package) c.cells.sheet in
+    let wants = c.args.asked.wants in
+    let grounds = grounds_of c.args.asked.book in
+    let now = c.cells.invariant in
+    let been = now.collected told in
+    let ends : EndsData mid = rw c.in_default.is at (c.in_ok-read.ensures.takes
+    (now.keeps.section.reads.moves.parts.is_told ∙ told) been.before been.earlier been.stands) in
+    ids_whole wants grounds c.args.asked.style_count old mid
+    (value_entries c.cells.cells.values.items) (formula_entries c.cells.cells.formulas.items)
+    c.cells.cells.style_ids.items been ends wanted

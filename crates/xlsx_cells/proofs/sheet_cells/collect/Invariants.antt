@@ -1,6 +1,7 @@
 use Rattle.std.proofs.Common.{◌≡◌, true}
 use Rattle.std.specs.Prelude.{All}
 use Rattle.cell_data.specs.Cells.{IsInSheet}
+use Rattle.cell_styles.specs.StyleMap.{IsOnSheet}
 use Rattle.xlsx_sections.specs.Elements.{KeepsElements}
 use Rattle.xlsx_values.specs.Book.{grounds_of}
 use Rattle.xlsx_cells.specs.Marks.{is_cell}
@@ -19,9 +20,11 @@ invariant-cells g l =
       streaming : IsStreaming now;
       values_inside : All IsInSheet l.cells.values.items;
       formulas_inside : All IsInSheet l.cells.formulas.items;
+      ids_inside : All IsOnSheet l.cells.style_ids.items;
       collected : old.reading.source.is_told ≡ true →
-          HasCollected l.asked.wants (grounds_of l.asked.book) old now
-          (value_entries l.cells.values.items) (formula_entries l.cells.formulas.items);
+          HasCollected l.asked.wants (grounds_of l.asked.book) l.asked.style_count old now
+          (value_entries l.cells.values.items) (formula_entries l.cells.formulas.items)
+          l.cells.style_ids.items;
     }
 
 abbrev pub decreases-cells : goal.decreases-cells

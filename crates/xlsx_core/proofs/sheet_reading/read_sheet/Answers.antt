@@ -1,7 +1,8 @@
 use Rattle.std.proofs.Common.{sym, subst, ◌∙◌, map, string_bytes}
 use Rattle.std.proofs.lemmas.Result.{IfOk-weaker, IfErr-weaker}
 use Rattle.xlsx_core.specs.Opened.{path_listed}
-use Rattle.xlsx_core.specs.SheetReading.{both_wanted, grounds_with, value_pairs, formula_pairs, ReadsAs}
+use Rattle.xlsx_core.specs.SheetReading.{all_wanted, grounds_with, value_pairs, formula_pairs}
+use Rattle.xlsx_core.specs.SheetReading.{ReadsAs}
 use Rattle.xlsx_core.specs.SheetReading.{ReadsPlaced, SheetFails, PlacedSheetFails}
 use Rattle.xlsx_core.proofs.SheetsRead.{opens_placed, reads_as, sheet_fails}
 use Rattle.xlsx_core.proofs.sheet_reading.read_sheet.Goals as goal
@@ -13,14 +14,17 @@ returns-in-Ok-clause-reading g c = λ told.
     let mid = g.P.Package.state xlsx.package in
     let name = c.args.name.now in
     let path = path_listed name xlsx.metadata.sheets.items xlsx.paths.items in
-    let grounds = grounds_with (map string_bytes xlsx.strings.items) xlsx.is_1904 in
+    let grounds = grounds_with (map string_bytes xlsx.shared.strings.items)
+    xlsx.shared.style_sheet.formats.items xlsx.is_1904 in
+    let palette = xlsx.shared.style_sheet.styles.items in
     let opened = c.in-Ok.ensures.opens told in
     let same = c.in-Ok.ensures.uses.parts in
-    IfOk-weaker c.sheet-result.result (ReadsPlaced grounds path mid.parts)
-    (λ found. ReadsAs old.parts name (value_pairs found.values) (formula_pairs found.formulas))
-    (λ found has. reads_as name path grounds old mid (value_pairs found.values)
-    (formula_pairs found.formulas) same (opens_placed name opened.0 opened.1 opened.2)
-    (c.in-Ok.ensures.built told) has)
+    IfOk-weaker c.sheet-result.result (ReadsPlaced grounds palette path mid.parts)
+    (λ found. ReadsAs old.parts name (value_pairs found.values) (formula_pairs found.formulas)
+    found.styles)
+    (λ found has. reads_as name path grounds palette old mid (value_pairs found.values)
+    (formula_pairs found.formulas) found.styles same
+    (opens_placed name opened.0 opened.1 opened.2) has)
     (c.sheet-result.ensures.reads (same.is_told ∙ told))
 
 pub returns-in-Ok-clause-err : goal.returns-in-Ok-clause-err
@@ -31,15 +35,17 @@ returns-in-Ok-clause-err g c =
     let new = g.P.Package.state c.into_package.result in
     let name = c.args.name.now in
     let path = path_listed name xlsx.metadata.sheets.items xlsx.paths.items in
-    let grounds = grounds_with (map string_bytes xlsx.strings.items) xlsx.is_1904 in
+    let grounds = grounds_with (map string_bytes xlsx.shared.strings.items)
+    xlsx.shared.style_sheet.formats.items xlsx.is_1904 in
+    let palette = xlsx.shared.style_sheet.styles.items in
     IfErr-weaker c.sheet-result.result
-    (PlacedSheetFails name both_wanted grounds path mid
+    (PlacedSheetFails name all_wanted grounds path mid
     (g.P.Package.state c.sheet-result.new.self.package))
     (SheetFails name old new)
-    (λ e fails. sheet_fails name path grounds old mid new e c.in-Ok.ensures.uses.parts
+    (λ e fails. sheet_fails name path grounds palette old mid new e c.in-Ok.ensures.uses.parts
     c.in-Ok.ensures.uses.faults
     (λ told. let opened = c.in-Ok.ensures.opens told in
     opens_placed name opened.0 opened.1 opened.2)
-    (subst (λ there. PlacedSheetFails name both_wanted grounds path mid (g.P.Package.state there) e)
+    (subst (λ there. PlacedSheetFails name all_wanted grounds path mid (g.P.Package.state there) e)
     (sym c.into_package.ensures) fails))
     c.sheet-result.ensures.err

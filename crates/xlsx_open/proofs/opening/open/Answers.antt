@@ -1,10 +1,10 @@
-use Rattle.std.proofs.Common.{ℕ, List, sym, ap, ◌∙◌, subst, string_bytes}
+use Rattle.std.proofs.Common.{ℕ, List, ◌∙◌, subst, string_bytes}
 use Rattle.std.proofs.lemmas.Result.{err_from_is_err_and, IfOk-weaker, IfErr-weaker}
-use Rattle.part_events.specs.Package.{Part, Uses, part_of}
+use Rattle.part_events.specs.Package.{Uses}
 use Rattle.cell_data.specs.declared.error.XlsxError.TheVariants.{Io}
-use Rattle.xlsx_open.specs.Opening.{Opening, HoldsOpening, OpensAs, IsBuilt, OpeningFails, BookOpens, BookFails, book_events}
-use Rattle.xlsx_open.specs.Paths.{styles_part}
-use Rattle.xlsx_open.proofs.Openings.{root_fails, opens_as, on_ok_weaker, book_fails, opens_package}
+use Rattle.xlsx_open.specs.Opening.{Opening, HoldsOpening, OpensAs, OpeningFails}
+use Rattle.xlsx_open.specs.Opening.{BookOpens, BookFails, book_events}
+use Rattle.xlsx_open.proofs.Openings.{root_fails, opens_as, book_fails, opens_package}
 use Rattle.xlsx_open.proofs.opening.open.Goals as goal
 
 pub returns-in_err-path-clause-err : goal.returns-in_err-path-clause-err
@@ -31,9 +31,9 @@ returns-clause-opens g c = λ told.
     let path = string_bytes c.in_ok-path.path in
     let same = c.in_ok-path.ensures.uses.parts in
     IfOk-weaker c.open_at.result (λ o. (opening : Opening)
-    × HoldsOpening o.metadata o.paths.items o.strings.items o.is_1904 opening
+    × HoldsOpening o.metadata o.paths.items o.shared o.is_1904 opening
     × BookOpens mid.parts c.as_str.result.now opening) (λ o. (opening : Opening)
-    × HoldsOpening o.metadata o.paths.items o.strings.items o.is_1904 opening
+    × HoldsOpening o.metadata o.paths.items o.shared o.is_1904 opening
     × OpensAs old.parts opening)
     (λ o found. (
       found.0,
@@ -43,21 +43,6 @@ returns-clause-opens g c = λ told.
           found.2),
     ))
     (c.open_at.ensures.opened (same.is_told ∙ told))
-
-pub returns-clause-built : goal.returns-clause-built
-returns-clause-built g c = λ told.
-    let old = g.P.Package.state c.args.package.now in
-    let mid = g.P.Package.state c.read_path.new.package in
-    let path = string_bytes c.in_ok-path.path in
-    let same = c.in_ok-path.ensures.uses.parts in
-    on_ok_weaker c.open_at.result (λ lacks. let built : IsBuilt old.parts = record {
-      path = path;
-      found = c.in_ok-path.ensures.path told;
-      no_styles =
-          ap (λ (parts : List Part). part_of parts (styles_part path)) (sym same.parts)
-          ∙ ap (λ (own : List ℕ). part_of mid.parts (styles_part own))
-          (sym c.as_str.ensures.value) ∙ lacks;
-    } in built) (c.open_at.ensures.built (same.is_told ∙ told))
 
 pub returns-clause-err : goal.returns-clause-err
 returns-clause-err g c =

@@ -1,13 +1,17 @@
-use Rattle.std.proofs.Common.{◌≡◌, ℕ, List, [], map, false, None, Ok, Vec, String, Global, string_bytes, refl, sym, ◌∙◌, ap, subst, codes}
+use Rattle.std.proofs.Common.{◌≡◌, ℕ, List, [], true, false, None, Ok, refl, sym, ◌∙◌, ap, subst}
+use Rattle.std.proofs.Common.{codes}
+use Rattle.std.proofs.lemmas.Result.{err_from_is_err_and}
 use Rattle.std.specs.Prelude.{IsSomeAnd}
 use Rattle.part_events.specs.Package.{Part, part_of}
-use Rattle.xlsx_sections.specs.PartSection.{closed_section_of}
-use Rattle.xlsx_open.specs.Kept.{related_by_id}
+use Rattle.xlsx_sections.specs.PartSection.{always, closed_section_of, OptionalPartFails}
+use Rattle.xlsx_open.specs.KeptContents.{related_by_id}
 use Rattle.xlsx_open.specs.Opening.{HasRelationships}
 use Rattle.xlsx_open.specs.Paths.{folder_of, workbook_part}
 use Rattle.xlsx_open.specs.Relationships.{related_in}
-use Rattle.xlsx_open.specs.Workbook.{IsContents}
+use Rattle.xlsx_open.specs.SharedParts.{shared_said}
+use Rattle.xlsx_open.specs.Workbook.{IsContents, AreContentsRefused}
 use Rattle.xlsx_open.proofs.Openings.{opening_of, holds_contents, has_contents, has_nothing}
+use Rattle.xlsx_open.proofs.Openings.{contents_fail}
 use Rattle.xlsx_open.proofs.opening.open_workbook.Goals as goal
 
 pub returns-in-Some-clause-opened : goal.returns-in-Some-clause-opened
@@ -17,7 +21,7 @@ returns-in-Some-clause-opened g c = λ told.
     let path = c.args.path.now in
     let related = related_by_id c.in_ok-relationships.relationships in
     let found = c.in-Some.contents in
-    let strings = c.args.strings.items in
+    let shared = c.args.shared in
     let o = c.in_ok-from_contents-in-Some.field-0 in
     let made = c.in_ok-from_contents-in-Some.ensures in
     let same = c.in_ok-relationships.ensures.uses.parts in
@@ -43,15 +47,14 @@ returns-in-Some-clause-opened g c = λ told.
     (λ inside. IsContents c.folder_of.result.now related inside found))
     (c.as_str-2.ensures.value ∙ c.in_ok-part-2.ensures) contents))
     in (
-      opening_of found (map string_bytes strings),
-      holds_contents found o.metadata o.paths.items strings o.strings.items o.is_1904 made.sheets
-          made.paths made.names (ap (λ (own : Vec (String Global) Global). own.items) made.strings)
-          made.epoch,
+      opening_of found (shared_said shared),
+      holds_contents found o.metadata o.paths.items shared o.shared o.is_1904 made.sheets made.paths
+          made.names made.shared made.epoch,
       refl,
       (
         related,
         has,
-        has_contents old.parts path related found (map string_bytes strings) contents_here,
+        has_contents old.parts path related found (shared_said shared) contents_here,
       ),
     )
 
@@ -67,7 +70,7 @@ returns-clause-opened g c = λ told.
     (λ inside. (id : List ℕ) → related_in inside id ≡ Ok (related id))) (c.as_str.ensures.value
     ∙ c.in_ok-part.ensures) (c.in_ok-relationships.ensures.related told)
     in
-    let strings = map string_bytes c.args.strings.items in
+    let shared = shared_said c.args.shared in
     let absent : part_of mid.parts c.as_str-2.result.now ≡ None =
     rw c.in-None.is at (c.in_ok-contents.ensures.contents (same.is_told ∙ told)) in
     let absent_here : part_of old.parts (workbook_part path) ≡ None =
@@ -75,8 +78,34 @@ returns-clause-opened g c = λ told.
     ∙ ap (λ (part : List ℕ). part_of mid.parts part)
     (sym (c.as_str-2.ensures.value ∙ c.in_ok-part-2.ensures)) ∙ absent
     in (
-      record { sheets = []; names = []; strings = strings; is_1904 = false },
+      record { sheets = []; names = []; shared = shared; is_1904 = false },
       c.nothing_opened.ensures,
       refl,
-      (related, has, has_nothing old.parts path related strings absent_here),
+      (related, has, has_nothing old.parts path related shared absent_here),
     )
+
+pub returns-in_err-contents-clause-err : goal.returns-in_err-contents-clause-err
+returns-in_err-contents-clause-err g c =
+    let old = g.P.Package.state c.args.package.now in
+    let mid = g.P.Package.state c.read_relationships.new.package in
+    let new = g.P.Package.state c.read_contents.new.package in
+    let name = codes "workbook" in
+    let path = c.args.path.now in
+    let related = related_by_id c.in_ok-relationships.relationships in
+    let e = c.in_err-contents.field-0.0 in
+    let uses = c.in_ok-relationships.ensures.uses in
+    let has : old.is_told ≡ true → HasRelationships old.parts path related = λ told.
+    subst (λ (part : List ℕ). IsSomeAnd (closed_section_of (codes "Relationships") part old.parts)
+    (λ inside. (id : List ℕ) → related_in inside id ≡ Ok (related id))) (c.as_str.ensures.value
+    ∙ c.in_ok-part.ensures) (c.in_ok-relationships.ensures.related told) in
+    let fails : OptionalPartFails name (always name) (AreContentsRefused (folder_of path) related)
+    (workbook_part path) mid new e =
+    subst (λ (folder : List ℕ). OptionalPartFails name (always name)
+    (AreContentsRefused folder related) (workbook_part path) mid new e) c.folder_of.ensures
+    (subst (λ (part : List ℕ). OptionalPartFails name (always name)
+    (AreContentsRefused c.folder_of.result.now related) part mid new e)
+    (c.as_str-2.ensures.value ∙ c.in_ok-part-2.ensures) c.in_err-contents.ensures.err) in
+    let p = err_from_is_err_and c.from_residual-in_err-contents.result
+    c.from_residual-in_err-contents.ensures.1 in
+    rw (p.1, p.2)
+    (contents_fail old mid new path related e uses.parts uses.faults has fails)

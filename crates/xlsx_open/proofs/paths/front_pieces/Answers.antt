@@ -1,7 +1,8 @@
 use Rattle.std.proofs.Common.{◌≡◌, ◌+◌, take, Some, None, ◌∙◌, arith}
 use Rattle.std.specs.List.{slice_range}
 use Rattle.std.proofs.lemmas.Str.Pattern.{rfind_char}
-use Rattle.xlsx_open.proofs.Pieces.{last_piece-none, last_piece-last, front_pieces-none, front_pieces-last}
+use Rattle.xlsx_open.proofs.Pieces.{last_piece-none, last_piece-last, front_pieces-none}
+use Rattle.xlsx_open.proofs.Pieces.{front_pieces-last}
 use Rattle.xlsx_open.proofs.paths.front_pieces.Goals as goal
 
 pub returns-in-Some : goal.returns-in-Some

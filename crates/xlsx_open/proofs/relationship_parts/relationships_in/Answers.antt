@@ -11,7 +11,7 @@ use Rattle.xlsx_sections.specs.Refusal.{Refusal, placed_at}
 use Rattle.xlsx_sections.proofs.Kept.{last_further, last_refused}
 use Rattle.xlsx_sections.proofs.Refused.{event_refused}
 use Rattle.xlsx_sections.proofs.SectionsRead.{start_found}
-use Rattle.xlsx_open.specs.Kept.{related_by_id}
+use Rattle.xlsx_open.specs.KeptContents.{related_by_id}
 use Rattle.xlsx_open.specs.Relationships.{related_by, related_of, AreRelationshipsRefused}
 use Rattle.xlsx_open.proofs.relationship_parts.relationships_in.Goals as goal
 

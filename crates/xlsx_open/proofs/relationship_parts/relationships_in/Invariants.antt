@@ -3,7 +3,7 @@ use Rattle.part_events.specs.Reading.{reading}
 use Rattle.part_events.specs.Walk.{section_ahead}
 use Rattle.xlsx_sections.specs.Answers.{or_earlier}
 use Rattle.xlsx_sections.specs.PartSection.{KeepsSection}
-use Rattle.xlsx_open.specs.Kept.{related_by_id}
+use Rattle.xlsx_open.specs.KeptContents.{related_by_id}
 use Rattle.xlsx_open.specs.Relationships.{related_in}
 use Rattle.xlsx_open.proofs.relationship_parts.relationships_in.Given as goal
 

@@ -1,4 +1,5 @@
-use Rattle.std.proofs.Common.{◌≡◌, ◌∷◌, ◌-◌, Ok, Err, length, refl, sym, ◌∙◌, inl, inr, arith, codes, option_map, string_bytes}
+use Rattle.std.proofs.Common.{◌≡◌, ◌∷◌, ◌-◌, Ok, Err, length, refl, sym, ◌∙◌, inl, inr, arith}
+use Rattle.std.proofs.Common.{codes, option_map, string_bytes}
 use Rattle.std.proofs.lemmas.Result.{err_from_is_err_and}
 use Rattle.part_events.specs.Event.{event_of, tag_of}
 use Rattle.part_events.specs.Reading.{reading, ahead}
@@ -9,9 +10,10 @@ use Rattle.xlsx_sections.specs.Refusal.{Refusal, placed_at}
 use Rattle.xlsx_sections.proofs.Refused.{event_refused, refused_later}
 use Rattle.xlsx_sections.proofs.SectionsRead.{event_inside, keeps_further}
 use Rattle.xlsx_open.specs.DefinedNames.{name_by}
-use Rattle.xlsx_open.specs.Kept.{related_by_id}
+use Rattle.xlsx_open.specs.KeptContents.{related_by_id}
 use Rattle.xlsx_open.specs.Workbook.{AreSheetsRefused, IsNameRefused, AreContentsRefused}
-use Rattle.xlsx_open.proofs.Contents.{refused_earlier, event_taken, sheets_further, contents_refused, name_next, name_refused, name_taken}
+use Rattle.xlsx_open.proofs.Contents.{refused_earlier, event_taken, sheets_further}
+use Rattle.xlsx_open.proofs.Contents.{contents_refused, name_next, name_refused, name_taken}
 use Rattle.xlsx_open.proofs.workbook.contents_in.Goals as goal
 
 pub returns-in_err-take_event-clause-err : goal.returns-in_err-take_event-clause-err

@@ -1,4 +1,5 @@
-use Rattle.std.proofs.Common.{◌≡◌, ◌-◌, ◌+◌, ℕ, length, true, ◌∷◌, Some, None, Ok, Err, refl, sym, ◌∙◌, ap, inl, inr, arith, rules, codes, option_map, string_bytes}
+use Rattle.std.proofs.Common.{◌≡◌, ◌-◌, ◌+◌, ℕ, length, true, ◌∷◌, Some, None, Ok, Err, refl, sym}
+use Rattle.std.proofs.Common.{◌∙◌, ap, inl, inr, arith, rules, codes, option_map, string_bytes}
 use Rattle.std.proofs.lemmas.Result.{err_from_is_err_and}
 use Rattle.std.proofs.lemmas.List.{length-append}
 use Rattle.part_events.specs.Event.{event_of}
@@ -12,9 +13,10 @@ use Rattle.xlsx_sections.specs.Refusal.{Refusal}
 use Rattle.xlsx_sections.proofs.Refused.{event_refused, refused_later, refused_outside}
 use Rattle.xlsx_sections.proofs.SectionsRead.{event_inside, section_taken}
 use Rattle.xlsx_open.specs.DefinedNames.{with_text, behind_in_section}
-use Rattle.xlsx_open.specs.Kept.{related_by_id}
+use Rattle.xlsx_open.specs.KeptContents.{related_by_id}
 use Rattle.xlsx_open.specs.Workbook.{AreSheetsRefused, IsNameRefused}
-use Rattle.xlsx_open.proofs.Contents.{sheets_further, refused_earlier, event_taken, joins_further, unknown_first, text_refused, no_sheet}
+use Rattle.xlsx_open.proofs.Contents.{sheets_further, refused_earlier, event_taken, joins_further}
+use Rattle.xlsx_open.proofs.Contents.{unknown_first, text_refused, no_sheet}
 use Rattle.xlsx_open.proofs.workbook.read_name.Goals as goal
 
 pub returns-in_err-at-clause-err : goal.returns-in_err-at-clause-err

@@ -1,12 +1,18 @@
-use Rattle.std.proofs.Common.{◌≡◌, ◌∷◌, ◌++◌, ℕ, List, [], map, refl, sym, ◌∙◌, ap, subst, codes, string_bytes}
+use Rattle.std.proofs.Common.{true, ◌≡◌, ◌∷◌, ◌++◌, ℕ, List, [], map, refl, sym, ◌∙◌, ap, subst}
+use Rattle.std.proofs.Common.{codes, string_bytes}
 use Rattle.std.proofs.lemmas.Result.{err_from_is_err_and}
+use Rattle.part_events.specs.Event.{Tag}
 use Rattle.part_events.specs.Reading.{reading}
 use Rattle.part_events.specs.Walk.{section_ahead}
 use Rattle.xlsx_sections.specs.Answers.{prepended}
 use Rattle.xlsx_sections.specs.Elements.{IsInsideRefused}
 use Rattle.xlsx_sections.proofs.ElementsRead.{element_found, element_passed, element_refused}
-use Rattle.xlsx_strings.specs.Strings.{is_string, string_of, string_element, strings_in, end_in_string, end_in_string_element}
-use Rattle.xlsx_strings.proofs.StringsRead.{start_of, step_refused, own_answer, own_text, all_further, all_refused}
+use Rattle.xlsx_sections.proofs.ElementsRead.{step_refused}
+use Rattle.xlsx_sections.proofs.Kept.{all_further, all_refused}
+use Rattle.xlsx_sections.proofs.SectionsRead.{start_there}
+use Rattle.xlsx_strings.specs.Strings.{is_string, string_of, string_element, strings_in}
+use Rattle.xlsx_strings.specs.Strings.{end_in_string, end_in_string_element}
+use Rattle.xlsx_strings.proofs.StringsRead.{own_answer, own_text}
 use Rattle.xlsx_strings.proofs.shared.strings_in.Goals as goal
 
 pub returns-in_err-_at-clause-err : goal.returns-in_err-_at-clause-err
@@ -24,7 +30,7 @@ returns-in_err-read_string-clause-err g c =
     in
     let last = reading (g.P.Package.state c.read_string.new.package) c.read_string.new.cursor in
     let stands = rw c.in-Some.is at c.in_ok-_at.ensures.stands in
-    let own = start_of new.source.current stands.0.current in
+    let own = start_there new.source.current (λ (tag : Tag). is_string tag ≡ true) stands.2 in
     let found = element_found is_string own.1 c.strings.invariant.keeps
     c.in_ok-_at.ensures.reads stands
     (λ told. rw c.in-Some.is at (c.in_ok-_at.ensures.found told)) in
@@ -43,7 +49,7 @@ strings-preserved g c =
     let new = reading (g.P.Package.state c.next_element_in.new.package) c.next_element_in.new.cursor
     in
     let stands = rw c.in-Some.is at c.in_ok-_at.ensures.stands in
-    let own = start_of new.source.current stands.0.current in
+    let own = start_there new.source.current (λ (tag : Tag). is_string tag ≡ true) stands.2 in
     let found = element_found is_string own.1 c.strings.invariant.keeps
     c.in_ok-_at.ensures.reads stands
     (λ told. rw c.in-Some.is at (c.in_ok-_at.ensures.found told)) in

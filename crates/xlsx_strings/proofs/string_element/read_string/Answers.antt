@@ -1,11 +1,15 @@
-use Rattle.std.proofs.Common.{ℕ, [], refl, ◌∙◌, subst, string_bytes}
+use Rattle.std.proofs.Common.{◌≡◌, true, ℕ, [], refl, ◌∙◌, subst, string_bytes}
 use Rattle.std.proofs.lemmas.Result.{err_from_is_err_and}
+use Rattle.part_events.specs.Event.{Tag}
 use Rattle.part_events.specs.Reading.{reading}
 use Rattle.xlsx_sections.specs.Elements.{IsInsideRefused}
 use Rattle.xlsx_sections.specs.PartSection.{SectionFails}
 use Rattle.xlsx_sections.proofs.ElementsRead.{element_found, element_passed, element_refused}
-use Rattle.xlsx_strings.specs.Strings.{is_text_or_phonetic, piece_of, string_of, end_in_piece, end_in_piece_element, end_in_string}
-use Rattle.xlsx_strings.proofs.StringsRead.{start_of, step_refused, own_answer, own_text, piece_further, piece_refused}
+use Rattle.xlsx_sections.proofs.ElementsRead.{step_refused}
+use Rattle.xlsx_sections.proofs.SectionsRead.{start_there}
+use Rattle.xlsx_strings.specs.Strings.{is_text_or_phonetic, piece_of, string_of, end_in_piece}
+use Rattle.xlsx_strings.specs.Strings.{end_in_piece_element, end_in_string}
+use Rattle.xlsx_strings.proofs.StringsRead.{own_answer, own_text, piece_further, piece_refused}
 use Rattle.xlsx_strings.proofs.string_element.read_string.Goals as goal
 
 pub returns-in_err-_at-clause-err : goal.returns-in_err-_at-clause-err
@@ -26,7 +30,8 @@ pieces-preserved g c =
     let new = reading (g.P.Package.state c.next_element_in.new.package) c.next_element_in.new.cursor
     in
     let stands = rw c.in-Some.is at c.in_ok-_at.ensures.stands in
-    let own = start_of new.source.current stands.0.current in
+    let own = start_there new.source.current (λ (tag : Tag). is_text_or_phonetic tag ≡ true)
+    stands.2 in
     let found = element_found is_text_or_phonetic own.1 c.pieces.invariant.keeps
     c.in_ok-_at.ensures.reads stands
     (λ told. rw c.in-Some.is at (c.in_ok-_at.ensures.found told)) in
@@ -51,7 +56,8 @@ returns-in_err-read_piece-clause-err g c =
     let last = reading (g.P.Package.state c.read_piece.new.package) c.read_piece.new.cursor in
     let base = c.depth-base.result in
     let stands = rw c.in-Some.is at c.in_ok-_at.ensures.stands in
-    let own = start_of new.source.current stands.0.current in
+    let own = start_there new.source.current (λ (tag : Tag). is_text_or_phonetic tag ≡ true)
+    stands.2 in
     let tag = own.0 in
     let found = element_found is_text_or_phonetic own.1 c.pieces.invariant.keeps
     c.in_ok-_at.ensures.reads stands

@@ -7,9 +7,11 @@ use Rattle.cell_styles.specs.declared.border.Border.{Border}
 use Rattle.xlsx_sections.specs.Elements.{IsInsideRefused}
 use Rattle.xlsx_sections.specs.PartSection.{SectionFails, always}
 use Rattle.xlsx_sections.specs.Refusal.{Refusal, in_element}
-use Rattle.xlsx_sections.proofs.ElementsRead.{element_found, element_passed, element_refused, own_inside}
-use Rattle.xlsx_styles.specs.Borders.{side_of, side_placed, border_change, border_of, is_side, end_in_side, end_in_border}
-use Rattle.xlsx_styles.proofs.StartsRead.{step_refused, change_further, change_refused}
+use Rattle.xlsx_sections.proofs.ElementsRead.{element_found, element_passed, element_refused}
+use Rattle.xlsx_sections.proofs.ElementsRead.{own_inside, step_refused}
+use Rattle.xlsx_sections.proofs.Kept.{change_further, change_refused}
+use Rattle.xlsx_styles.specs.Borders.{side_of, side_placed, border_change, border_of, is_side}
+use Rattle.xlsx_styles.specs.Borders.{end_in_side, end_in_border}
 use Rattle.xlsx_styles.proofs.border.read_border.Goals as goal
 
 pub returns-in_err-_at-clause-err : goal.returns-in_err-_at-clause-err

@@ -4,7 +4,7 @@ use Rattle.part_events.specs.Section.{outermost}
 use Rattle.part_events.specs.Walk.{section_ahead}
 use Rattle.xlsx_sections.specs.Elements.{KeepsElements}
 use Rattle.xlsx_styles.specs.Borders.{border_change, border_of, is_side}
-use Rattle.xlsx_styles.specs.Changes.{all_changes}
+use Rattle.xlsx_sections.specs.Changes.{all_changes}
 use Rattle.xlsx_styles.proofs.border.read_border.Given as goal
 
 abbrev pub invariant-sides : goal.invariant-sides

@@ -7,8 +7,8 @@ use Rattle.xlsx_sections.specs.Elements.{IsInsideRefused}
 use Rattle.xlsx_sections.specs.PartSection.{SectionFails, always}
 use Rattle.xlsx_sections.proofs.Kept.{last_further, last_refused}
 use Rattle.xlsx_sections.proofs.SectionsRead.{start_found}
+use Rattle.xlsx_sections.proofs.StartsRead.{behind_start_found, start_refused}
 use Rattle.xlsx_styles.specs.Borders.{side_color, color_in, is_color}
-use Rattle.xlsx_styles.proofs.StartsRead.{behind_start_found, start_refused}
 use Rattle.xlsx_styles.proofs.border.read_side_color.Goals as goal
 
 pub returns-in_err-_at-clause-err : goal.returns-in_err-_at-clause-err
@@ -22,7 +22,8 @@ returns-in_err-_at-clause-err g c =
     rw (p.1, p.2)
     (subst (λ (n : ℕ). SectionFails (always (codes "border side")) refused n old new e)
     c.starts.invariant.own
-    (start_refused (codes "border side") refused new e c.starts.invariant.keeps c.in_err-_at.ensures.err))
+    (start_refused (codes "border side") refused new e c.starts.invariant.keeps
+    c.in_err-_at.ensures.err))
 
 pub starts-preserved : goal.starts-preserved
 starts-preserved g c =

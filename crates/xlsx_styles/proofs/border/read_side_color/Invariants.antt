@@ -3,7 +3,7 @@ use Rattle.part_events.specs.Reading.{reading}
 use Rattle.part_events.specs.Walk.{section_ahead}
 use Rattle.xlsx_sections.specs.Answers.{or_earlier}
 use Rattle.xlsx_styles.specs.Borders.{color_in}
-use Rattle.xlsx_styles.specs.Starts.{KeepsStarts}
+use Rattle.xlsx_sections.specs.Elements.{KeepsStarts}
 use Rattle.xlsx_styles.proofs.border.read_side_color.Given as goal
 
 abbrev pub invariant-starts : goal.invariant-starts

@@ -5,9 +5,10 @@ use Rattle.cell_data.specs.declared.error.XlsxError.TheVariants.{XmlAttr}
 use Rattle.xlsx_sections.specs.Elements.{IsInsideRefused}
 use Rattle.xlsx_sections.specs.PartSection.{SectionFails, always}
 use Rattle.xlsx_sections.proofs.SectionsRead.{start_found}
-use Rattle.xlsx_styles.specs.Changes.{or_fault}
+use Rattle.xlsx_sections.specs.Changes.{or_fault}
+use Rattle.xlsx_sections.proofs.StartsRead.{behind_start_found, start_refused}
+use Rattle.xlsx_sections.proofs.Kept.{change_further, change_refused}
 use Rattle.xlsx_styles.specs.Fills.{fill_change, fill_of, is_in_fill}
-use Rattle.xlsx_styles.proofs.StartsRead.{behind_start_found, start_refused, change_further, change_refused}
 use Rattle.xlsx_styles.proofs.fill.read_fill.Goals as goal
 
 pub returns-in_err-_at-clause-err : goal.returns-in_err-_at-clause-err

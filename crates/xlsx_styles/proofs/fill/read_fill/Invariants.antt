@@ -2,9 +2,9 @@ use Rattle.std.proofs.Common.{◌≡◌, length, true}
 use Rattle.part_events.specs.Reading.{reading}
 use Rattle.part_events.specs.Section.{starts_by}
 use Rattle.part_events.specs.Walk.{section_ahead}
-use Rattle.xlsx_styles.specs.Changes.{all_changes}
+use Rattle.xlsx_sections.specs.Changes.{all_changes}
 use Rattle.xlsx_styles.specs.Fills.{fill_change, fill_of, is_in_fill}
-use Rattle.xlsx_styles.specs.Starts.{KeepsStarts}
+use Rattle.xlsx_sections.specs.Elements.{KeepsStarts}
 use Rattle.xlsx_styles.proofs.fill.read_fill.Given as goal
 
 abbrev pub invariant-starts : goal.invariant-starts

@@ -8,8 +8,9 @@ use Rattle.xlsx_sections.specs.PartSection.{SectionFails, always}
 use Rattle.xlsx_sections.specs.Refusal.{Refusal, placed_at}
 use Rattle.xlsx_sections.proofs.Refused.{event_refused}
 use Rattle.xlsx_sections.proofs.SectionsRead.{start_found}
+use Rattle.xlsx_sections.proofs.StartsRead.{behind_start_found, start_refused}
+use Rattle.xlsx_sections.proofs.Kept.{change_further, change_refused}
 use Rattle.xlsx_styles.specs.Fonts.{said_of, font_change, font_of, is_in_font}
-use Rattle.xlsx_styles.proofs.StartsRead.{behind_start_found, start_refused, change_further, change_refused}
 use Rattle.xlsx_styles.proofs.font.read_font.Goals as goal
 
 pub returns-in_err-at-clause-err : goal.returns-in_err-at-clause-err

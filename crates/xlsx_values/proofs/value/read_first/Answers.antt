@@ -10,7 +10,7 @@ use Rattle.xlsx_sections.specs.Refusal.{Refusal}
 use Rattle.xlsx_sections.proofs.ElementsRead.{own_inside}
 use Rattle.xlsx_sections.proofs.Refused.{event_refused}
 use Rattle.xlsx_values.specs.Book.{kind_of, grounds_of}
-use Rattle.xlsx_values.specs.Value.{first_value, end_in_first}
+use Rattle.xlsx_values.specs.Value.{first_event_value, end_in_first}
 use Rattle.xlsx_values.proofs.ValuesRead.{first_event}
 use Rattle.xlsx_values.proofs.value.read_first.Goals as goal
 
@@ -30,7 +30,8 @@ pub returns-in_err-value-clause-err : goal.returns-in_err-value-clause-err
 returns-in_err-value-clause-err g c =
     let old = reading (g.P.Package.state c.args.package.now) c.args.cursor.now in
     let new = reading (g.P.Package.state c.next_inside.new.package) c.next_inside.new.self in
-    let answer = first_value (grounds_of c.args.book) c.args.format (kind_of c.args.typ.now) in
+    let kind = kind_of c.args.typ.now in
+    let answer = first_event_value (grounds_of c.args.book) c.args.format kind in
     let left = section_ahead c.depth-depth.result new in
     let events : old.source.is_told ≡ true → inside_of (section_left (length old.names) old)
     ≡ event_of c.event.result ∷ left = λ told.
@@ -50,7 +51,8 @@ pub returns-clause-value : goal.returns-clause-value
 returns-clause-value g c = λ told.
     let old = reading (g.P.Package.state c.args.package.now) c.args.cursor.now in
     let new = reading (g.P.Package.state c.next_inside.new.package) c.next_inside.new.self in
-    let answer = first_value (grounds_of c.args.book) c.args.format (kind_of c.args.typ.now) in
+    let kind = kind_of c.args.typ.now in
+    let answer = first_event_value (grounds_of c.args.book) c.args.format kind in
     ap answer (sym (own_inside old)
     ∙ first_event {old = old} {new = new} c.depth-depth.ensures c.event.ensures
     (rw c.in-Found.is at (c.in_ok-next_inside.ensures.inside told)))

@@ -2,12 +2,12 @@ use Rattle.std.proofs.Common.{◌<◌, [], fold, ◌≡◌, ◌∙◌, sym, ap, 
 use Rattle.std.proofs.lemmas.List.Elements.{All-filter}
 use Rattle.cell_refs.specs.Dimensions.{cell_count}
 use Rattle.cell_styles.specs.Filling.{cell_place, filled_to, put_in}
-use Rattle.cell_styles.specs.StyleMap.{IsOnSheet, is_explicit, bounds_of}
+use Rattle.cell_styles.specs.StyleMap.{IsOnSheet, is_explicit, covering_area}
 use Rattle.cell_styles.proofs.Meaning.{map_of, sorted_within, map_is_sound, map_is_styles}
 use Rattle.cell_styles.proofs.style_range.StyleRange.from_style_ids.Goals as goal
 
-pub bounds_of-requires : goal.bounds_of-requires
-bounds_of-requires c =
+pub covering_area-requires : goal.covering_area-requires
+covering_area-requires c =
     let here : c.deref.result.now ≡ filter (is_explicit c.len.result) c.args.cells.items =
     c.deref.ensures.value ∙ c.explicit-cells.ensures in
     subst (All IsOnSheet) (sym here)
@@ -16,8 +16,8 @@ bounds_of-requires c =
 pub filled-requires-clause-places : goal.filled-requires-clause-places
 filled-requires-clause-places c =
     let area = c.in-Some.bounds in
-    let bounds : bounds_of c.explicit-cells.result.items ≡ Some area =
-    sym (c.bounds_of.ensures.value ∙ ap bounds_of c.deref.ensures.value) ∙ c.in-Some.is in
+    let bounds : covering_area c.explicit-cells.result.items ≡ Some area =
+    sym (c.covering_area.ensures.value ∙ ap covering_area c.deref.ensures.value) ∙ c.in-Some.is in
     subst (All (λ cell. cell_place area cell < cell_count area)) (sym c.deref-in-Some.ensures.value)
     (sorted_within c.explicit-cells.result.items c.in_ok-cells-in-Some.cells.items area bounds
     c.in-Some.ensures.area
@@ -30,8 +30,8 @@ invariant_of-result c =
     let kept : c.explicit-cells.result.items
     ≡ filter (is_explicit (length c.args.palette.items)) c.args.cells.items =
     c.explicit-cells.ensures ∙ ap (λ n. filter (is_explicit n) c.args.cells.items) count in
-    let bounds : bounds_of c.explicit-cells.result.items ≡ Some area =
-    sym (c.bounds_of.ensures.value ∙ ap bounds_of c.deref.ensures.value) ∙ c.in-Some.is in
+    let bounds : covering_area c.explicit-cells.result.items ≡ Some area =
+    sym (c.covering_area.ensures.value ∙ ap covering_area c.deref.ensures.value) ∙ c.in-Some.is in
     let filled : c.in_ok-ids-in-Some.ids
     ≡ filled_to (cell_count area) (fold (put_in area) [] c.in_ok-cells-in-Some.cells.items) =
     c.in_ok-ids-in-Some.ensures
@@ -52,8 +52,8 @@ returns-in_ok-ids-in-Some c =
     let kept : c.explicit-cells.result.items
     ≡ filter (is_explicit (length c.args.palette.items)) c.args.cells.items =
     c.explicit-cells.ensures ∙ ap (λ n. filter (is_explicit n) c.args.cells.items) count in
-    let bounds : bounds_of c.explicit-cells.result.items ≡ Some area =
-    sym (c.bounds_of.ensures.value ∙ ap bounds_of c.deref.ensures.value) ∙ c.in-Some.is in
+    let bounds : covering_area c.explicit-cells.result.items ≡ Some area =
+    sym (c.covering_area.ensures.value ∙ ap covering_area c.deref.ensures.value) ∙ c.in-Some.is in
     let filled : c.in_ok-ids-in-Some.ids
     ≡ filled_to (cell_count area) (fold (put_in area) [] c.in_ok-cells-in-Some.cells.items) =
     c.in_ok-ids-in-Some.ensures

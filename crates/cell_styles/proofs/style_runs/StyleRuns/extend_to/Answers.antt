@@ -1,6 +1,8 @@
-use Rattle.std.proofs.Common.{◌≡◌, ◌+◌, ◌-◌, ◌<◌, ◌≤◌, length, slice_set, sym, ◌∙◌, ap, arith, true, false}
+use Rattle.std.proofs.Common.{◌≡◌, ◌+◌, ◌-◌, ◌<◌, ◌≤◌, length, slice_set, sym, ◌∙◌, ap, arith, true}
+use Rattle.std.proofs.Common.{false}
 use Rattle.cell_styles.specs.StyleRuns.{end_along, numbers_along, last_is}
-use Rattle.cell_styles.proofs.RunLists.{Extends, pushed, lengthened, none_more, end_is, last_is_there, extended_numbers}
+use Rattle.cell_styles.proofs.RunLists.{Extends, pushed, lengthened, none_more, end_is}
+use Rattle.cell_styles.proofs.RunLists.{last_is_there, extended_numbers}
 use Rattle.cell_styles.proofs.style_runs.StyleRuns.extend_to.Goals as goal
 
 pub returns-then-end_of-end-clause-ok : goal.returns-then-end_of-end-clause-ok

@@ -1,4 +1,5 @@
-use Rattle.std.proofs.Common.{◌≡◌, ◌-◌, length, ℕ, drop, true, ◌∙◌, ap, take, reverse, ◌∷◌, Some, arith}
+use Rattle.std.proofs.Common.{◌≡◌, ◌-◌, length, ℕ, drop, true, ◌∙◌, ap, take, reverse, ◌∷◌, Some}
+use Rattle.std.proofs.Common.{arith}
 use Rattle.std.specs.Prelude.{slice_get}
 use Rattle.std.specs.Str.{bytes_eq}
 use Rattle.std.proofs.lemmas.Slice.Eq.{bytes_eq-Decides}

@@ -102,7 +102,8 @@ returns-clause-takes g c = λ told before earlier behind.
     (λ wanted. c.in_ok-read_cell.ensures.value told_mid wanted element stand)
     (λ wanted. c.in_ok-read_cell.ensures.formula told_mid wanted element stand earlier
     behind.masters)
-    c.in_ok-read_cell.ensures.same own.counters
+    c.in_ok-read_cell.ensures.same
+    (λ wanted. c.in_ok-read_cell.ensures.styled wanted element stand) own.counters
 
 pub returns-clause-stands : goal.returns-clause-stands
 returns-clause-stands g c =

@@ -1,0 +1,85 @@
+//! What is read, as texts that tests compare.
+
+use cell_data::{Data, ExcelDateTimeType, Range, XlsxError};
+use part_events::Package;
+use std::alloc::Global;
+use std::process::Abort;
+use std::test::Fail;
+use xlsx_core::{SheetAnswer, SheetReading, read_sheet};
+
+/// A number, a duration or a date, behind a letter for which it is.
+fn push_time(out: &mut String, kind: ExcelDateTimeType) -> Result<(), Fail> {
+    Ok(out.push_str(match kind {
+        ExcelDateTimeType::DateTime => "t:",
+        ExcelDateTimeType::TimeDelta => "d:",
+    })?)
+}
+
+/// The text of a value behind a letter for its kind.
+pub fn push_value(out: &mut String, value: &Data) -> Result<(), Fail> {
+    match value {
+        Data::Decimal(number) => {
+            out.push_str("n:")?;
+            number.push_to(out)?;
+        }
+        Data::DateTime(time) => {
+            push_time(out, time.kind)?;
+            time.value.push_to(out)?;
+            out.push_str(if time.is_1904 { " of 1904" } else { " of 1900" })?;
+        }
+        Data::String(text) => write!(out, "s:{text}")?,
+        Data::DateTimeIso(text) => write!(out, "i:{text}")?,
+        Data::Bool(truth) => write!(out, "b:{truth}")?,
+        Data::Error(error) => write!(out, "e:{}", error.as_str())?,
+        other => write!(out, "{other:?}")?,
+    }
+    Ok(())
+}
+
+/// The values of a range, each by its row and column.
+pub fn push_values(out: &mut String, range: &Range<Data>) -> Result<(), Fail> {
+    for cell in range.used() {
+        write!(out, "({},{} ", cell.pos.0, cell.pos.1)?;
+        push_value(out, &cell.val)?;
+        out.push_str(")")?;
+    }
+    Ok(())
+}
+
+/// The formulas of a range, each by its row and column.
+pub fn push_formulas(out: &mut String, range: &Range<String>) -> Result<(), Fail> {
+    for cell in range.used() {
+        write!(out, "({},{} ={})", cell.pos.0, cell.pos.1, cell.val)?;
+    }
+    Ok(())
+}
+
+/// What was read of a sheet, its values before its formulas, or why it was refused.
+fn told_of(alloc: Global, found: Result<SheetReading, XlsxError>) -> Result<String, Fail> {
+    let mut out = String::new(alloc);
+    match found {
+        Ok(reading) => {
+            push_values(&mut out, &reading.values)?;
+            push_formulas(&mut out, &reading.formulas)?;
+        }
+        Err(error) => write!(out, "{error:?}")?,
+    }
+    Ok(out)
+}
+
+/// What is read of the sheet of this name.
+pub fn answer<P: Package + Drop>(alloc: Global, package: P, name: &str) -> Result<String, Fail> {
+    let SheetAnswer { result, package: _ } = read_sheet(alloc, package, name);
+    told_of(alloc, result)
+}
+
+/// The answer is one of those that are wanted, which stand between marks `|`.
+pub fn assert_answer(rt: &impl Abort, found: &str, wanted: &str, shown: &str) {
+    let mut is_wanted = false;
+    for one in wanted.split('|') {
+        if found == one {
+            is_wanted = true;
+        }
+    }
+    assert!(rt; is_wanted, "{shown}: {found} in place of {wanted}");
+}

@@ -1,0 +1,24 @@
+//! What workbooks are read as: tests of the crates below by their public calls, over packages that
+//! are written as markup.
+#![tactic(auto)]
+
+#[cfg(test)]
+mod answers;
+#[cfg(test)]
+mod cell_tests;
+#[cfg(test)]
+mod cut_tests;
+#[cfg(test)]
+mod opening_tests;
+#[cfg(test)]
+mod reader_tests;
+#[cfg(test)]
+mod sheet_tests;
+#[cfg(test)]
+mod string_tests;
+#[cfg(test)]
+mod style_tests;
+#[cfg(test)]
+mod test_packages;
+#[cfg(test)]
+mod worksheet_tests;

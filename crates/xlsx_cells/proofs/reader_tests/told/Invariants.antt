@@ -1,5 +1,0 @@
-use Rattle.xlsx_cells.specs.CellsReader.{flow_by, IsFlowing}
-use Rattle.xlsx_cells.proofs.reader_tests.told.Given as goal
-
-abbrev pub invariant-calls : goal.invariant-calls
-invariant-calls g l = IsFlowing (flow_by g.P.Package.state l.reader)

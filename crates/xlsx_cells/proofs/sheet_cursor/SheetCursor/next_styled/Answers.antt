@@ -1,0 +1,78 @@
+use Rattle.std.proofs.Common.{◌≡◌, ℕ, [], Some, true, false, ◌∙◌, subst, arith}
+use Rattle.std.proofs.lemmas.Bool.Decides.{nat_tests}
+use Rattle.std.proofs.lemmas.Result.{err_from_is_err_and}
+use Rattle.cell_styles.specs.StyleMap.{is_explicit}
+use Rattle.xlsx_sections.specs.Elements.{KeepsElements}
+use Rattle.xlsx_values.specs.Value.{Grounds}
+use Rattle.xlsx_cells.specs.Marks.{is_cell, behind_marks}
+use Rattle.xlsx_cells.specs.Stream.{stream, StandsAfter}
+use Rattle.xlsx_cells.proofs.Collecting.{keeps_on}
+use Rattle.xlsx_cells.proofs.Unstyled.{skipped_further, styled_taken, unstyled_ends}
+use Rattle.xlsx_cells.proofs.Unstyled.{styled_refused}
+use Rattle.xlsx_cells.proofs.sheet_cursor.SheetCursor.next_styled.Goals as goal
+use Rattle.xlsx_cells.proofs.sheet_cursor.SheetCursor.next_styled.Goals.{else-style_id-gt0-via-then-style_id-gt0+else-style_id-style_count}
+use Rattle.xlsx_cells.proofs.sheet_cursor.SheetCursor.next_styled.Goals.{else-style_id-gt0-via-else-style_id-gt0}
+
+pub returns-in_err-read-clause-err : goal.returns-in_err-read-clause-err
+returns-in_err-read-clause-err g c =
+    let old = stream (g.P.Package.state c.args.package.now) c.args.self.now in
+    let mid = stream (g.P.Package.state c.cells.package) c.cells.self in
+    let new = stream (g.P.Package.state c.next.new.package) c.next.new.self in
+    let now = c.cells.invariant in
+    let p = err_from_is_err_and c.from_residual.result c.from_residual.ensures.1 in
+    let none : Grounds = record { strings = []; formats = []; is_1904 = false } in
+    rw (p.1, p.2)
+    (styled_refused c.args.style_count none old mid new c.in_err-read.field-0.0 now.base now.keeps
+    now.skipped c.in_err-read.ensures.err)
+
+pub returns-then-style_id-style_count-clause-takes :
+    goal.returns-then-style_id-style_count-clause-takes
+returns-then-style_id-style_count-clause-takes g c = λ told before earlier kept.
+    let old = stream (g.P.Package.state c.args.package.now) c.args.self.now in
+    let mid = stream (g.P.Package.state c.cells.package) c.cells.self in
+    let new = stream (g.P.Package.state c.next.new.package) c.next.new.self in
+    let now = c.cells.invariant in
+    let been = now.skipped told before earlier kept in
+    styled_taken c.args.style_count before earlier _ old mid new c.in-Some.read been
+    (rw c.in-Some.is at (c.in_ok-read.ensures.takes (now.keeps.section.reads.moves.parts.is_told
+    ∙ told) (behind_marks been.passed before) earlier been.stands))
+
+pub cells-preserved : goal.cells-preserved
+cells-preserved g c =
+    let old = stream (g.P.Package.state c.args.package.now) c.args.self.now in
+    let mid = stream (g.P.Package.state c.cells.package) c.cells.self in
+    let new = stream (g.P.Package.state c.next.new.package) c.next.new.self in
+    let now = c.cells.invariant in
+    let read = c.in-Some.read in
+    let stands : StandsAfter (Some read) mid new =
+    rw c.in-Some.is at c.in_ok-read.ensures.stands in
+    let uncounted : is_explicit c.args.style_count (read.pos.0, read.pos.1, read.style_id)
+    ≡ false = elim c.else-style_id-gt0.branch [
+      | else-style_id-gt0-via-then-style_id-gt0+else-style_id-style_count w ↦
+          grind (arith, nat_tests, w.if-style_id-style_count.false)
+      | else-style_id-gt0-via-else-style_id-gt0 w ↦
+          grind (arith, nat_tests, w.if-style_id-gt0.false)
+    ] in
+    record {
+      base = stands.1 ∙ now.base;
+      further = omega (arith, now.further, stands.2);
+      keeps = keeps_on now.keeps
+          (subst (λ (n : ℕ). KeepsElements is_cell n mid.reading new.reading) now.base stands.3);
+      streaming = stands.0;
+      skipped = λ told before earlier kept.
+          let been = now.skipped told before earlier kept in
+          skipped_further c.args.style_count before earlier _ old mid new read been
+          (rw c.in-Some.is at (c.in_ok-read.ensures.takes
+          (now.keeps.section.reads.moves.parts.is_told ∙ told) (behind_marks been.passed before)
+          earlier been.stands)) uncounted;
+    }
+
+pub returns-clause-takes : goal.returns-clause-takes
+returns-clause-takes g c = λ told before earlier kept.
+    let old = stream (g.P.Package.state c.args.package.now) c.args.self.now in
+    let mid = stream (g.P.Package.state c.cells.package) c.cells.self in
+    let now = c.cells.invariant in
+    let been = now.skipped told before earlier kept in
+    unstyled_ends c.args.style_count before earlier old mid been
+    (rw c.in_default.is at (c.in_ok-read.ensures.takes (now.keeps.section.reads.moves.parts.is_told
+    ∙ told) (behind_marks been.passed before) earlier been.stands))

@@ -1,0 +1,24 @@
+use Rattle.std.proofs.Common.{◌≡◌, ◌≤◌, List, true}
+use Rattle.xlsx_sections.specs.Elements.{KeepsElements}
+use Rattle.xlsx_formulas.specs.Formula.{FormulaText}
+use Rattle.xlsx_cells.specs.Marks.{Mark, is_cell}
+use Rattle.xlsx_cells.specs.Stream.{stream, IsStreaming, StandsBehind}
+use Rattle.xlsx_cells.proofs.Unstyled.{HasSkipped}
+use Rattle.xlsx_cells.proofs.sheet_cursor.SheetCursor.next_styled.Given as goal
+
+abbrev pub invariant-cells : goal.invariant-cells
+invariant-cells g l =
+    let old = stream (g.P.Package.state l.fn.«package») l.fn.self in
+    let now = stream (g.P.Package.state l.«package») l.self in
+    record {
+      base : now.base ≡ old.base;
+      further : old.reading.at ≤ now.reading.at;
+      keeps : KeepsElements is_cell old.base old.reading now.reading;
+      streaming : IsStreaming now;
+      skipped : old.reading.source.is_told ≡ true →
+          (before : List Mark) (earlier : List FormulaText) → StandsBehind before earlier old →
+          HasSkipped l.style_count before earlier old now;
+    }
+
+abbrev pub decreases-cells : goal.decreases-cells
+decreases-cells g l = (g.P.Package.state l.«package»).left

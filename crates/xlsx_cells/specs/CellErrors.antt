@@ -1,0 +1,61 @@
+-- The refusals that reading cells can have, whatever the package tells.
+use Rattle.std.specs.Prelude.{◌≡◌, ◌⊎◌, ⊤, ℕ, List, [], codes}
+use Rattle.part_events.specs.declared.fault.XmlFault.TheVariants.{EndMismatch}
+use Rattle.cell_data.specs.declared.error.XlsxError.{XlsxError}
+use Rattle.cell_data.specs.declared.error.XlsxError.TheVariants.{OutOfMemory, Io, Xml, XmlAttr}
+use Rattle.cell_data.specs.declared.error.XlsxError.TheVariants.{XmlEof}
+use Rattle.cell_data.specs.declared.error.XlsxError.TheVariants.{Alphanumeric, DimensionCount}
+use Rattle.cell_data.specs.declared.error.XlsxError.TheVariants.{RangeWithoutRowComponent}
+use Rattle.cell_data.specs.declared.error.XlsxError.TheVariants.{RangeWithoutColumnComponent}
+use Rattle.cell_data.specs.declared.error.XlsxError.TheVariants.{ColumnNumberOverflow}
+use Rattle.cell_data.specs.declared.error.XlsxError.TheVariants.{RowNumberOverflow, UnexpectedNode}
+use Rattle.cell_data.specs.declared.error.XlsxError.TheVariants.{Unexpected, Unrecognized}
+use Rattle.cell_data.specs.declared.error.XlsxError.TheVariants.{CellTAttribute, CellError}
+use Rattle.cell_data.specs.declared.error.XlsxError.TheVariants.{ParseFloat}
+
+-- those of finding the next cell
+abbrev pub IsFindError : XlsxError → Type 0
+IsFindError OutOfMemory = ⊤
+IsFindError Io = ⊤
+IsFindError (Xml (EndMismatch at)) = ⊤
+IsFindError (XmlEof element) = element.now ≡ codes "sheetData"
+IsFindError (XmlAttr fault) = ⊤
+IsFindError (Alphanumeric byte) = ⊤
+IsFindError RangeWithoutRowComponent = ⊤
+IsFindError RangeWithoutColumnComponent = ⊤
+IsFindError ColumnNumberOverflow = ⊤
+IsFindError RowNumberOverflow = ⊤
+IsFindError (DimensionCount count) = ⊤
+IsFindError _ = ⊥
+
+-- those of a cell whose style id alone is read: none of what stands in it
+abbrev pub IsStyledError : XlsxError → Type 0
+IsStyledError (XmlEof element) = (element.now ≡ codes "sheetData") ⊎ (element.now ≡ codes "c")
+IsStyledError error = IsFindError error
+
+-- the names that tell where the part of a sheet ends in its data
+abbrev pub IsEndName : List ℕ → Type 0
+IsEndName name =
+    (name ≡ codes "sheetData") ⊎ ((name ≡ codes "c") ⊎ ((name ≡ codes "f")
+    ⊎ ((name ≡ codes "v") ⊎ ((name ≡ codes "t") ⊎ (name ≡ [])))))
+
+-- the refusals that a cell can have, whatever the package tells
+abbrev pub IsCellError : XlsxError → Type 0
+IsCellError OutOfMemory = ⊤
+IsCellError Io = ⊤
+IsCellError (Xml fault) = ⊤
+IsCellError (XmlAttr fault) = ⊤
+IsCellError (XmlEof element) = IsEndName element.now
+IsCellError (Alphanumeric byte) = ⊤
+IsCellError RangeWithoutRowComponent = ⊤
+IsCellError RangeWithoutColumnComponent = ⊤
+IsCellError ColumnNumberOverflow = ⊤
+IsCellError RowNumberOverflow = ⊤
+IsCellError (DimensionCount count) = ⊤
+IsCellError (UnexpectedNode node) = node.now ≡ codes "v, f, or is"
+IsCellError (Unexpected text) = ⊤
+IsCellError (Unrecognized typ val) = typ.now ≡ codes "boolean cell value"
+IsCellError (CellTAttribute typ) = ⊤
+IsCellError (CellError written) = ⊤
+IsCellError (ParseFloat written) = ⊤
+IsCellError _ = ⊥

@@ -1,0 +1,138 @@
+-- How a cell format is made of its start and of what is set in it.
+use Rattle.std.proofs.Common.{◌≡◌, ℕ, List, Option, Some, None, Result, Ok, refl, sym, ◌∙◌, ap}
+use Rattle.std.proofs.Common.{subst, codes, map, option_map, length, get_or, arith}
+use Rattle.std.specs.Prelude.{IsOkAnd, slice_get}
+use Rattle.std.specs.Option.{option_and_then}
+use Rattle.std.proofs.lemmas.Option.{slice_get-map}
+use Rattle.attr_text.specs.Attributes.{lookup}
+use Rattle.part_events.specs.Event.{Tag, Event}
+use Rattle.part_events.specs.Reading.{Reading, IsReading}
+use Rattle.part_events.specs.declared.fault.XmlFault.TheVariants.{EndMismatch}
+use Rattle.cell_data.specs.declared.error.XlsxError.{XlsxError}
+use Rattle.cell_data.specs.declared.error.XlsxError.TheVariants.{OutOfMemory, Io, Xml, XmlAttr}
+use Rattle.cell_data.specs.declared.error.XlsxError.TheVariants.{XmlEof}
+use Rattle.xlsx_sections.specs.Elements.{ElementReadFails, IsInsideRefused}
+use Rattle.xlsx_sections.specs.NumberText.{number_text}
+use Rattle.xlsx_sections.specs.PartSection.{always, inside_of, section_left}
+use Rattle.xlsx_sections.specs.Refusal.{Refusal, ElementFails}
+use Rattle.xlsx_sections.proofs.Refused.{refused_as}
+use Rattle.xlsx_styles.specs.Errors.{IsPlainError}
+use Rattle.xlsx_formats.specs.FormatCodes.{WrittenFormat, code_kept, AreCodes}
+use Rattle.xlsx_formats.specs.Formattings.{PartsSaid, FormattingSaid, numbered, format_named}
+use Rattle.xlsx_formats.specs.Formattings.{number_format_named}
+use Rattle.xlsx_formats.specs.Formattings.{formatting_keys, formatting_named, no_settings}
+use Rattle.xlsx_formats.specs.Formattings.{settings_of, code_said}
+use Rattle.xlsx_formats.specs.Formattings.{formatting_set, formatting_by, formatting_of, parts_said}
+use Rattle.xlsx_formats.proofs.CodesRead.{ok_found}
+use Rattle.xlsx_formats.specs.declared.formatting.StyleParts.{StyleParts}
+use Rattle.xlsx_formats.specs.declared.settings.Settings.{Settings}
+
+found_said : {A B : Type 0} (view : A → B) (list : List A) (place : Option ℕ)
+    → option_map view (option_and_then (slice_get list) place)
+    ≡ option_and_then (slice_get (map view list)) place
+found_said view list None = refl
+found_said view list (Some place) = sym (slice_get-map view list place)
+
+-- what stands at a number, seen in another way
+pub numbered_said : {A B : Type 0} (view : A → B) (list : List A) (text : Option (List ℕ))
+    → option_map view (numbered list text) ≡ numbered (map view list) text
+numbered_said view list text = found_said view list (option_and_then number_text text)
+
+format_same : (first second : List ℕ → Option (List ℕ))
+    → ((id : List ℕ) → first id ≡ second id) → (id : Option (List ℕ))
+    → format_named first id ≡ format_named second id
+format_same first second same None = refl
+format_same first second same (Some id) =
+    ap (λ (code : Option (List ℕ)). format_named (λ _. code) (Some id)) (same id)
+
+number_format_same : (first second : List ℕ → Option (List ℕ))
+    → ((id : List ℕ) → first id ≡ second id) → (id : Option (List ℕ))
+    → number_format_named first id ≡ number_format_named second id
+number_format_same first second same None = refl
+number_format_same first second same (Some id) =
+    ap (λ (code : Option (List ℕ)). number_format_named (λ _. code) (Some id)) (same id)
+
+abbrev pub with_settings : FormattingSaid → Settings → FormattingSaid
+with_settings formatting settings = record {
+  format = formatting.format;
+  style = record {
+    font = formatting.style.font;
+    fill = formatting.style.fill;
+    borders = formatting.style.borders;
+    alignment = settings.alignment;
+    number_format = formatting.style.number_format;
+    protection = settings.protection;
+  };
+}
+
+-- what is set later stands, and codes that are the same name the same formats
+named_same : (first second : List ℕ → Option (List ℕ)) → ((id : List ℕ) → first id ≡ second id)
+    → (parts : PartsSaid) (texts : List (Option (List ℕ))) (settings : Settings)
+    → with_settings (formatting_named first parts texts no_settings) settings
+    ≡ formatting_named second parts texts settings
+named_same first second same parts texts settings =
+    rw (
+      format_same first second same (get_or texts 0 None),
+      number_format_same first second same (get_or texts 0 None),
+    ) refl
+
+-- a start names this, and this is set in its element
+pub formatting_found : (formats : List WrittenFormat) (parts : StyleParts) (tag own : Tag)
+    (inside : List Event) (settings : Settings) (named : FormattingSaid) → tag ≡ own
+    → AreCodes formats parts.codes.now → IsOkAnd (lookup formatting_keys own.attributes) (λ texts.
+    named ≡ formatting_named (code_kept parts.codes.now) (parts_said formats parts) texts
+    no_settings) → settings_of inside ≡ Ok settings
+    → formatting_of (parts_said formats parts) tag inside ≡ Ok (with_settings named settings)
+formatting_found formats parts tag own inside settings named same_tag are names is =
+    let said = parts_said formats parts in
+    let found = ok_found (λ (texts : List (Option (List ℕ))).
+    named ≡ formatting_named (code_kept parts.codes.now) said texts no_settings)
+    (lookup formatting_keys own.attributes) names in
+    let same = ap (λ (own : FormattingSaid). with_settings own settings) found.2
+    ∙ named_same (code_kept parts.codes.now) (code_said said) are said found.0 settings in
+    ap (λ (start : Tag). formatting_of said start inside) same_tag
+    ∙ ap (formatting_by said (settings_of inside)) found.1
+    ∙ ap (formatting_set said found.0) is
+    ∙ ap (λ (own : FormattingSaid). let answer : Result FormattingSaid Refusal = Ok own in answer)
+    (sym same)
+
+start_fails : (said : PartsSaid) (tag : Tag) (old new : Reading) (error : XlsxError)
+    → IsPlainError (codes "xf") error
+    → ((settings : Result Settings Refusal) → ElementFails (formatting_by said settings
+    (lookup formatting_keys tag.attributes)) 0 0 error)
+    → ElementReadFails (always (codes "xf")) (formatting_of said tag) old new error
+start_fails said tag old new OutOfMemory is fails = tt
+start_fails said tag old new (XmlAttr fault) is fails = λ told.
+    fails (settings_of (inside_of (section_left (length old.names) old)))
+start_fails said tag old new Io is fails = absurd (fails (Ok no_settings))
+start_fails said tag old new (Xml (EndMismatch at)) is fails = absurd (fails (Ok no_settings))
+start_fails said tag old new (XmlEof element) is fails = absurd (fails (Ok no_settings))
+start_fails said tag old new _ is fails = absurd is
+
+-- the attributes of a start are refused, and so is its cell format
+pub names_fail : (said : PartsSaid) (tag own : Tag) (old new : Reading) (error : XlsxError)
+    → tag ≡ own → IsPlainError (codes "xf") error
+    → ((settings : Result Settings Refusal) → ElementFails (formatting_by said settings
+    (lookup formatting_keys own.attributes)) 0 0 error)
+    → ElementReadFails (always (codes "xf")) (formatting_of said tag) old new error
+names_fail said tag own old new error same is fails =
+    subst (λ (start : Tag).
+    ElementReadFails (always (codes "xf")) (formatting_of said start) old new error) (sym same)
+    (start_fails said own old new error is fails)
+
+-- what is set in it is refused
+pub settings_fail : (P : List (Option (List ℕ)) → Type 0) (said : PartsSaid) (tag own : Tag)
+    (old new : Reading) (error : XlsxError) → tag ≡ own → IsReading old
+    → IsOkAnd (lookup formatting_keys own.attributes) P
+    → ElementReadFails (always (codes "xf")) settings_of old new error
+    → ElementReadFails (always (codes "xf")) (formatting_of said tag) old new error
+settings_fail P said tag own old new error same is names fails =
+    let found = ok_found P (lookup formatting_keys own.attributes) names in
+    refused_as (length old.names) old (always (codes "xf")) (IsInsideRefused settings_of)
+    (IsInsideRefused (formatting_of said tag)) new error is (omega arith)
+    (λ refusal refuses.
+    let inside = inside_of (section_left (length old.names) old) in
+    ap (λ (start : Tag). formatting_of said start inside) same
+    ∙ ap (formatting_by said (settings_of inside)) found.1
+    ∙ ap (formatting_set said found.0) refuses)
+    fails

@@ -1,0 +1,3 @@
+pub mod CodesKept
+pub mod CodesRead
+pub mod FormattingsRead

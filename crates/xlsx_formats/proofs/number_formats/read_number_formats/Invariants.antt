@@ -1,0 +1,24 @@
+use Rattle.std.proofs.Common.{◌≡◌, length, true}
+use Rattle.part_events.specs.Reading.{reading}
+use Rattle.part_events.specs.Section.{starts_by}
+use Rattle.part_events.specs.Walk.{section_ahead}
+use Rattle.xlsx_sections.specs.Elements.{KeepsStarts}
+use Rattle.xlsx_formats.specs.FormatCodes.{is_number_format, formats_written}
+use Rattle.xlsx_formats.proofs.CodesRead.{KeepsCodes}
+use Rattle.xlsx_formats.proofs.number_formats.read_number_formats.Given as goal
+
+abbrev pub invariant-starts : goal.invariant-starts
+invariant-starts g l =
+    let old = reading (g.P.Package.state l.fn.package) l.fn.cursor in
+    let now = reading (g.P.Package.state l.package) l.cursor in
+    record {
+      keeps : KeepsStarts l.base old now;
+      own : l.base ≡ length old.names;
+      codes_kept :
+          old.source.is_told ≡ true →
+          KeepsCodes (formats_written (section_ahead l.base old))
+          (starts_by is_number_format (section_ahead l.base now)) l.fn.kept l.kept;
+    }
+
+abbrev pub decreases-starts : goal.decreases-starts
+decreases-starts g l = (g.P.Package.state l.package).left

@@ -1,0 +1,72 @@
+-- The codes of number formats, by their ids (ECMA-376 part 1, section 18.8.30).
+use Rattle.std.specs.Prelude.{◌≡◌, ℕ, List, [], ◌∷◌, ◌++◌, Bool, if◌then◌else◌, codes, Option, Some}
+use Rattle.std.specs.Prelude.{None, option_map, Result, Ok, Err, string_bytes}
+use Rattle.std.specs.BTreeMap.{get_by_text}
+use Rattle.std.specs.Option.{option_or}
+use Rattle.std.specs.Str.{bytes_eq}
+use Rattle.attr_text.specs.Attributes.{lookup}
+use Rattle.attr_text.specs.declared.fault.AttrFault.{AttrFault}
+use Rattle.part_events.specs.Event.{Tag, Event}
+use Rattle.part_events.specs.Section.{PlacedTag, starts_by, is_named}
+use Rattle.xlsx_sections.specs.Answers.{some_answers, with_two}
+use Rattle.xlsx_sections.specs.Refusal.{Refusal, lookup_fault, decoded_at}
+use Rattle.xlsx_formats.specs.declared.format_codes.FormatCodes.{FormatCodes}
+
+-- a number format as a start writes it: its id, which is the text of the attribute, and its code,
+-- which is decoded
+pub record WrittenFormat : Type 0 where
+  pub id : List ℕ
+  pub code : List ℕ
+
+abbrev pub with_code : List ℕ → Result (List ℕ) Refusal → Result (Option WrittenFormat) Refusal
+with_code id (Ok code) = Ok (Some (record { id = id; code = code }))
+with_code id (Err refusal) = Err refusal
+
+-- a start that lacks one of the two writes no format
+abbrev pub written_by :
+    ℕ → Option (List ℕ) → Option (List ℕ) → Result (Option WrittenFormat) Refusal
+written_by behind None code = Ok None
+written_by behind (Some id) None = Ok None
+written_by behind (Some id) (Some code) = with_code id (decoded_at behind code)
+
+abbrev pub written_if :
+    ℕ → Result (List (Option (List ℕ))) AttrFault → Result (Option WrittenFormat) Refusal
+written_if behind (Ok texts) = with_two (written_by behind) (Ok None) texts
+written_if behind (Err fault) = Err (lookup_fault fault)
+
+abbrev pub written_keys : List (List ℕ)
+written_keys = codes "numFmtId" ∷ codes "formatCode" ∷ []
+
+-- the format that a start writes
+abbrev pub written_format : PlacedTag → Result (Option WrittenFormat) Refusal
+written_format start = written_if start.behind (lookup written_keys start.tag.attributes)
+
+abbrev pub is_number_format : Tag → Bool
+is_number_format tag = is_named (codes "numFmt" ∷ []) tag
+
+-- the formats that an element of number formats writes, by what stands in it: those of its starts,
+-- in order
+abbrev pub formats_written : List Event → Result (List WrittenFormat) Refusal
+formats_written inside = some_answers written_format (starts_by is_number_format inside)
+
+-- formats, and one more if there is one
+abbrev pub with_written : List WrittenFormat → Option WrittenFormat → List WrittenFormat
+with_written formats None = formats
+with_written formats (Some format) = formats ++ format ∷ []
+
+-- the code of a format, if it has this id
+abbrev pub code_if : List ℕ → WrittenFormat → Option (List ℕ)
+code_if id format = if bytes_eq format.id id then Some format.code else None
+
+-- the code of the last format of this id
+abbrev pub code_written : List ℕ → List WrittenFormat → Option (List ℕ)
+code_written id [] = None
+code_written id (format ∷ formats) = option_or (code_written id formats) (code_if id format)
+
+-- the code that is kept of this id
+abbrev pub code_kept : FormatCodes → List ℕ → Option (List ℕ)
+code_kept kept id = option_map string_bytes (get_by_text kept.by_id id)
+
+-- the codes that are kept are those of these formats, in the order in which they were written
+abbrev pub AreCodes : List WrittenFormat → FormatCodes → Type 0
+AreCodes formats kept = (id : List ℕ) → code_kept kept id ≡ code_written id formats

@@ -1,0 +1,175 @@
+-- What the elements of cell formats say (ECMA-376 part 1, section 18.8.45).
+use Rattle.std.specs.Prelude.{ℕ, ◌^◌, List, [], ◌∷◌, map, get_or, slice_get, Bool, if◌then◌else◌}
+use Rattle.std.specs.Prelude.{codes, Option, Some, None, option_map, Result, Ok, Err}
+use Rattle.std.specs.Option.{option_and_then, option_or, unwrap_or}
+use Rattle.attr_text.specs.Attributes.{lookup}
+use Rattle.attr_text.specs.declared.fault.AttrFault.{AttrFault}
+use Rattle.part_events.specs.Event.{Tag, Event}
+use Rattle.part_events.specs.Section.{PlacedTag, starts_by, is_named}
+use Rattle.cell_data.specs.NumberFormat.{builtin_format, builtin_code, custom_format}
+use Rattle.cell_data.specs.declared.format.CellFormat.{CellFormat}
+use Rattle.cell_data.specs.declared.format.CellFormat.TheVariants.{Other}
+use Rattle.cell_styles.specs.StyleFormats.{NumberFormatFields}
+use Rattle.cell_styles.specs.declared.alignment.Alignment.{Alignment}
+use Rattle.cell_styles.specs.declared.border.Borders.{Borders}
+use Rattle.cell_styles.specs.declared.fill.Fill.{Fill}
+use Rattle.cell_styles.specs.declared.protection.Protection.{Protection}
+use Rattle.cell_styles.specs.declared.style.Style.{Style}
+use Rattle.xlsx_sections.specs.Changes.{all_changes, or_fault, changed_with}
+use Rattle.xlsx_sections.specs.NumberText.{number_text}
+use Rattle.xlsx_sections.specs.Refusal.{Refusal, lookup_fault}
+use Rattle.xlsx_styles.specs.Alignments.{alignment_of, protection_of}
+use Rattle.xlsx_styles.specs.Fonts.{FontSaid, said_of}
+use Rattle.xlsx_styles.specs.Texts.{number_below}
+use Rattle.xlsx_formats.specs.FormatCodes.{WrittenFormat, code_written}
+use Rattle.xlsx_formats.specs.declared.formatting.Formatting.{Formatting}
+use Rattle.xlsx_formats.specs.declared.formatting.StyleParts.{StyleParts}
+use Rattle.xlsx_formats.specs.declared.settings.Settings.{Settings}
+
+-- what a cell format can name: the number formats that were written before it, and the fonts,
+-- fills and borders that stand before it, each in order
+pub record PartsSaid : Type 0 where
+  pub formats : List WrittenFormat
+  pub fonts : List FontSaid
+  pub fills : List Fill
+  pub borders : List Borders
+
+-- a style, the size of its font as a number
+pub record StyleSaid : Type 0 where
+  pub font : Option FontSaid
+  pub fill : Option Fill
+  pub borders : Option Borders
+  pub alignment : Option Alignment
+  pub number_format : Option NumberFormatFields
+  pub protection : Option Protection
+
+-- what a cell format makes of a number, and its style
+pub record FormattingSaid : Type 0 where
+  pub format : CellFormat
+  pub style : StyleSaid
+
+abbrev pub style_said : Style → StyleSaid
+style_said style = record {
+  font = option_map said_of style.font;
+  fill = style.fill;
+  borders = style.borders;
+  alignment = style.alignment;
+  number_format = style.number_format;
+  protection = style.protection;
+}
+
+abbrev pub formatting_said : Formatting → FormattingSaid
+formatting_said formatting = record {
+  format = formatting.format;
+  style = style_said formatting.style;
+}
+
+abbrev pub parts_said : List WrittenFormat → StyleParts → PartsSaid
+parts_said formats parts = record {
+  formats = formats;
+  fonts = map said_of parts.fonts.now;
+  fills = parts.fills.now;
+  borders = parts.borders.now;
+}
+
+-- with the alignment, or the protection, of a later start
+abbrev pub with_alignment : Settings → Alignment → Settings
+with_alignment settings alignment = record {
+  alignment = Some alignment;
+  protection = settings.protection;
+}
+
+abbrev pub with_protection : Settings → Protection → Settings
+with_protection settings protection = record {
+  alignment = settings.alignment;
+  protection = Some protection;
+}
+
+abbrev pub is_alignment : Tag → Bool
+is_alignment tag = is_named (codes "alignment" ∷ []) tag
+
+abbrev pub setting_change : PlacedTag → Settings → Result Settings Refusal
+setting_change start settings =
+    if is_alignment start.tag
+    then or_fault (changed_with with_alignment settings (alignment_of start.tag))
+    else or_fault (changed_with with_protection settings (protection_of start.tag))
+
+abbrev pub is_setting : Tag → Bool
+is_setting tag = is_named (codes "alignment" ∷ codes "protection" ∷ []) tag
+
+abbrev pub no_settings : Settings
+no_settings = record { alignment = None; protection = None }
+
+-- the last alignment and the last protection of a cell format, by what stands in it
+abbrev pub settings_of : List Event → Result Settings Refusal
+settings_of inside = all_changes setting_change (starts_by is_setting inside) no_settings
+
+-- what stands in a list at the number that a text writes, if it writes one, and the list is longer
+abbrev pub numbered : {A : Type 0} → List A → Option (List ℕ) → Option A
+numbered list text = option_and_then (slice_get list) (option_and_then number_text text)
+
+-- what the number format of an id makes of a number: by the code that was written for it, else as
+-- the built-in format of the id
+abbrev pub format_by : List ℕ → Option (List ℕ) → CellFormat
+format_by id None = builtin_format id
+format_by id (Some code) = custom_format code
+
+abbrev pub format_named : (List ℕ → Option (List ℕ)) → Option (List ℕ) → CellFormat
+format_named code None = Other
+format_named code (Some id) = format_by id (code id)
+
+-- the number format of an id that is a number: the code that was written for it, else that of the
+-- built-in format
+abbrev pub numbered_format : Option (List ℕ) → ℕ → NumberFormatFields
+numbered_format code number = record {
+  format_code = unwrap_or (option_or code (builtin_code number)) (codes "General");
+  format_id = Some number;
+}
+
+abbrev pub number_format_of : (List ℕ → Option (List ℕ)) → List ℕ → Option NumberFormatFields
+number_format_of code id = option_map (numbered_format (code id)) (number_below (2 ^ 32) id)
+
+abbrev pub number_format_named :
+    (List ℕ → Option (List ℕ)) → Option (List ℕ) → Option NumberFormatFields
+number_format_named code id = option_and_then (number_format_of code) id
+
+-- the keys of the number format, the font, the fill and the borders
+abbrev pub formatting_keys : List (List ℕ)
+formatting_keys =
+    codes "numFmtId" ∷ codes "fontId" ∷ codes "fillId" ∷ codes "borderId" ∷ []
+
+-- what a start with the texts of these keys says, and what is set in its element; `code` gives the
+-- code that was written for an id
+abbrev pub formatting_named :
+    (List ℕ → Option (List ℕ)) → PartsSaid → List (Option (List ℕ)) → Settings → FormattingSaid
+formatting_named code parts texts settings = record {
+  format = format_named code (get_or texts 0 None);
+  style = record {
+    font = numbered parts.fonts (get_or texts 1 None);
+    fill = numbered parts.fills (get_or texts 2 None);
+    borders = numbered parts.borders (get_or texts 3 None);
+    alignment = settings.alignment;
+    number_format = number_format_named code (get_or texts 0 None);
+    protection = settings.protection;
+  };
+}
+
+abbrev pub code_said : PartsSaid → List ℕ → Option (List ℕ)
+code_said parts id = code_written id parts.formats
+
+abbrev pub formatting_set :
+    PartsSaid → List (Option (List ℕ)) → Result Settings Refusal → Result FormattingSaid Refusal
+formatting_set parts texts (Ok settings) =
+    Ok (formatting_named (code_said parts) parts texts settings)
+formatting_set parts texts (Err refusal) = Err refusal
+
+abbrev pub formatting_by :
+    PartsSaid → Result Settings Refusal → Result (List (Option (List ℕ))) AttrFault
+    → Result FormattingSaid Refusal
+formatting_by parts settings (Ok texts) = formatting_set parts texts settings
+formatting_by parts settings (Err fault) = Err (lookup_fault fault)
+
+-- a cell format, by its start and what stands in it
+abbrev pub formatting_of : PartsSaid → Tag → List Event → Result FormattingSaid Refusal
+formatting_of parts tag inside =
+    formatting_by parts (settings_of inside) (lookup formatting_keys tag.attributes)

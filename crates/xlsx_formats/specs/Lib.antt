@@ -1,0 +1,2 @@
+pub mod FormatCodes
+pub mod Formattings

@@ -1,0 +1,14 @@
+//! Number formats and cell formats: what the elements of the styles part say of them.
+#![tactic(auto)]
+
+mod format_codes;
+mod formatting;
+mod number_formats;
+mod settings;
+
+pub use format_codes::FormatCodes;
+pub use formatting::{Formatting, StyleParts, read_format};
+pub use number_formats::read_number_formats;
+
+#[cfg(test)]
+mod tests;

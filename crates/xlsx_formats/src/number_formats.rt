@@ -1,0 +1,86 @@
+ghost use Rattle.std.specs.Prelude.{◌≡◌, ◌⊎◌, ◌++◌, List, ℕ, suc, codes, length, true, Some, None};
+ghost use Rattle.std.specs.Prelude.{Ok, OnOk, IfErr, IsOkAnd};
+ghost use Rattle.attr_text.specs.Attributes.{lookup};
+ghost use Rattle.part_events.specs.Event.{tag_of};
+ghost use Rattle.part_events.specs.Reading.{reading, open_elements, IsReading, IsAtElement};
+ghost use Rattle.part_events.specs.Reading.{ReadsPart, Skips, ahead};
+ghost use Rattle.part_events.specs.Section.{content};
+ghost use Rattle.cell_data.specs.declared.error.XlsxError.TheVariants.{Io};
+ghost use Rattle.xlsx_sections.specs.Elements.{ElementReadFails};
+ghost use Rattle.xlsx_sections.specs.PartSection.{always};
+ghost use Rattle.xlsx_sections.specs.Refusal.{ElementFails, IsDecodeError, placed_at};
+ghost use Rattle.xlsx_styles.specs.Errors.{IsPlainError};
+ghost use Rattle.xlsx_formats.specs.FormatCodes.{WrittenFormat, written_format, formats_written};
+ghost use Rattle.xlsx_formats.specs.FormatCodes.{with_written, AreCodes};
+
+use crate::format_codes::FormatCodes;
+use attr_text::{RawAttributes, get_attrs};
+use cell_data::XlsxError;
+use part_events::{Cursor, Package, StartTag};
+use std::alloc::Global;
+use xlsx_sections::{decode_at, next_start_in, start_tag};
+
+/// Keeps the code of the format that a start writes, which is event number `at` of its part.
+fn keep_format(
+    alloc: Global,
+    kept: &mut FormatCodes,
+    tag: StartTag<'_>,
+    at: u64,
+) -> Result<(), XlsxError>
+    ensures ok { OnOk result ((behind : ℕ) →
+        IsOkAnd (written_format (placed_at (tag_of tag.entry) behind)) (λ found.
+        (earlier : List WrittenFormat) → AreCodes earlier kept.old →
+        AreCodes (with_written earlier found) kept.new)) }
+    ensures err { IfErr result (λ error. (behind : ℕ) →
+        ElementFails (written_format (placed_at (tag_of tag.entry) behind)) at behind error) }
+    ensures kind { IfErr result (λ error.
+        IsPlainError (codes "numFmts") error ⊎ IsDecodeError error) }
+{
+    let (id, code) = get_attrs!(tag, "numFmtId" => id, "formatCode" => code)?;
+    if let (Some(id), Some(code)) = (id, code) {
+        let code = decode_at(alloc, code, at)?;
+        kept.keep(String::from_str(alloc, id)?, code)?;
+    }
+    Ok(())
+}
+
+/// Reads the number formats at the start of whose element the package stands, to its end (ECMA-376
+/// part 1, section 18.8.31), and keeps the code of each `numFmt` start in it that has an id and a
+/// code, at any depth, in place of an earlier one of its id. What was kept before stays.
+///
+/// A part that ends before is `XmlEof("numFmts")`, and a code with a reference without a character
+/// is `Xml(Entity)` with the number of its start, counted from 0. After a refusal what is kept
+/// isn't spoken of.
+pub fn read_number_formats<P: Package>(
+    alloc: Global,
+    package: &mut P,
+    cursor: &mut Cursor,
+    kept: &mut FormatCodes,
+) -> Result<(), XlsxError>
+    requires reading { IsReading (reading (P.state «package».old) cursor.old) }
+    requires element { IsAtElement (reading (P.state «package».old) cursor.old) }
+    ensures reads { let old = reading (P.state «package».old) cursor.old in
+        let new = reading (P.state «package».new) cursor.new in
+        ReadsPart Io result old new }
+    ensures depth { OnOk result
+        (length (open_elements cursor.old) ≡ suc (length (open_elements cursor.new))) }
+    ensures skips { let old = reading (P.state «package».old) cursor.old in
+        let new = reading (P.state «package».new) cursor.new in
+        old.source.is_told ≡ true → OnOk result (Skips old new) }
+    ensures formats { let old = reading (P.state «package».old) cursor.old in
+        old.source.is_told ≡ true → OnOk result
+        (IsOkAnd (formats_written (content 0 (ahead old))) (λ formats.
+        (earlier : List WrittenFormat) → AreCodes earlier kept.old →
+        AreCodes (earlier ++ formats) kept.new)) }
+    ensures err { let old = reading (P.state «package».old) cursor.old in
+        let new = reading (P.state «package».new) cursor.new in
+        IfErr result (ElementReadFails (always (codes "numFmts")) formats_written old new) }
+    ensures kind { IfErr result (λ error.
+        IsPlainError (codes "numFmts") error ⊎ IsDecodeError error) }
+{
+    let base = cursor.depth();
+    'starts: while let Some(at) = next_start_in(package, cursor, base, "numFmt", "numFmts")? {
+        keep_format(alloc, kept, start_tag(package), at)?;
+    }
+    Ok(())
+}

@@ -1,0 +1,83 @@
+ghost use Rattle.std.specs.Prelude.{◌≡◌, ℕ, suc, codes, length, true, Ok, IfOk, OnOk, IfErr};
+ghost use Rattle.std.specs.Prelude.{MatchResult, Err};
+ghost use Rattle.part_events.specs.Event.{tag_of};
+ghost use Rattle.part_events.specs.Reading.{reading, open_elements, IsReading, IsAtElement};
+ghost use Rattle.part_events.specs.Reading.{ReadsPart, Skips, ahead};
+ghost use Rattle.part_events.specs.Section.{content};
+ghost use Rattle.cell_data.specs.declared.error.XlsxError.TheVariants.{Io};
+ghost use Rattle.xlsx_sections.specs.Elements.{ElementReadFails};
+ghost use Rattle.xlsx_sections.specs.PartSection.{always};
+ghost use Rattle.xlsx_sections.specs.Refusal.{lookup_fault, placed_at};
+ghost use Rattle.xlsx_styles.specs.Errors.{IsPlainError};
+ghost use Rattle.xlsx_formats.specs.Formattings.{setting_change, settings_of};
+
+use attr_text::{AttrFault, RawAttributes};
+use cell_data::XlsxError;
+use cell_styles::{Alignment, Protection};
+use part_events::{Cursor, Package, StartTag};
+use xlsx_sections::{next_start_among, start_tag};
+use xlsx_styles::{parse_alignment, parse_protection};
+
+/// What the elements in a cell format set.
+#[derive(Debug, PartialEq, Drop)]
+pub struct Settings {
+    pub alignment: Option<Alignment>,
+    pub protection: Option<Protection>,
+}
+
+/// Sets what a start says, in place of an earlier one.
+fn change_setting(settings: &mut Settings, tag: StartTag<'_>) -> Result<(), AttrFault>
+    ensures { MatchResult result
+        (λ _. (behind : ℕ) →
+        setting_change (placed_at (tag_of tag.entry) behind) settings.old ≡ Ok settings.new)
+        (λ fault. (behind : ℕ) →
+        setting_change (placed_at (tag_of tag.entry) behind) settings.old
+        ≡ Err (lookup_fault fault)) }
+{
+    match tag.local_name() {
+        "alignment" => settings.alignment = Some(parse_alignment(&tag)?),
+        _ => settings.protection = Some(parse_protection(&tag)?),
+    }
+    Ok(())
+}
+
+/// Reads the cell format at whose start the package stands, to its end, for what is set in it.
+#[tactic(auto, using(xlsx_styles::proofs::StepErrors::plain_step))]
+pub fn read_settings<P: Package>(
+    package: &mut P,
+    cursor: &mut Cursor,
+) -> Result<Settings, XlsxError>
+    requires reading { IsReading (reading (P.state «package».old) cursor.old) }
+    requires element { IsAtElement (reading (P.state «package».old) cursor.old) }
+    ensures reads { let old = reading (P.state «package».old) cursor.old in
+        let new = reading (P.state «package».new) cursor.new in
+        ReadsPart Io result old new }
+    ensures depth { OnOk result
+        (length (open_elements cursor.old) ≡ suc (length (open_elements cursor.new))) }
+    ensures skips { let old = reading (P.state «package».old) cursor.old in
+        let new = reading (P.state «package».new) cursor.new in
+        old.source.is_told ≡ true → OnOk result (Skips old new) }
+    ensures settings { let old = reading (P.state «package».old) cursor.old in
+        old.source.is_told ≡ true →
+        IfOk result (λ settings. settings_of (content 0 (ahead old)) ≡ Ok settings) }
+    ensures err { let old = reading (P.state «package».old) cursor.old in
+        let new = reading (P.state «package».new) cursor.new in
+        IfErr result (ElementReadFails (always (codes "xf")) settings_of old new) }
+    ensures kind { IfErr result (IsPlainError (codes "xf")) }
+{
+    let base = cursor.depth();
+    let mut settings = Settings {
+        alignment: None,
+        protection: None,
+    };
+    'starts: while let Some(_at) = next_start_among(
+        package,
+        cursor,
+        base,
+        &["alignment", "protection"],
+        "xf",
+    )? {
+        change_setting(&mut settings, start_tag(package))?;
+    }
+    Ok(settings)
+}

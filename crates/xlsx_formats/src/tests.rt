@@ -1,0 +1,250 @@
+use super::*;
+use cell_data::{CellFormat, XlsxError};
+use cell_styles::{Borders, Fill, FillPattern, Font, HorizontalAlignment};
+use part_events::{Cursor, MemoryPackage, Package, PartEvent, StartTag, XmlFault};
+use std::alloc::{AllocError, Global};
+use std::process::Abort;
+use std::test::Fail;
+use xlsx_sections::enter;
+
+fn start<'a>(name: &'a str, attributes: &'a str) -> PartEvent<'a> {
+    PartEvent::Start(StartTag { name, attributes })
+}
+
+// A package with one part of these events.
+fn held_package(
+    rt: &impl Abort,
+    alloc: Global,
+    events: &[PartEvent<'_>],
+) -> Result<MemoryPackage, AllocError> {
+    let mut package = MemoryPackage::new(alloc);
+    package.add_part("part")?;
+    for event in events {
+        assert!(rt; package.part_count() == 1);
+        package.push_event(*event)?;
+    }
+    Ok(package)
+}
+
+fn keep_codes(
+    rt: &impl Abort,
+    alloc: Global,
+    events: &[PartEvent<'_>],
+    kept: &mut FormatCodes,
+) -> Result<(), XlsxError> {
+    let mut package = held_package(rt, alloc, events)?;
+    if !package.open("part")? {
+        return Err(XlsxError::FileNotFound(String::from_str(alloc, "part")?));
+    }
+    let mut cursor = Cursor::new(alloc, &package);
+    enter(&mut package, &mut cursor, "numFmts")?;
+    read_number_formats(alloc, &mut package, &mut cursor, kept)
+}
+
+fn formatting_in(
+    rt: &impl Abort,
+    alloc: Global,
+    events: &[PartEvent<'_>],
+    parts: &StyleParts<'_>,
+) -> Result<Formatting, XlsxError> {
+    let mut package = held_package(rt, alloc, events)?;
+    if !package.open("part")? {
+        return Err(XlsxError::FileNotFound(String::from_str(alloc, "part")?));
+    }
+    let mut cursor = Cursor::new(alloc, &package);
+    enter(&mut package, &mut cursor, "xf")?;
+    read_format(alloc, &mut package, &mut cursor, parts)
+}
+
+// The codes of three ids, of which one is built in.
+fn known_codes(alloc: Global) -> Result<FormatCodes, AllocError> {
+    let mut kept = FormatCodes::new(alloc);
+    for (id, code) in [("164", "[hH]:mm"), ("20", "0.0"), ("x", "d")] {
+        kept.keep(String::from_str(alloc, id)?, String::from_str(alloc, code)?)?;
+    }
+    Ok(kept)
+}
+
+#[test]
+fn codes_stand_for_their_ids_as_written(rt: HostRuntime) -> Result<(), Fail> {
+    let alloc = rt.alloc();
+    let mut kept = FormatCodes::new(alloc);
+    let first = [
+        start("numFmts", " count=\"99999999999\""),
+        start("numFmt", " numFmtId=\"164\" formatCode=\"0&quot;a&quot;\""),
+        PartEvent::End("numFmt"),
+        start("extLst", ""),
+        start("x:numFmt", " formatCode=\"@\" numFmtId=\"0164\""),
+        PartEvent::End("x:numFmt"),
+        PartEvent::End("extLst"),
+        start("numFmt", " numFmtId=\"5\""),
+        PartEvent::End("numFmt"),
+        PartEvent::End("numFmts"),
+    ];
+    keep_codes(&rt, alloc, &first, &mut kept)?;
+    let second = [
+        start("numFmts", ""),
+        start("numFmt", " numFmtId=\"164\" formatCode=\"[h]&lt;\""),
+        PartEvent::End("numFmt"),
+        PartEvent::End("numFmts"),
+    ];
+    assert!(rt; kept.code("164") == Some("0\"a\""));
+    keep_codes(&rt, alloc, &second, &mut kept)?;
+    for (id, want) in [("164", Some("[h]<")), ("0164", Some("@")), ("5", None)] {
+        assert!(rt; kept.code(id) == want, "at {id}");
+    }
+    Ok(())
+}
+
+#[test]
+fn faults_of_number_formats_are_told(rt: HostRuntime) -> Result<(), Fail> {
+    let alloc = rt.alloc();
+    let mut kept = FormatCodes::new(alloc);
+    let open = [start("numFmts", ""), start("numFmt", "")];
+    let Err(XlsxError::XmlEof(name)) = keep_codes(&rt, alloc, &open, &mut kept) else {
+        return Err("not refused")?;
+    };
+    assert_eq!(rt; name, "numFmts");
+    let faulty = [
+        start("numFmts", ""),
+        start("numFmt", " numFmtId=\"1\" formatCode=\"&a\""),
+    ];
+    let Err(XlsxError::Xml(XmlFault::Entity { at })) = keep_codes(&rt, alloc, &faulty, &mut kept)
+    else {
+        return Err("not refused")?;
+    };
+    assert_eq!(rt; at, 1);
+    Ok(())
+}
+
+#[test]
+fn number_formats_go_by_their_ids(rt: HostRuntime) -> Result<(), Fail> {
+    let alloc = rt.alloc();
+    let kept = known_codes(alloc)?;
+    let parts = StyleParts {
+        codes: &kept,
+        fonts: &[],
+        fills: &[],
+        borders: &[],
+    };
+    for (attributes, format, number) in [
+        ("", CellFormat::Other, None),
+        (" numFmtId=\"0\"", CellFormat::Other, Some((0, "General"))),
+        (
+            " numFmtId=\"14\"",
+            CellFormat::DateTime,
+            Some((14, "mm-dd-yy")),
+        ),
+        (
+            " numFmtId=\"46\"",
+            CellFormat::TimeDelta,
+            Some((46, "[h]:mm:ss")),
+        ),
+        (" numFmtId=\"50\"", CellFormat::Other, Some((50, "General"))),
+        (
+            " numFmtId=\"014\"",
+            CellFormat::Other,
+            Some((14, "mm-dd-yy")),
+        ),
+        (" numFmtId=\"20\"", CellFormat::Other, Some((20, "0.0"))),
+        (
+            " numFmtId=\"164\"",
+            CellFormat::TimeDelta,
+            Some((164, "[hH]:mm")),
+        ),
+        (" numFmtId=\"x\"", CellFormat::DateTime, None),
+        (" numFmtId=\"4294967296\"", CellFormat::Other, None),
+    ] {
+        let part = [start("xf", attributes), PartEvent::End("xf")];
+        let formatting = formatting_in(&rt, alloc, &part, &parts)?;
+        assert!(rt; formatting.format == format, "at {attributes}");
+        match (formatting.style.number_format.as_ref(), number) {
+            (None, None) => {}
+            (Some(named), Some((id, code))) => {
+                assert!(rt; named.format_id == Some(id), "at {attributes}");
+                assert_eq!(rt; named.format_code.as_str(), code);
+            }
+            _ => return Err("another number format")?,
+        }
+    }
+    Ok(())
+}
+
+#[test]
+fn fonts_fills_and_borders_go_by_their_numbers(rt: HostRuntime) -> Result<(), Fail> {
+    let alloc = rt.alloc();
+    let kept = FormatCodes::new(alloc);
+    let solid = Fill {
+        pattern: FillPattern::Solid,
+        foreground_color: None,
+        background_color: None,
+    };
+    let fonts = [Font::default()];
+    let fills = [Fill::default(), solid];
+    let borders = [Borders::default()];
+    let parts = StyleParts {
+        codes: &kept,
+        fonts: &fonts,
+        fills: &fills,
+        borders: &borders,
+    };
+    for (attributes, font, fill, bordered) in [
+        (
+            " fontId=\"0\" fillId=\"01\" borderId=\"0\"",
+            true,
+            true,
+            true,
+        ),
+        (
+            " fontId=\"1\" fillId=\"2\" borderId=\"1\"",
+            false,
+            false,
+            false,
+        ),
+        (" fontId=\"+0\" fillId=\"-1\"", false, false, false),
+    ] {
+        let part = [start("xf", attributes), PartEvent::End("xf")];
+        let style = formatting_in(&rt, alloc, &part, &parts)?.style;
+        assert!(rt; style.font.is_some() == font, "at {attributes}");
+        assert!(rt; style.borders.is_some() == bordered, "at {attributes}");
+        match style.fill {
+            Some(found) => assert!(rt; fill && found.pattern == FillPattern::Solid),
+            None => assert!(rt; !fill, "at {attributes}"),
+        }
+    }
+    Ok(())
+}
+
+#[test]
+fn the_last_alignment_and_protection_count(rt: HostRuntime) -> Result<(), Fail> {
+    let alloc = rt.alloc();
+    let kept = FormatCodes::new(alloc);
+    let parts = StyleParts {
+        codes: &kept,
+        fonts: &[],
+        fills: &[],
+        borders: &[],
+    };
+    let part = [
+        start("xf", ""),
+        start("alignment", " horizontal=\"left\" wrapText=\"1\""),
+        start("protection", " hidden=\"1\""),
+        PartEvent::End("protection"),
+        PartEvent::End("alignment"),
+        start("alignment", " horizontal=\"right\""),
+        PartEvent::End("alignment"),
+        PartEvent::End("xf"),
+    ];
+    let style = formatting_in(&rt, alloc, &part, &parts)?.style;
+    let (Some(alignment), Some(protection)) = (style.alignment, style.protection) else {
+        return Err("not set")?;
+    };
+    assert!(rt; alignment.horizontal == HorizontalAlignment::Right);
+    assert!(rt; !alignment.wrap_text);
+    assert!(rt; protection.locked && protection.hidden);
+    let Err(XlsxError::XmlEof(name)) = formatting_in(&rt, alloc, &part[..3], &parts) else {
+        return Err("not refused")?;
+    };
+    assert_eq!(rt; name, "xf");
+    Ok(())
+}

@@ -1,0 +1,19 @@
+use Rattle.std.proofs.Common.{ℕ, List, ◌∙◌, subst}
+use Rattle.std.specs.Prelude.{IfOk}
+use Rattle.part_events.specs.Package.{Uses, event_count}
+use Rattle.cell_data.specs.declared.error.XlsxError.TheVariants.{Io}
+use Rattle.xlsx_theme.specs.ThemePart.{HasTheme}
+use Rattle.xlsx_open.proofs.shared_parts.read_colors.Goals as goal
+
+pub returns-clause-uses : goal.returns-clause-uses
+returns-clause-uses g c =
+    let old = g.P.Package.state c.args.package.now in
+    let new = g.P.Package.state c.read_theme.new.package in
+    subst (λ (part : List ℕ). Uses (event_count old.parts part) Io c.read_theme.result old new)
+    (c.as_str.ensures.value ∙ c.in_ok-part.ensures) c.read_theme.ensures.uses
+
+pub returns-clause-theme : goal.returns-clause-theme
+returns-clause-theme g c = λ told.
+    let old = g.P.Package.state c.args.package.now in
+    subst (λ (part : List ℕ). IfOk c.read_theme.result (HasTheme old.parts part))
+    (c.as_str.ensures.value ∙ c.in_ok-part.ensures) (c.read_theme.ensures.theme told)

@@ -1,0 +1,29 @@
+use Rattle.std.proofs.Common.{◌≡◌, ◌+◌, List, true, arith, ap, ◌∙◌}
+use Rattle.std.proofs.lemmas.Result.{err_from_is_err_and}
+use Rattle.part_events.specs.Package.{Part, UsesPackage, event_count}
+use Rattle.xlsx_theme.specs.ThemePart.{theme_colors}
+use Rattle.xlsx_open.specs.Paths.{strings_part, theme_part}
+use Rattle.xlsx_open.proofs.Openings.{uses_then, styles_fail}
+use Rattle.xlsx_open.proofs.shared_parts.read_shared.Goals as goal
+
+pub returns-in_err-style_sheet-clause-err : goal.returns-in_err-style_sheet-clause-err
+returns-in_err-style_sheet-clause-err g c =
+    let old = g.P.Package.state c.args.package.now in
+    let first = g.P.Package.state c.read_strings.new.package in
+    let mid = g.P.Package.state c.read_colors.new.package in
+    let new = g.P.Package.state c.read_style_sheet.new.package in
+    let path = c.args.path.now in
+    let theme = c.as_slice.result.now in
+    let e = c.in_err-style_sheet.field-0.0 in
+    let same = c.in_ok-strings.ensures.uses.parts in
+    let both : UsesPackage
+    (event_count old.parts (strings_part path) + event_count first.parts (theme_part path)) old mid =
+    uses_then (omega arith) c.in_ok-strings.ensures.uses c.in_ok-theme.ensures.uses in
+    let colors : old.is_told ≡ true → theme ≡ theme_colors old.parts (theme_part path) = λ told.
+    c.as_slice.ensures.value ∙ (c.in_ok-theme.ensures.theme (same.is_told ∙ told)).colors
+    ∙ ap (λ (parts : List Part). theme_colors parts (theme_part path)) same.parts in
+    let p = err_from_is_err_and c.from_residual-in_err-style_sheet.result
+    c.from_residual-in_err-style_sheet.ensures.1 in
+    rw (p.1, p.2)
+    (styles_fail old mid new path theme e both.parts both.faults colors
+    c.in_err-style_sheet.ensures.err)

@@ -1,0 +1,32 @@
+-- Which refusals are those of an element, by that of a step in it.
+use Rattle.std.proofs.Common.{◌≡◌, ℕ, List, codes, inl, inr}
+use Rattle.part_events.specs.declared.fault.XmlFault.TheVariants.{EndMismatch}
+use Rattle.cell_data.specs.declared.error.XlsxError.{XlsxError}
+use Rattle.cell_data.specs.declared.error.XlsxError.TheVariants.{OutOfMemory, Io, Xml, XmlAttr}
+use Rattle.cell_data.specs.declared.error.XlsxError.TheVariants.{XmlEof}
+use Rattle.xlsx_sections.specs.PartSection.{IsStepError}
+use Rattle.xlsx_styles.specs.Errors.{IsPlainError, IsBorderError}
+
+pub plain_step : (name : List ℕ) (error : XlsxError) → IsStepError name error
+    → IsPlainError name error
+plain_step name OutOfMemory is = tt
+plain_step name Io is = tt
+plain_step name (Xml (EndMismatch at)) is = tt
+plain_step name (XmlEof element) is = is
+plain_step name _ is = absurd is
+
+pub border_step : (error : XlsxError) → IsStepError (codes "border") error → IsBorderError error
+border_step OutOfMemory is = tt
+border_step Io is = tt
+border_step (Xml (EndMismatch at)) is = tt
+border_step (XmlEof element) is = inl is
+border_step _ is = absurd is
+
+pub side_step : (error : XlsxError) → IsPlainError (codes "border side") error
+    → IsBorderError error
+side_step OutOfMemory is = tt
+side_step Io is = tt
+side_step (Xml (EndMismatch at)) is = tt
+side_step (XmlAttr fault) is = tt
+side_step (XmlEof element) is = inr is
+side_step _ is = absurd is

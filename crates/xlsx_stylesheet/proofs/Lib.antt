@@ -1,0 +1,5 @@
+pub mod BordersRead
+pub mod CodesWritten
+pub mod ListsRead
+pub mod Sound
+pub mod StyleListsRead

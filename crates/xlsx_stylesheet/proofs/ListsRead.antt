@@ -1,0 +1,83 @@
+-- How the elements of a list are read one by one, and put behind what was kept.
+use Rattle.std.proofs.Common.{◌≡◌, ℕ, suc, List, [], ◌∷◌, ◌++◌, length, Bool, true, Option}
+use Rattle.std.proofs.Common.{Result, Ok, refl, sym, ◌∙◌, ap, subst}
+use Rattle.part_events.specs.Event.{Tag, Event}
+use Rattle.part_events.specs.Reading.{Reading, ReadsOn, Skips, ahead}
+use Rattle.part_events.specs.Section.{content}
+use Rattle.part_events.specs.Walk.{section_ahead, element_at}
+use Rattle.cell_data.specs.declared.error.XlsxError.{XlsxError}
+use Rattle.xlsx_sections.specs.Answers.{prepended}
+use Rattle.xlsx_sections.specs.Elements.{KeepsElements, ElementReadFails, IsInsideRefused}
+use Rattle.xlsx_sections.specs.PartSection.{SectionFails, Never}
+use Rattle.xlsx_sections.specs.Refusal.{Refusal, in_element}
+use Rattle.xlsx_sections.proofs.ElementsRead.{IsElementFound, element_passed, element_refused}
+use Rattle.xlsx_sections.proofs.ElementsRead.{step_refused, own_inside}
+use Rattle.xlsx_sections.proofs.Kept.{all_further, all_refused, behind_refused}
+use Rattle.xlsx_stylesheet.specs.Said.{element_said, list_said, end_inside, end_in_list}
+
+-- the elements of a list were read up to here, and what they say was put behind what was kept
+-- before
+pub record KeepsList {A : Type 0} (wanted : Tag → Bool) (meaning : Tag → List Event
+    → Result A Refusal) (base : ℕ) (before kept : List A) (first now : Reading) : Type 0 where
+  pub keeps : KeepsElements wanted base first now
+  pub own : base ≡ length first.names
+  pub said :
+      first.source.is_told ≡ true →
+      prepended kept (list_said wanted meaning (section_ahead base now))
+      ≡ prepended before (list_said wanted meaning (section_ahead base first))
+
+-- the step to the next element is refused, and so is the list
+pub list_step_refused : {A : Type 0} {base : ℕ} {first mid : Reading} {wanted : Tag → Bool}
+    {meaning : Tag → List Event → Result A Refusal} {before kept : List A} (name : List ℕ)
+    (ending : List Event → Option (List ℕ)) (new : Reading) (error : XlsxError)
+    → KeepsList wanted meaning base before kept first mid
+    → SectionFails (end_in_list wanted name ending) Never base mid new error
+    → ElementReadFails (end_in_list wanted name ending) (list_said wanted meaning) first new error
+list_step_refused {first = first} {wanted = wanted} {meaning =
+    meaning} name ending new error list fails =
+    let refused = IsInsideRefused (list_said wanted meaning) in
+    subst (λ (n : ℕ). SectionFails (end_in_list wanted name ending) refused n first new error)
+    list.own (step_refused name (end_inside ending) refused new error list.keeps fails)
+
+-- an element of the list is refused, and so is the list
+pub list_element_refused : {A : Type 0} {base place : ℕ} {tag : Tag} {first old new : Reading}
+    {wanted : Tag → Bool} {meaning : Tag → List Event → Result A Refusal} {before kept : List A}
+    (name : List ℕ) (ending : List Event → Option (List ℕ)) (last : Reading) (error : XlsxError)
+    → KeepsList wanted meaning base before kept first old
+    → IsElementFound wanted base tag place first old new
+    → ElementReadFails ending (meaning tag) new last error
+    → ElementReadFails (end_in_list wanted name ending) (list_said wanted meaning) first last error
+list_element_refused {base = base} {tag = tag} {first = first} {new = new} {wanted =
+    wanted} {meaning = meaning} {before = before} {kept = kept} name ending last error list found
+    fails =
+    let refused = IsInsideRefused (list_said wanted meaning) in
+    let here = element_at base tag new in
+    subst (λ (n : ℕ). SectionFails (end_in_list wanted name ending) refused n first last error)
+    list.own
+    (element_refused name (end_inside ending) ending (IsInsideRefused (meaning tag)) refused last
+    error found (λ _. refl)
+    (λ told refusal refuses.
+    behind_refused before (list_said wanted meaning (section_ahead base first))
+    (all_refused (element_said meaning) kept (found.next told).elements
+    (ap (in_element here) (sym (ap (meaning tag) (own_inside new)) ∙ refuses)) (list.said told)))
+    fails)
+
+-- an element of the list was read to its end, and what it says was put behind what was kept
+pub list_element_added : {A : Type 0} {base place : ℕ} {tag : Tag} {first old new after : Reading}
+    {wanted : Tag → Bool} {meaning : Tag → List Event → Result A Refusal} {before kept : List A}
+    (own : A) → KeepsList wanted meaning base before kept first old
+    → IsElementFound wanted base tag place first old new → ReadsOn new after
+    → length new.names ≡ suc (length after.names) → (new.source.is_told ≡ true → Skips new after)
+    → (new.source.is_told ≡ true → meaning tag (content 0 (ahead new)) ≡ Ok own)
+    → KeepsList wanted meaning base before (kept ++ own ∷ []) first after
+list_element_added {base = base} {tag = tag} {first = first} {new = new} {wanted =
+    wanted} {meaning = meaning} {kept = kept} own list found reads depth skips says =
+    let passed = element_passed found reads depth skips in
+    record {
+      keeps = passed.keeps;
+      own = list.own;
+      said = λ told. all_further (element_said meaning) kept own (passed.elements told)
+          (ap (in_element (element_at base tag new))
+          (says (found.read.reads.moves.parts.is_told ∙ told)))
+          (list.said told);
+    }

@@ -1,0 +1,143 @@
+use Rattle.std.proofs.Common.{◌++◌, List, refl, ap}
+use Rattle.std.proofs.lemmas.Result.{MatchResult-weaker, on_ok_weaker}
+use Rattle.part_events.specs.Reading.{reading, ahead}
+use Rattle.part_events.specs.Section.{content}
+use Rattle.xlsx_sections.specs.Answers.{prepended}
+use Rattle.xlsx_formats.specs.FormatCodes.{WrittenFormat, formats_written, AreCodes}
+use Rattle.xlsx_stylesheet.specs.Lists.{fonts_in, fills_in, borders_in, formattings_in}
+use Rattle.xlsx_stylesheet.specs.StyleSheet.{with_list, with_formats, with_fonts, with_fills}
+use Rattle.xlsx_stylesheet.specs.StyleSheet.{with_borders, with_formattings, lists_said}
+use Rattle.xlsx_stylesheet.proofs.StyleListsRead.{list_fails, list_lengthened, list_there, answered}
+use Rattle.xlsx_stylesheet.proofs.style_lists.read_list.Goals as goal
+
+pub returns-in-NumberFormats-clause-lists : goal.returns-in-NumberFormats-clause-lists
+returns-in-NumberFormats-clause-lists g c = λ told.
+    let old = reading (g.P.Package.state c.args.package.now) c.args.cursor.now in
+    let lists = c.args.lists.now in
+    let kept = c.read_number_formats.new.kept in
+    let written = formats_written (content 0 (ahead old)) in
+    on_ok_weaker c.read_number_formats.result
+    (λ holds tag formats there are.
+    let more = answered written (λ more. (earlier : List WrittenFormat)
+    → AreCodes earlier lists.codes → AreCodes (earlier ++ more) kept) holds in
+    list_lengthened tag (formats ++ more.0)
+    (list_there c.in-NumberFormats.is c.list_of.ensures c.start_tag.ensures there)
+    (more.2 formats are)
+    (ap (λ answer. with_list (with_formats (lists_said formats lists)) (prepended formats answer))
+    more.1))
+    (c.read_number_formats.ensures.formats told)
+
+pub returns-in-NumberFormats-clause-err : goal.returns-in-NumberFormats-clause-err
+returns-in-NumberFormats-clause-err g c =
+    let old = reading (g.P.Package.state c.args.package.now) c.args.cursor.now in
+    let new = reading (g.P.Package.state c.read_number_formats.new.package)
+    c.read_number_formats.new.cursor in
+    MatchResult-weaker c.read_number_formats.result
+    c.read_number_formats.ensures.err
+    (λ _ is. is)
+    (λ error fails tag formats there are.
+    let said = lists_said formats c.args.lists.now in
+    list_fails c.args.theme_colors.now said (with_formats said) formats formats_written
+    tag old new error c.requires.reading
+    (list_there c.in-NumberFormats.is c.list_of.ensures c.start_tag.ensures there)
+    (λ _. refl) fails)
+
+pub returns-in-Fonts-clause-lists : goal.returns-in-Fonts-clause-lists
+returns-in-Fonts-clause-lists g c = λ told.
+    on_ok_weaker c.read_fonts.result
+    (λ holds tag formats there are.
+    list_lengthened tag formats
+    (list_there c.in-Fonts.is c.list_of.ensures c.start_tag.ensures there) are
+    (ap (with_list (with_fonts (lists_said formats c.args.lists.now))) holds))
+    (c.read_fonts.ensures.fonts told)
+
+pub returns-in-Fonts-clause-err : goal.returns-in-Fonts-clause-err
+returns-in-Fonts-clause-err g c =
+    let old = reading (g.P.Package.state c.args.package.now) c.args.cursor.now in
+    let new = reading (g.P.Package.state c.read_fonts.new.package) c.read_fonts.new.cursor in
+    MatchResult-weaker c.read_fonts.result
+    c.read_fonts.ensures.err
+    (λ _ is. is)
+    (λ error fails tag formats there are.
+    let said = lists_said formats c.args.lists.now in
+    list_fails c.args.theme_colors.now said (with_fonts said) said.parts.fonts
+    (fonts_in c.args.theme_colors.now) tag old new error c.requires.reading
+    (list_there c.in-Fonts.is c.list_of.ensures c.start_tag.ensures there)
+    (λ _. refl) fails)
+
+pub returns-in-Fills-clause-lists : goal.returns-in-Fills-clause-lists
+returns-in-Fills-clause-lists g c = λ told.
+    on_ok_weaker c.read_fills.result
+    (λ holds tag formats there are.
+    list_lengthened tag formats
+    (list_there c.in-Fills.is c.list_of.ensures c.start_tag.ensures there) are
+    (ap (with_list (with_fills (lists_said formats c.args.lists.now))) holds))
+    (c.read_fills.ensures.fills told)
+
+pub returns-in-Fills-clause-err : goal.returns-in-Fills-clause-err
+returns-in-Fills-clause-err g c =
+    let old = reading (g.P.Package.state c.args.package.now) c.args.cursor.now in
+    let new = reading (g.P.Package.state c.read_fills.new.package) c.read_fills.new.cursor in
+    MatchResult-weaker c.read_fills.result
+    c.read_fills.ensures.err
+    (λ _ is. is)
+    (λ error fails tag formats there are.
+    let said = lists_said formats c.args.lists.now in
+    list_fails c.args.theme_colors.now said (with_fills said) said.parts.fills
+    (fills_in c.args.theme_colors.now) tag old new error c.requires.reading
+    (list_there c.in-Fills.is c.list_of.ensures c.start_tag.ensures there)
+    (λ _. refl) fails)
+
+pub returns-in-Borders-clause-lists : goal.returns-in-Borders-clause-lists
+returns-in-Borders-clause-lists g c = λ told.
+    on_ok_weaker c.read_borders.result
+    (λ holds tag formats there are.
+    list_lengthened tag formats
+    (list_there c.in-Borders.is c.list_of.ensures c.start_tag.ensures there) are
+    (ap (with_list (with_borders (lists_said formats c.args.lists.now))) holds))
+    (c.read_borders.ensures.borders told)
+
+pub returns-in-Borders-clause-err : goal.returns-in-Borders-clause-err
+returns-in-Borders-clause-err g c =
+    let old = reading (g.P.Package.state c.args.package.now) c.args.cursor.now in
+    let new = reading (g.P.Package.state c.read_borders.new.package) c.read_borders.new.cursor in
+    MatchResult-weaker c.read_borders.result
+    c.read_borders.ensures.err
+    (λ _ is. is)
+    (λ error fails tag formats there are.
+    let said = lists_said formats c.args.lists.now in
+    list_fails c.args.theme_colors.now said (with_borders said) said.parts.borders
+    (borders_in c.args.theme_colors.now) tag old new error c.requires.reading
+    (list_there c.in-Borders.is c.list_of.ensures c.start_tag.ensures there)
+    (λ _. refl) fails)
+
+pub returns-in-Formats-clause-lists : goal.returns-in-Formats-clause-lists
+returns-in-Formats-clause-lists g c = λ told.
+    on_ok_weaker c.read_formats.result
+    (λ holds tag formats there are.
+    list_lengthened tag formats
+    (list_there c.in-Formats.is c.list_of.ensures c.start_tag.ensures there) are
+    (ap (with_list (with_formattings (lists_said formats c.args.lists.now))) (holds formats are)))
+    (rw (
+      c.as_slice.ensures.value,
+      c.as_slice-in-Formats.ensures.value,
+      c.as_slice-in-Formats-2.ensures.value,
+    ) at (c.read_formats.ensures.formattings told))
+
+pub returns-in-Formats-clause-err : goal.returns-in-Formats-clause-err
+returns-in-Formats-clause-err g c =
+    let old = reading (g.P.Package.state c.args.package.now) c.args.cursor.now in
+    let new = reading (g.P.Package.state c.read_formats.new.package) c.read_formats.new.cursor in
+    MatchResult-weaker c.read_formats.result
+    (rw (
+      c.as_slice.ensures.value,
+      c.as_slice-in-Formats.ensures.value,
+      c.as_slice-in-Formats-2.ensures.value,
+    ) at c.read_formats.ensures.err)
+    (λ _ is. is)
+    (λ error fails tag formats there are.
+    let said = lists_said formats c.args.lists.now in
+    list_fails c.args.theme_colors.now said (with_formattings said) said.formattings
+    (formattings_in said.parts) tag old new error c.requires.reading
+    (list_there c.in-Formats.is c.list_of.ensures c.start_tag.ensures there) (λ _. refl)
+    (fails formats are))

@@ -1,0 +1,4 @@
+pub mod Lists
+pub mod Said
+pub mod StyleSheet
+pub mod StylesErrors

@@ -1,0 +1,82 @@
+-- What the lists of fonts, fills, borders and cell formats say (ECMA-376 part 1, sections 18.8.23,
+-- 18.8.21, 18.8.5 and 18.8.10).
+use Rattle.std.specs.Prelude.{ℕ, List, [], ◌∷◌, get_or, Bool, false, codes, Option, None, Result}
+use Rattle.std.specs.Prelude.{Ok, Err}
+use Rattle.attr_text.specs.Attributes.{lookup}
+use Rattle.attr_text.specs.declared.fault.AttrFault.{AttrFault}
+use Rattle.part_events.specs.Event.{Tag, Event}
+use Rattle.part_events.specs.Section.{is_named}
+use Rattle.cell_styles.specs.declared.border.Borders.{Borders}
+use Rattle.cell_styles.specs.declared.color.Color.{Color}
+use Rattle.cell_styles.specs.declared.fill.Fill.{Fill}
+use Rattle.xlsx_sections.specs.PartSection.{always}
+use Rattle.xlsx_sections.specs.Refusal.{Refusal, lookup_fault}
+use Rattle.xlsx_styles.specs.Borders.{border_of, end_in_border}
+use Rattle.xlsx_styles.specs.Fills.{fill_of}
+use Rattle.xlsx_styles.specs.Fonts.{FontSaid, font_of}
+use Rattle.xlsx_styles.specs.Texts.{truth_or}
+use Rattle.xlsx_formats.specs.Formattings.{PartsSaid, FormattingSaid, formatting_of}
+use Rattle.xlsx_stylesheet.specs.Said.{list_said, end_in_list}
+
+abbrev pub is_font : Tag → Bool
+is_font tag = is_named (codes "font" ∷ []) tag
+
+abbrev pub font_said : List Color → Tag → List Event → Result FontSaid Refusal
+font_said theme tag inside = font_of theme inside
+
+abbrev pub fonts_in : List Color → List Event → Result (List FontSaid) Refusal
+fonts_in theme inside = list_said is_font (font_said theme) inside
+
+abbrev pub end_in_fonts : List Event → Option (List ℕ)
+end_in_fonts inside = end_in_list is_font (codes "fonts") (always (codes "font")) inside
+
+abbrev pub is_fill : Tag → Bool
+is_fill tag = is_named (codes "fill" ∷ []) tag
+
+abbrev pub fill_said : List Color → Tag → List Event → Result Fill Refusal
+fill_said theme tag inside = fill_of theme inside
+
+abbrev pub fills_in : List Color → List Event → Result (List Fill) Refusal
+fills_in theme inside = list_said is_fill (fill_said theme) inside
+
+abbrev pub end_in_fills : List Event → Option (List ℕ)
+end_in_fills inside = end_in_list is_fill (codes "fills") (always (codes "fill")) inside
+
+abbrev pub diagonals_by : Result (List (Option (List ℕ))) AttrFault → Result (Bool × Bool) AttrFault
+diagonals_by (Ok texts) =
+    Ok (truth_or false (get_or texts 0 None), truth_or false (get_or texts 1 None))
+diagonals_by (Err fault) = Err fault
+
+abbrev pub diagonal_keys : List (List ℕ)
+diagonal_keys = codes "diagonalDown" ∷ codes "diagonalUp" ∷ []
+
+-- whether the diagonal of borders goes down, and whether it goes up, by their start
+abbrev pub diagonals_of : Tag → Result (Bool × Bool) AttrFault
+diagonals_of tag = diagonals_by (lookup diagonal_keys tag.attributes)
+
+abbrev pub border_by :
+    List Color → List Event → Result (Bool × Bool) AttrFault → Result Borders Refusal
+border_by theme inside (Ok ways) = border_of theme ways.0 ways.1 inside
+border_by theme inside (Err fault) = Err (lookup_fault fault)
+
+abbrev pub border_said : List Color → Tag → List Event → Result Borders Refusal
+border_said theme tag inside = border_by theme inside (diagonals_of tag)
+
+abbrev pub is_border : Tag → Bool
+is_border tag = is_named (codes "border" ∷ []) tag
+
+abbrev pub borders_in : List Color → List Event → Result (List Borders) Refusal
+borders_in theme inside = list_said is_border (border_said theme) inside
+
+abbrev pub end_in_borders : List Event → Option (List ℕ)
+end_in_borders inside = end_in_list is_border (codes "borders") end_in_border inside
+
+abbrev pub is_format : Tag → Bool
+is_format tag = is_named (codes "xf" ∷ []) tag
+
+-- each cell format sees the same parts
+abbrev pub formattings_in : PartsSaid → List Event → Result (List FormattingSaid) Refusal
+formattings_in parts inside = list_said is_format (formatting_of parts) inside
+
+abbrev pub end_in_formats : List Event → Option (List ℕ)
+end_in_formats inside = end_in_list is_format (codes "cellXfs") (always (codes "xf")) inside

@@ -1,0 +1,23 @@
+-- The refusals that reading the styles part can have, whatever the package tells.
+use Rattle.std.specs.Prelude.{◌≡◌, ◌⊎◌, ⊤, ℕ, List, codes}
+use Rattle.part_events.specs.declared.fault.XmlFault.TheVariants.{EndMismatch, Entity}
+use Rattle.cell_data.specs.declared.error.XlsxError.{XlsxError}
+use Rattle.cell_data.specs.declared.error.XlsxError.TheVariants.{OutOfMemory, Io, Xml, XmlAttr}
+use Rattle.cell_data.specs.declared.error.XlsxError.TheVariants.{XmlEof}
+
+-- how the end of the part is told
+abbrev pub IsStylesEnd : List ℕ → Type 0
+IsStylesEnd name =
+    (name ≡ codes "styleSheet") ⊎ ((name ≡ codes "numFmts") ⊎ ((name ≡ codes "fonts")
+    ⊎ ((name ≡ codes "font") ⊎ ((name ≡ codes "fills") ⊎ ((name ≡ codes "fill")
+    ⊎ ((name ≡ codes "borders") ⊎ ((name ≡ codes "border") ⊎ ((name ≡ codes "border side")
+    ⊎ ((name ≡ codes "cellXfs") ⊎ (name ≡ codes "xf"))))))))))
+
+abbrev pub AreStylesError : XlsxError → Type 0
+AreStylesError Io = ⊤
+AreStylesError OutOfMemory = ⊤
+AreStylesError (Xml (EndMismatch at)) = ⊤
+AreStylesError (Xml (Entity at)) = ⊤
+AreStylesError (XmlAttr fault) = ⊤
+AreStylesError (XmlEof element) = IsStylesEnd element.now
+AreStylesError _ = ⊥

@@ -1,0 +1,231 @@
+ghost use Rattle.std.specs.Prelude.{◌≡◌, ◌≤◌, List, ℕ, [], ◌∷◌, suc, codes, length, map, true, Ok};
+ghost use Rattle.std.specs.Prelude.{Err, IfOk, OnOk, IfErr, MatchResult};
+ghost use Rattle.std.specs.Option.{option_copied};
+ghost use Rattle.attr_text.specs.Attributes.{lookup};
+ghost use Rattle.part_events.specs.Event.{Tag, start, tag_of};
+ghost use Rattle.part_events.specs.Reading.{reading, open_elements, IsReading, IsAtElement};
+ghost use Rattle.part_events.specs.Reading.{ReadsPart, Skips, ahead};
+ghost use Rattle.part_events.specs.Section.{content};
+ghost use Rattle.cell_data.specs.declared.error.XlsxError.TheVariants.{Io};
+ghost use Rattle.xlsx_sections.specs.Answers.{prepended};
+ghost use Rattle.xlsx_sections.specs.Elements.{ElementReadFails};
+ghost use Rattle.xlsx_styles.specs.Borders.{end_in_border};
+ghost use Rattle.xlsx_styles.specs.Errors.{IsBorderError};
+ghost use Rattle.xlsx_styles.specs.Fonts.{said_of};
+ghost use Rattle.xlsx_formats.specs.FormatCodes.{WrittenFormat, AreCodes};
+ghost use Rattle.xlsx_formats.specs.Formattings.{formatting_said, parts_said};
+ghost use Rattle.xlsx_stylesheet.specs.Lists.{formattings_in, end_in_formats, fonts_in};
+ghost use Rattle.xlsx_stylesheet.specs.Lists.{end_in_fonts, fills_in, end_in_fills, diagonal_keys};
+ghost use Rattle.xlsx_stylesheet.specs.Lists.{diagonals_of, border_said, borders_in};
+ghost use Rattle.xlsx_stylesheet.specs.Lists.{end_in_borders};
+ghost use Rattle.xlsx_stylesheet.specs.StylesErrors.{AreStylesError};
+
+use attr_text::{AttrFault, AttrValue, RawAttributes, two_values};
+use cell_data::XlsxError;
+use cell_styles::{Borders, Color, Fill, Font};
+use part_events::{Cursor, Package, StartTag};
+use std::alloc::Global;
+use xlsx_formats::{Formatting, StyleParts, read_format};
+use xlsx_sections::{next_element_in, start_tag};
+use xlsx_styles::{read_border, read_fill, read_font, truth_or};
+
+/// Appends the fonts of the element at whose start the package stands, which is read to its end
+/// (ECMA-376 part 1, section 18.8.23).
+pub fn read_fonts<P: Package>(
+    alloc: Global,
+    package: &mut P,
+    cursor: &mut Cursor,
+    theme_colors: &[Color],
+    fonts: &mut Vec<Font>,
+) -> Result<(), XlsxError>
+    requires reading { IsReading (reading (P.state «package».old) cursor.old) }
+    requires element { IsAtElement (reading (P.state «package».old) cursor.old) }
+    ensures reads { let old = reading (P.state «package».old) cursor.old in
+        let new = reading (P.state «package».new) cursor.new in
+        ReadsPart Io result old new }
+    ensures depth { OnOk result
+        (length (open_elements cursor.old) ≡ suc (length (open_elements cursor.new))) }
+    ensures skips { let old = reading (P.state «package».old) cursor.old in
+        let new = reading (P.state «package».new) cursor.new in
+        old.source.is_told ≡ true → OnOk result (Skips old new) }
+    ensures fonts { let old = reading (P.state «package».old) cursor.old in
+        let inside = content 0 (ahead old) in
+        old.source.is_told ≡ true → OnOk result
+        (prepended (map said_of fonts.old.items) (fonts_in theme_colors.now inside)
+        ≡ Ok (map said_of fonts.new.items)) }
+    ensures err { let old = reading (P.state «package».old) cursor.old in
+        let new = reading (P.state «package».new) cursor.new in
+        IfErr result (ElementReadFails end_in_fonts (fonts_in theme_colors.now) old new) }
+    ensures kind { IfErr result AreStylesError }
+{
+    let base = cursor.depth();
+    'fonts: while let Some(_at) = next_element_in(package, cursor, base, &["font"], "fonts")? {
+        fonts.push(read_font(alloc, package, cursor, theme_colors)?)?;
+    }
+    Ok(())
+}
+
+/// Appends the fills of the element at whose start the package stands, which is read to its end
+/// (ECMA-376 part 1, section 18.8.21).
+pub fn read_fills<P: Package>(
+    package: &mut P,
+    cursor: &mut Cursor,
+    theme_colors: &[Color],
+    fills: &mut Vec<Fill>,
+) -> Result<(), XlsxError>
+    requires reading { IsReading (reading (P.state «package».old) cursor.old) }
+    requires element { IsAtElement (reading (P.state «package».old) cursor.old) }
+    ensures reads { let old = reading (P.state «package».old) cursor.old in
+        let new = reading (P.state «package».new) cursor.new in
+        ReadsPart Io result old new }
+    ensures depth { OnOk result
+        (length (open_elements cursor.old) ≡ suc (length (open_elements cursor.new))) }
+    ensures skips { let old = reading (P.state «package».old) cursor.old in
+        let new = reading (P.state «package».new) cursor.new in
+        old.source.is_told ≡ true → OnOk result (Skips old new) }
+    ensures fills { let old = reading (P.state «package».old) cursor.old in
+        let inside = content 0 (ahead old) in
+        old.source.is_told ≡ true → OnOk result
+        (prepended fills.old.items (fills_in theme_colors.now inside) ≡ Ok fills.new.items) }
+    ensures err { let old = reading (P.state «package».old) cursor.old in
+        let new = reading (P.state «package».new) cursor.new in
+        IfErr result (ElementReadFails end_in_fills (fills_in theme_colors.now) old new) }
+    ensures kind { IfErr result AreStylesError }
+{
+    let base = cursor.depth();
+    'fills: while let Some(_at) = next_element_in(package, cursor, base, &["fill"], "fills")? {
+        fills.push(read_fill(package, cursor, theme_colors)?)?;
+    }
+    Ok(())
+}
+
+/// The texts of a start's attributes: which ways the diagonal goes.
+fn diagonal_texts<'a>(tag: &'a StartTag<'_>) -> Result<(AttrValue<'a>, AttrValue<'a>), AttrFault>
+    ensures { let texts = lookup diagonal_keys (tag_of tag.now).attributes in
+        MatchResult result
+        (λ p. texts ≡ Ok (option_copied p.0 ∷ option_copied p.1 ∷ []))
+        (λ fault. texts ≡ Err fault) }
+{
+    two_values(tag.attributes_raw(), "diagonalDown", "diagonalUp")
+}
+
+/// Whether the diagonal of the borders of a start goes down, and whether it goes up.
+fn diagonals_of(tag: &StartTag<'_>) -> Result<(bool, bool), AttrFault>
+    ensures { diagonals_of (tag_of tag.now) ≡ result }
+{
+    let (down, up) = diagonal_texts(tag)?;
+    Ok((truth_or(down, false), truth_or(up, false)))
+}
+
+/// The borders at whose start the package stands, which is read to its end. Its start says which
+/// ways the diagonal goes.
+fn read_one_border<P: Package>(
+    package: &mut P,
+    cursor: &mut Cursor,
+    theme_colors: &[Color],
+) -> Result<Borders, XlsxError>
+    requires reading { IsReading (reading (P.state «package».old) cursor.old) }
+    requires element { IsAtElement (reading (P.state «package».old) cursor.old) }
+    ensures reads { let old = reading (P.state «package».old) cursor.old in
+        let new = reading (P.state «package».new) cursor.new in
+        ReadsPart Io result old new }
+    ensures depth { OnOk result
+        (length (open_elements cursor.old) ≡ suc (length (open_elements cursor.new))) }
+    ensures skips { let old = reading (P.state «package».old) cursor.old in
+        let new = reading (P.state «package».new) cursor.new in
+        old.source.is_told ≡ true → OnOk result (Skips old new) }
+    ensures borders { let old = reading (P.state «package».old) cursor.old in
+        old.source.is_told ≡ true → IfOk result (λ borders. (tag : Tag) →
+        start tag ≡ old.source.current →
+        border_said theme_colors.now tag (content 0 (ahead old)) ≡ Ok borders) }
+    ensures err { let old = reading (P.state «package».old) cursor.old in
+        let new = reading (P.state «package».new) cursor.new in
+        IfErr result (λ error. (tag : Tag) → start tag ≡ old.source.current →
+        ElementReadFails end_in_border (border_said theme_colors.now tag) old new error) }
+    ensures kind { IfErr result IsBorderError }
+{
+    let (down, up) = diagonals_of(&start_tag(package))?;
+    read_border(package, cursor, down, up, theme_colors)
+}
+
+/// Appends the borders of the element at whose start the package stands, which is read to its end
+/// (ECMA-376 part 1, section 18.8.5).
+pub fn read_borders<P: Package>(
+    package: &mut P,
+    cursor: &mut Cursor,
+    theme_colors: &[Color],
+    borders: &mut Vec<Borders>,
+) -> Result<(), XlsxError>
+    requires reading { IsReading (reading (P.state «package».old) cursor.old) }
+    requires element { IsAtElement (reading (P.state «package».old) cursor.old) }
+    ensures reads { let old = reading (P.state «package».old) cursor.old in
+        let new = reading (P.state «package».new) cursor.new in
+        ReadsPart Io result old new }
+    ensures depth { OnOk result
+        (length (open_elements cursor.old) ≡ suc (length (open_elements cursor.new))) }
+    ensures skips { let old = reading (P.state «package».old) cursor.old in
+        let new = reading (P.state «package».new) cursor.new in
+        old.source.is_told ≡ true → OnOk result (Skips old new) }
+    ensures borders { let old = reading (P.state «package».old) cursor.old in
+        let inside = content 0 (ahead old) in
+        old.source.is_told ≡ true → OnOk result
+        (prepended borders.old.items (borders_in theme_colors.now inside)
+        ≡ Ok borders.new.items) }
+    ensures err { let old = reading (P.state «package».old) cursor.old in
+        let new = reading (P.state «package».new) cursor.new in
+        IfErr result (ElementReadFails end_in_borders (borders_in theme_colors.now) old new) }
+    ensures kind { IfErr result AreStylesError }
+{
+    let base = cursor.depth();
+    'borders: while let Some(_at) = next_element_in(
+        package,
+        cursor,
+        base,
+        &["border"],
+        "borders",
+    )? {
+        borders.push(read_one_border(package, cursor, theme_colors)?)?;
+    }
+    Ok(())
+}
+
+/// Appends the cell formats of the element at whose start the package stands, which is read to its
+/// end (ECMA-376 part 1, section 18.8.10). They name what was read before.
+pub fn read_formats<P: Package>(
+    alloc: Global,
+    package: &mut P,
+    cursor: &mut Cursor,
+    parts: &StyleParts<'_>,
+    formattings: &mut Vec<Formatting>,
+) -> Result<(), XlsxError>
+    requires reading { IsReading (reading (P.state «package».old) cursor.old) }
+    requires element { IsAtElement (reading (P.state «package».old) cursor.old) }
+    ensures reads { let old = reading (P.state «package».old) cursor.old in
+        let new = reading (P.state «package».new) cursor.new in
+        ReadsPart Io result old new }
+    ensures depth { OnOk result
+        (length (open_elements cursor.old) ≡ suc (length (open_elements cursor.new))) }
+    ensures skips { let old = reading (P.state «package».old) cursor.old in
+        let new = reading (P.state «package».new) cursor.new in
+        old.source.is_told ≡ true → OnOk result (Skips old new) }
+    ensures formattings { let old = reading (P.state «package».old) cursor.old in
+        let inside = content 0 (ahead old) in
+        old.source.is_told ≡ true → OnOk result ((formats : List WrittenFormat) →
+        AreCodes formats parts.now.codes.now →
+        prepended (map formatting_said formattings.old.items)
+        (formattings_in (parts_said formats parts.now) inside)
+        ≡ Ok (map formatting_said formattings.new.items)) }
+    ensures err { let old = reading (P.state «package».old) cursor.old in
+        let new = reading (P.state «package».new) cursor.new in
+        IfErr result (λ error. (formats : List WrittenFormat) →
+        AreCodes formats parts.now.codes.now →
+        ElementReadFails end_in_formats (formattings_in (parts_said formats parts.now))
+        old new error) }
+    ensures kind { IfErr result AreStylesError }
+{
+    let base = cursor.depth();
+    'formats: while let Some(_at) = next_element_in(package, cursor, base, &["xf"], "cellXfs")? {
+        formattings.push(read_format(alloc, package, cursor, parts)?)?;
+    }
+    Ok(())
+}

@@ -1,0 +1,158 @@
+ghost use Rattle.std.specs.Prelude.{◌≡◌, ◌≤◌, List, ℕ, suc, codes, length, true, Ok, IfOk, OnOk};
+ghost use Rattle.std.specs.Prelude.{IfErr};
+ghost use Rattle.attr_text.specs.Attributes.{local_name_of};
+ghost use Rattle.part_events.specs.Event.{Tag, start, tag_of};
+ghost use Rattle.part_events.specs.Reading.{reading, open_elements, IsReading, IsAtElement};
+ghost use Rattle.part_events.specs.Reading.{ReadsPart, Skips, ahead};
+ghost use Rattle.part_events.specs.Section.{content};
+ghost use Rattle.part_events.specs.Walk.{section_ahead, is_closed_ahead};
+ghost use Rattle.cell_data.specs.declared.error.XlsxError.TheVariants.{Io};
+ghost use Rattle.xlsx_sections.specs.Elements.{ElementReadFails, IsInsideRefused};
+ghost use Rattle.xlsx_sections.specs.PartSection.{SectionFails};
+ghost use Rattle.xlsx_formats.specs.FormatCodes.{WrittenFormat, AreCodes};
+ghost use Rattle.xlsx_stylesheet.specs.StyleSheet.{list_named, list_of, list_read, list_end};
+ghost use Rattle.xlsx_stylesheet.specs.StyleSheet.{lists_in, lists_said, IsListRead, end_in_styles};
+ghost use Rattle.xlsx_stylesheet.specs.StylesErrors.{AreStylesError};
+
+use crate::lists::{read_borders, read_fills, read_fonts, read_formats};
+use attr_text::RawAttributes;
+use cell_data::XlsxError;
+use cell_styles::{Borders, Color, Fill, Font};
+use part_events::{Cursor, Package, StartTag};
+use std::alloc::Global;
+use xlsx_formats::{FormatCodes, Formatting, StyleParts, read_number_formats};
+use xlsx_sections::{next_element_in, start_tag};
+
+/// A list of the section of styles, by the name of its element.
+#[derive(Clone, Copy)]
+pub enum StyleList {
+    NumberFormats,
+    Fonts,
+    Fills,
+    Borders,
+    Formats,
+}
+
+/// What was read of the section of styles.
+#[derive(Debug, Drop)]
+pub struct StyleLists {
+    pub codes: FormatCodes,
+    pub fonts: Vec<Font>,
+    pub fills: Vec<Fill>,
+    pub borders: Vec<Borders>,
+    pub formattings: Vec<Formatting>,
+}
+
+fn list_named(name: &str) -> StyleList
+    ensures { result ≡ list_named name.now }
+{
+    match name {
+        "numFmts" => StyleList::NumberFormats,
+        "fonts" => StyleList::Fonts,
+        "fills" => StyleList::Fills,
+        "borders" => StyleList::Borders,
+        _ => StyleList::Formats,
+    }
+}
+
+fn list_of(tag: StartTag<'_>) -> StyleList
+    ensures { result ≡ list_of (tag_of tag.entry) }
+{
+    list_named(tag.local_name())
+}
+
+/// Appends what the element at whose start the package stands says to its list, and reads to its
+/// end.
+fn read_list<P: Package>(
+    alloc: Global,
+    package: &mut P,
+    cursor: &mut Cursor,
+    theme_colors: &[Color],
+    lists: &mut StyleLists,
+) -> Result<(), XlsxError>
+    requires reading { IsReading (reading (P.state «package».old) cursor.old) }
+    requires element { IsAtElement (reading (P.state «package».old) cursor.old) }
+    ensures reads { let old = reading (P.state «package».old) cursor.old in
+        let new = reading (P.state «package».new) cursor.new in
+        ReadsPart Io result old new }
+    ensures depth { OnOk result
+        (length (open_elements cursor.old) ≡ suc (length (open_elements cursor.new))) }
+    ensures skips { let old = reading (P.state «package».old) cursor.old in
+        let new = reading (P.state «package».new) cursor.new in
+        old.source.is_told ≡ true → OnOk result (Skips old new) }
+    ensures lists { let old = reading (P.state «package».old) cursor.old in
+        let inside = content 0 (ahead old) in
+        old.source.is_told ≡ true → OnOk result ((tag : Tag) (formats : List WrittenFormat) →
+        start tag ≡ old.source.current → AreCodes formats lists.old.codes →
+        IsListRead theme_colors.now tag lists.old lists.new inside formats) }
+    ensures err { let old = reading (P.state «package».old) cursor.old in
+        let new = reading (P.state «package».new) cursor.new in
+        IfErr result (λ error. (tag : Tag) (formats : List WrittenFormat) →
+        start tag ≡ old.source.current → AreCodes formats lists.old.codes →
+        ElementReadFails (list_end (list_of tag))
+        (list_read theme_colors.now (list_of tag) (lists_said formats lists.old))
+        old new error) }
+    ensures kind { IfErr result AreStylesError }
+{
+    match list_of(start_tag(package)) {
+        StyleList::NumberFormats => {
+            read_number_formats(alloc, package, cursor, &mut lists.codes)
+        }
+        StyleList::Fonts => read_fonts(alloc, package, cursor, theme_colors, &mut lists.fonts),
+        StyleList::Fills => read_fills(package, cursor, theme_colors, &mut lists.fills),
+        StyleList::Borders => read_borders(package, cursor, theme_colors, &mut lists.borders),
+        StyleList::Formats => {
+            let parts = StyleParts {
+                codes: &lists.codes,
+                fonts: lists.fonts.as_slice(),
+                fills: lists.fills.as_slice(),
+                borders: lists.borders.as_slice(),
+            };
+            read_formats(alloc, package, cursor, &parts, &mut lists.formattings)
+        }
+    }
+}
+
+/// The lists of a section of styles whose element is number `base` of the open ones.
+pub fn lists_in<P: Package>(
+    alloc: Global,
+    package: &mut P,
+    cursor: &mut Cursor,
+    base: usize,
+    theme_colors: &[Color],
+) -> Result<StyleLists, XlsxError>
+    requires reading { IsReading (reading (P.state «package».old) cursor.old) }
+    requires within { base ≤ length (open_elements cursor.old) }
+    ensures reads { let old = reading (P.state «package».old) cursor.old in
+        let new = reading (P.state «package».new) cursor.new in
+        ReadsPart Io result old new }
+    ensures closed { let old = reading (P.state «package».old) cursor.old in
+        old.source.is_told ≡ true → OnOk result (is_closed_ahead base old ≡ true) }
+    ensures lists { let old = reading (P.state «package».old) cursor.old in
+        old.source.is_told ≡ true → IfOk result (λ lists. (formats : List WrittenFormat)
+        × AreCodes formats lists.codes
+        × (lists_in theme_colors.now (section_ahead base old) ≡ Ok (lists_said formats lists))) }
+    ensures err { let old = reading (P.state «package».old) cursor.old in
+        let new = reading (P.state «package».new) cursor.new in
+        let refused = IsInsideRefused (lists_in theme_colors.now) in
+        IfErr result (SectionFails end_in_styles refused base old new) }
+    ensures kind { IfErr result AreStylesError }
+{
+    let mut lists = StyleLists {
+        codes: FormatCodes::new(alloc),
+        fonts: Vec::new(alloc),
+        fills: Vec::new(alloc),
+        borders: Vec::new(alloc),
+        formattings: Vec::new(alloc),
+    };
+    'lists: while let Some(_at) = next_element_in(
+        package,
+        cursor,
+        base,
+        &["numFmts", "fonts", "fills", "borders", "cellXfs"],
+        "styleSheet",
+    )? {
+        read_list(alloc, package, cursor, theme_colors, &mut lists)?;
+    }
+    Ok(lists)
+}

@@ -1,0 +1,2 @@
+pub mod SchemeRead
+pub mod ThemeRead

@@ -1,0 +1,34 @@
+use Rattle.std.proofs.Common.{[], ◌∷◌, Some, None, codes, ◌∙◌}
+use Rattle.part_events.specs.Event.{Tag}
+use Rattle.part_events.specs.Reading.{reading, ahead}
+use Rattle.part_events.specs.Section.{is_named}
+use Rattle.part_events.specs.Walk.{IsNextStart}
+use Rattle.part_events.proofs.Onward.{whole_at_end}
+use Rattle.xlsx_sections.proofs.SectionsRead.{start_there}
+use Rattle.xlsx_theme.proofs.ThemeRead.{scheme_found, scheme_says}
+use Rattle.xlsx_theme.proofs.theme_part.read_scheme.Goals as goal
+
+pub returns-in_ok-theme_of-in-Found-clause-theme :
+    goal.returns-in_ok-theme_of-in-Found-clause-theme
+returns-in_ok-theme_of-in-Found-clause-theme g c = λ told.
+    let old = reading (g.P.Package.state c.args.package.now) c.args.cursor.now in
+    let mid = reading (g.P.Package.state c.next_start.new.package) c.next_start.new.self in
+    let next = start_there mid.source.current
+    (λ (tag : Tag). IsNextStart (is_named (codes "clrScheme" ∷ [])) 0 tag old mid)
+    (rw c.in-Found.is at (c.in_ok-next_start.ensures.found told)) in
+    let still = c.in_ok-next_start.ensures.reads.moves.parts.is_told ∙ told in
+    scheme_says c.depth-base.result old mid c.depth-base.ensures
+    (scheme_found old (Some (ahead mid)) c.requires.reading c.requires.first told next.2.first)
+    (c.in_ok-slots-in-Found.ensures.closed still)
+    (c.in_ok-slots-in-Found.ensures.colors still) c.numbered.ensures
+    c.in_ok-theme_of-in-Found.ensures
+
+pub returns-in_ok-default_theme-in-Ended-clause-theme :
+    goal.returns-in_ok-default_theme-in-Ended-clause-theme
+returns-in_ok-default_theme-in-Ended-clause-theme g c = λ told.
+    let old = reading (g.P.Package.state c.args.package.now) c.args.cursor.now in
+    let ends = rw c.in-Ended.is at (c.in_ok-next_start.ensures.found told) in
+    rw (scheme_found old None c.requires.reading c.requires.first told ends.first) (
+      whole_at_end c.in_ok-next_start.ensures.reads ends.at_end told,
+      c.in_ok-default_theme-in-Ended.ensures,
+    )

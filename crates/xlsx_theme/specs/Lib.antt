@@ -1,0 +1,2 @@
+pub mod ColorScheme
+pub mod ThemePart

@@ -1,0 +1,79 @@
+-- The colors of a workbook's theme, by the events of its part.
+use Rattle.std.specs.Prelude.{◌≡◌, ⊤, ℕ, List, Bool, true, codes, Option, None, Result, Ok}
+use Rattle.std.specs.Prelude.{Err, unwrap_or, is_none, option_and_then, MatchOption, IsOkAnd}
+use Rattle.part_events.specs.Event.{Event}
+use Rattle.part_events.specs.Nesting.{whole}
+use Rattle.part_events.specs.Package.{Part, PackageState, HasCause, part_of}
+use Rattle.part_events.specs.Reading.{Reading, events_of}
+use Rattle.cell_data.specs.declared.error.XlsxError.{XlsxError}
+use Rattle.cell_data.specs.declared.error.XlsxError.TheVariants.{OutOfMemory, Io}
+use Rattle.cell_styles.specs.declared.color.Color.{Color}
+use Rattle.xlsx_sections.specs.Elements.{IsInsideRefused, named_end}
+use Rattle.xlsx_sections.specs.PartSection.{section_in, closed_section, has_end, inside_of}
+use Rattle.xlsx_sections.specs.PartSection.{FirstSectionCause}
+use Rattle.xlsx_sections.specs.Refusal.{Refusal}
+use Rattle.xlsx_styles.specs.Theme.{default_theme}
+use Rattle.xlsx_theme.specs.ColorScheme.{scheme_colors}
+use Rattle.xlsx_theme.specs.declared.theme_part.ThemeColors.{ThemeColors}
+
+abbrev pub unless_refused : Result (Option (List Color)) Refusal → Option (List Color)
+unless_refused (Ok colors) = colors
+unless_refused (Err refusal) = None
+
+abbrev pub colors_inside : List Event → Option (List Color)
+colors_inside inside = unless_refused (scheme_colors inside)
+
+-- The colors that a theme's part says. It says none, so that the default theme stands, where it has
+-- no color scheme or one of fewer than four slots, and where it is faulty: no end closes the first
+-- scheme before the nesting breaks, or a lookup of a start that is searched in it is refused.
+abbrev pub own_colors : List Event → Option (List Color)
+own_colors events = option_and_then colors_inside (closed_section (codes "clrScheme") events)
+
+-- those of the part at a path, which may be absent
+abbrev pub own_colors_of : List Part → List ℕ → Option (List Color)
+own_colors_of parts path = option_and_then own_colors (part_of parts path)
+
+-- The colors of a workbook whose theme's part is at this path.
+abbrev pub theme_colors : List Part → List ℕ → List Color
+theme_colors parts path = unwrap_or (own_colors_of parts path) default_theme
+
+-- and whether these are the default theme
+abbrev pub is_theme_default : List Part → List ℕ → Bool
+is_theme_default parts path = is_none (own_colors_of parts path)
+
+-- these are a theme's own colors, or where it has none those of the default theme
+pub record IsThemeOf (own : Option (List Color)) (theme : ThemeColors) : Type 0 where
+  pub colors : theme.colors.items ≡ unwrap_or own default_theme
+  pub defaulted : theme.defaulted ≡ is_none own
+
+-- these are the colors of the theme whose part is at this path
+pub record HasTheme (parts : List Part) (path : List ℕ) (theme : ThemeColors) : Type 0 where
+  pub colors : theme.colors.items ≡ theme_colors parts path
+  pub defaulted : theme.defaulted ≡ is_theme_default parts path
+
+-- The part isn't faulty, and these are its colors: its first scheme is closed, and no lookup in it
+-- is refused; without a scheme the part is read to its end.
+abbrev pub SaysTheme : List Event → ThemeColors → Type 0
+SaysTheme events theme =
+    MatchOption (section_in (codes "clrScheme") events)
+    ((whole events ≡ events) × IsThemeOf None theme)
+    (λ s. (has_end s ≡ true)
+    × IsOkAnd (scheme_colors (inside_of s)) (λ own. IsThemeOf own theme))
+
+-- why the colors of a theme can't be read
+abbrev pub ThemeCause : List Event → XlsxError → Type 0
+ThemeCause events error =
+    FirstSectionCause (codes "clrScheme") (named_end None) (IsInsideRefused scheme_colors) events
+    error
+
+-- when they can't be read by a reader of which nothing was taken
+abbrev pub ReadThemeFails : Reading → Reading → XlsxError → Type 0
+ReadThemeFails old new Io = HasCause old.source new.source
+ReadThemeFails old new OutOfMemory = ⊤
+ReadThemeFails old new error = old.source.is_told ≡ true → ThemeCause (events_of old) error
+
+-- when a workbook's theme can't be had, for which the default theme may stand
+abbrev pub ThemeFails : PackageState → PackageState → XlsxError → Type 0
+ThemeFails old new Io = HasCause old new
+ThemeFails old new OutOfMemory = ⊤
+ThemeFails old new _ = ⊥

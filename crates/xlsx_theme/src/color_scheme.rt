@@ -1,0 +1,97 @@
+ghost use Rattle.std.specs.Prelude.{◌≡◌, ◌≤◌, length, true, None, Ok, IfOk, OnOk, IfErr};
+ghost use Rattle.std.specs.Prelude.{option_map};
+ghost use Rattle.part_events.specs.Reading.{reading, open_elements, IsReading, ReadsPart};
+ghost use Rattle.part_events.specs.Walk.{section_ahead, is_closed_ahead};
+ghost use Rattle.cell_data.specs.declared.error.XlsxError.TheVariants.{Io};
+ghost use Rattle.xlsx_sections.specs.Elements.{IsInsideRefused, IsEndError, FindsElementIn};
+ghost use Rattle.xlsx_sections.specs.Elements.{named_end};
+ghost use Rattle.xlsx_sections.specs.PartSection.{Never, SectionFails, StandsAtStart};
+ghost use Rattle.xlsx_theme.specs.ColorScheme.{is_slot, slot_colors, numbered_colors};
+ghost use Rattle.xlsx_theme.specs.ColorScheme.{IsSchemeError};
+
+use crate::slot::read_slot;
+use cell_data::XlsxError;
+use cell_styles::Color;
+use part_events::{Cursor, Package, Step, XmlFault};
+use std::alloc::Global;
+
+/// Reads on to the next slot of a scheme, whose element is number `base` of the open ones, counted
+/// from 1. Answers the number of the slot's start in its part, counted from 0, and None at the
+/// scheme's end.
+fn next_slot<P: Package>(
+    package: &mut P,
+    cursor: &mut Cursor,
+    base: usize,
+) -> Result<Option<u64>, XlsxError>
+    requires reading { IsReading (reading (P.state «package».old) cursor.old) }
+    requires within { base ≤ length (open_elements cursor.old) }
+    ensures reads { let old = reading (P.state «package».old) cursor.old in
+        let new = reading (P.state «package».new) cursor.new in
+        ReadsPart Io result old new }
+    ensures stands { let old = reading (P.state «package».old) cursor.old in
+        let new = reading (P.state «package».new) cursor.new in
+        IfOk result (λ found. StandsAtStart is_slot base found old new) }
+    ensures found { let old = reading (P.state «package».old) cursor.old in
+        let new = reading (P.state «package».new) cursor.new in
+        old.source.is_told ≡ true →
+        IfOk result (λ found. FindsElementIn is_slot base found old new) }
+    ensures err { let old = reading (P.state «package».old) cursor.old in
+        let new = reading (P.state «package».new) cursor.new in
+        IfErr result (SectionFails (named_end None) Never base old new) }
+    ensures kind { IfErr result (IsEndError None) }
+{
+    let names = [
+        "dk1", "lt1", "dk2", "lt2", "accent1", "accent2", "accent3", "accent4", "accent5",
+        "accent6", "hlink", "folHlink",
+    ];
+    match cursor.next_element(package, base, &names)? {
+        Step::Found => Ok(Some(cursor.at() - 1)),
+        Step::Closed => Ok(None),
+        Step::Ended => Err(XlsxError::Xml(XmlFault::Unclosed { at: cursor.at() })),
+    }
+}
+
+/// The colors of the slots of a scheme, in order, whose element is number `base` of the open ones.
+/// Reads to the scheme's end. A part that ends in it is `Xml(Unclosed)`.
+#[tactic(auto, using(crate::proofs::SchemeRead::step_kind))]
+pub(crate) fn read_slots<P: Package>(
+    alloc: Global,
+    package: &mut P,
+    cursor: &mut Cursor,
+    base: usize,
+) -> Result<Vec<Color>, XlsxError>
+    requires reading { IsReading (reading (P.state «package».old) cursor.old) }
+    requires within { base ≤ length (open_elements cursor.old) }
+    ensures reads { let old = reading (P.state «package».old) cursor.old in
+        let new = reading (P.state «package».new) cursor.new in
+        ReadsPart Io result old new }
+    ensures closed { let old = reading (P.state «package».old) cursor.old in
+        old.source.is_told ≡ true → OnOk result (is_closed_ahead base old ≡ true) }
+    ensures colors { let old = reading (P.state «package».old) cursor.old in
+        old.source.is_told ≡ true →
+        IfOk result (λ colors. slot_colors (section_ahead base old) ≡ Ok colors.items) }
+    ensures err { let old = reading (P.state «package».old) cursor.old in
+        let new = reading (P.state «package».new) cursor.new in
+        IfErr result (SectionFails (named_end None) (IsInsideRefused slot_colors) base old new) }
+    ensures kind { IfErr result IsSchemeError }
+{
+    let mut colors = Vec::new(alloc);
+    'slots: while let Some(_at) = next_slot(package, cursor, base)? {
+        colors.push(read_slot(package, cursor)?)?;
+    }
+    Ok(colors)
+}
+
+/// The colors of slots by the numbers of an attribute `theme`: the first two change places, and so
+/// do the next two. None of fewer than four.
+pub(crate) fn numbered(slots: Vec<Color>) -> Option<Vec<Color>>
+    ensures { option_map (λ colors. colors.items) result ≡ numbered_colors slots.items }
+{
+    let mut colors = slots;
+    if colors.len() < 4 {
+        return None;
+    }
+    colors.swap(0, 1);
+    colors.swap(2, 3);
+    Some(colors)
+}

@@ -1,0 +1,117 @@
+ghost use Rattle.std.specs.Prelude.{◌≡◌, ◌≤◌, List, ℕ, suc, length, true, None, Ok, Err, IfOk};
+ghost use Rattle.std.specs.Prelude.{OnOk, IfErr, MatchResult, option_and_then};
+ghost use Rattle.std.specs.Option.{option_copied};
+ghost use Rattle.part_events.specs.Event.{tag_of};
+ghost use Rattle.part_events.specs.Reading.{reading, open_elements, IsReading, IsAtElement};
+ghost use Rattle.part_events.specs.Reading.{ReadsPart, Skips, ahead};
+ghost use Rattle.part_events.specs.Section.{content};
+ghost use Rattle.cell_data.specs.declared.error.XlsxError.TheVariants.{Io};
+ghost use Rattle.xlsx_sections.specs.Elements.{ElementReadFails, IsEndError, named_end};
+ghost use Rattle.xlsx_sections.specs.PartSection.{Never, SectionFails, StandsAtStart, FindsStartIn};
+ghost use Rattle.xlsx_sections.specs.Refusal.{lookup_fault, placed_at};
+ghost use Rattle.xlsx_styles.specs.Colors.{hex_color};
+ghost use Rattle.xlsx_theme.specs.ColorScheme.{is_color_model, model_color, model_answer};
+ghost use Rattle.xlsx_theme.specs.ColorScheme.{unless_given, slot_color, IsSchemeError};
+
+use attr_text::{AttrFault, RawAttributes, get_attrs};
+use cell_data::XlsxError;
+use cell_styles::Color;
+use part_events::{Cursor, Package, StartTag, Step, XmlFault};
+use xlsx_sections::start_tag;
+use xlsx_styles::hex_color;
+
+fn color_in_text(text: Option<&str>) -> Option<Color>
+    ensures { result ≡ option_and_then hex_color (option_copied text.entry) }
+{
+    hex_color(text?)
+}
+
+fn model_color(tag: StartTag<'_>) -> Result<Option<Color>, AttrFault>
+    ensures { model_color (tag_of tag.entry) ≡ result }
+{
+    let (val, last) = get_attrs!(tag, "val" => val, "lastClr" => last)?;
+    Ok(color_in_text(last).or(color_in_text(val)))
+}
+
+/// Keeps the color that a start says, where none was kept before.
+fn keep_first(kept: &mut Option<Color>, tag: StartTag<'_>) -> Result<(), AttrFault>
+    ensures { let tag = tag_of tag.entry in
+        MatchResult result
+        (λ _. (behind : ℕ) →
+        unless_given kept.old (model_answer (placed_at tag behind)) ≡ Ok kept.new)
+        (λ fault. (behind : ℕ) →
+        unless_given kept.old (model_answer (placed_at tag behind))
+        ≡ Err (lookup_fault fault)) }
+{
+    if kept.is_none() {
+        *kept = model_color(tag)?;
+    }
+    Ok(())
+}
+
+/// Reads on to the next start that may say a color, in the slot that is number `base` of the open
+/// elements, counted from 1. Answers the number of the start in its part, counted from 0, and None
+/// at the slot's end.
+fn next_model<P: Package>(
+    package: &mut P,
+    cursor: &mut Cursor,
+    base: usize,
+) -> Result<Option<u64>, XlsxError>
+    requires reading { IsReading (reading (P.state «package».old) cursor.old) }
+    requires within { base ≤ length (open_elements cursor.old) }
+    ensures reads { let old = reading (P.state «package».old) cursor.old in
+        let new = reading (P.state «package».new) cursor.new in
+        ReadsPart Io result old new }
+    ensures stands { let old = reading (P.state «package».old) cursor.old in
+        let new = reading (P.state «package».new) cursor.new in
+        IfOk result (λ found. StandsAtStart is_color_model base found old new) }
+    ensures found { let old = reading (P.state «package».old) cursor.old in
+        let new = reading (P.state «package».new) cursor.new in
+        old.source.is_told ≡ true →
+        IfOk result (λ found. FindsStartIn is_color_model base found old new) }
+    ensures err { let old = reading (P.state «package».old) cursor.old in
+        let new = reading (P.state «package».new) cursor.new in
+        IfErr result (SectionFails (named_end None) Never base old new) }
+    ensures kind { IfErr result (IsEndError None) }
+{
+    match cursor.next_start(package, base, &["srgbClr", "sysClr"])? {
+        Step::Found => Ok(Some(cursor.at() - 1)),
+        Step::Closed => Ok(None),
+        Step::Ended => Err(XlsxError::Xml(XmlFault::Unclosed { at: cursor.at() })),
+    }
+}
+
+/// Reads the slot at whose start the package stands, to its end. Its color is that of the first
+/// start in it that says one, and black where none does; starts behind that one aren't looked up.
+///
+/// A part that ends in the slot is `Xml(Unclosed)`.
+#[tactic(auto, using(crate::proofs::SchemeRead::step_kind))]
+pub(crate) fn read_slot<P: Package>(
+    package: &mut P,
+    cursor: &mut Cursor,
+) -> Result<Color, XlsxError>
+    requires reading { IsReading (reading (P.state «package».old) cursor.old) }
+    requires element { IsAtElement (reading (P.state «package».old) cursor.old) }
+    ensures reads { let old = reading (P.state «package».old) cursor.old in
+        let new = reading (P.state «package».new) cursor.new in
+        ReadsPart Io result old new }
+    ensures depth { OnOk result
+        (length (open_elements cursor.old) ≡ suc (length (open_elements cursor.new))) }
+    ensures skips { let old = reading (P.state «package».old) cursor.old in
+        let new = reading (P.state «package».new) cursor.new in
+        old.source.is_told ≡ true → OnOk result (Skips old new) }
+    ensures color { let old = reading (P.state «package».old) cursor.old in
+        old.source.is_told ≡ true →
+        IfOk result (λ color. slot_color (content 0 (ahead old)) ≡ Ok color) }
+    ensures err { let old = reading (P.state «package».old) cursor.old in
+        let new = reading (P.state «package».new) cursor.new in
+        IfErr result (ElementReadFails (named_end None) slot_color old new) }
+    ensures kind { IfErr result IsSchemeError }
+{
+    let base = cursor.depth();
+    let mut color = None;
+    'models: while let Some(_at) = next_model(package, cursor, base)? {
+        keep_first(&mut color, start_tag(package))?;
+    }
+    Ok(color.unwrap_or(Color::rgb(0, 0, 0)))
+}

@@ -1,0 +1,121 @@
+ghost use Rattle.std.specs.Prelude.{◌≡◌, None, true, IfOk, IfErr, option_map};
+ghost use Rattle.part_events.specs.Package.{Uses, event_count};
+ghost use Rattle.part_events.specs.Reader.{reading_by, SamePackage};
+ghost use Rattle.part_events.specs.Reading.{reading, IsReading, ReadsPart, events_of};
+ghost use Rattle.cell_data.specs.declared.error.XlsxError.TheVariants.{Io};
+ghost use Rattle.xlsx_theme.specs.ColorScheme.{IsSchemeError};
+ghost use Rattle.xlsx_theme.specs.ThemePart.{IsThemeOf, HasTheme, SaysTheme, ReadThemeFails};
+ghost use Rattle.xlsx_theme.specs.ThemePart.{ThemeFails};
+
+use crate::color_scheme::{numbered, read_slots};
+use cell_data::XlsxError;
+use cell_styles::Color;
+use part_events::{Cursor, Package, Step, XlReader};
+use std::alloc::{AllocError, Global};
+use xlsx_styles::default_theme_colors;
+
+/// The colors of a theme, by the numbers of an attribute `theme` (ECMA-376 part 1, section 18.8.3).
+#[derive(Debug, Drop)]
+pub struct ThemeColors {
+    pub colors: Vec<Color>,
+    /// Whether these are the default theme's, because the workbook's part says none.
+    pub defaulted: bool,
+}
+
+fn default_theme(alloc: Global) -> Result<ThemeColors, AllocError>
+    ensures { IfOk result (IsThemeOf None) }
+{
+    Ok(ThemeColors {
+        colors: Vec::from_array(alloc, default_theme_colors())?,
+        defaulted: true,
+    })
+}
+
+/// The theme of a scheme with these colors, or the default one.
+fn theme_of(alloc: Global, own: Option<Vec<Color>>) -> Result<ThemeColors, AllocError>
+    ensures { IfOk result (IsThemeOf (option_map (λ colors. colors.items) own)) }
+{
+    match own {
+        Some(colors) => Ok(ThemeColors {
+            colors,
+            defaulted: false,
+        }),
+        None => default_theme(alloc),
+    }
+}
+
+/// The colors that the part says of which nothing was taken, up to the end of its first scheme.
+fn read_scheme<P: Package>(
+    alloc: Global,
+    package: &mut P,
+    cursor: &mut Cursor,
+) -> Result<ThemeColors, XlsxError>
+    requires reading { IsReading (reading (P.state «package».old) cursor.old) }
+    requires first { (reading (P.state «package».old) cursor.old).at ≡ 0 }
+    ensures reads { let old = reading (P.state «package».old) cursor.old in
+        let new = reading (P.state «package».new) cursor.new in
+        ReadsPart Io result old new }
+    ensures theme { let old = reading (P.state «package».old) cursor.old in
+        old.source.is_told ≡ true → IfOk result (SaysTheme (events_of old)) }
+    ensures err { let old = reading (P.state «package».old) cursor.old in
+        let new = reading (P.state «package».new) cursor.new in
+        IfErr result (ReadThemeFails old new) }
+    ensures kind { IfErr result IsSchemeError }
+{
+    match cursor.next_start(package, 0, &["clrScheme"])? {
+        Step::Found => {
+            let base = cursor.depth();
+            let slots = read_slots(alloc, package, cursor, base)?;
+            Ok(theme_of(alloc, numbered(slots))?)
+        }
+        Step::Ended => Ok(default_theme(alloc)?),
+        Step::Closed => unreachable!(),
+    }
+}
+
+/// The colors of the theme in the part of which the reader has taken nothing yet (ECMA-376 part 1,
+/// section 20.1.6.2). Of the part's first color scheme each outermost slot counts, in order; the
+/// first two are swapped, and the next two. The default theme stands where there is no scheme, or
+/// one of fewer than four slots.
+///
+/// A part that ends in its scheme is `Xml(Unclosed)` with the number of the part's events.
+pub fn read_theme_colors<P: Package>(xml: &mut XlReader<'_, P>) -> Result<ThemeColors, XlsxError>
+    requires reading { IsReading (reading_by P.state xml.old) }
+    requires first { (reading_by P.state xml.old).at ≡ 0 }
+    ensures same_package { SamePackage xml.old xml.new }
+    ensures reads { ReadsPart Io result (reading_by P.state xml.old) (reading_by P.state xml.new) }
+    ensures theme { let old = reading_by P.state xml.old in
+        old.source.is_told ≡ true → IfOk result (SaysTheme (events_of old)) }
+    ensures err { IfErr result (ReadThemeFails (reading_by P.state xml.old)
+        (reading_by P.state xml.new)) }
+    ensures kind { IfErr result IsSchemeError }
+{
+    let alloc = xml.cursor.alloc();
+    read_scheme(alloc, xml.package, &mut xml.cursor)
+}
+
+/// The colors of the theme whose part is at this path. The default theme stands also where the part
+/// is absent, and where its reading is refused as `Xml` or `XmlAttr`. So this call is refused only
+/// for want of memory, and by a fault of the package.
+pub fn read_theme<P: Package>(
+    alloc: Global,
+    package: &mut P,
+    path: &str,
+) -> Result<ThemeColors, XlsxError>
+    ensures uses { let old = P.state «package».old in
+        let new = P.state «package».new in
+        Uses (event_count old.parts path.now) Io result old new }
+    ensures theme { let old = P.state «package».old in
+        old.is_told ≡ true → IfOk result (HasTheme old.parts path.now) }
+    ensures err { IfErr result (ThemeFails (P.state «package».old) (P.state «package».new)) }
+{
+    if !package.open(path)? {
+        return Ok(default_theme(alloc)?);
+    }
+    let mut cursor = Cursor::new(alloc, package);
+    match read_scheme(alloc, package, &mut cursor) {
+        Err(XlsxError::Xml(_)) => Ok(default_theme(alloc)?),
+        Err(XlsxError::XmlAttr(_)) => Ok(default_theme(alloc)?),
+        answer => answer,
+    }
+}

@@ -1,0 +1,104 @@
+#!/usr/bin/env python3
+"""Writes the lines of the sample workbooks: what docs/FORMAT.md says of what make.py put into them.
+It needs Python alone, and doesn't run the program."""
+
+import datetime
+import pathlib
+from fractions import Fraction
+
+HERE = pathlib.Path(__file__).resolve().parent
+MADE = datetime.datetime(2024, 1, 2, 3, 4, 5)
+DAY = datetime.timedelta(days=1)
+FIRST_DAYS = {1900: datetime.datetime(1899, 12, 30), 1904: datetime.datetime(1904, 1, 1)}
+
+# The colors of the theme that openpyxl writes, by the numbers of an attribute `theme`.
+THEME = "FFFFFF 000000 EEECE1 1F497D 4F81BD C0504D 9BBB59 8064A2 4BACC6 F79646".split()
+TINTS = ("0", "0.3999755851924192", "-0.249977111117893")
+
+
+def line(reference, value=None, formula=None, fill=None):
+    fields = (reference, value, formula and "=" + formula, fill)
+    return "\t".join("-" if field is None else field for field in fields) + "\n"
+
+
+def dates(epoch):
+    serial = format((MADE - FIRST_DAYS[epoch]) / DAY, ".16G")
+    kinds = ["date", "date", "duration", None, "date"]
+    for row, kind in enumerate(kinds, 1):
+        for column, number in (("A", serial), ("B", "45292.25")):
+            value = f"n:{number}" if kind is None else f"t:{number} {kind} {epoch}"
+            yield line(f"{column}{row}", value)
+    yield line("A6", "n:45292.25")
+
+
+def rich_text():
+    texts = [" plain bold <end> ", " a ", "b\\nc", "_x000D_", "\u00e9\U0001f330", 'a&b<c>"d"', ""]
+    for row, text in enumerate(texts, 1):
+        yield line(f"A{row}", f"s:{text}")
+
+
+def inline_strings():
+    for row, text in enumerate(("nut", " bolt ", "a&b")):
+        yield line(f"A{row + 1}", f"s:{text}")
+        yield line(f"B{row + 1}", f"n:{row}")
+        yield line(f"C{row + 1}", "b:true" if row % 2 == 0 else "b:false")
+
+
+def chart_sheet():
+    for row, number in enumerate((3, 1, 2), 1):
+        yield line(f"A{row}", f"n:{number}")
+
+
+def shared_formulas():
+    for row in range(1, 6):
+        yield line(f"A{row}", f"n:{row * 10}")
+        yield line(f"B{row}", f"n:{row * row}")
+        yield line(f"C{row}", None, f"SUM(A$1:A{row})*$B{row}")
+        for column, moved in (("D", "A"), ("E", "B")):
+            yield line(f"{column}{row}", None, f"'Sales'!{moved}{row}&\"A1\"")
+        if row == 1:
+            yield line("G1", None, "LOG10(A1)")
+
+
+def tinted(color, tint):
+    """The color whose channels are the whole numbers nearest to those with another luminance, halves
+    upward (ECMA-376 part 1, section 18.8.19)."""
+    channels = [Fraction(int(color[at : at + 2], 16), 255) for at in (0, 2, 4)]
+    most, least, tint = max(channels), min(channels), Fraction(tint)
+    light = (most + least) / 2
+    spread = 1 - abs(2 * light - 1)
+    saturation = (most - least) / spread if spread else Fraction(0)
+    new = light * (1 + tint) if tint < 0 else light * (1 - tint) + tint
+    chroma = (1 - abs(2 * new - 1)) * saturation
+    whole = most - least
+    shares = [(x - least) / whole if whole else Fraction(0) for x in channels]
+    exact = [255 * (new - chroma / 2 + share * chroma) for share in shares]
+    return "".join(f"{int(x + Fraction(1, 2)):02X}" for x in exact)
+
+
+def themes_and_tints():
+    colors = [tinted(color, tint) for color in THEME for tint in TINTS]
+    colors += ["FF0000", "C0C0C0", "000000", "FF9900"]
+    for row, color in enumerate(colors, 1):
+        yield line(f"A{row}", f"n:{row}", None, f"#{color}")
+        yield line(f"B{row}")
+
+
+LINES = {
+    "dates_1900": dates(1900),
+    "dates_1904": dates(1904),
+    "rich_text": rich_text(),
+    "inline_strings": inline_strings(),
+    "chart_sheet": chart_sheet(),
+    "shared_formulas": shared_formulas(),
+    "themes_and_tints": themes_and_tints(),
+}
+
+
+def main():
+    for name, lines in LINES.items():
+        (HERE / f"{name}.lines").write_bytes("".join(lines).encode())
+
+
+if __name__ == "__main__":
+    main()
