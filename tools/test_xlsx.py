@@ -28,7 +28,7 @@ echo "rt $* speaks"
 cp "$STAND_IN" out/xlsx_tool
 """
 PROVING = (
-    "xlsx: proving and building xlsx_tool first, which takes ten minutes or more from nothing\n"
+    "xlsx: proving and building xlsx_tool first, which takes twenty minutes or more from nothing\n"
 )
 BUILT = f"{PROVING}rt run -- --version speaks\nxlsx: built\n"
 
