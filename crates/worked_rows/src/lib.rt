@@ -13,6 +13,8 @@ mod opening_tests;
 #[cfg(test)]
 mod reader_tests;
 #[cfg(test)]
+mod sales_tests;
+#[cfg(test)]
 mod sheet_tests;
 #[cfg(test)]
 mod string_tests;

@@ -1,3 +1,4 @@
+pub mod Agreeing
 pub mod LastOfEach
 pub mod RangesMade
 pub mod SheetLaws

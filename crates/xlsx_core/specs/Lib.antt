@@ -1,3 +1,4 @@
+pub mod Agreement
 pub mod Opened
 pub mod SheetReading
 pub mod Worksheets

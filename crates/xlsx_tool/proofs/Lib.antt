@@ -1,5 +1,6 @@
 pub mod EscapedLemmas
 pub mod InputLemmas
+pub mod OneListing
 pub mod PackageTextLemmas
 pub mod RunLemmas
 pub mod SheetListingLemmas

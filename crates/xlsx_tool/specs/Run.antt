@@ -46,6 +46,14 @@ pub record Spells (input : List ℕ) (parts : List Part) : Type 0 where
   pub fits : length input ≤ longest_input
   pub spelled : package_in input ≡ Some parts
 
+-- these are the lines of the sheet of this name, as it is read from these parts
+pub record AreLinesOf (parts : List Part) (name lines : List ℕ) : Type 0 where
+  pub values : List ((ℕ × ℕ) × CellValue)
+  pub formulas : List ((ℕ × ℕ) × List ℕ)
+  pub styles : StyleMap
+  pub reads : ReadsAs parts name values formulas styles
+  pub listed : lines ≡ listing values formulas styles
+
 -- the input is a package whose sheet of this name is read, and its lines are written
 pub record ListsSheet (name : List ℕ) (old new : Streams) : Type 0 where
   pub parts : List Part

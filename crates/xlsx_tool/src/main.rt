@@ -4,6 +4,7 @@
 mod error;
 mod escaping;
 mod input;
+mod laws;
 mod package_text;
 mod program;
 mod run;

@@ -9,6 +9,7 @@ ghost use Rattle.serde_json.specs.View.{view};
 
 use crate::error::ToolError;
 use crate::input::read_input;
+use crate::laws::sheets_have_one_listing;
 use crate::package_text::package_from_json;
 use crate::sheet_listing::listing_of;
 use crate::sink::Sink;
@@ -154,5 +155,6 @@ pub fn run<S: Source, K: Sink>(
         old.is_told ≡ true → AnswersExactly (texts words.now) old result }
 {
     readable_sheets_are_not_refused();
+    sheets_have_one_listing();
     run_command(alloc, words, source, sink)
 }

@@ -1,5 +1,5 @@
 ghost use Rattle.std.specs.Prelude.{◌≡◌, ◌<◌, ◌++◌, ◌||◌, [], is_some, MatchOption, IfOk, OnOk};
-ghost use Rattle.std.specs.Prelude.{codes, string_bytes, nat_lt, option_and_then, None};
+ghost use Rattle.std.specs.Prelude.{codes, string_bytes, nat_lt, option_and_then, None, OnErr};
 ghost use Rattle.std.specs.Fmt.{signed_decimal};
 ghost use Rattle.std.specs.Option.{option_copied};
 ghost use Rattle.cell_data.specs.CellValue.{value_of_data, time_value};
@@ -341,29 +341,28 @@ fn styled_cells(alloc: Global, styles: &StyleRange) -> Result<Vec<Cell<usize>>, 
     Ok(cells)
 }
 
-/// Appends one line for each position of a sheet that has a value, a formula or a style id above 0,
-/// row by row (docs/FORMAT.md). It goes over what is used of the ranges once, and looks up the
-/// style of each line.
-///
-/// Where memory runs out, some of the lines may have been appended.
-pub fn push_listing(out: &mut String, reading: &SheetReading) -> Result<(), AllocError>
-    ensures { let printed = listing (cell_values (cells_of reading.now.values))
-        (cell_formulas (cells_of reading.now.formulas)) reading.now.styles in
-        OnOk result (string_bytes out.new ≡ string_bytes out.old ++ printed) }
-{
-    let alloc = *out.allocator();
-    let ids = styled_cells(alloc, &reading.styles)?;
-    let (values, formulas) = (reading.values.used(), reading.formulas.used());
-    push_lines(out, values, formulas, &ids, &reading.styles)
-}
-
-/// The lines of a sheet's values, formulas and styles.
+/// The lines of a sheet's values, formulas and styles: one for each position that has a value, a
+/// formula or a style id above 0, row by row (docs/FORMAT.md). It goes over what is used of the
+/// ranges once, and looks up the style of each line.
 pub fn listing_of(alloc: Global, reading: &SheetReading) -> Result<String, AllocError>
     ensures { let printed = listing (cell_values (cells_of reading.now.values))
         (cell_formulas (cells_of reading.now.formulas)) reading.now.styles in
         IfOk result (λ out. string_bytes out ≡ printed) }
 {
+    let ids = styled_cells(alloc, &reading.styles)?;
+    let (values, formulas) = (reading.values.used(), reading.formulas.used());
     let mut out = String::new(alloc);
-    push_listing(&mut out, reading)?;
+    push_lines(&mut out, values, formulas, &ids, &reading.styles)?;
     Ok(out)
+}
+
+/// Appends the lines of a sheet's values, formulas and styles. A refusal leaves the text as it was.
+pub fn push_listing(out: &mut String, reading: &SheetReading) -> Result<(), AllocError>
+    ensures ok { let printed = listing (cell_values (cells_of reading.now.values))
+        (cell_formulas (cells_of reading.now.formulas)) reading.now.styles in
+        OnOk result (string_bytes out.new ≡ string_bytes out.old ++ printed) }
+    ensures err { OnErr result (string_bytes out.new ≡ string_bytes out.old) }
+{
+    let lines = listing_of(*out.allocator(), reading)?;
+    out.push_str(lines.as_str())
 }
