@@ -1,4 +1,5 @@
 pub mod EscapedLemmas
+pub mod FloatsBeside
 pub mod InputLemmas
 pub mod OneListing
 pub mod PackageTextLemmas

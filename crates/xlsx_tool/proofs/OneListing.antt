@@ -23,7 +23,7 @@ use Rattle.xlsx_tool.specs.SheetListing.{placed_ids, listing}
 -- ---- the fill of a position
 
 -- the fill as it is printed, by what a style says
-said_field : Option StyleSaid → Option (List ℕ)
+abbrev said_field : Option StyleSaid → Option (List ℕ)
 said_field said =
     option_map color_text (option_and_then (λ (own : StyleSaid).
     option_and_then (λ fill. shown_color fill.pattern (fill_color fill)) own.fill) said)
