@@ -25,6 +25,7 @@ SHEETS = {
     "inline_strings": "S",
     "rich_text": "Goods & prices",
     "shared_formulas": "Sales",
+    "tables_links_and_merges": "S",
     "themes_and_tints": "Fills",
     "values_and_formulas": "S",
 }
