@@ -376,8 +376,8 @@ class Size:
         return each(min, self.ours), each(min, self.json)
 
 
-# The runs that end with a stage: what the stage gives, whether the text is a package, the sheet, and
-# the status.
+# The runs that end with a stage: what the stage gives, whether the text is a package, the sheet,
+# and the status.
 STAGES = (
     ("the JSON value", False, "S", 5),
     ("the package, and its opening", True, "X", 6),

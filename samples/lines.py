@@ -72,8 +72,8 @@ def shared_formulas():
 
 
 def tinted(color, tint):
-    """The color whose channels are the whole numbers nearest to those with another luminance, halves
-    upward (ECMA-376 part 1, section 18.8.19)."""
+    """The color whose channels are the whole numbers nearest to those with another luminance,
+    halves upward (ECMA-376 part 1, section 18.8.19)."""
     channels = [Fraction(int(color[at : at + 2], 16), 255) for at in (0, 2, 4)]
     most, least, tint = max(channels), min(channels), Fraction(tint)
     light = (most + least) / 2

@@ -34,8 +34,8 @@ def values_and_formulas():
 
 
 def shared_formulas():
-    """Groups of shared formulas: down a column, over rows and columns, along a row, of whole rows and
-    columns, past the last row, and of one cell. One formula more is not shared."""
+    """Groups of shared formulas: down a column, over rows and columns, along a row, of whole rows
+    and columns, past the last row, and of one cell. One formula more is not shared."""
     book = openpyxl.Workbook()
     sheet = book.active
     sheet.title = "Sales"

@@ -399,7 +399,8 @@ class Refusals(Files):
         self.assertEqual(ran, (7, None, f"{self.path}: write fault: No space left on device\n"))
 
     def test_faulty_words(self):
-        for words in (["--none"], ["more"], ["--limit", "x"], ["--limit=-1"], ["--limit"], ["--al"]):
+        limits = ["--limit"], ["--limit", "x"], ["--limit=-1"]
+        for words in (["--none"], ["more"], *limits, ["--al"]):
             status, text, said = self.run_on(archive(MINIMAL), *words)
             self.assertEqual((status, text, said.count("\n")), (2, b"", 1))
 
