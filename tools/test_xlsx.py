@@ -204,6 +204,8 @@ class Wrapper(unittest.TestCase):
                 cwd=self.folder,
                 env={**os.environ, "TMPDIR": str(room)},
                 stdout=subprocess.PIPE,
+                # A shell can't catch what was ignored when it began.
+                preexec_fn=lambda: signal.signal(number, signal.SIG_DFL),
             )
             self.assertEqual(child.stdout.readline(), b"slow\n")
             child.send_signal(number)
