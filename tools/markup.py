@@ -22,8 +22,8 @@ LONGEST_OPENING = 9
 
 # Up to so many characters are split at a time, and at first so many.
 MOST, FEWEST = 4096, 32
-# The events of so many tags are kept.
-KEPT = 1000
+# The events of so many tags are kept, where these are shorter than this.
+KEPT, LONG = 1000, 100
 
 OTHER = '["o"]'
 
@@ -133,7 +133,7 @@ class Tags:
         if found is not None and len(self.plain) + len(self.names) < KEPT:
             if space and not tag.startswith("/"):
                 self.names.add(name)
-            else:
+            elif len(tag) < LONG:
                 self.plain[tag] = found
         return found
 
