@@ -102,9 +102,26 @@ def tables_links_and_merges():
         yield line(reference, f"n:{text}" if text.isdecimal() else f"s:{text}")
 
 
+def libreoffice():
+    for place, text in (("A1", "name"), ("B1", "amount"), ("C1", "date")):
+        yield line(place, f"s:{text}")
+    for row, text, amount, day in ((2, "nut", "10.5", (1, 2)), (3, "bolt, long", "4", (2, 3))):
+        serial = (datetime.datetime(2024, *day) - FIRST_DAYS[1900]).days
+        yield line(f"A{row}", f"s:{text}")
+        yield line(f"B{row}", f"n:{amount}")
+        yield line(f"C{row}", f"t:{serial} date 1900")
+    yield line("A4", "s:nutx", 'A2&"x"')
+    yield line("B4", "n:14.5", "SUM(B2:B3)")
+    yield line("C4", "e:#DIV/0!", "1/0")
+    yield line("A5", "b:true", "TRUE()")
+    yield line("B5", "e:#N/A", "NA()")
+    yield line("C5", "s:\\t", "CHAR(9)")
+
+
 LINES = {
     "dates_1900": dates(1900),
     "dates_1904": dates(1904),
+    "libreoffice": libreoffice(),
     "rich_text": rich_text(),
     "inline_strings": inline_strings(),
     "chart_sheet": chart_sheet(),

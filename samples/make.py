@@ -1,10 +1,13 @@
 #!/usr/bin/env python3
-"""Makes the workbooks of this folder. It needs openpyxl 3.0 and XlsxWriter, as Debian's packages
-python3-openpyxl and python3-xlsxwriter, and is no part of the tests."""
+"""Makes the workbooks of this folder. It needs openpyxl 3.0, XlsxWriter and LibreOffice, as
+Debian's packages python3-openpyxl, python3-xlsxwriter and libreoffice-calc-nogui, and is no part of
+the tests."""
 
 import datetime
 import pathlib
+import subprocess
 import sys
+import tempfile
 
 import openpyxl
 import xlsxwriter
@@ -150,6 +153,25 @@ def tables_links_and_merges():
     book.close()
 
 
+# Comma-separated values, as LibreOffice opens them.
+VALUES = '''\
+name,amount,date
+nut,10.5,2024-01-02
+"bolt, long",4,2024-02-03
+"=A2&""x""",=SUM(B2:B3),=1/0
+=TRUE(),=NA(),=CHAR(9)
+'''
+
+
+def libreoffice():
+    """Values, dates, formulas and errors, as LibreOffice writes them."""
+    with tempfile.TemporaryDirectory() as folder:
+        values = pathlib.Path(folder) / "libreoffice.csv"
+        values.write_text(VALUES)
+        words = ["soffice", "--headless", "--convert-to", "xlsx", "--outdir", HERE, values]
+        subprocess.run(words, check=True)
+
+
 def main():
     values_and_formulas()
     shared_formulas()
@@ -159,6 +181,7 @@ def main():
     chart_sheet()
     inline_strings()
     tables_links_and_merges()
+    libreoffice()
 
 
 if __name__ == "__main__":
