@@ -253,7 +253,7 @@ class Streams(unittest.TestCase):
             self.assertLess(cutter.cuts, 60)
 
     def test_what_is_longer_than_the_limit_is_not_held(self):
-        limit, piece = 100_000, 1000
+        limit, piece = 30_000, 500
         for front, more in (
             ("<a>", "x"),
             ("<!--", "<a"),

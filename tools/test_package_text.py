@@ -349,23 +349,23 @@ class Refusals(Files):
         )
 
     def test_a_part_that_is_too_large_is_not_kept(self):
-        """Parts of 40 MB, in files of some 40 KB, in a memory of about twice the limit."""
+        """Parts of 16 MB, in files of some 16 KB. The memory is that of the interpreter too."""
         for front, more, end, text in (
             ("<worksheet>", '<row r="1"/>', "", LONG_TEXT),
             ("<worksheet><!--", "12345678", "-->", LONG_EVENT.format("xl/worksheets/sheet1.xml")),
             ("<worksheet>", "12345678", "", LONG_EVENT.format("xl/worksheets/sheet1.xml")),
         ):
-            part = front + more * (40_000_000 // len(more)) + end
+            part = front + more * (16_000_000 // len(more)) + end
             data = with_parts(**{"xl/worksheets/sheet1.xml": part})
-            self.check_refused(data, 4, text, "--limit=1000000", preexec_fn=bounded(80_000_000))
+            self.check_refused(data, 4, text, "--limit=1000000", preexec_fn=bounded(60_000_000))
 
     def test_relationships_that_are_too_many(self):
-        part = "<Relationship/>" * 2_000_000
+        part = "<Relationship/>" * 200_000
         self.check_refused(archive({"a.rels": part}), 4, LONG_TEXT, "--limit=1000000")
 
     def test_want_of_memory(self):
-        data = with_parts(**{"xl/workbook.xml": "x" * 100_000_000})
-        self.check_refused(data, 8, "out of memory", preexec_fn=bounded(150_000_000))
+        data = with_parts(**{"xl/workbook.xml": "x" * 60_000_000})
+        self.check_refused(data, 8, "out of memory", preexec_fn=bounded(100_000_000))
 
     def test_no_standard_output(self):
         self.check_refused(
