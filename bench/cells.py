@@ -5,6 +5,7 @@
 import argparse
 import hashlib
 import os
+import shutil
 import sys
 import tempfile
 
@@ -261,12 +262,41 @@ class Styled:
         return "".join(lines)
 
 
+class Fills(Styled):
+    """Styled positions alone, each in another style than those beside it, written from right to
+    left in each row."""
+
+    letters = "ABCDEFGHIJKLMNOP"
+
+    def __init__(self):
+        self.frame = [*FRAME, ("xl/styles.xml", list(self.style_events()))]
+
+    def place_of(self, row, column):
+        return 1 + (row * 7 + column * 3) % (self.formats - 1)
+
+    def row_events(self, row):
+        yield start("row", f' r="{row}"')
+        for column, letter in reversed(list(enumerate(self.letters))):
+            yield from cell_events(f' r="{letter}{row}" s="{self.place_of(row, column)}"')
+        yield end("row")
+
+    def row_lines(self, row):
+        fills = (
+            self.colors[self.place_of(row, column) % len(self.colors)]
+            for column in range(len(self.letters))
+        )
+        return "".join(
+            line_of(f"{letter}{row}", fill=f"#{fill}") for letter, fill in zip(self.letters, fills)
+        )
+
+
 MIXES = {
     "texts": Texts,
     "shared": Shared,
     "one_master": OneMaster,
     "values": Values,
     "styled": Styled,
+    "fills": Fills,
 }
 
 
@@ -346,6 +376,42 @@ class Size:
         return each(min, self.ours), each(min, self.json)
 
 
+# The runs that end with a stage: what the stage gives, whether the text is a package, the sheet,
+# and the status.
+STAGES = (
+    ("the JSON value", False, "S", 5),
+    ("the package, and its opening", True, "X", 6),
+    ("the lines", True, "S", 0),
+)
+
+
+def stage_rows(size, repeats):
+    """A row for each stage: the seconds and the memory up to its end, and what it adds."""
+    other = f"{size.package}.other"
+    shutil.copyfile(size.package, other)
+    with open(other, "r+b") as text:
+        # The same JSON with another version is no package.
+        text.write(b'{"version":2')
+    runs = {name: [] for name, *_ in STAGES}
+    for _ in range(repeats):
+        for name, is_package, sheet, status in STAGES:
+            words, text = [*size.words[:2], sheet], size.package if is_package else other
+            run = measured(words, text, size.lines, os.devnull, (status,))
+            runs[name].append(run)
+        check(size.lines, size.listing)
+    best = {name: each(min, of) for name, of in runs.items()}
+    before = 0
+    for name, run in best.items():
+        yield [name, f"{run.processor:.2f}", f"{run.processor - before:.2f}", mib(run.peak)]
+        before = run.processor
+    value, lines = best[STAGES[0][0]], best[STAGES[-1][0]]
+    speed = size.listing.lines / (lines.processor - value.processor)
+    yield ["cells a second behind the value", "", f"{speed:,.0f}", ""]
+
+
+STAGE_HEAD = ["run to the end of", "seconds", "more", "peak MiB"]
+
+
 def row_of(name, size):
     (seconds, _, peak), (json_seconds, _, json_peak) = size.best()
     return [
@@ -390,6 +456,11 @@ def main():
         help="the size that the larger text may have (default: just under the program's limit)",
     )
     parser.add_argument("--mix", choices=MIXES, default="texts", help="what the cells hold")
+    parser.add_argument(
+        "--stages",
+        action="store_true",
+        help="measure what each stage adds on the larger text, and nothing beside it",
+    )
     add_repeats(parser, 5)
     add_program(parser)
     asked = parser.parse_args()
@@ -398,6 +469,10 @@ def main():
     program = program_of(asked)
     with tempfile.TemporaryDirectory() as folder:
         mix = MIXES[asked.mix]()
+        if asked.stages:
+            whole = Size(folder, program, asked.bytes, mix)
+            table(STAGE_HEAD, list(stage_rows(whole, asked.repeats)))
+            return
         half = Size(folder, program, asked.bytes // 2, mix)
         whole = Size(folder, program, asked.bytes, mix)
         for _ in range(asked.repeats):

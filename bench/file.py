@@ -4,14 +4,15 @@ table (docs/PERFORMANCE.md)."""
 
 import argparse
 import os
+import shutil
 import subprocess
 import sys
 import tempfile
 import zipfile
 from xml.sax.saxutils import escape
 
-from cells import Listing, cells_of, check, row_lines
-from measure import TOP, TYPES, add_repeats, each, measured, mib, table
+from cells import Listing, Texts, check
+from measure import TOP, TYPES, add_repeats, build, each, measured, mib, table
 
 MAIN = "http://schemas.openxmlformats.org/spreadsheetml/2006/main"
 PACKAGE = "http://schemas.openxmlformats.org/package/2006/"
@@ -22,6 +23,9 @@ CONTENT_TYPES = f"""\
 <Default Extension="rels" ContentType="application/vnd.openxmlformats-package.relationships+xml"/>\
 <Override PartName="/xl/workbook.xml" ContentType="{CONTENT}sheet.main+xml"/>\
 <Override PartName="/xl/worksheets/sheet1.xml" ContentType="{CONTENT}worksheet+xml"/></Types>"""
+
+# What the cells hold.
+MIX = Texts()
 
 # Reads every cell once, and answers how many there are.
 OPENPYXL = """\
@@ -46,19 +50,19 @@ def workbook():
     )
 
 
-def sheet(rows, namespace):
-    """The markup of the sheet, piece by piece. The plain form has no namespace."""
-    yield f"<worksheet{namespace}><sheetData>"
+def sheet(rows):
+    """The markup of the sheet, piece by piece."""
+    yield f'<worksheet xmlns="{MAIN}"><sheetData>'
     for row in range(1, rows + 1):
         yield f'<row r="{row}">'
-        for reference, formula, text in cells_of(row):
+        for reference, formula, text in MIX.cells_of(row):
             told = "" if formula is None else f"<f>{escape(formula)}</f>"
             yield f'<c r="{reference}" t="str">{told}<v>{escape(text)}</v></c>'
         yield "</row>"
     yield "</sheetData></worksheet>"
 
 
-def write_book(path, rows, namespace):
+def write_book(path, rows):
     with zipfile.ZipFile(path, "w", zipfile.ZIP_DEFLATED) as book:
         book.writestr("[Content_Types].xml", CONTENT_TYPES)
         book.writestr("_rels/.rels", relationships("officeDocument", "xl/workbook.xml"))
@@ -66,42 +70,42 @@ def write_book(path, rows, namespace):
             "xl/_rels/workbook.xml.rels", relationships("worksheet", "worksheets/sheet1.xml")
         )
         book.writestr("xl/workbook.xml", workbook())
-        book.writestr("xl/worksheets/sheet1.xml", "".join(sheet(rows, namespace)))
+        book.writestr("xl/worksheets/sheet1.xml", "".join(sheet(rows)))
 
 
 class Size:
-    """A workbook in two files that differ in a namespace: the plain form, which is all that is read
-    yet, has none, and openpyxl reads nothing without one."""
-
     def __init__(self, folder, python, rows):
         self.rows, self.python = rows, python
-        self.plain = os.path.join(folder, f"plain-{rows}.xlsx")
-        self.common = os.path.join(folder, f"common-{rows}.xlsx")
+        self.book = os.path.join(folder, f"book-{rows}.xlsx")
         self.lines = os.path.join(folder, "lines.txt")
-        write_book(self.plain, rows, "")
-        write_book(self.common, rows, f' xmlns="{MAIN}"')
+        self.text = os.path.join(folder, "package.json")
+        write_book(self.book, rows)
         self.listing = Listing()
         for row in range(1, rows + 1):
-            self.listing.add(row_lines(row))
-        self.ours, self.full, self.read_only = [], [], []
+            self.listing.add(MIX.row_lines(row).encode())
+        self.ours, self.feeder, self.full, self.read_only = [], [], [], []
 
     def run(self):
         self.ours.append(
-            measured([str(TOP / "xlsx"), self.plain, "cells", "S"], os.devnull, self.lines)
+            measured([str(TOP / "xlsx"), self.book, "cells", "S"], os.devnull, self.lines)
         )
         check(self.lines, self.listing)
+        words = [shutil.which("python3"), str(TOP / "tools" / "package_text.py"), self.book]
+        self.feeder.append(measured(words, os.devnull, self.text))
         for runs, is_read_only in ((self.full, False), (self.read_only, True)):
-            words = [self.python, "-c", OPENPYXL, self.common, str(is_read_only)]
+            words = [self.python, "-c", OPENPYXL, self.book, str(is_read_only)]
             runs.append(measured(words, os.devnull, self.lines))
             with open(self.lines, encoding="ascii") as found:
                 assert int(found.read()) == 4 * self.rows
 
     def row(self):
-        ours, full, read_only = (each(min, runs) for runs in (self.ours, self.full, self.read_only))
+        of_each = (self.ours, self.feeder, self.full, self.read_only)
+        ours, feeder, full, read_only = (each(min, runs) for runs in of_each)
         return [
             f"{4 * self.rows:,}",
-            f"{os.path.getsize(self.plain):,}",
+            f"{os.path.getsize(self.book):,}",
             f"{ours.processor:.2f}",
+            f"{feeder.processor:.2f}",
             f"{full.processor:.2f}",
             f"{ours.processor / full.processor:.2f}",
             f"{read_only.processor:.2f}",
@@ -115,6 +119,7 @@ HEAD = [
     "cells",
     "bytes",
     "seconds",
+    "its text",
     "openpyxl",
     "ratio",
     "read_only",
@@ -143,7 +148,7 @@ def main():
         [asked.python, "-c", "import openpyxl"], stderr=subprocess.DEVNULL
     ).returncode:
         sys.exit(f"file.py: {asked.python} has no openpyxl: name one that has with --python")
-    subprocess.run([TOP / "xlsx", "--version"], stdout=subprocess.DEVNULL, check=True)
+    build()
     with tempfile.TemporaryDirectory() as folder:
         sizes = [Size(folder, asked.python, rows) for rows in (asked.rows, 2 * asked.rows)]
         for _ in range(asked.repeats):

@@ -63,10 +63,15 @@ def add_program(parser):
     )
 
 
+def build():
+    """Builds the program of this repository, where that is due."""
+    subprocess.run([TOP / "xlsx", "--version"], stdout=subprocess.DEVNULL, check=True)
+
+
 def program_of(asked):
     if asked.program is not None:
         return os.path.abspath(asked.program)
-    subprocess.run([TOP / "xlsx", "--version"], stdout=subprocess.DEVNULL, check=True)
+    build()
     return str(PROGRAM)
 
 

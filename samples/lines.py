@@ -11,8 +11,8 @@ MADE = datetime.datetime(2024, 1, 2, 3, 4, 5)
 DAY = datetime.timedelta(days=1)
 FIRST_DAYS = {1900: datetime.datetime(1899, 12, 30), 1904: datetime.datetime(1904, 1, 1)}
 
-# The colors of the theme that openpyxl writes, by the numbers of an attribute `theme`.
-THEME = "FFFFFF 000000 EEECE1 1F497D 4F81BD C0504D 9BBB59 8064A2 4BACC6 F79646".split()
+# The colors of the workbook's theme, by the numbers of an attribute `theme`.
+THEME = "FFFFFF 000000 EEECE1 404040 336699 C0504D 9BBB59 8064A2 4BACC6 F79646".split()
 TINTS = ("0", "0.3999755851924192", "-0.249977111117893")
 
 
@@ -23,12 +23,12 @@ def line(reference, value=None, formula=None, fill=None):
 
 def dates(epoch):
     serial = format((MADE - FIRST_DAYS[epoch]) / DAY, ".16G")
-    kinds = ["date", "date", "duration", None, "date"]
+    kinds = ["date", "date", "duration", None, "date", "date", "date", "duration", None]
     for row, kind in enumerate(kinds, 1):
         for column, number in (("A", serial), ("B", "45292.25")):
             value = f"n:{number}" if kind is None else f"t:{number} {kind} {epoch}"
             yield line(f"{column}{row}", value)
-    yield line("A6", "n:45292.25")
+    yield line("A10", "n:45292.25")
 
 
 def rich_text():
@@ -58,11 +58,22 @@ def shared_formulas():
             yield line(f"{column}{row}", None, f"'Sales'!{moved}{row}&\"A1\"")
         if row == 1:
             yield line("G1", None, "LOG10(A1)")
+    for place, column in enumerate("ABCD"):
+        moved = "CDEF"[place]
+        yield line(f"{column}7", None, f"{column}1+$B1+{moved}$1+LOG10({column}1)")
+    yield line("E7", None, "A1*2")
+    for row in (8, 9, 10):
+        first, second = row - 7, row - 6
+        sums = f"SUM(B:C)+SUM({first}:{second})+SUM($1:{second})"
+        yield line(f"A{row}", None, f"{sums}+'Q1'!A{first}")
+        if row > 8:
+            # What would leave the worksheet stays.
+            yield line(f"C{row}", None, f"A{row - 8}+B1048576")
 
 
 def tinted(color, tint):
-    """The color whose channels are the whole numbers nearest to those with another luminance, halves
-    upward (ECMA-376 part 1, section 18.8.19)."""
+    """The color whose channels are the whole numbers nearest to those with another luminance,
+    halves upward (ECMA-376 part 1, section 18.8.19)."""
     channels = [Fraction(int(color[at : at + 2], 16), 255) for at in (0, 2, 4)]
     most, least, tint = max(channels), min(channels), Fraction(tint)
     light = (most + least) / 2
@@ -84,13 +95,38 @@ def themes_and_tints():
         yield line(f"B{row}")
 
 
+def tables_links_and_merges():
+    """The cells alone: tables, links and merged areas aren't told."""
+    cells = "A1 Name B1 Qty A2 nut B2 3 A3 bolt B3 2 A4 Total A6 link B6 S!A1 A8 merged".split()
+    for reference, text in zip(cells[::2], cells[1::2]):
+        yield line(reference, f"n:{text}" if text.isdecimal() else f"s:{text}")
+
+
+def libreoffice():
+    for place, text in (("A1", "name"), ("B1", "amount"), ("C1", "date")):
+        yield line(place, f"s:{text}")
+    for row, text, amount, day in ((2, "nut", "10.5", (1, 2)), (3, "bolt, long", "4", (2, 3))):
+        serial = (datetime.datetime(2024, *day) - FIRST_DAYS[1900]).days
+        yield line(f"A{row}", f"s:{text}")
+        yield line(f"B{row}", f"n:{amount}")
+        yield line(f"C{row}", f"t:{serial} date 1900")
+    yield line("A4", "s:nutx", 'A2&"x"')
+    yield line("B4", "n:14.5", "SUM(B2:B3)")
+    yield line("C4", "e:#DIV/0!", "1/0")
+    yield line("A5", "b:true", "TRUE()")
+    yield line("B5", "e:#N/A", "NA()")
+    yield line("C5", "s:\\t", "CHAR(9)")
+
+
 LINES = {
     "dates_1900": dates(1900),
     "dates_1904": dates(1904),
+    "libreoffice": libreoffice(),
     "rich_text": rich_text(),
     "inline_strings": inline_strings(),
     "chart_sheet": chart_sheet(),
     "shared_formulas": shared_formulas(),
+    "tables_links_and_merges": tables_links_and_merges(),
     "themes_and_tints": themes_and_tints(),
 }
 

@@ -1,15 +1,19 @@
 #!/usr/bin/env python3
-"""Makes the workbooks of this folder. It needs openpyxl 3.0 and XlsxWriter, as Debian's packages
-python3-openpyxl and python3-xlsxwriter, and is no part of the tests."""
+"""Makes the workbooks of this folder. It needs openpyxl 3.0, XlsxWriter and LibreOffice, as
+Debian's packages python3-openpyxl, python3-xlsxwriter and libreoffice-calc-nogui, and is no part of
+the tests."""
 
 import datetime
 import pathlib
+import subprocess
 import sys
+import tempfile
 
 import openpyxl
 import xlsxwriter
 from openpyxl.styles import Font, PatternFill
 from openpyxl.styles.colors import Color
+from openpyxl.writer.theme import theme_xml
 
 HERE = pathlib.Path(__file__).resolve().parent
 sys.path.insert(0, str(HERE.parent / "tools"))
@@ -33,7 +37,8 @@ def values_and_formulas():
 
 
 def shared_formulas():
-    """Two groups of shared formulas, one of them over rows and columns, and one formula more."""
+    """Groups of shared formulas: down a column, over rows and columns, along a row, of whole rows
+    and columns, past the last row, and of one cell. One formula more is not shared."""
     book = openpyxl.Workbook()
     sheet = book.active
     sheet.title = "Sales"
@@ -46,6 +51,17 @@ def shared_formulas():
     shared(sheet, "C1:C5", 0)
     shared(sheet, "D1:E5", 1)
     sheet["G1"] = "=LOG10(A1)"
+    # A master alone has its text. The others tell that they have a formula.
+    for area, formula in (
+        ("A7:D7", "=A1+$B1+C$1+LOG10(A1)"),
+        ("A8:A10", "=SUM(B:C)+SUM(1:2)+SUM($1:2)+'Q1'!A1"),
+        ("C9:C10", "=A1+B1048576"),
+        ("E7:E7", "=A1*2"),
+    ):
+        for cell in (cell for row in sheet[area] for cell in row):
+            cell.value = formula
+        shared(sheet, area, len(sheet.formula_attributes))
+    book.create_sheet("Q1")
     book.save(HERE / "shared_formulas.xlsx")
 
 
@@ -61,11 +77,13 @@ def dates():
     for epoch in (1900, 1904):
         book = written(f"dates_{epoch}.xlsx", date_1904=epoch == 1904)
         sheet = book.add_worksheet("Dates")
-        for row, code in enumerate(("yyyy-mm-dd", "h:mm:ss", "[h]:mm", '"day" 0', "d mmm yy h:mm")):
+        # Codes, and the numbers of formats without one.
+        codes = ("yyyy-mm-dd", "h:mm:ss", "[h]:mm", '"day" 0', "d mmm yy h:mm", 14, 22, 46, 9)
+        for row, code in enumerate(codes):
             kind = book.add_format({"num_format": code})
             sheet.write_datetime(row, 0, MADE, kind)
             sheet.write_number(row, 1, 45_292.25, kind)
-        sheet.write_number(5, 0, 45_292.25)
+        sheet.write_number(len(codes), 0, 45_292.25)
         book.close()
 
 
@@ -81,8 +99,10 @@ def rich_text():
 
 
 def themes_and_tints():
-    """Fills by theme and tint, by palette and by colour, and a hidden sheet."""
+    """Fills by theme and tint, by palette and by colour, over a theme of its own, and a hidden
+    sheet."""
     book = openpyxl.Workbook()
+    book.loaded_theme = theme_xml.replace("1F497D", "404040").replace("4F81BD", "336699")
     sheet = book.active
     sheet.title = "Fills"
     tints = (0.0, 0.3999755851924192, -0.249977111117893)
@@ -133,6 +153,25 @@ def tables_links_and_merges():
     book.close()
 
 
+# Comma-separated values, as LibreOffice opens them.
+VALUES = '''\
+name,amount,date
+nut,10.5,2024-01-02
+"bolt, long",4,2024-02-03
+"=A2&""x""",=SUM(B2:B3),=1/0
+=TRUE(),=NA(),=CHAR(9)
+'''
+
+
+def libreoffice():
+    """Values, dates, formulas and errors, as LibreOffice writes them."""
+    with tempfile.TemporaryDirectory() as folder:
+        values = pathlib.Path(folder) / "libreoffice.csv"
+        values.write_text(VALUES)
+        words = ["soffice", "--headless", "--convert-to", "xlsx", "--outdir", HERE, values]
+        subprocess.run(words, check=True)
+
+
 def main():
     values_and_formulas()
     shared_formulas()
@@ -142,6 +181,7 @@ def main():
     chart_sheet()
     inline_strings()
     tables_links_and_merges()
+    libreoffice()
 
 
 if __name__ == "__main__":

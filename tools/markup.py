@@ -5,30 +5,25 @@ Nothing is normalised: names, attribute texts and texts are as written. Nesting 
 
 import codecs
 import re
+import sys
 from json.encoder import encode_basestring as spelled
 
 WHITE_SPACE = " \t\r\n"
 
-# A start's attribute text, or the `/` of an empty element without one. Quotes may hold `<` and `>`.
-ATTRIBUTES = r"""(?:[ \t\r\n][^"'<>]*(?:(?:"[^"]*"|'[^']*')[^"'<>]*)*|/)?"""
-NAME = r"""[^ \t\r\n<>"'/!?&][^ \t\r\n<>"'/]*"""
-TAG = rf"<(?:/([^<>]+)|({NAME})({ATTRIBUTES}))>"
-REFERENCE = r"&([^&<;]*);"
-
-# A tag or a reference, or else the first character of other markup; and the text behind it.
-STEP = re.compile(rf"(?:{TAG}|{REFERENCE}|([<&]))([^<&]*)")
-
-TEXT_ALONE = re.compile(r"[^<&]*")
-TAG_ALONE = re.compile(TAG)
-TAG_FRONT = re.compile(r"""<[^"'<>]*(?:(?:"[^"]*"|'[^']*')[^"'<>]*)*""")
-REFERENCE_ALONE = re.compile(REFERENCE)
-REFERENCE_FRONT = re.compile(r"&[^&<;]*")
+NAME = re.compile(r"""[^ \t\r\n<>"'/!?&][^ \t\r\n<>"'/]*""")
+BRACKET = re.compile("[<>]")
+BRACKET_OR_QUOTE = re.compile("""[<>"']""")
 DOCTYPE = "<!DOCTYPE"
 DOCTYPE_STEP = re.compile(
     r"""[^"'<>]+|"[^"]*"|'[^']*'|<!--.*?-->|<\?.*?\?>|<(?!!--|\?)|>""", re.DOTALL
 )
 # No other markup begins in more characters.
 LONGEST_OPENING = 9
+
+# Up to so many characters are split at a time, and at first so many.
+MOST, FEWEST = 4096, 32
+# The events of so many tags are kept, where these are shorter than this.
+KEPT, LONG = 1000, 100
 
 OTHER = '["o"]'
 
@@ -40,6 +35,10 @@ FRONT = 1024
 
 class MarkupFault(Exception):
     """What can't be cut into events."""
+
+
+class TooLong(Exception):
+    """What is one event and longer than the limit."""
 
 
 def encoding_of(front):
@@ -101,27 +100,67 @@ def reference_of(name):
     return f'["r",{spelled(name)}]'
 
 
+def tag_of(tag):
+    """The events of what stands between a tag's brackets, or None where it makes no tag."""
+    if tag.startswith("/"):
+        return end_of(tag[1:]) if len(tag) > 1 else None
+    name = NAME.match(tag)
+    if name is None:
+        return None
+    attributes = tag[name.end() :]
+    if attributes and attributes != "/" and attributes[0] not in WHITE_SPACE:
+        return None
+    return start_of(name[0], attributes)
+
+
+class Tags:
+    """Tells the events of tags, and keeps those of tags without attributes."""
+
+    def __init__(self):
+        self.plain, self.names = {}, set()
+
+    def get(self, tag):
+        """The events of a tag with its quotes, all of one kind, in pairs. None for other tags."""
+        if tag in self.plain:
+            return self.plain[tag]
+        one, other = ("'", '"') if "'" in tag else ('"', "'")
+        if other in tag or tag.count(one) % 2 == 1:
+            return None
+        name, space, attributes = tag.partition(" ")
+        if space and name in self.names:
+            return start_of(name, space + attributes)
+        found = tag_of(tag)
+        if found is not None and len(self.plain) + len(self.names) < KEPT:
+            if space and not tag.startswith("/"):
+                self.names.add(name)
+            elif len(tag) < LONG:
+                self.plain[tag] = found
+        return found
+
+
+def tag_end(buffer, at):
+    """Where the bracket stands that ends a tag or breaks it; None where it isn't there."""
+    if buffer.startswith("</", at):
+        found = BRACKET.search(buffer, at + 1)
+    else:
+        found = BRACKET_OR_QUOTE.search(buffer, at + 1)
+    while found and found[0] in "\"'":
+        closing = buffer.find(found[0], found.end())
+        found = None if closing < 0 else BRACKET_OR_QUOTE.search(buffer, closing + 1)
+    return found and found.start()
+
+
 # Each of these answers the event at a place and where it ends, or None where its end isn't there.
 
 
-def reference_at(buffer, at):
-    found = REFERENCE_ALONE.match(buffer, at)
-    if found:
-        return reference_of(found[1]), found.end()
-    if REFERENCE_FRONT.match(buffer, at).end() < len(buffer):
-        raise MarkupFault("a `&` without its `;`")
-    return None
-
-
 def tag_at(buffer, at):
-    found = TAG_ALONE.match(buffer, at)
-    if found:
-        end, name, attributes = found.groups()
-        return start_of(name, attributes) if end is None else end_of(end), found.end()
-    after = TAG_FRONT.match(buffer, at).end()
-    if buffer[after : after + 1] in ("<", ">"):
+    end = tag_end(buffer, at)
+    if end is None:
+        return None
+    found = tag_of(buffer[at + 1 : end])
+    if buffer[end] == "<" or found is None:
         raise MarkupFault("a `<` that begins no tag")
-    return None
+    return found, end + 1
 
 
 def span_at(buffer, at, opening, closing, event_of=lambda text: OTHER):
@@ -144,8 +183,6 @@ def doctype_at(buffer, at):
 
 
 def markup_at(buffer, at):
-    if buffer[at] == "&":
-        return reference_at(buffer, at)
     if buffer.startswith("<!--", at):
         return span_at(buffer, at, "<!--", "-->")
     if buffer.startswith("<![CDATA[", at):
@@ -160,7 +197,8 @@ def markup_at(buffer, at):
 class Cutter:
     """Cuts a text that comes in pieces: each event once its end is there."""
 
-    def __init__(self):
+    def __init__(self, limit=sys.maxsize):
+        self.limit, self.tags = limit, Tags()
         # What isn't cut yet: a front that was looked at, and the pieces behind it with their size.
         self.front, self.pieces, self.size = "", [], 0
         # How many characters were cut.
@@ -171,7 +209,12 @@ class Cutter:
         that the time is linear."""
         self.pieces.append(text)
         self.size += len(text)
-        return self.cut(False) if self.size > len(self.front) else []
+        if self.size <= len(self.front) and len(self.front) + self.size <= self.limit:
+            return []
+        out = self.cut(False)
+        if len(self.front) > self.limit:
+            raise TooLong
+        return out
 
     def close(self):
         """The last events."""
@@ -181,66 +224,75 @@ class Cutter:
         buffer, out, at = "".join([self.front, *self.pieces]), [], 0
         # Each text before this place has its end.
         safe = len(buffer) if is_last else buffer.rfind("<")
-        while at < len(buffer):
-            after = self.tags(buffer, at, safe, out)
-            if after == at:
-                after = self.one(buffer, at, is_last, out)
-            if after is None:
-                break
-            at = after
+        while at < safe:
+            at = self.plain(buffer, at, safe, out)
+            if at < safe:
+                found = self.markup(buffer, at, is_last)
+                if found is None:
+                    break
+                event, at = found
+                out.append(event)
         self.front, self.pieces, self.size = buffer[at:], [], 0
         self.passed += at
         return out
 
-    def tags(self, buffer, at, safe, out):
-        """Cuts tags, references and the texts behind them, up to other markup or the safe place."""
-        if buffer[at] not in "<&":
-            return at
-        add, found = out.append, None
-        for found in STEP.finditer(buffer, at, safe):
-            end, name, attributes, reference, other, text = found.groups()
-            if name is not None:
-                add(start_of(name, attributes))
-            elif end is not None:
-                add(end_of(end))
-            elif reference is not None:
-                add(reference_of(reference))
-            else:
-                return found.start()
-            if text:
-                add(text_of(text))
-        return found.end() if found else at
+    def plain(self, buffer, at, safe, out):
+        """Cuts texts, references and most tags. Answers where other markup begins, or the safe
+        place."""
+        add, tag_events, size = out.append, self.tags.get, FEWEST
+        while at < safe:
+            stop = buffer.find("<", at + size, safe)
+            size = min(2 * size, MOST)
+            text, *parts = buffer[at : safe if stop < 0 else stop].split("<")
+            self.add_text(text, at, out)
+            at += len(text)
+            for part in parts:
+                tag, closed, text = part.partition(">")
+                found = tag_events(tag) if closed else None
+                if found is None:
+                    return at
+                add(found)
+                if "&" in text:
+                    self.add_text(text, at + len(tag) + 2, out)
+                elif text:
+                    add(f'["t",{spelled(text)}]')
+                at += len(part) + 1
+        return at
 
-    def one(self, buffer, at, is_last, out):
-        """Cuts one event. Answers where it ends, or None where more text is wanted."""
-        if buffer[at] not in "<&":
-            after = TEXT_ALONE.match(buffer, at).end()
-            found = text_of(buffer[at:after]), after
-            is_whole = after < len(buffer)
-        else:
-            found = self.markup(buffer, at, is_last)
-            is_whole = found is not None
-        if not is_whole and not is_last:
-            return None
-        event, after = found
-        out.append(event)
-        return after
+    def add_text(self, text, at, out):
+        """Cuts a text at a place, and the references in it."""
+        text, *parts = text.split("&")
+        if text:
+            out.append(text_of(text))
+        at += len(text)
+        for part in parts:
+            name, closed, text = part.partition(";")
+            if not closed:
+                raise self.fault_at(at, "a `&` without its `;`")
+            out.append(reference_of(name))
+            if text:
+                out.append(text_of(text))
+            at += len(part) + 1
 
     def markup(self, buffer, at, is_last):
         if len(buffer) - at < LONGEST_OPENING and not is_last:
             return None
         try:
             found = markup_at(buffer, at)
-            if found is None and is_last:
-                raise MarkupFault("markup without an end")
         except MarkupFault as fault:
-            raise MarkupFault(f"{fault}, at character {self.passed + at}") from None
+            raise self.fault_at(at, fault) from None
+        if found is None and is_last:
+            raise self.fault_at(at, "markup without an end")
         return found
 
+    def fault_at(self, at, text):
+        return MarkupFault(f"{text}, at character {self.passed + at}")
 
-def events(pieces):
-    """The events that the pieces of bytes spell, list by list."""
-    cutter = Cutter()
+
+def events(pieces, limit=sys.maxsize):
+    """The events that the pieces of bytes spell, list by list. Where one of them is longer than the
+    limit, no more than some times as much is held."""
+    cutter = Cutter(limit)
     for text in decoded(pieces):
         yield cutter.feed(text)
     yield cutter.close()

@@ -6,7 +6,6 @@ import contextlib
 import errno
 import html
 import json
-import lzma
 import os
 import re
 import signal
@@ -16,13 +15,19 @@ import tempfile
 import zipfile
 import zlib
 
-from markup import MarkupFault, events, spelled
+from markup import MarkupFault, TooLong, events, spelled
+
+try:
+    from lzma import LZMAError
+except ImportError:  # Python can be built without it.
+    LZMAError = zlib.error
 
 STATUSES = """\
 Statuses: 0 the package text was written whole; 2 usage; 3 the file can't be
 read; 4 the text is longer than the limit; 7 the text can't be written;
 8 out of memory; 10 no zip archive; 11 a workbook of another kind, as .xls;
-12 encrypted; 13 the archive or a part is broken. All but 7 write nothing.
+12 encrypted; 13 the archive or a part is broken. Only with 0 and 7 is
+anything written.
 """
 
 # How many bytes are read and written at a time.
@@ -36,7 +41,7 @@ NO_ARCHIVE = "no zip archive, and so no .xlsx workbook"
 BROKEN = (
     zipfile.BadZipFile,
     zlib.error,
-    lzma.LZMAError,
+    LZMAError,
     struct.error,
     EOFError,
     RuntimeError,
@@ -67,6 +72,10 @@ FILES = {
 }
 MARKUP = (".xml", ".rels", ".vml")
 
+# How the content of an OpenDocument file's first entry, `mimetype`, begins.
+OPEN_DOCUMENT = b"application/vnd.oasis.opendocument"
+
+CONTROL = re.compile("[\0-\x1f\x7f-\x9f]")
 PAIR = re.compile(r"""([^\s=]+)\s*=\s*(?:"([^"]*)"|'([^']*)')""")
 
 
@@ -74,6 +83,15 @@ class Refusal(Exception):
     def __init__(self, status, text):
         super().__init__(text)
         self.status = status
+
+
+def too_large(limit):
+    return Refusal(4, f"input too large: its package text has more than {limit:,} bytes")
+
+
+def one_line(text):
+    """The text without control characters, so that it stays one line and does nothing else."""
+    return CONTROL.sub(lambda found: f"\\x{ord(found[0]):02x}", text)
 
 
 def file_name(path):
@@ -130,6 +148,8 @@ def written():
 
 def archive_of(file):
     with read("the zip archive"):
+        if not file.seekable():
+            raise Refusal(3, "can't be read: it is a pipe, and no file")
         front = file.read(len(COMPOUND))
         if front == COMPOUND:
             raise compound_refusal(file)
@@ -158,20 +178,30 @@ def targets_of(event):
 class Workbook:
     """The parts of a workbook file that are written."""
 
-    def __init__(self, archive, is_all):
-        self.archive, self.is_all = archive, is_all
+    def __init__(self, archive, is_all, limit):
+        self.archive, self.is_all, self.limit = archive, is_all, limit
         # Of entries with one name the last stands, since an archive is added to at its end.
         self.entries = {entry.filename: entry for entry in archive.infolist()}
+        if self.is_open_document():
+            raise Refusal(11, "an OpenDocument file: save it as .xlsx")
         self.targets = self.found_targets()
         if any(name.endswith(".bin") for name in self.targets):
             raise Refusal(11, "an .xlsb workbook: save it as .xlsx")
 
+    def is_open_document(self):
+        entry = self.entries.get("mimetype")
+        return entry is not None and next(self.pieces(entry), b"").startswith(OPEN_DOCUMENT)
+
     def found_targets(self):
         """The file names that relationships of the wanted types lead to, wherever they stand."""
-        found = set()
+        found, size = set(), 0
         for name, entry in self.entries.items():
             if file_name(name).endswith(".rels"):
                 for some in self.events(entry):
+                    # These parts are all written.
+                    size += len(some)
+                    if size > self.limit:
+                        raise too_large(self.limit)
                     found.update(*map(targets_of, json.loads(f"[{some}]")))
         return found
 
@@ -188,17 +218,26 @@ class Workbook:
     def events(self, entry):
         """The events of a part, as texts of one or more with commas between them."""
         try:
-            for some in events(self.pieces(entry)):
+            for some in events(self.pieces(entry), self.limit):
                 if some:
                     yield ",".join(some)
         except MarkupFault as fault:
             raise Refusal(13, f"{entry.filename} is broken: {fault}") from None
+        except TooLong:
+            text = f"{entry.filename} has a text or a tag of more than {self.limit:,} characters"
+            raise Refusal(4, f"input too large: {text}") from None
 
     def pieces(self, entry):
         if entry.flag_bits & 1:
             raise Refusal(12, f"{entry.filename} is encrypted")
         with read(entry.filename), self.archive.open(entry) as part:
             yield from iter(lambda: part.read(PIECE), b"")
+
+
+def send(piece, descriptor):
+    with written():
+        while piece:
+            piece = piece[os.write(descriptor, piece) :]
 
 
 class Output:
@@ -210,55 +249,65 @@ class Output:
     def add(self, text):
         piece = text.encode()
         self.size += len(piece)
-        if self.limit is not None and self.size > self.limit:
-            raise Refusal(
-                4, f"input too large: its package text has more than {self.limit:,} bytes"
-            )
-        with written():
-            self.kept.write(piece)
-
-    def add_list(self, items, between=","):
-        for number, item in enumerate(items):
-            if number > 0:
-                self.add(between)
-            self.add(item)
+        if self.size > self.limit:
+            raise too_large(self.limit)
+        send(piece, self.kept.fileno())
 
     def add_package(self, parts):
+        between = ""
         self.add('{"version":1,"parts":[')
-        for number, (name, some_events) in enumerate(parts):
-            self.add(("," if number else "") + f'\n{{"name":{spelled(name)},"events":[')
-            self.add_list(some_events)
+        for name, some_events in parts:
+            self.add(f'{between}\n{{"name":{spelled(name)},"events":[')
+            between = ""
+            for some in some_events:
+                self.add(between + some)
+                between = ","
             self.add("]}")
+            between = ","
         self.add("\n]}\n")
 
     def send(self, descriptor):
         with written():
             self.kept.seek(0)
             for piece in iter(lambda: self.kept.read(PIECE), b""):
-                while piece:
-                    piece = piece[os.write(descriptor, piece) :]
+                send(piece, descriptor)
 
 
 def write(path, is_all, limit, descriptor):
+    with written():
+        # A closed one would be that of the next file which is opened.
+        os.fstat(descriptor)
     with contextlib.ExitStack() as stack:
         with read("the file"):
             file = stack.enter_context(open(path, "rb"))
         archive = stack.enter_context(archive_of(file))
         with written():
-            kept = stack.enter_context(tempfile.TemporaryFile())
+            kept = stack.enter_context(tempfile.TemporaryFile(buffering=0))
         output = Output(kept, limit)
-        output.add_package(Workbook(archive, is_all).parts())
+        output.add_package(Workbook(archive, is_all, limit).parts())
         output.send(descriptor)
 
 
 class Parser(argparse.ArgumentParser):
     def error(self, message):
-        self.exit(2, f"{self.prog}: {message}\n")
+        raise Refusal(2, message)
+
+    def print_help(self, file=None):
+        send(self.format_help().encode(), 1)
+
+
+def size_of(word):
+    if not word.isdecimal():
+        raise argparse.ArgumentTypeError("it takes a number of bytes")
+    return int(word)
 
 
 def asked_of(words):
     parser = Parser(
-        description=__doc__, epilog=STATUSES, formatter_class=argparse.RawDescriptionHelpFormatter
+        description=__doc__,
+        epilog=STATUSES,
+        formatter_class=argparse.RawDescriptionHelpFormatter,
+        allow_abbrev=False,
     )
     parser.add_argument("file", metavar="FILE.xlsx")
     parser.add_argument(
@@ -267,15 +316,21 @@ def asked_of(words):
         help="write all parts of markup (default: those that the reader opens, now or later)",
     )
     parser.add_argument(
-        "--limit", type=int, metavar="BYTES", help="refuse a text that is longer than this"
+        "--limit",
+        type=size_of,
+        default=sys.maxsize,
+        metavar="BYTES",
+        help="refuse a text that is longer than this",
     )
     return parser.parse_args(words)
 
 
 def main():
     signal.signal(signal.SIGINT, signal.SIG_DFL)
-    asked = asked_of(sys.argv[1:])
+    name = "package_text.py"
     try:
+        asked = asked_of(sys.argv[1:])
+        name = asked.file
         write(asked.file, asked.all, asked.limit, 1)
         return 0
     except Refusal as refusal:
@@ -283,7 +338,8 @@ def main():
     except MemoryError:
         status, text = 8, "out of memory"
     with contextlib.suppress(OSError):
-        os.write(2, f"{asked.file}: {text}\n".encode(errors="surrogateescape"))
+        line = os.fsencode(one_line(name)) + f": {one_line(text)}\n".encode(errors="replace")
+        os.write(2, line)
     return status
 
 

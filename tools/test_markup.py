@@ -1,12 +1,14 @@
 """Tests that a part's markup is cut into the events of docs/FORMAT.md."""
 
 import codecs
+import collections
+import itertools
 import json
 import tracemalloc
 import unittest
 from xml.parsers import expat
 
-from markup import Cutter, MarkupFault, events
+from markup import Cutter, MarkupFault, TooLong, events
 
 # All kinds of markup at once.
 MIXED = """\
@@ -60,6 +62,19 @@ class Events(unittest.TestCase):
 
     def test_white_space_behind_an_end_name_is_dropped(self):
         self.check("</c \t\r\n>", [["e", "c"]])
+
+    def test_tags_that_come_again_are_cut_as_before(self):
+        each = (
+            ('<c r="1">', [["s", "c", ' r="1"']]),
+            ("<c r='>'/>", [["s", "c", " r='>'"], ["e", "c"]]),
+            ("<c >", [["s", "c", " "]]),
+            ("</c >", [["e", "c"]]),
+            ("</c/>", [["e", "c/"]]),
+            ("<c/>", [["s", "c", ""], ["e", "c"]]),
+            ("</a'b\">", [["e", "a'b\""]]),
+        )
+        for markup, wanted in each:
+            self.check(markup * 3, wanted * 3)
 
     def test_an_end_without_a_start_stays(self):
         self.check("</b><a>", [["e", "b"], ["s", "a", ""]])
@@ -182,7 +197,6 @@ class Faults(unittest.TestCase):
             b"<!DOCTYPE a [<!b>]",
         ):
             self.check(b"<a>b" + markup, "markup without an end, at character 4")
-        self.check(b"a&amp", "markup without an end, at character 1")
 
     def test_a_bracket_that_begins_no_tag(self):
         for markup in (
@@ -199,7 +213,7 @@ class Faults(unittest.TestCase):
             self.check(b"\xc3\xa9" + markup, "a `<` that begins no tag, at character 1")
 
     def test_a_reference_without_its_end(self):
-        for markup in (b"a & b<c>", b"a & b &amp;"):
+        for markup in (b"a & b<c>", b"a & b &amp;", b"a &amp"):
             self.check(markup, "a `&` without its `;`, at character 2")
 
     def test_neither_utf_8_nor_utf_16(self):
@@ -237,6 +251,32 @@ class Streams(unittest.TestCase):
             for letter in front + "x" * 100_000 + end:
                 cutter.feed(letter)
             self.assertLess(cutter.cuts, 60)
+
+    def test_what_is_longer_than_the_limit_is_not_held(self):
+        limit, piece = 30_000, 500
+        for front, more in (
+            ("<a>", "x"),
+            ("<!--", "<a"),
+            ("<![CDATA[", "x"),
+            ("<!DOCTYPE a [", "<b>"),
+            ("</a", " "),
+            ("<a b='", "<>"),
+            ("<a b=", '""'),
+            ("<a b=", "''"),
+        ):
+            each = itertools.chain([front.encode()], itertools.repeat(more.encode() * piece))
+            tracemalloc.start()
+            try:
+                with self.subTest(front), self.assertRaises(TooLong):
+                    collections.deque(events(each, limit), maxlen=0)
+                peak = tracemalloc.get_traced_memory()[1]
+            finally:
+                tracemalloc.stop()
+            self.assertLess(peak, 10 * limit)
+
+    def test_many_short_events_are_not_too_long(self):
+        data = b"<!-- a -->&amp;<b c='>'/>" * 1000
+        self.assertEqual(len(list(itertools.chain(*events(pieces_of(data, 7), 20)))), 3000)
 
     def test_a_part_is_not_kept(self):
         row = b'<row r="1"><c r="A1" t="str"><v>nut &amp; bolt</v></c></row>'

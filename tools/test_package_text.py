@@ -1,13 +1,17 @@
 """Tests which parts of a workbook file become its package text, and which files are refused."""
 
+import io
 import json
 import os
 import pathlib
+import resource
 import struct
 import subprocess
 import sys
 import tempfile
 import unittest
+import zipfile
+from unittest import mock
 
 from fixtures import MINIMAL, SALES, archive, relationships
 from package_text import Refusal, write
@@ -18,6 +22,31 @@ SHIPPED = HERE.parent / "crates" / "xlsx_tool" / "stdin"
 
 def with_parts(**parts):
     return archive({**MINIMAL, **parts})
+
+
+def write_archive(file, parts, packing=zipfile.ZIP_DEFLATED):
+    with zipfile.ZipFile(file, "w", packing) as made:
+        for name, markup in parts.items():
+            made.writestr(name, markup)
+
+
+class Unseekable(io.BytesIO):
+    """A file in which an archive tells the sizes and checksums of its entries behind them."""
+
+    def tell(self):
+        raise OSError
+
+    def seekable(self):
+        return False
+
+
+def bounded(size):
+    """Has a process take no more memory than this."""
+    return lambda: resource.setrlimit(resource.RLIMIT_AS, (size, size))
+
+
+LONG_TEXT = "input too large: its package text has more than 1,000,000 bytes"
+LONG_EVENT = "input too large: {} has a text or a tag of more than 1,000,000 characters"
 
 
 def directory_entry(name):
@@ -37,14 +66,15 @@ class Files(unittest.TestCase):
         self.addCleanup(folder.cleanup)
         self.path = os.path.join(folder.name, "book.xlsx")
 
-    def run_on(self, data, *words, stdout=subprocess.PIPE):
-        """Runs the program on a file of these bytes, none where they are None."""
+    def run_on(self, data, *words, stdout=subprocess.PIPE, **given):
+        """Runs the script on a file of these bytes, none where they are None."""
         if data is not None:
             pathlib.Path(self.path).write_bytes(data)
         ran = subprocess.run(
             [sys.executable, HERE / "package_text.py", self.path, *words],
             stdout=stdout,
             stderr=subprocess.PIPE,
+            **given,
         )
         return ran.returncode, ran.stdout, ran.stderr.decode()
 
@@ -56,8 +86,9 @@ class Files(unittest.TestCase):
     def names_of(self, data, *words):
         return [part["name"] for part in self.package_of(data, *words)["parts"]]
 
-    def check_refused(self, data, status, text, *words):
-        self.assertEqual(self.run_on(data, *words), (status, b"", f"{self.path}: {text}\n"))
+    def check_refused(self, data, status, text, *words, **given):
+        wanted = status, b"", f"{self.path}: {text}\n"
+        self.assertEqual(self.run_on(data, *words, **given), wanted)
 
 
 class Parts(Files):
@@ -162,9 +193,34 @@ class Parts(Files):
             self.names_of(with_parts(**{"XL/Workbook.xml": "<b/>"})), [*MINIMAL, "XL/Workbook.xml"]
         )
 
-    def test_a_part_in_utf_16(self):
-        more = {"xl/workbook.xml": MINIMAL["xl/workbook.xml"].encode("utf-16")}
-        self.assertEqual(self.package_of(with_parts(**more)), self.package_of(archive(MINIMAL)))
+    def test_parts_in_other_encodings(self):
+        for name in ("utf-8-sig", "utf-16", "utf-16-le", "utf-16-be"):
+            parts = {part: markup.encode(name) for part, markup in MINIMAL.items()}
+            self.assertEqual(
+                self.package_of(archive(parts)), self.package_of(archive(MINIMAL)), name
+            )
+
+    def test_names_are_as_in_the_archive(self):
+        for turned in ("\\xl\\workbook.xml", "/xl/workbook.xml", "XL/Work\u00e9/WORKBOOK.XML"):
+            self.assertEqual(self.names_of(archive({turned: "<a/>"})), [turned])
+
+    def test_archives_of_every_usual_form(self):
+        wanted = self.package_of(archive(MINIMAL))
+        unseekable = Unseekable()
+        write_archive(unseekable, MINIMAL)
+        self.assertEqual(self.package_of(unseekable.getvalue()), wanted)
+        for packing in (zipfile.ZIP_STORED, zipfile.ZIP_BZIP2, zipfile.ZIP_LZMA):
+            held = io.BytesIO()
+            write_archive(held, MINIMAL, packing)
+            self.assertEqual(self.package_of(held.getvalue()), wanted, packing)
+            front_and_comment = b"#!/bin/sh\n" + held.getvalue()[:-2] + b"\4\0nuts"
+            self.assertEqual(self.package_of(front_and_comment), wanted)
+
+    def test_an_archive_in_the_form_for_large_files(self):
+        with mock.patch("zipfile.ZIP64_LIMIT", 10), mock.patch("zipfile.ZIP_FILECOUNT_LIMIT", 1):
+            data = archive(MINIMAL)
+        self.assertIn(b"PK\6\6", data)
+        self.assertEqual(self.package_of(data), self.package_of(archive(MINIMAL)))
 
     def test_a_part_without_events(self):
         parts = self.package_of(archive({"_rels/.rels": ""}))["parts"]
@@ -188,6 +244,34 @@ class Refusals(Files):
         os.mkdir(self.path)
         self.check_refused(None, 3, "can't be read: Is a directory")
 
+    def test_a_file_that_may_not_be_read(self):
+        pathlib.Path(self.path).write_bytes(archive(MINIMAL))
+        os.chmod(self.path, 0)
+        if os.geteuid() == 0:
+            self.addCleanup(os.seteuid, 0)
+            os.seteuid(65534)
+        with self.assertRaises(Refusal) as caught:
+            write(self.path, False, sys.maxsize, 1)
+        refusal = caught.exception
+        self.assertEqual((refusal.status, str(refusal)), (3, "can't be read: Permission denied"))
+
+    def test_a_pipe(self):
+        os.mkfifo(self.path)
+        # Opened for both, so that neither end waits.
+        pipe = os.open(self.path, os.O_RDWR)
+        self.addCleanup(os.close, pipe)
+        os.write(pipe, archive(MINIMAL))
+        self.check_refused(None, 3, "can't be read: it is a pipe, and no file")
+
+    def test_a_message_is_one_line(self):
+        self.path += "\n\x1b[31m\x85.xlsx"
+        text = "_rels/\x1b\n.rels is broken: markup without an end, at character 0"
+        _, _, said = self.run_on(archive({"_rels/\x1b\n.rels": "<"}))
+        wanted = f"{self.path}: {text}"
+        for control in "\n\x1b\x85":
+            wanted = wanted.replace(control, f"\\x{ord(control):02x}")
+        self.assertEqual(said, wanted + "\n")
+
     def test_no_zip_archive(self):
         for data in (b"", b"nut", b"<workbook/>", compound("WordDocument")):
             self.check_refused(data, 10, "no zip archive, and so no .xlsx workbook")
@@ -199,6 +283,10 @@ class Refusals(Files):
     def test_an_xlsb_workbook(self):
         data = archive({"_rels/.rels": relationships(("officeDocument", "xl/workbook.bin"))})
         self.check_refused(data, 11, "an .xlsb workbook: save it as .xlsx")
+
+    def test_an_open_document_file(self):
+        data = archive({"mimetype": "application/vnd.oasis.opendocument.spreadsheet"})
+        self.check_refused(data, 11, "an OpenDocument file: save it as .xlsx")
 
     def test_an_encrypted_workbook(self):
         self.check_refused(
@@ -225,12 +313,14 @@ class Refusals(Files):
         )
 
     def test_a_part_packed_in_an_unknown_way(self):
-        data = bytearray(archive({"_rels/.rels": "<a/>"}))
-        for mark, place in ((b"PK\3\4", 8), (b"PK\1\2", 10)):
-            data[data.index(mark) + place] = 99
-        self.check_refused(
-            bytes(data), 13, "_rels/.rels is broken: That compression method is not supported"
-        )
+        # Deflate64, and one that isn't in use.
+        for number in (9, 99):
+            data = bytearray(archive({"_rels/.rels": "<a/>"}))
+            for mark, place in ((b"PK\3\4", 8), (b"PK\1\2", 10)):
+                data[data.index(mark) + place] = number
+            self.check_refused(
+                bytes(data), 13, "_rels/.rels is broken: That compression method is not supported"
+            )
 
     def test_a_part_that_is_no_markup(self):
         for markup, text in (
@@ -258,13 +348,59 @@ class Refusals(Files):
             f"--limit={limit}",
         )
 
+    def test_a_part_that_is_too_large_is_not_kept(self):
+        """Parts of 16 MB, in files of some 16 KB. The memory is that of the interpreter too."""
+        for front, more, end, text in (
+            ("<worksheet>", '<row r="1"/>', "", LONG_TEXT),
+            ("<worksheet><!--", "12345678", "-->", LONG_EVENT.format("xl/worksheets/sheet1.xml")),
+            ("<worksheet>", "12345678", "", LONG_EVENT.format("xl/worksheets/sheet1.xml")),
+        ):
+            part = front + more * (16_000_000 // len(more)) + end
+            data = with_parts(**{"xl/worksheets/sheet1.xml": part})
+            self.check_refused(data, 4, text, "--limit=1000000", preexec_fn=bounded(60_000_000))
+
+    def test_relationships_that_are_too_many(self):
+        part = "<Relationship/>" * 200_000
+        self.check_refused(archive({"a.rels": part}), 4, LONG_TEXT, "--limit=1000000")
+
+    def test_want_of_memory(self):
+        data = with_parts(**{"xl/workbook.xml": "x" * 60_000_000})
+        self.check_refused(data, 8, "out of memory", preexec_fn=bounded(100_000_000))
+
+    def test_no_standard_output(self):
+        self.check_refused(
+            archive(MINIMAL), 7, "write fault: Bad file descriptor", preexec_fn=lambda: os.close(1)
+        )
+
+    def test_no_room_for_the_text(self):
+        def bound():
+            resource.setrlimit(resource.RLIMIT_FSIZE, (1000, 1000))
+
+        self.check_refused(archive(SALES), 7, "write fault: File too large", preexec_fn=bound)
+
+    def test_a_closed_pipe(self):
+        to_read, to_write = os.pipe()
+        os.close(to_read)
+        with open(to_write, "wb") as closed:
+            ran = self.run_on(archive(MINIMAL), stdout=closed)
+        self.assertEqual(ran, (7, None, f"{self.path}: write fault: Broken pipe\n"))
+
+    def test_help(self):
+        status, text, said = self.run_on(None, "--help")
+        self.assertEqual((status, said), (0, ""))
+        self.assertIn(b"Statuses: 0 ", text)
+        with open("/dev/full", "wb") as full:
+            ran = self.run_on(None, "--help", stdout=full)
+        self.assertEqual(ran, (7, None, "package_text.py: write fault: No space left on device\n"))
+
     def test_a_full_device(self):
         with open("/dev/full", "wb") as full:
             ran = self.run_on(archive(MINIMAL), stdout=full)
         self.assertEqual(ran, (7, None, f"{self.path}: write fault: No space left on device\n"))
 
     def test_faulty_words(self):
-        for words in (["--none"], ["more"], ["--limit", "x"]):
+        limits = ["--limit"], ["--limit", "x"], ["--limit=-1"]
+        for words in (["--none"], ["more"], *limits, ["--al"]):
             status, text, said = self.run_on(archive(MINIMAL), *words)
             self.assertEqual((status, text, said.count("\n")), (2, b"", 1))
 
@@ -276,7 +412,7 @@ class Refusals(Files):
             pathlib.Path(self.path).write_bytes(damaged)
             with self.subTest(at=at), tempfile.TemporaryFile() as out:
                 try:
-                    write(self.path, False, None, out.fileno())
+                    write(self.path, False, sys.maxsize, out.fileno())
                 except Refusal as refusal:
                     self.assertIn(refusal.status, (10, 12, 13))
                     self.assertEqual(os.fstat(out.fileno()).st_size, 0)

@@ -23,8 +23,10 @@ SHEETS = {
     "dates_1900": "Dates",
     "dates_1904": "Dates",
     "inline_strings": "S",
+    "libreoffice": "libreoffice",
     "rich_text": "Goods & prices",
     "shared_formulas": "Sales",
+    "tables_links_and_merges": "S",
     "themes_and_tints": "Fills",
     "values_and_formulas": "S",
 }
@@ -105,7 +107,7 @@ class Samples(unittest.TestCase):
                     self.assertEqual(told_by_events(part["events"]), wanted, part["name"])
 
     def test_all_samples_fit(self):
-        self.assertEqual(len(WORKBOOKS), 9)
+        self.assertEqual(len(WORKBOOKS), 10)
         for path in WORKBOOKS:
             self.assertLess(len(package_text(path)), LIMIT)
 

@@ -3,6 +3,7 @@
 import os
 import pathlib
 import shutil
+import signal
 import subprocess
 import tempfile
 import unittest
@@ -20,6 +21,14 @@ STAND_IN = """\
 [ "$#" -eq 2 ] && [ "$1" = cells ] || { echo usage >&2; exit 2; }
 echo "$*: $(wc -c | tr -d ' ')"
 exit "$2"
+"""
+# Waits behind its first line.
+SLOW = """\
+#!/bin/sh
+[ "$*" = "cells 0" ] || exit 2
+[ "$(wc -c)" -gt 0 ] || exit 5
+echo slow
+exec sleep 300
 """
 RT = """\
 #!/bin/sh
@@ -131,7 +140,8 @@ class Wrapper(unittest.TestCase):
 
     def test_a_file_of_any_name(self):
         self.build()
-        for name in ("book", "-b.xlsx", "a b\n.c", "cells"):
+        odd = "it's \"$HOME\" `ls`*\\"
+        for name in ("book", "-b.xlsx", "a b\n.c", "cells", "--help", odd, "B.XLSX"):
             self.written(name, archive(MINIMAL))
             self.assertEqual(
                 self.run_on(name, "cells", "0"), (0, f"cells 0: {self.size}\n".encode(), "")
@@ -144,7 +154,7 @@ class Wrapper(unittest.TestCase):
 
     def test_words_behind_a_file_that_are_no_command(self):
         self.build()
-        for words in (["book.xlsx"], ["book.xlsx", "cells"], ["none.xlsx", "cell", "0"]):
+        for words in (["book.xlsx"], ["book.xlsx", "cells"], ["none.xlsx", "cell", "0"], ["none"]):
             self.assertEqual(self.run_on(*words), (2, b"", "usage\n"))
 
     def test_a_file_that_is_refused(self):
@@ -152,6 +162,10 @@ class Wrapper(unittest.TestCase):
         self.written("no.xlsx", "nut")
         for name, status, text in (
             ("none.xlsx", 3, "can't be read: No such file or directory"),
+            ("NONE.XLSM", 3, "can't be read: No such file or directory"),
+            ("none.xls", 3, "can't be read: No such file or directory"),
+            ("bin", 3, "can't be read: Is a directory"),
+            ("/dev/fd/0", 3, "can't be read: it is a pipe, and no file"),
             ("no.xlsx", 10, "no zip archive, and so no .xlsx workbook"),
         ):
             self.assertEqual(self.run_on(name, "cells", "0"), (status, b"", f"{name}: {text}\n"))
@@ -162,6 +176,43 @@ class Wrapper(unittest.TestCase):
         status, out, said = self.run_on("long.xlsx", "cells", "0")
         self.assertEqual((status, out), (4, b""))
         self.assertIn("input too large", said)
+
+    def test_no_room_for_the_package_text(self):
+        self.build()
+        words = [self.folder / "top" / "xlsx", "book.xlsx", "cells", "0"]
+        about = {**os.environ, "TMPDIR": str(self.folder / "none")}
+        ran = subprocess.run(
+            words, cwd=self.folder, env=about, stdout=subprocess.PIPE, stderr=subprocess.PIPE
+        )
+        self.assertEqual((ran.returncode, ran.stdout, ran.stderr.count(b"\n")), (7, b"", 1))
+
+    def test_no_standard_input(self):
+        self.build()
+        shell = ["sh", "-c", '"$0" "$@" <&-', self.folder / "top" / "xlsx"]
+        ran = subprocess.run(
+            [*shell, "book.xlsx", "cells", "0"], cwd=self.folder, stdout=subprocess.PIPE
+        )
+        self.assertEqual((ran.returncode, ran.stdout), (0, f"cells 0: {self.size}\n".encode()))
+
+    def test_a_signal_ends_all_at_once(self):
+        self.build(self.written("slow", SLOW))
+        room = self.folder / "room"
+        room.mkdir()
+        for number in (signal.SIGHUP, signal.SIGINT, signal.SIGTERM):
+            child = subprocess.Popen(
+                [self.folder / "top" / "xlsx", "book.xlsx", "cells", "0"],
+                cwd=self.folder,
+                env={**os.environ, "TMPDIR": str(room)},
+                stdout=subprocess.PIPE,
+                # A shell can't catch what was ignored when it began.
+                preexec_fn=lambda: signal.signal(number, signal.SIG_DFL),
+            )
+            self.assertEqual(child.stdout.readline(), b"slow\n")
+            child.send_signal(number)
+            # The pipe is closed once the program has ended, too.
+            self.assertEqual(child.communicate(timeout=100)[0], b"")
+            self.assertEqual(child.returncode, 128 + number)
+            self.assertEqual(list(room.iterdir()), [])
 
     def test_nothing_is_left_behind(self):
         self.build()
@@ -208,6 +259,20 @@ class Wrapper(unittest.TestCase):
         )
         data = package_text(MINIMAL)
         self.assertEqual(self.run_on("cells", "S", data=data), (0, LINES, ""))
+        with open("/dev/full", "wb") as full:
+            self.assertEqual(
+                self.run_on("book.xlsx", "cells", "S", stdout=full), (7, None, "write fault\n")
+            )
+
+    def test_the_program_finds_parts_by_names_in_any_case_and_with_backslashes(self):
+        self.build(PROGRAM)
+        turned = {name.replace("/", "\\").upper(): part for name, part in MINIMAL.items()}
+        self.written("turned.xlsx", archive(turned))
+        self.assertEqual(self.run_on("turned.xlsx", "cells", "S"), (0, LINES, ""))
+        rooted = {f"/{name}": part for name, part in MINIMAL.items()}
+        self.written("rooted.xlsx", archive(rooted))
+        said = "File not found '_rels/.rels'\n"
+        self.assertEqual(self.run_on("rooted.xlsx", "cells", "S"), (6, b"", said))
 
 
 if __name__ == "__main__":
