@@ -29,8 +29,8 @@ fn next_escape(bytes: &[u8]) -> Option<(usize, char)>
     None
 }
 
-/// The text with each `_xHHHH_` replaced by the character of that number; the number of a
-/// surrogate is no character, and stays as it is written.
+/// The text with each `_xHHHH_` replaced by the character of that number; the number of a surrogate
+/// is no character, and stays as it is written.
 pub fn unescape_hex(alloc: Global, text: &str) -> Result<String, AllocError>
     ensures { IfOk result (λ out. string_bytes out ≡ unescaped text.now) }
 {

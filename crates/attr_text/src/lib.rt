@@ -1,5 +1,5 @@
-//! The text of XML attributes and of character data: attribute items and lookups, references,
-//! line ends and `_xHHHH_`.
+//! The text of XML attributes and of character data: attribute items and lookups, references, line
+//! ends and `_xHHHH_`.
 #![tactic(auto)]
 
 mod cuts;

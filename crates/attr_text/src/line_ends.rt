@@ -28,8 +28,8 @@ fn push_line(out: &mut String, run: &str)
     out.push('\n').unwrap();
 }
 
-/// Appends the text, with CR LF and each lone CR as LF. It is refused only where the
-/// capacity has no room for the text as it is written, and `out` is then as it was.
+/// Appends the text, with CR LF and each lone CR as LF. It is refused only where the capacity has
+/// no room for the text as it is written, and `out` is then as it was.
 pub fn push_line_ends(out: &mut String, text: &str) -> Result<(), AllocError>
     ensures ok { OnOk result (string_bytes out.new ≡ string_bytes out.old ++ line_ends text.now) }
     ensures unchanged { OnErr result (string_bytes out.new ≡ string_bytes out.old) }

@@ -81,8 +81,8 @@ pub trait RawAttributes {
         RawAttrIter::new(self.attributes_raw())
     }
 
-    /// The value of the first pair with this key. It is refused only where the items end in a
-    /// fault and no pair has the key.
+    /// The value of the first pair with this key. It is refused only where the items end in a fault
+    /// and no pair has the key.
     fn raw_attr(&self, name: &str) -> Result<Option<&str>, AttrFault>
         ensures { MatchResult result
             (λ value. value_of name.now (attributes self.now) ≡ Ok (option_copied value))

@@ -2,6 +2,7 @@
 #![tactic(auto)]
 
 mod cursor;
+mod equality;
 mod event;
 mod failing;
 mod fault;

@@ -149,9 +149,8 @@ fn parts_are_opened_read_and_skipped(rt: HostRuntime) -> Result<(), Fail> {
         ("none", None),
         ("xl/workbook", None),
     ] {
-        assert_eq!(rt;
-            count_events(alloc, &mut workbook, name),
-            Ok(want),
+        assert!(rt;
+            count_events(alloc, &mut workbook, name) == Ok(want),
             "at {name}"
         );
     }
@@ -167,15 +166,15 @@ fn parts_are_opened_read_and_skipped(rt: HostRuntime) -> Result<(), Fail> {
     ];
     for cut in 1..8u64 {
         let mut package = held_package(&rt, alloc, "part", &element, cut)?;
-        assert_eq!(rt;
-            skip_first(alloc, &mut package),
-            Err(StreamError::Xml(XmlFault::Unclosed { at: cut })),
+        assert!(rt;
+            skip_first(alloc, &mut package)
+                == Err(StreamError::Xml(XmlFault::Unclosed { at: cut })),
             "cut at {cut}"
         );
     }
     let mut package = held_package(&rt, alloc, "part", &element, 8)?;
-    assert_eq!(rt; skip_first(alloc, &mut package), Ok(0));
-    assert_eq!(rt; package.taken(), 8);
+    assert!(rt; skip_first(alloc, &mut package) == Ok(0));
+    assert!(rt; package.taken() == 8);
     let sheet = [
         start("worksheet"),
         start("sheetData"),
@@ -184,9 +183,9 @@ fn parts_are_opened_read_and_skipped(rt: HostRuntime) -> Result<(), Fail> {
         PartEvent::End("row"),
     ];
     let mut package = held_package(&rt, alloc, "part", &sheet, 5)?;
-    assert_eq!(rt;
-        count_events(alloc, &mut package, "part"),
-        Err(StreamError::Xml(XmlFault::EndMismatch { at: 4 }))
+    assert!(rt;
+        count_events(alloc, &mut package, "part")
+            == Err(StreamError::Xml(XmlFault::EndMismatch { at: 4 }))
     );
     for (events, at) in [
         ([PartEvent::End("a"), PartEvent::Other], 0),
@@ -194,9 +193,9 @@ fn parts_are_opened_read_and_skipped(rt: HostRuntime) -> Result<(), Fail> {
         ([start("a"), PartEvent::End("x:a")], 1),
     ] {
         let mut package = held_package(&rt, alloc, "part", &events, 2)?;
-        assert_eq!(rt;
-            count_events(alloc, &mut package, "part"),
-            Err(StreamError::Xml(XmlFault::EndMismatch { at })),
+        assert!(rt;
+            count_events(alloc, &mut package, "part")
+                == Err(StreamError::Xml(XmlFault::EndMismatch { at })),
             "end at {at}"
         );
     }
@@ -228,12 +227,11 @@ fn texts_are_joined(rt: HostRuntime) -> Result<(), Fail> {
     ] {
         let mut package = held_package(&rt, alloc, "part", &written, taken)?;
         let mut out = String::from_str(alloc, ">")?;
-        assert_eq!(rt;
-            first_text(alloc, &mut package, &mut out, char_data),
-            want,
+        assert!(rt;
+            first_text(alloc, &mut package, &mut out, char_data) == want,
             "{taken} events"
         );
-        assert_eq!(rt; out.as_str(), text, "{taken} events");
+        assert!(rt; out.as_str() == text, "{taken} events");
     }
     let unknown = [
         start("t"),
@@ -244,11 +242,11 @@ fn texts_are_joined(rt: HostRuntime) -> Result<(), Fail> {
     ];
     let mut package = held_package(&rt, alloc, "part", &unknown, 5)?;
     let mut out = String::new(alloc);
-    assert_eq!(rt;
-        first_text(alloc, &mut package, &mut out, false),
-        Err(StreamError::Xml(XmlFault::Entity { at: 2 }))
+    assert!(rt;
+        first_text(alloc, &mut package, &mut out, false)
+            == Err(StreamError::Xml(XmlFault::Entity { at: 2 }))
     );
-    assert_eq!(rt; out.as_str(), "a");
+    assert!(rt; out.as_str() == "a");
     Ok(())
 }
 
@@ -261,17 +259,17 @@ fn each_refusal_has_its_text(rt: HostRuntime) -> Result<(), Fail> {
         (XmlFault::Entity { at: 12 }, "unknown entity at 12"),
     ] {
         let shown = format!(in alloc; "{fault}")?;
-        assert_eq!(rt; shown.as_str(), text);
+        assert!(rt; shown.as_str() == text, "{text}");
         let error = StreamError::Xml(fault);
         let shown = format!(in alloc; "{error}")?;
-        assert_eq!(rt; shown.as_str(), text);
+        assert!(rt; shown.as_str() == text, "{text}");
     }
     for (error, text) in [
         (StreamError::Io, "the package could not be read"),
         (StreamError::OutOfMemory, "out of memory"),
     ] {
         let shown = format!(in alloc; "{error}")?;
-        assert_eq!(rt; shown.as_str(), text);
+        assert!(rt; shown.as_str() == text, "{text}");
     }
     Ok(())
 }
@@ -299,17 +297,16 @@ fn events_of_a_section_are_taken(rt: HostRuntime) -> Result<(), Fail> {
         (10, "a", Ok((6, Step::Closed))),
     ] {
         let mut package = held_package(&rt, alloc, "part", &part, taken)?;
-        assert_eq!(rt;
-            count_inside(alloc, &mut package, section),
-            want,
+        assert!(rt;
+            count_inside(alloc, &mut package, section) == want,
             "{section} of {taken} events"
         );
     }
     let broken = [start("a"), PartEvent::Other, PartEvent::End("b")];
     let mut package = held_package(&rt, alloc, "part", &broken, 3)?;
-    assert_eq!(rt;
-        count_inside(alloc, &mut package, "a"),
-        Err(StreamError::Xml(XmlFault::EndMismatch { at: 2 }))
+    assert!(rt;
+        count_inside(alloc, &mut package, "a")
+            == Err(StreamError::Xml(XmlFault::EndMismatch { at: 2 }))
     );
     Ok(())
 }
@@ -342,9 +339,8 @@ fn elements_are_found_and_planned_calls_fail(rt: HostRuntime) -> Result<(), Fail
         (14, "none", Some("sheet"), (0, Step::Ended)),
     ] {
         let mut package = held_package(&rt, alloc, "part", &sheets, taken)?;
-        assert_eq!(rt;
-            count_elements(alloc, &mut package, section, name),
-            Ok(want),
+        assert!(rt;
+            count_elements(alloc, &mut package, section, name) == Ok(want),
             "{section} of {taken} events"
         );
     }
@@ -357,17 +353,15 @@ fn elements_are_found_and_planned_calls_fail(rt: HostRuntime) -> Result<(), Fail
         } else {
             (Ok((0, Step::Closed)), 0)
         };
-        assert_eq!(rt;
-            count_elements(alloc, &mut package, "workbook", Some("none")),
-            want,
+        assert!(rt;
+            count_elements(alloc, &mut package, "workbook", Some("none")) == want,
             "call {number}"
         );
-        assert_eq!(rt; package.faults(), faults, "call {number}");
-        assert_eq!(rt; package.left(), 0, "call {number}");
+        assert!(rt; package.faults() == faults, "call {number}");
+        assert!(rt; package.left() == 0, "call {number}");
         let mut inner = package.into_inner();
-        assert_eq!(rt;
-            count_events(alloc, &mut inner, "part"),
-            Ok(Some(14)),
+        assert!(rt;
+            count_events(alloc, &mut inner, "part") == Ok(Some(14)),
             "call {number}"
         );
     }
