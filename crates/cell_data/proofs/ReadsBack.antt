@@ -81,7 +81,7 @@ zeros_before_value zero ds = refl
 zeros_before_value (suc n) ds = zeros_before_value n ds
 
 -- one power more
-times_ten : (n k : ℕ) → n * 10 ^ suc k ≡ n * 10 ^ k * 10
+pub times_ten : (n k : ℕ) → n * 10 ^ suc k ≡ n * 10 ^ k * 10
 times_ten n k =
     let power : 10 ^ (k + 1) ≡ 10 ^ k * 10 = pow_more 10 k in
     let total : n * 10 ^ (k + 1) ≡ n * 10 ^ k * 10 = rw power (omega arith) in

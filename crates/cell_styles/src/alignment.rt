@@ -36,7 +36,7 @@ pub enum TextRotation {
 }
 
 /// How the content of a cell is placed.
-#[derive(Clone, Debug, Default, PartialEq, Eq, Drop)]
+#[derive(Clone, Copy, Debug, Default, PartialEq, Eq)]
 pub struct Alignment {
     pub horizontal: HorizontalAlignment,
     pub vertical: VerticalAlignment,

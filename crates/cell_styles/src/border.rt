@@ -23,7 +23,7 @@ pub enum BorderStyle {
 }
 
 /// One side of a cell's border.
-#[derive(Clone, Debug, Default, PartialEq, Eq, Drop)]
+#[derive(Clone, Copy, Debug, Default, PartialEq, Eq)]
 pub struct Border {
     pub style: BorderStyle,
     pub color: Option<Color>,
@@ -39,7 +39,7 @@ impl Border {
 }
 
 /// All sides of a cell's border, with its two diagonals.
-#[derive(Clone, Debug, Default, PartialEq, Eq, Drop)]
+#[derive(Clone, Copy, Debug, Default, PartialEq, Eq)]
 pub struct Borders {
     pub left: Border,
     pub right: Border,

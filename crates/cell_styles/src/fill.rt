@@ -29,7 +29,7 @@ pub enum FillPattern {
 }
 
 /// The background of a cell.
-#[derive(Clone, Debug, Default, PartialEq, Eq, Drop)]
+#[derive(Clone, Copy, Debug, Default, PartialEq, Eq)]
 pub struct Fill {
     pub pattern: FillPattern,
     pub foreground_color: Option<Color>,

@@ -1,10 +1,13 @@
 ghost use Rattle.std.specs.Prelude.{◌≡◌, ℕ, ◌^◌, ◌<◌, List, length};
+ghost use Rattle.cell_refs.specs.Dimensions.{cell_count, IsInArea};
+ghost use Rattle.cell_refs.specs.declared.dimensions.Dimensions.{Dimensions};
 ghost use Rattle.cell_styles.specs.Color.{argb_of, color_of_argb};
 ghost use Rattle.cell_styles.specs.Default.{IsOnly, default_color, default_border, default_borders};
 ghost use Rattle.cell_styles.specs.Default.{default_font, default_alignment, default_fill};
 ghost use Rattle.cell_styles.specs.Default.{default_protection, default_style};
 ghost use Rattle.cell_styles.specs.Equality.{IsEquality};
-ghost use Rattle.cell_styles.specs.StyleMap.{StyledCell, first_id_at, styles_of};
+ghost use Rattle.cell_styles.specs.StyleMap.{StyledCell, IsArea, first_id_at, styles_of};
+ghost use Rattle.cell_styles.specs.StyleMap.{place_in, position_in};
 ghost use Rattle.cell_styles.specs.declared.color.Color.{Color};
 ghost use Rattle.cell_styles.specs.declared.style.Style.{Style};
 
@@ -72,4 +75,19 @@ pub fn ranges_go_by_first_ids()
         → ((position : ℕ × ℕ) → first_id_at (length palette) one position
         ≡ first_id_at (length palette) two position)
         → styles_of palette one ≡ styles_of palette two }
+{}
+
+/// Each position of an area has one place, and each place one position, so that what is said place
+/// by place is said of each position once.
+#[tactic(auto, using(crate::proofs::CellLists::one_place))]
+pub fn each_position_has_one_place()
+    ensures inside { (area : Dimensions) (place : ℕ) → IsArea area → place < cell_count area
+        → IsInArea area (position_in area place).0 (position_in area place).1 }
+    ensures within { (area : Dimensions) (row column : ℕ) → IsArea area
+        → IsInArea area row column → place_in area (row, column) < cell_count area }
+    ensures place { (area : Dimensions) (place : ℕ)
+        → place_in area (position_in area place) ≡ place }
+    ensures position { (area : Dimensions) (row column : ℕ) → IsArea area
+        → IsInArea area row column
+        → position_in area (place_in area (row, column)) ≡ (row, column) }
 {}

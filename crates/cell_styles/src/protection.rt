@@ -1,5 +1,5 @@
 /// What a protected worksheet keeps its reader from.
-#[derive(Clone, Debug, Default, PartialEq, Eq, Drop)]
+#[derive(Clone, Copy, Debug, Default, PartialEq, Eq)]
 pub struct Protection {
     /// The cell can't be changed.
     pub locked: bool,

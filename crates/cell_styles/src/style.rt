@@ -1,9 +1,6 @@
 ghost use Rattle.std.specs.Prelude.{◌≡◌, ◌↔◌, IsTrue, IfOk, None};
 
-use crate::{
-    Alignment, Border, Borders, Fill, Font, HorizontalAlignment, NumberFormat, Protection,
-    TextRotation, VerticalAlignment,
-};
+use crate::{Alignment, Borders, Fill, Font, NumberFormat, Protection};
 use std::alloc::{AllocError, Global};
 
 /// The style of a cell. What it doesn't name is None.
@@ -56,11 +53,11 @@ impl Style {
     {
         Ok(Style {
             font: copied_font(alloc, &self.font)?,
-            fill: copied_fill(&self.fill)?,
-            borders: copied_borders(&self.borders)?,
-            alignment: copied_alignment(&self.alignment)?,
+            fill: self.fill,
+            borders: self.borders,
+            alignment: self.alignment,
             number_format: copied_number_format(alloc, &self.number_format)?,
-            protection: copied_protection(&self.protection)?,
+            protection: self.protection,
         })
     }
 }
@@ -74,46 +71,6 @@ fn copied_font(alloc: Global, font: &Option<Font>) -> Result<Option<Font>, Alloc
     }
 }
 
-fn copied_fill(fill: &Option<Fill>) -> Result<Option<Fill>, AllocError>
-    ensures { IfOk result (λ copy. copy ≡ fill.now) }
-{
-    fill.clone()
-}
-
-fn copied_borders(borders: &Option<Borders>) -> Result<Option<Borders>, AllocError>
-    ensures { IfOk result (λ copy. copy ≡ borders.now) }
-{
-    match borders {
-        Some(borders) => Ok(Some(all_copied(borders)?)),
-        None => Ok(None),
-    }
-}
-
-fn all_copied(borders: &Borders) -> Result<Borders, AllocError>
-    ensures { IfOk result (λ copy. copy ≡ borders.now) }
-{
-    Ok(Borders {
-        left: copied_border(&borders.left)?,
-        right: copied_border(&borders.right)?,
-        top: copied_border(&borders.top)?,
-        bottom: copied_border(&borders.bottom)?,
-        diagonal_down: copied_border(&borders.diagonal_down)?,
-        diagonal_up: copied_border(&borders.diagonal_up)?,
-    })
-}
-
-fn copied_border(border: &Border) -> Result<Border, AllocError>
-    ensures { IfOk result (λ copy. copy ≡ border.now) }
-{
-    border.clone()
-}
-
-fn copied_alignment(alignment: &Option<Alignment>) -> Result<Option<Alignment>, AllocError>
-    ensures { IfOk result (λ copy. copy ≡ alignment.now) }
-{
-    alignment.clone()
-}
-
 fn copied_number_format(
     alloc: Global,
     format: &Option<NumberFormat>,
@@ -124,10 +81,4 @@ fn copied_number_format(
         Some(format) => Ok(Some(format.clone_in(alloc)?)),
         None => Ok(None),
     }
-}
-
-fn copied_protection(protection: &Option<Protection>) -> Result<Option<Protection>, AllocError>
-    ensures { IfOk result (λ copy. copy ≡ protection.now) }
-{
-    protection.clone()
 }

@@ -1,6 +1,6 @@
 -- Tints keep the order of channels, and a tint of zero keeps the channels.
-use Rattle.std.proofs.Common.{◌≡◌, ℕ, ◌+◌, ◌-◌, ◌*◌, ◌/◌, ◌^◌, ◌<◌, ◌≤◌, min, refl, ap, subst, sym}
-use Rattle.std.proofs.Common.{◌∙◌, inl, inr, false, arith, zero, suc}
+use Rattle.std.proofs.Common.{◌≡◌, ℕ, ◌+◌, ◌-◌, ◌*◌, ◌/◌, ◌^◌, ◌<◌, ◌≤◌, min, refl, ap, subst}
+use Rattle.std.proofs.Common.{sym, ◌∙◌, inl, inr, false, arith, zero, suc}
 use Rattle.std.specs.Prelude.{ℤ, pos, negsuc, nat_abs}
 use Rattle.std.proofs.Math.Nat.{mul-le-mul_left, mul-le-mul_right, suc-mul, zero-div, zero-mul}
 use Rattle.std.proofs.lemmas.Bool.{cases_lt}
@@ -88,7 +88,7 @@ shade_of_zero sum (suc room) x n is bound low high nearest =
     only_exact n x _ (2 * unit * suc room) (omega arith) (half_swing sum (suc room) x is bound)
     nearest
 
-pub zero_keeps : (color : Color) (tint : Decimal) (x n : ℕ) → tint.mantissa ≡ pos 0
+zero_keeps : (color : Color) (tint : Decimal) (x n : ℕ) → tint.mantissa ≡ pos 0
     → channel_sum color ≤ 510 → channel_sum color ≤ 2 * x + room_of (channel_sum color)
     → 2 * x ≤ channel_sum color + room_of (channel_sum color)
     → IsNearest n (tint_fraction color tint x) → n ≡ x
@@ -103,3 +103,18 @@ zero_keeps color tint x n none bound low high nearest =
     let fraction : IsNearest n (shade sum (sum * unit) (room_of sum) x) =
     subst (λ t. IsNearest n (shade sum t (room_of sum) x)) after nearest in
     shade_of_zero sum (room_of sum) x n refl bound low high fraction
+
+-- a tint of zero keeps the whole color
+pub zero_tint : (color after : Color) (tint : Decimal) → color.red < 256 → color.green < 256
+    → color.blue < 256 → tint.mantissa ≡ pos 0 → after.alpha ≡ color.alpha
+    → IsNearest after.red (tint_fraction color tint color.red)
+    → IsNearest after.green (tint_fraction color tint color.green)
+    → IsNearest after.blue (tint_fraction color tint color.blue) → after ≡ color
+zero_tint color after tint small_red small_green small_blue none alpha red green blue =
+    let bound : channel_sum color ≤ 510 = omega arith in
+    let reds = zero_keeps color tint color.red after.red none bound (omega arith) (omega arith) red in
+    let greens = zero_keeps color tint color.green after.green none bound (omega arith)
+    (omega arith) green in
+    let blues = zero_keeps color tint color.blue after.blue none bound (omega arith) (omega arith)
+    blue in
+    λ i. record { alpha = alpha i; red = reds i; green = greens i; blue = blues i }

@@ -44,8 +44,7 @@ pub record Fraction : Type 0 where
   pub numerator : ℕ
   pub divisor : ℕ
 
--- a channel of the tinted color, by the sum before and after, where the hue and the saturation
--- stay;
+-- a channel of the tinted color, by the sum before and after: the hue and the saturation stay, and
 -- a gray, black or white is the sum's half
 abbrev pub shade : ℕ → ℕ → ℕ → ℕ → Fraction
 shade sum tinted zero channel = record { numerator = tinted; divisor = 2 * unit }

@@ -1,4 +1,4 @@
-ghost use Rattle.std.specs.Prelude.{◌≡◌, ◌+◌, ◌-◌, ◌*◌, ◌/◌, ◌^◌, ◌<◌, ◌≤◌, min};
+ghost use Rattle.std.specs.Prelude.{◌≡◌, ◌+◌, ◌-◌, ◌*◌, ◌/◌, ◌^◌, ◌<◌, ◌≤◌, min, pos};
 ghost use Rattle.xlsx_styles.specs.Tint.{IsNearest, Fraction, unit, is_negative, tint_size};
 ghost use Rattle.xlsx_styles.specs.Tint.{channel_sum, room_of, tinted_sum, shade, tint_fraction};
 
@@ -17,6 +17,7 @@ pub fn apply_tint(color: Color, tint: &Decimal) -> Color
     ensures red { IsNearest result.red (tint_fraction color tint.now color.red) }
     ensures green { IsNearest result.green (tint_fraction color tint.now color.green) }
     ensures blue { IsNearest result.blue (tint_fraction color tint.now color.blue) }
+    ensures zero { tint.now.mantissa ≡ pos 0 → result ≡ color }
 {
     let largest = color.red.max(color.green.max(color.blue));
     let smallest = color.red.min(color.green.min(color.blue));

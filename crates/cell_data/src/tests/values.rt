@@ -34,6 +34,11 @@ fn a_copy_is_the_same_value(rt: HostRuntime) -> Result<(), Fail> {
         };
         assert!(rt; Data::DateTime(time).clone_in(alloc)? == Data::DateTime(time));
         assert!(rt; Data::Decimal(days) != Data::DateTime(time));
+        let later = ExcelDateTime {
+            is_1904: true,
+            ..time
+        };
+        assert!(rt; Data::DateTime(later) != Data::DateTime(time));
     }
     assert!(rt; DataRef::SharedString(1) != DataRef::SharedString(2));
     assert!(rt; HeaderRow::default() == HeaderRow::FirstNonEmptyRow);
