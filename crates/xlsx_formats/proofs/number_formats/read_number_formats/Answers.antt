@@ -10,7 +10,7 @@ use Rattle.xlsx_sections.proofs.Refused.{event_refused}
 use Rattle.xlsx_sections.proofs.SectionsRead.{start_found}
 use Rattle.xlsx_sections.proofs.StartsRead.{behind_start_found, start_refused}
 use Rattle.xlsx_formats.specs.FormatCodes.{written_format, formats_written, is_number_format}
-use Rattle.xlsx_formats.proofs.CodesRead.{codes_further, codes_refused}
+use Rattle.xlsx_formats.proofs.CodesRead.{codes_further, codes_refused, codes_left}
 use Rattle.xlsx_formats.proofs.number_formats.read_number_formats.Goals as goal
 
 pub returns-in_err-at-clause-err : goal.returns-in_err-at-clause-err
@@ -26,6 +26,17 @@ returns-in_err-at-clause-err g c =
     c.starts.invariant.own
     (start_refused (codes "numFmts") refused new e c.starts.invariant.keeps
     c.in_err-at.ensures.err))
+
+pub returns-in_err-at-clause-front : goal.returns-in_err-at-clause-front
+returns-in_err-at-clause-front g c = λ told.
+    codes_left (reading (g.P.Package.state c.args.package.now) c.args.cursor.now)
+    c.starts.invariant.own (c.starts.invariant.codes_kept told) (λ earlier are. are)
+
+pub returns-in_err-keep_format-clause-front : goal.returns-in_err-keep_format-clause-front
+returns-in_err-keep_format-clause-front g c = λ told.
+    codes_left (reading (g.P.Package.state c.args.package.now) c.args.cursor.now)
+    c.starts.invariant.own (c.starts.invariant.codes_kept told)
+    c.in_err-keep_format.ensures.unchanged
 
 pub starts-preserved : goal.starts-preserved
 starts-preserved g c =
