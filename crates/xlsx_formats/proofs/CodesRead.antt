@@ -123,7 +123,7 @@ codes_front : {all left : List PlacedTag} {old now : FormatCodes} → KeepsCodes
 codes_front {left = left} {old = old} {now = now} keeps = record {
   front = keeps.front;
   left = left;
-  starts = keeps.starts;
+  all = keeps.starts;
   kept = subst (λ (answer : Result (List WrittenFormat) Refusal). IsOkAnd answer (λ formats.
       (earlier : List WrittenFormat) → AreCodes earlier old → AreCodes (earlier ++ formats) now))
       (sym keeps.written) keeps.kept;

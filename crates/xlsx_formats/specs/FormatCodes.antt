@@ -75,7 +75,7 @@ AreCodes formats kept = (id : List ℕ) → code_kept kept id ≡ code_written i
 pub record KeepsFront (starts : List PlacedTag) (old new : FormatCodes) : Type 0 where
   pub front : List PlacedTag
   pub left : List PlacedTag
-  pub starts : front ++ left ≡ starts
+  pub all : front ++ left ≡ starts
   pub kept :
       IsOkAnd (some_answers written_format front) (λ formats. (earlier : List WrittenFormat) →
       AreCodes earlier old → AreCodes (earlier ++ formats) new)
