@@ -46,9 +46,11 @@ front_same text = ([], sym (append-nil text))
 
 pub front_further : (first next last : List ℕ) → IsFrontOf first next → IsFrontOf next last
     → IsFrontOf first last
-front_further first next last before after =
-    (before.0 ++ after.0, after.1 ∙ (ap (λ (text : List ℕ). text ++ after.0) before.1
-    ∙ append_assoc first before.0 after.0))
+front_further first next last before after = (
+  before.0 ++ after.0,
+  after.1 ∙ (ap (λ (text : List ℕ). text ++ after.0) before.1
+      ∙ append_assoc first before.0 after.0),
+)
 
 pub if_err_map : {A E : Type 0} {P Q : E → Type 0} (result : Result A E)
     → ((error : E) → P error → Q error) → IfErr result P → IfErr result Q
