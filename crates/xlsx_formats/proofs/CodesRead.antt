@@ -1,51 +1,76 @@
 -- How the formats of an element are kept one by one.
 use Rattle.std.proofs.Common.{◌≡◌, ℕ, List, [], ◌∷◌, ◌++◌, Option, Some, None, Result, Ok, Err}
-use Rattle.std.proofs.Common.{refl, sym, ap, subst, append_assoc, append-nil}
+use Rattle.std.proofs.Common.{refl, sym, ◌∙◌, ap, subst, append_assoc, append-nil, length, arith}
 use Rattle.std.specs.Prelude.{IsOkAnd}
-use Rattle.part_events.specs.Section.{PlacedTag}
+use Rattle.part_events.specs.Reading.{Reading, ahead}
+use Rattle.part_events.specs.Section.{PlacedTag, content, starts_by}
+use Rattle.part_events.specs.Walk.{inside, section_ahead}
 use Rattle.cell_data.specs.declared.error.XlsxError.{XlsxError}
-use Rattle.xlsx_sections.specs.Answers.{some_answers, prepended}
+use Rattle.xlsx_sections.specs.Answers.{some_answers, and_others_if, prepended}
 use Rattle.xlsx_sections.specs.Refusal.{Refusal, ElementFails}
 use Rattle.xlsx_sections.proofs.Refused.{refused_at_weaker}
-use Rattle.xlsx_sections.proofs.Kept.{prepended-nil, some_taken, some_passed, some_refused}
-use Rattle.xlsx_sections.proofs.Kept.{all_taken}
+use Rattle.xlsx_sections.proofs.Kept.{some_and_more, some_refused, all_taken}
 use Rattle.xlsx_formats.specs.FormatCodes.{WrittenFormat, with_code, written_format, with_written}
-use Rattle.xlsx_formats.specs.FormatCodes.{AreCodes}
+use Rattle.xlsx_formats.specs.FormatCodes.{is_number_format, AreCodes, KeepsFront}
 use Rattle.xlsx_formats.specs.declared.format_codes.FormatCodes.{FormatCodes}
 
 -- The starts of an element were read but for those that are left: the codes of their formats are
--- kept. `all` is what all of them write.
-pub record KeepsCodes
-    (all : Result (List WrittenFormat) Refusal) (left : List PlacedTag) (old now : FormatCodes)
-    : Type 0 where
+-- kept.
+pub record KeepsCodes (all left : List PlacedTag) (old now : FormatCodes) : Type 0 where
+  pub front : List PlacedTag
   pub passed : List WrittenFormat
-  pub formats : prepended passed (some_answers written_format left) ≡ all
+  pub starts : front ++ left ≡ all
+  pub written : some_answers written_format front ≡ Ok passed
   pub kept : (earlier : List WrittenFormat) → AreCodes earlier old
       → AreCodes (earlier ++ passed) now
 
-pub keeps_no_code : (left : List PlacedTag) (old : FormatCodes)
-    → KeepsCodes (some_answers written_format left) left old old
+pub keeps_no_code : (left : List PlacedTag) (old : FormatCodes) → KeepsCodes left left old old
 keeps_no_code left old = record {
+  front = [];
   passed = [];
-  formats = prepended-nil (some_answers written_format left);
+  starts = refl;
+  written = refl;
   kept = λ earlier are. subst (λ (formats : List WrittenFormat). AreCodes formats old)
       (sym (append-nil earlier)) are;
 }
 
+one_less : {x : PlacedTag} {all left rest : List PlacedTag} (front : List PlacedTag)
+    → left ≡ x ∷ rest → front ++ left ≡ all → (front ++ x ∷ []) ++ rest ≡ all
+one_less {x = x} {rest = rest} front same starts =
+    append_assoc front (x ∷ []) rest
+    ∙ (ap (λ (more : List PlacedTag). front ++ more) (sym same) ∙ starts)
+
+one_more : (passed : List WrittenFormat) (found : Option WrittenFormat) (front : List PlacedTag)
+    (x : PlacedTag) → some_answers written_format front ≡ Ok passed → written_format x ≡ Ok found
+    → some_answers written_format (front ++ x ∷ []) ≡ Ok (with_written passed found)
+one_more passed None front x written is =
+    some_and_more written_format front (x ∷ []) passed written
+    ∙ (ap (λ (own : Result (Option WrittenFormat) Refusal).
+    prepended passed (and_others_if own (Ok []))) is
+    ∙ ap (λ (formats : List WrittenFormat). let answer
+    : Result (List WrittenFormat) Refusal = Ok formats in answer) (append-nil passed))
+one_more passed (Some format) front x written is =
+    some_and_more written_format front (x ∷ []) passed written
+    ∙ ap (λ (own : Result (Option WrittenFormat) Refusal).
+    prepended passed (and_others_if own (Ok []))) is
+
 -- what a start writes was kept
-pub code_taken : {all : Result (List WrittenFormat) Refusal} {x : PlacedTag}
-    {left rest : List PlacedTag} {old mid now : FormatCodes} (found : Option WrittenFormat)
-    → KeepsCodes all left old mid → left ≡ x ∷ rest → written_format x ≡ Ok found
-    → ((earlier : List WrittenFormat) → AreCodes earlier mid
+code_taken : {x : PlacedTag} {all left rest : List PlacedTag} {old mid now : FormatCodes}
+    (found : Option WrittenFormat) → KeepsCodes all left old mid → left ≡ x ∷ rest
+    → written_format x ≡ Ok found → ((earlier : List WrittenFormat) → AreCodes earlier mid
     → AreCodes (with_written earlier found) now) → KeepsCodes all rest old now
-code_taken None keeps same is codes = record {
+code_taken {x = x} {rest = rest} None keeps same is codes = record {
+  front = keeps.front ++ x ∷ [];
   passed = keeps.passed;
-  formats = some_passed written_format keeps.passed same is keeps.formats;
+  starts = one_less keeps.front same keeps.starts;
+  written = one_more keeps.passed None keeps.front x keeps.written is;
   kept = λ earlier are. codes (earlier ++ keeps.passed) (keeps.kept earlier are);
 }
-code_taken {now = now} (Some format) keeps same is codes = record {
+code_taken {x = x} {now = now} (Some format) keeps same is codes = record {
+  front = keeps.front ++ x ∷ [];
   passed = keeps.passed ++ format ∷ [];
-  formats = some_taken written_format keeps.passed same is keeps.formats;
+  starts = one_less keeps.front same keeps.starts;
+  written = one_more keeps.passed (Some format) keeps.front x keeps.written is;
   kept = λ earlier are. subst (λ (formats : List WrittenFormat). AreCodes formats now)
       (append_assoc earlier keeps.passed (format ∷ []))
       (codes (earlier ++ keeps.passed) (keeps.kept earlier are));
@@ -57,8 +82,8 @@ pub ok_found : {A B : Type 0} (P : B → Type 0) (answer : Result B A) → IsOkA
 ok_found P (Ok found) is = (found, refl, is)
 ok_found P (Err error) is = absurd is
 
-pub codes_further : {all : Result (List WrittenFormat) Refusal} {x : PlacedTag}
-    {left rest : List PlacedTag} {old mid now : FormatCodes} → KeepsCodes all left old mid
+pub codes_further : {x : PlacedTag} {all left rest : List PlacedTag} {old mid now : FormatCodes}
+    → KeepsCodes all left old mid
     → left ≡ x ∷ rest → IsOkAnd (written_format x) (λ found.
     (earlier : List WrittenFormat) → AreCodes earlier mid
     → AreCodes (with_written earlier found) now) → KeepsCodes all rest old now
@@ -67,23 +92,60 @@ codes_further {x = x} {mid = mid} {now = now} keeps same is =
     → AreCodes earlier mid → AreCodes (with_written earlier found) now) (written_format x) is in
     code_taken own.0 keeps same own.1 own.2
 
+-- what all of them write, by what was kept and by those that are left
+formats_of_all : {all left : List PlacedTag} {old now : FormatCodes}
+    (keeps : KeepsCodes all left old now)
+    → prepended keeps.passed (some_answers written_format left) ≡ some_answers written_format all
+formats_of_all {left = left} keeps =
+    sym (some_and_more written_format keeps.front left keeps.passed keeps.written)
+    ∙ ap (some_answers written_format) keeps.starts
+
 -- one of those that are left is refused
-pub codes_refused : {all : Result (List WrittenFormat) Refusal} {x : PlacedTag}
-    {left rest : List PlacedTag} {old now : FormatCodes} {refusal : Refusal}
-    → KeepsCodes all left old now → left ≡ x ∷ rest → written_format x ≡ Err refusal
-    → all ≡ Err refusal
+pub codes_refused : {x : PlacedTag} {all left rest : List PlacedTag} {old now : FormatCodes}
+    {refusal : Refusal} → KeepsCodes all left old now → left ≡ x ∷ rest
+    → written_format x ≡ Err refusal → some_answers written_format all ≡ Err refusal
 codes_refused keeps same refuses =
-    some_refused written_format keeps.passed same refuses keeps.formats
+    some_refused written_format keeps.passed same refuses (formats_of_all keeps)
 
 -- none is left
-pub codes_read : {all : Result (List WrittenFormat) Refusal} {left : List PlacedTag}
-    {old now : FormatCodes} → KeepsCodes all left old now → left ≡ []
-    → IsOkAnd all (λ formats. (earlier : List WrittenFormat) → AreCodes earlier old
+pub codes_read : {all left : List PlacedTag} {old now : FormatCodes}
+    → KeepsCodes all left old now → left ≡ [] → IsOkAnd (some_answers written_format all)
+    (λ formats. (earlier : List WrittenFormat) → AreCodes earlier old
     → AreCodes (earlier ++ formats) now)
 codes_read {old = old} {now = now} keeps same =
     subst (λ (answer : Result (List WrittenFormat) Refusal). IsOkAnd answer (λ formats.
     (earlier : List WrittenFormat) → AreCodes earlier old → AreCodes (earlier ++ formats) now))
-    (sym (all_taken written_format keeps.passed same keeps.formats)) keeps.kept
+    (sym (all_taken written_format keeps.passed same (formats_of_all keeps))) keeps.kept
+
+-- what is kept where reading stops before one of those that are left
+codes_front : {all left : List PlacedTag} {old now : FormatCodes} → KeepsCodes all left old now
+    → KeepsFront all old now
+codes_front {left = left} {old = old} {now = now} keeps = record {
+  front = keeps.front;
+  left = left;
+  all = keeps.starts;
+  kept = subst (λ (answer : Result (List WrittenFormat) Refusal). IsOkAnd answer (λ formats.
+      (earlier : List WrittenFormat) → AreCodes earlier old → AreCodes (earlier ++ formats) now))
+      (sym keeps.written) keeps.kept;
+}
+
+-- the codes of an element, whose starts were read up to those that are left, where nothing more was
+-- kept
+pub codes_left : {base : ℕ} {left : List PlacedTag} {old mid now : FormatCodes} (first : Reading)
+    → base ≡ length first.names
+    → KeepsCodes (starts_by is_number_format (section_ahead base first)) left old mid
+    → ((earlier : List WrittenFormat) → AreCodes earlier mid → AreCodes earlier now)
+    → KeepsFront (starts_by is_number_format (content 0 (ahead first))) old now
+codes_left {base = base} {left = left} {old = old} {now = now} first own keeps unchanged =
+    let none : inside base first ≡ 0 = omega (arith, own) in
+    subst (λ (n : ℕ). KeepsFront (starts_by is_number_format (content n (ahead first))) old now)
+    none (codes_front (record {
+      front = keeps.front;
+      passed = keeps.passed;
+      starts = keeps.starts;
+      written = keeps.written;
+      kept = λ earlier are. unchanged (earlier ++ keeps.passed) (keeps.kept earlier are);
+    }))
 
 -- a code that doesn't decode refuses its format
 pub code_fails : (id : List ℕ) (at behind : ℕ) (decoded : Result (List ℕ) Refusal)

@@ -18,13 +18,13 @@ use Rattle.xlsx_sections.specs.Refusal.{Refusal, ElementFails}
 use Rattle.xlsx_sections.proofs.Refused.{refused_as}
 use Rattle.xlsx_styles.specs.Errors.{IsPlainError}
 use Rattle.xlsx_formats.specs.FormatCodes.{WrittenFormat, code_kept, AreCodes}
-use Rattle.xlsx_formats.specs.Formattings.{PartsSaid, FormattingSaid, numbered, format_named}
+use Rattle.xlsx_formats.specs.Formattings.{NamedSaid, FormattingSaid, numbered, format_named}
 use Rattle.xlsx_formats.specs.Formattings.{number_format_named}
 use Rattle.xlsx_formats.specs.Formattings.{formatting_keys, formatting_named, no_settings}
 use Rattle.xlsx_formats.specs.Formattings.{settings_of, code_said}
-use Rattle.xlsx_formats.specs.Formattings.{formatting_set, formatting_by, formatting_of, parts_said}
+use Rattle.xlsx_formats.specs.Formattings.{formatting_set, formatting_by, formatting_of, named_said}
 use Rattle.xlsx_formats.proofs.CodesRead.{ok_found}
-use Rattle.xlsx_formats.specs.declared.formatting.StyleParts.{StyleParts}
+use Rattle.xlsx_formats.specs.declared.formatting.NamedLists.{NamedLists}
 use Rattle.xlsx_formats.specs.declared.settings.Settings.{Settings}
 
 found_said : {A B : Type 0} (view : A → B) (list : List A) (place : Option ℕ)
@@ -67,36 +67,36 @@ with_settings formatting settings = record {
 
 -- what is set later stands, and codes that are the same name the same formats
 named_same : (first second : List ℕ → Option (List ℕ)) → ((id : List ℕ) → first id ≡ second id)
-    → (parts : PartsSaid) (texts : List (Option (List ℕ))) (settings : Settings)
-    → with_settings (formatting_named first parts texts no_settings) settings
-    ≡ formatting_named second parts texts settings
-named_same first second same parts texts settings =
+    → (lists : NamedSaid) (texts : List (Option (List ℕ))) (settings : Settings)
+    → with_settings (formatting_named first lists texts no_settings) settings
+    ≡ formatting_named second lists texts settings
+named_same first second same lists texts settings =
     rw (
       format_same first second same (get_or texts 0 None),
       number_format_same first second same (get_or texts 0 None),
     ) refl
 
 -- a start names this, and this is set in its element
-pub formatting_found : (formats : List WrittenFormat) (parts : StyleParts) (tag own : Tag)
+pub formatting_found : (formats : List WrittenFormat) (lists : NamedLists) (tag own : Tag)
     (inside : List Event) (settings : Settings) (named : FormattingSaid) → tag ≡ own
-    → AreCodes formats parts.codes.now → IsOkAnd (lookup formatting_keys own.attributes) (λ texts.
-    named ≡ formatting_named (code_kept parts.codes.now) (parts_said formats parts) texts
+    → AreCodes formats lists.codes.now → IsOkAnd (lookup formatting_keys own.attributes) (λ texts.
+    named ≡ formatting_named (code_kept lists.codes.now) (named_said formats lists) texts
     no_settings) → settings_of inside ≡ Ok settings
-    → formatting_of (parts_said formats parts) tag inside ≡ Ok (with_settings named settings)
-formatting_found formats parts tag own inside settings named same_tag are names is =
-    let said = parts_said formats parts in
+    → formatting_of (named_said formats lists) tag inside ≡ Ok (with_settings named settings)
+formatting_found formats lists tag own inside settings named same_tag are names is =
+    let said = named_said formats lists in
     let found = ok_found (λ (texts : List (Option (List ℕ))).
-    named ≡ formatting_named (code_kept parts.codes.now) said texts no_settings)
+    named ≡ formatting_named (code_kept lists.codes.now) said texts no_settings)
     (lookup formatting_keys own.attributes) names in
     let same = ap (λ (own : FormattingSaid). with_settings own settings) found.2
-    ∙ named_same (code_kept parts.codes.now) (code_said said) are said found.0 settings in
+    ∙ named_same (code_kept lists.codes.now) (code_said said) are said found.0 settings in
     ap (λ (start : Tag). formatting_of said start inside) same_tag
     ∙ ap (formatting_by said (settings_of inside)) found.1
     ∙ ap (formatting_set said found.0) is
     ∙ ap (λ (own : FormattingSaid). let answer : Result FormattingSaid Refusal = Ok own in answer)
     (sym same)
 
-start_fails : (said : PartsSaid) (tag : Tag) (old new : Reading) (error : XlsxError)
+start_fails : (said : NamedSaid) (tag : Tag) (old new : Reading) (error : XlsxError)
     → IsPlainError (codes "xf") error
     → ((settings : Result Settings Refusal) → ElementFails (formatting_by said settings
     (lookup formatting_keys tag.attributes)) 0 0 error)
@@ -110,7 +110,7 @@ start_fails said tag old new (XmlEof element) is fails = absurd (fails (Ok no_se
 start_fails said tag old new _ is fails = absurd is
 
 -- the attributes of a start are refused, and so is its cell format
-pub names_fail : (said : PartsSaid) (tag own : Tag) (old new : Reading) (error : XlsxError)
+pub names_fail : (said : NamedSaid) (tag own : Tag) (old new : Reading) (error : XlsxError)
     → tag ≡ own → IsPlainError (codes "xf") error
     → ((settings : Result Settings Refusal) → ElementFails (formatting_by said settings
     (lookup formatting_keys own.attributes)) 0 0 error)
@@ -121,7 +121,7 @@ names_fail said tag own old new error same is fails =
     (start_fails said own old new error is fails)
 
 -- what is set in it is refused
-pub settings_fail : (P : List (Option (List ℕ)) → Type 0) (said : PartsSaid) (tag own : Tag)
+pub settings_fail : (P : List (Option (List ℕ)) → Type 0) (said : NamedSaid) (tag own : Tag)
     (old new : Reading) (error : XlsxError) → tag ≡ own → IsReading old
     → IsOkAnd (lookup formatting_keys own.attributes) P
     → ElementReadFails (always (codes "xf")) settings_of old new error

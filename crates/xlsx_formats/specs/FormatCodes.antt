@@ -1,6 +1,6 @@
 -- The codes of number formats, by their ids (ECMA-376 part 1, section 18.8.30).
 use Rattle.std.specs.Prelude.{◌≡◌, ℕ, List, [], ◌∷◌, ◌++◌, Bool, if◌then◌else◌, codes, Option, Some}
-use Rattle.std.specs.Prelude.{None, option_map, Result, Ok, Err, string_bytes}
+use Rattle.std.specs.Prelude.{None, option_map, Result, Ok, Err, string_bytes, IsOkAnd}
 use Rattle.std.specs.BTreeMap.{get_by_text}
 use Rattle.std.specs.Option.{option_or}
 use Rattle.std.specs.Str.{bytes_eq}
@@ -70,3 +70,12 @@ code_kept kept id = option_map string_bytes (get_by_text kept.by_id id)
 -- the codes that are kept are those of these formats, in the order in which they were written
 abbrev pub AreCodes : List WrittenFormat → FormatCodes → Type 0
 AreCodes formats kept = (id : List ℕ) → code_kept kept id ≡ code_written id formats
+
+-- the codes of what a front of these starts writes were kept, behind those that were kept before
+pub record KeepsFront (starts : List PlacedTag) (old new : FormatCodes) : Type 0 where
+  pub front : List PlacedTag
+  pub left : List PlacedTag
+  pub all : front ++ left ≡ starts
+  pub kept :
+      IsOkAnd (some_answers written_format front) (λ formats. (earlier : List WrittenFormat) →
+      AreCodes earlier old → AreCodes (earlier ++ formats) new)

@@ -23,12 +23,12 @@ use Rattle.xlsx_styles.specs.Fonts.{FontSaid, said_of}
 use Rattle.xlsx_styles.specs.Texts.{number_below}
 use Rattle.xlsx_formats.specs.FormatCodes.{WrittenFormat, code_written}
 use Rattle.xlsx_formats.specs.declared.formatting.Formatting.{Formatting}
-use Rattle.xlsx_formats.specs.declared.formatting.StyleParts.{StyleParts}
+use Rattle.xlsx_formats.specs.declared.formatting.NamedLists.{NamedLists}
 use Rattle.xlsx_formats.specs.declared.settings.Settings.{Settings}
 
--- what a cell format can name: the number formats that were written before it, and the fonts,
--- fills and borders that stand before it, each in order
-pub record PartsSaid : Type 0 where
+-- what a cell format can name: the number formats that were written before it, and the fonts, fills
+-- and borders that stand before it, each in order
+pub record NamedSaid : Type 0 where
   pub formats : List WrittenFormat
   pub fonts : List FontSaid
   pub fills : List Fill
@@ -64,12 +64,12 @@ formatting_said formatting = record {
   style = style_said formatting.style;
 }
 
-abbrev pub parts_said : List WrittenFormat → StyleParts → PartsSaid
-parts_said formats parts = record {
+abbrev pub named_said : List WrittenFormat → NamedLists → NamedSaid
+named_said formats lists = record {
   formats = formats;
-  fonts = map said_of parts.fonts.now;
-  fills = parts.fills.now;
-  borders = parts.borders.now;
+  fonts = map said_of lists.fonts.now;
+  fills = lists.fills.now;
+  borders = lists.borders.now;
 }
 
 -- with the alignment, or the protection, of a later start
@@ -141,35 +141,35 @@ formatting_keys =
 -- what a start with the texts of these keys says, and what is set in its element; `code` gives the
 -- code that was written for an id
 abbrev pub formatting_named :
-    (List ℕ → Option (List ℕ)) → PartsSaid → List (Option (List ℕ)) → Settings → FormattingSaid
-formatting_named code parts texts settings = record {
+    (List ℕ → Option (List ℕ)) → NamedSaid → List (Option (List ℕ)) → Settings → FormattingSaid
+formatting_named code lists texts settings = record {
   format = format_named code (get_or texts 0 None);
   style = record {
-    font = numbered parts.fonts (get_or texts 1 None);
-    fill = numbered parts.fills (get_or texts 2 None);
-    borders = numbered parts.borders (get_or texts 3 None);
+    font = numbered lists.fonts (get_or texts 1 None);
+    fill = numbered lists.fills (get_or texts 2 None);
+    borders = numbered lists.borders (get_or texts 3 None);
     alignment = settings.alignment;
     number_format = number_format_named code (get_or texts 0 None);
     protection = settings.protection;
   };
 }
 
-abbrev pub code_said : PartsSaid → List ℕ → Option (List ℕ)
-code_said parts id = code_written id parts.formats
+abbrev pub code_said : NamedSaid → List ℕ → Option (List ℕ)
+code_said lists id = code_written id lists.formats
 
 abbrev pub formatting_set :
-    PartsSaid → List (Option (List ℕ)) → Result Settings Refusal → Result FormattingSaid Refusal
-formatting_set parts texts (Ok settings) =
-    Ok (formatting_named (code_said parts) parts texts settings)
-formatting_set parts texts (Err refusal) = Err refusal
+    NamedSaid → List (Option (List ℕ)) → Result Settings Refusal → Result FormattingSaid Refusal
+formatting_set lists texts (Ok settings) =
+    Ok (formatting_named (code_said lists) lists texts settings)
+formatting_set lists texts (Err refusal) = Err refusal
 
 abbrev pub formatting_by :
-    PartsSaid → Result Settings Refusal → Result (List (Option (List ℕ))) AttrFault
+    NamedSaid → Result Settings Refusal → Result (List (Option (List ℕ))) AttrFault
     → Result FormattingSaid Refusal
-formatting_by parts settings (Ok texts) = formatting_set parts texts settings
-formatting_by parts settings (Err fault) = Err (lookup_fault fault)
+formatting_by lists settings (Ok texts) = formatting_set lists texts settings
+formatting_by lists settings (Err fault) = Err (lookup_fault fault)
 
 -- a cell format, by its start and what stands in it
-abbrev pub formatting_of : PartsSaid → Tag → List Event → Result FormattingSaid Refusal
-formatting_of parts tag inside =
-    formatting_by parts (settings_of inside) (lookup formatting_keys tag.attributes)
+abbrev pub formatting_of : NamedSaid → Tag → List Event → Result FormattingSaid Refusal
+formatting_of lists tag inside =
+    formatting_by lists (settings_of inside) (lookup formatting_keys tag.attributes)

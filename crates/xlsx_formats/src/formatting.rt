@@ -14,11 +14,11 @@ ghost use Rattle.xlsx_sections.specs.Refusal.{Refusal, ElementFails};
 ghost use Rattle.xlsx_styles.specs.Errors.{IsPlainError};
 ghost use Rattle.xlsx_styles.specs.Texts.{number_below};
 ghost use Rattle.xlsx_formats.specs.FormatCodes.{WrittenFormat, code_kept, AreCodes};
-ghost use Rattle.xlsx_formats.specs.Formattings.{PartsSaid, numbered, format_named};
+ghost use Rattle.xlsx_formats.specs.Formattings.{NamedSaid, numbered, format_named};
 ghost use Rattle.xlsx_formats.specs.Formattings.{number_format_named};
 ghost use Rattle.xlsx_formats.specs.Formattings.{formatting_keys, formatting_named, no_settings};
 ghost use Rattle.xlsx_formats.specs.Formattings.{formatting_by, formatting_of, formatting_said};
-ghost use Rattle.xlsx_formats.specs.Formattings.{parts_said};
+ghost use Rattle.xlsx_formats.specs.Formattings.{named_said};
 
 use crate::format_codes::FormatCodes;
 use crate::settings::{Settings, read_settings};
@@ -35,7 +35,7 @@ use xlsx_sections::{number_text, start_tag};
 /// What cell formats name: number formats by the texts of their ids, and fonts, fills and borders
 /// by their numbers, counted from 0.
 #[derive(Clone, Copy)]
-pub struct StyleParts<'a> {
+pub struct NamedLists<'a> {
     pub codes: &'a FormatCodes,
     pub fonts: &'a [Font],
     pub fills: &'a [Fill],
@@ -43,7 +43,7 @@ pub struct StyleParts<'a> {
 }
 
 /// What a cell format makes of a number, and its style.
-#[derive(Debug, PartialEq, Drop)]
+#[derive(Debug, Drop)]
 pub struct Formatting {
     pub format: CellFormat,
     pub style: Style,
@@ -179,33 +179,33 @@ fn number_format_named(
 fn formatting_named(
     alloc: Global,
     tag: StartTag<'_>,
-    parts: &StyleParts<'_>,
+    lists: &NamedLists<'_>,
 ) -> Result<Formatting, XlsxError>
     ensures ok { IfOk result (λ formatting. (formats : List WrittenFormat) →
         IsOkAnd (lookup formatting_keys (tag_of tag.entry).attributes) (λ texts.
-        formatting_said formatting ≡ formatting_named (code_kept parts.now.codes.now)
-        (parts_said formats parts.now) texts no_settings)) }
-    ensures err { IfErr result (λ error. (said : PartsSaid) (settings : Result Settings Refusal) →
+        formatting_said formatting ≡ formatting_named (code_kept lists.now.codes.now)
+        (named_said formats lists.now) texts no_settings)) }
+    ensures err { IfErr result (λ error. (said : NamedSaid) (settings : Result Settings Refusal) →
         ElementFails (formatting_by said settings
         (lookup formatting_keys (tag_of tag.entry).attributes)) 0 0 error) }
     ensures kind { IfErr result (IsPlainError (codes "xf")) }
 {
     let (id, font, fill, borders) = formatting_texts(&tag)?;
     Ok(Formatting {
-        format: format_named(parts.codes, id),
+        format: format_named(lists.codes, id),
         style: Style {
-            font: numbered_font(alloc, parts.fonts, font)?,
-            fill: numbered_fill(parts.fills, fill)?,
-            borders: numbered_borders(parts.borders, borders),
+            font: numbered_font(alloc, lists.fonts, font)?,
+            fill: numbered_fill(lists.fills, fill)?,
+            borders: numbered_borders(lists.borders, borders),
             alignment: None,
-            number_format: number_format_named(alloc, parts.codes, id)?,
+            number_format: number_format_named(alloc, lists.codes, id)?,
             protection: None,
         },
     })
 }
 
 /// Reads the cell format at whose start the package stands, to its end (ECMA-376 part 1, section
-/// 18.8.45). Its font, fill and borders are those of `parts` at the numbers that it names; a number
+/// 18.8.45). Its font, fill and borders are those of `lists` at the numbers that it names; a number
 /// that is none, or past the end, names nothing. Its number format has the code that is kept for
 /// its id as written, else that of the built-in format, else `General`. Of the alignments and the
 /// protections that start in it, at any depth, the last counts.
@@ -215,7 +215,7 @@ pub fn read_format<P: Package>(
     alloc: Global,
     package: &mut P,
     cursor: &mut Cursor,
-    parts: &StyleParts<'_>,
+    lists: &NamedLists<'_>,
 ) -> Result<Formatting, XlsxError>
     requires reading { IsReading (reading (P.state «package».old) cursor.old) }
     requires element { IsAtElement (reading (P.state «package».old) cursor.old) }
@@ -230,16 +230,16 @@ pub fn read_format<P: Package>(
     ensures formatting { let old = reading (P.state «package».old) cursor.old in
         old.source.is_told ≡ true → IfOk result (λ formatting.
         (tag : Tag) (formats : List WrittenFormat) → start tag ≡ old.source.current →
-        AreCodes formats parts.now.codes.now →
-        formatting_of (parts_said formats parts.now) tag (content 0 (ahead old))
+        AreCodes formats lists.now.codes.now →
+        formatting_of (named_said formats lists.now) tag (content 0 (ahead old))
         ≡ Ok (formatting_said formatting)) }
     ensures err { let old = reading (P.state «package».old) cursor.old in
         let new = reading (P.state «package».new) cursor.new in
-        IfErr result (λ error. (tag : Tag) (said : PartsSaid) → start tag ≡ old.source.current →
+        IfErr result (λ error. (tag : Tag) (said : NamedSaid) → start tag ≡ old.source.current →
         ElementReadFails (always (codes "xf")) (formatting_of said tag) old new error) }
     ensures kind { IfErr result (IsPlainError (codes "xf")) }
 {
-    let mut formatting = formatting_named(alloc, start_tag(package), parts)?;
+    let mut formatting = formatting_named(alloc, start_tag(package), lists)?;
     let Settings {
         alignment,
         protection,

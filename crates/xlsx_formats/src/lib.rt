@@ -7,7 +7,7 @@ mod number_formats;
 mod settings;
 
 pub use format_codes::FormatCodes;
-pub use formatting::{Formatting, StyleParts, read_format};
+pub use formatting::{Formatting, NamedLists, read_format};
 pub use number_formats::read_number_formats;
 
 #[cfg(test)]

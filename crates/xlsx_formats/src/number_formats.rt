@@ -1,17 +1,18 @@
 ghost use Rattle.std.specs.Prelude.{◌≡◌, ◌⊎◌, ◌++◌, List, ℕ, suc, codes, length, true, Some, None};
-ghost use Rattle.std.specs.Prelude.{Ok, OnOk, IfErr, IsOkAnd};
+ghost use Rattle.std.specs.Prelude.{Ok, OnOk, OnErr, IfErr, IsOkAnd};
 ghost use Rattle.attr_text.specs.Attributes.{lookup};
 ghost use Rattle.part_events.specs.Event.{tag_of};
 ghost use Rattle.part_events.specs.Reading.{reading, open_elements, IsReading, IsAtElement};
 ghost use Rattle.part_events.specs.Reading.{ReadsPart, Skips, ahead};
-ghost use Rattle.part_events.specs.Section.{content};
+ghost use Rattle.part_events.specs.Section.{content, starts_by};
 ghost use Rattle.cell_data.specs.declared.error.XlsxError.TheVariants.{Io};
 ghost use Rattle.xlsx_sections.specs.Elements.{ElementReadFails};
 ghost use Rattle.xlsx_sections.specs.PartSection.{always};
 ghost use Rattle.xlsx_sections.specs.Refusal.{ElementFails, IsDecodeError, placed_at};
 ghost use Rattle.xlsx_styles.specs.Errors.{IsPlainError};
 ghost use Rattle.xlsx_formats.specs.FormatCodes.{WrittenFormat, written_format, formats_written};
-ghost use Rattle.xlsx_formats.specs.FormatCodes.{with_written, AreCodes};
+ghost use Rattle.xlsx_formats.specs.FormatCodes.{with_written, is_number_format, AreCodes};
+ghost use Rattle.xlsx_formats.specs.FormatCodes.{KeepsFront};
 
 use crate::format_codes::FormatCodes;
 use attr_text::{RawAttributes, get_attrs};
@@ -33,6 +34,8 @@ fn keep_format(
         AreCodes (with_written earlier found) kept.new)) }
     ensures err { IfErr result (λ error. (behind : ℕ) →
         ElementFails (written_format (placed_at (tag_of tag.entry) behind)) at behind error) }
+    ensures unchanged { OnErr result ((earlier : List WrittenFormat) → AreCodes earlier kept.old →
+        AreCodes earlier kept.new) }
     ensures kind { IfErr result (λ error.
         IsPlainError (codes "numFmts") error ⊎ IsDecodeError error) }
 {
@@ -49,8 +52,8 @@ fn keep_format(
 /// code, at any depth, in place of an earlier one of its id. What was kept before stays.
 ///
 /// A part that ends before is `XmlEof("numFmts")`, and a code with a reference without a character
-/// is `Xml(Entity)` with the number of its start, counted from 0. After a refusal what is kept
-/// isn't spoken of.
+/// is `Xml(Entity)` with the number of its start, counted from 0. After a refusal the codes are
+/// kept of some of the first starts.
 pub fn read_number_formats<P: Package>(
     alloc: Global,
     package: &mut P,
@@ -72,6 +75,9 @@ pub fn read_number_formats<P: Package>(
         (IsOkAnd (formats_written (content 0 (ahead old))) (λ formats.
         (earlier : List WrittenFormat) → AreCodes earlier kept.old →
         AreCodes (earlier ++ formats) kept.new)) }
+    ensures front { let old = reading (P.state «package».old) cursor.old in
+        let starts = starts_by is_number_format (content 0 (ahead old)) in
+        old.source.is_told ≡ true → OnErr result (KeepsFront starts kept.old kept.new) }
     ensures err { let old = reading (P.state «package».old) cursor.old in
         let new = reading (P.state «package».new) cursor.new in
         IfErr result (ElementReadFails (always (codes "numFmts")) formats_written old new) }

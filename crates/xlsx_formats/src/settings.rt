@@ -19,7 +19,7 @@ use xlsx_sections::{next_start_among, start_tag};
 use xlsx_styles::{parse_alignment, parse_protection};
 
 /// What the elements in a cell format set.
-#[derive(Debug, PartialEq, Drop)]
+#[derive(Debug, Drop)]
 pub struct Settings {
     pub alignment: Option<Alignment>,
     pub protection: Option<Protection>,

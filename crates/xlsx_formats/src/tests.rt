@@ -45,7 +45,7 @@ fn formatting_in(
     rt: &impl Abort,
     alloc: Global,
     events: &[PartEvent<'_>],
-    parts: &StyleParts<'_>,
+    lists: &NamedLists<'_>,
 ) -> Result<Formatting, XlsxError> {
     let mut package = held_package(rt, alloc, events)?;
     if !package.open("part")? {
@@ -53,7 +53,7 @@ fn formatting_in(
     }
     let mut cursor = Cursor::new(alloc, &package);
     enter(&mut package, &mut cursor, "xf")?;
-    read_format(alloc, &mut package, &mut cursor, parts)
+    read_format(alloc, &mut package, &mut cursor, lists)
 }
 
 // The codes of three ids, of which one is built in.
@@ -121,7 +121,7 @@ fn faults_of_number_formats_are_told(rt: HostRuntime) -> Result<(), Fail> {
 fn number_formats_go_by_their_ids(rt: HostRuntime) -> Result<(), Fail> {
     let alloc = rt.alloc();
     let kept = known_codes(alloc)?;
-    let parts = StyleParts {
+    let lists = NamedLists {
         codes: &kept,
         fonts: &[],
         fills: &[],
@@ -156,7 +156,7 @@ fn number_formats_go_by_their_ids(rt: HostRuntime) -> Result<(), Fail> {
         (" numFmtId=\"4294967296\"", CellFormat::Other, None),
     ] {
         let part = [start("xf", attributes), PartEvent::End("xf")];
-        let formatting = formatting_in(&rt, alloc, &part, &parts)?;
+        let formatting = formatting_in(&rt, alloc, &part, &lists)?;
         assert!(rt; formatting.format == format, "at {attributes}");
         match (formatting.style.number_format.as_ref(), number) {
             (None, None) => {}
@@ -182,7 +182,7 @@ fn fonts_fills_and_borders_go_by_their_numbers(rt: HostRuntime) -> Result<(), Fa
     let fonts = [Font::default()];
     let fills = [Fill::default(), solid];
     let borders = [Borders::default()];
-    let parts = StyleParts {
+    let lists = NamedLists {
         codes: &kept,
         fonts: &fonts,
         fills: &fills,
@@ -204,7 +204,7 @@ fn fonts_fills_and_borders_go_by_their_numbers(rt: HostRuntime) -> Result<(), Fa
         (" fontId=\"+0\" fillId=\"-1\"", false, false, false),
     ] {
         let part = [start("xf", attributes), PartEvent::End("xf")];
-        let style = formatting_in(&rt, alloc, &part, &parts)?.style;
+        let style = formatting_in(&rt, alloc, &part, &lists)?.style;
         assert!(rt; style.font.is_some() == font, "at {attributes}");
         assert!(rt; style.borders.is_some() == bordered, "at {attributes}");
         match style.fill {
@@ -219,7 +219,7 @@ fn fonts_fills_and_borders_go_by_their_numbers(rt: HostRuntime) -> Result<(), Fa
 fn the_last_alignment_and_protection_count(rt: HostRuntime) -> Result<(), Fail> {
     let alloc = rt.alloc();
     let kept = FormatCodes::new(alloc);
-    let parts = StyleParts {
+    let lists = NamedLists {
         codes: &kept,
         fonts: &[],
         fills: &[],
@@ -235,14 +235,14 @@ fn the_last_alignment_and_protection_count(rt: HostRuntime) -> Result<(), Fail> 
         PartEvent::End("alignment"),
         PartEvent::End("xf"),
     ];
-    let style = formatting_in(&rt, alloc, &part, &parts)?.style;
+    let style = formatting_in(&rt, alloc, &part, &lists)?.style;
     let (Some(alignment), Some(protection)) = (style.alignment, style.protection) else {
         return Err("not set")?;
     };
     assert!(rt; alignment.horizontal == HorizontalAlignment::Right);
     assert!(rt; !alignment.wrap_text);
     assert!(rt; protection.locked && protection.hidden);
-    let Err(XlsxError::XmlEof(name)) = formatting_in(&rt, alloc, &part[..3], &parts) else {
+    let Err(XlsxError::XmlEof(name)) = formatting_in(&rt, alloc, &part[..3], &lists) else {
         return Err("not refused")?;
     };
     assert_eq!(rt; name, "xf");

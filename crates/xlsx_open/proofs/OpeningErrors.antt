@@ -5,10 +5,9 @@ use Rattle.part_events.specs.declared.fault.XmlFault.TheVariants.{EndMismatch, E
 use Rattle.cell_data.specs.declared.error.XlsxError.{XlsxError}
 use Rattle.cell_data.specs.declared.error.XlsxError.TheVariants.{OutOfMemory, Io, Xml, XmlAttr}
 use Rattle.cell_data.specs.declared.error.XlsxError.TheVariants.{XmlEof}
-use Rattle.xlsx_sections.specs.PartSection.{IsStepError}
+use Rattle.xlsx_sections.specs.PartSection.{IsStepError, SoundFails}
 use Rattle.xlsx_sections.specs.Refusal.{Refusal, ElementFails, IsDecodeError}
 use Rattle.xlsx_sections.proofs.Refused.{refused_at_weaker}
-use Rattle.xlsx_theme.specs.ThemePart.{ThemeFails}
 use Rattle.xlsx_stylesheet.specs.StylesErrors.{AreStylesError}
 use Rattle.xlsx_strings.specs.Strings.{AreStringsError}
 use Rattle.xlsx_open.specs.Opening.{IsOpeningError}
@@ -50,7 +49,7 @@ styles_step (XmlEof element) is = inr (inr (inr is))
 styles_step _ is = absurd is
 
 -- a theme is refused only for want of memory, or by a fault of the package
-pub theme_step : (old new : PackageState) (error : XlsxError) → ThemeFails old new error
+pub theme_step : (old new : PackageState) (error : XlsxError) → SoundFails old new error
     → IsOpeningError error
 theme_step old new OutOfMemory fails = tt
 theme_step old new Io fails = tt

@@ -10,8 +10,8 @@ use Rattle.cell_data.specs.declared.error.XlsxError.TheVariants.{OutOfMemory, Io
 use Rattle.cell_styles.specs.declared.color.Color.{Color}
 use Rattle.xlsx_sections.specs.Elements.{IsInsideRefused}
 use Rattle.xlsx_sections.specs.PartSection.{always, OptionalPartCause, OptionalPartFails}
-use Rattle.xlsx_sections.specs.PartSection.{PartFails, closed_section, closed_section_of}
-use Rattle.xlsx_theme.specs.ThemePart.{theme_colors, HasTheme, ThemeFails}
+use Rattle.xlsx_sections.specs.PartSection.{PartFails, SoundFails, closed_section, closed_section_of}
+use Rattle.xlsx_theme.specs.ThemePart.{theme_colors, HasTheme}
 use Rattle.xlsx_theme.specs.declared.theme_part.ThemeColors.{ThemeColors}
 use Rattle.xlsx_stylesheet.specs.StyleSheet.{cell_formats_in, end_in_styles, HasStyles}
 use Rattle.xlsx_strings.specs.Strings.{strings_in, end_in_strings, HasStrings}
@@ -201,7 +201,7 @@ strings_fail old new path error fails = λ told. inl (fails told)
 
 -- the theme is refused behind them
 pub theme_fails : (old mid new : PackageState) (path : List ℕ) (error : XlsxError)
-    → mid.faults ≡ old.faults → ThemeFails mid new error → SharedFails path old new error
+    → mid.faults ≡ old.faults → SoundFails mid new error → SharedFails path old new error
 theme_fails old mid new path Io faults fails = omega (arith, faults, fails)
 theme_fails old mid new path OutOfMemory faults fails = tt
 theme_fails old mid new path error faults fails = absurd fails

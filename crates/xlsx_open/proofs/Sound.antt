@@ -7,7 +7,8 @@ use Rattle.part_events.specs.Event.{Event}
 use Rattle.part_events.specs.Package.{Part, PackageState, part_of}
 use Rattle.cell_data.specs.declared.error.XlsxError.{XlsxError}
 use Rattle.cell_data.specs.declared.error.XlsxError.TheVariants.{OutOfMemory, Io}
-use Rattle.xlsx_sections.specs.PartSection.{PartSection, inside_of, always, closed_section_of}
+use Rattle.xlsx_sections.specs.PartSection.{PartSection, SoundFails, inside_of, always}
+use Rattle.xlsx_sections.specs.PartSection.{closed_section_of}
 use Rattle.xlsx_sections.specs.Refusal.{Refusal}
 use Rattle.xlsx_sections.proofs.Sound.{is_sound_part, no_optional_cause, no_part_cause}
 use Rattle.xlsx_theme.specs.ThemePart.{theme_colors}
@@ -15,7 +16,7 @@ use Rattle.xlsx_stylesheet.proofs.Sound.{no_styles_cause}
 use Rattle.xlsx_strings.proofs.Sound.{no_strings_cause}
 use Rattle.xlsx_open.specs.Opening.{Opening, HasPath, HasRelationships, HasWorkbook, HasNothing}
 use Rattle.xlsx_open.specs.Opening.{IsOpening, OpensAs, OpensSoundly, OpeningCause, ContentsCause}
-use Rattle.xlsx_open.specs.Opening.{WorkbookCause, BookCause, OpeningFails, SoundFails}
+use Rattle.xlsx_open.specs.Opening.{WorkbookCause, BookCause, OpeningFails}
 use Rattle.xlsx_open.specs.Opening.{epoch_or_1900}
 use Rattle.xlsx_open.specs.Paths.{folder_of, workbook_part, relationships_part, strings_part}
 use Rattle.xlsx_open.specs.Paths.{theme_part, styles_part}

@@ -169,12 +169,6 @@ OpeningFails old new Io = HasCause old new
 OpeningFails old new OutOfMemory = ⊤
 OpeningFails old new error = old.is_told ≡ true → OpeningCause old.parts error
 
--- when a package that opens soundly is refused
-abbrev pub SoundFails : PackageState → PackageState → XlsxError → Type 0
-SoundFails old new Io = HasCause old new
-SoundFails old new OutOfMemory = ⊤
-SoundFails old new _ = ⊥
-
 -- how many events the parts have that lead to a workbook at this path, and its own
 abbrev pub workbook_events : List Part → List ℕ → ℕ
 workbook_events parts path =

@@ -2,9 +2,9 @@ ghost use Rattle.std.specs.Prelude.{◌≡◌, codes, map, string_bytes, true, I
 ghost use Rattle.part_events.specs.Package.{Uses, event_count};
 ghost use Rattle.cell_data.specs.declared.error.XlsxError.TheVariants.{Io};
 ghost use Rattle.xlsx_sections.specs.Elements.{IsInsideRefused};
-ghost use Rattle.xlsx_sections.specs.PartSection.{OptionalPartFails};
+ghost use Rattle.xlsx_sections.specs.PartSection.{OptionalPartFails, SoundFails};
 ghost use Rattle.xlsx_formats.specs.Formattings.{style_said};
-ghost use Rattle.xlsx_theme.specs.ThemePart.{HasTheme, ThemeFails};
+ghost use Rattle.xlsx_theme.specs.ThemePart.{HasTheme};
 ghost use Rattle.xlsx_stylesheet.specs.StyleSheet.{cell_formats_in, end_in_styles, HasStyles};
 ghost use Rattle.xlsx_strings.specs.Strings.{strings_in, end_in_strings, HasStrings};
 ghost use Rattle.xlsx_open.specs.Opening.{IsOpeningError};
@@ -71,7 +71,7 @@ fn read_colors<P: Package>(
         Uses (event_count old.parts (theme_part path.now)) Io result old new }
     ensures theme { let old = P.state «package».old in
         old.is_told ≡ true → IfOk result (HasTheme old.parts (theme_part path.now)) }
-    ensures err { IfErr result (ThemeFails (P.state «package».old) (P.state «package».new)) }
+    ensures err { IfErr result (SoundFails (P.state «package».old) (P.state «package».new)) }
 {
     let part = theme_part(alloc, path)?;
     read_theme(alloc, package, part.as_str())

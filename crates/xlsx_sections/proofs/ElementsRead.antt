@@ -1,6 +1,6 @@
 -- How the elements of a section are read, and how one that is refused makes the section refused.
 use Rattle.std.proofs.Common.{◌≡◌, ℕ, zero, suc, ◌+◌, ◌-◌, ◌≤◌, ◌<◌, List, [], ◌∷◌, ◌++◌, length}
-use Rattle.std.proofs.Common.{Bool, true, false, Some, None, Option, refl, sym, ◌∙◌, ap, subst}
+use Rattle.std.proofs.Common.{Bool, true, false, Some, Option, refl, sym, ◌∙◌, ap, subst}
 use Rattle.std.proofs.Common.{arith}
 use Rattle.std.proofs.lemmas.List.{length-append, length-reverse}
 use Rattle.std.specs.Prelude.{reverse, if◌then◌else◌}
@@ -10,7 +10,7 @@ use Rattle.part_events.specs.Reading.{Reading, IsReading, ReadsOn, Skips, IsAtEn
 use Rattle.part_events.specs.Reading.{events_of}
 use Rattle.part_events.specs.Section.{Element, content, is_closed, behind, outermost, unclosed}
 use Rattle.part_events.specs.Walk.{inside, element_at, section_ahead, section_behind}
-use Rattle.part_events.specs.Walk.{is_closed_ahead, behind_section, section_end, IsNextElement}
+use Rattle.part_events.specs.Walk.{is_closed_ahead, behind_section, IsNextElement}
 use Rattle.part_events.specs.Walk.{ClosesSection}
 use Rattle.part_events.specs.declared.fault.XmlFault.TheVariants.{EndMismatch, Unclosed}
 use Rattle.part_events.proofs.Nested.{whole_split}
@@ -22,9 +22,9 @@ use Rattle.xlsx_sections.specs.Elements.{KeepsElements, ReachesEnd, FindsElement
 use Rattle.xlsx_sections.specs.Elements.{end_among}
 use Rattle.xlsx_sections.specs.PartSection.{PartSection, KeepsSection, SectionFails, StandsAtStart}
 use Rattle.xlsx_sections.specs.PartSection.{Never, section_left, last_of, has_end, inside_of}
-use Rattle.xlsx_sections.specs.Refusal.{Refusal, RefusedAs, further, events_behind}
+use Rattle.xlsx_sections.specs.Refusal.{Refusal, further, events_behind}
 use Rattle.xlsx_sections.proofs.Refused.{refused_further, refused_later}
-use Rattle.xlsx_sections.proofs.SectionsRead.{section_further}
+use Rattle.xlsx_sections.proofs.SectionsRead.{section_further, start_there}
 
 -- an element that is closed takes its events, its end, and leaves what stands behind
 pub length_closed : (within : ℕ) (events : List Event) → is_closed within events ≡ true
@@ -162,6 +162,19 @@ element_found {base = base} {place = place} {tag = tag} {first = first} {old = o
       deep = stands.1;
       there = λ told. omega (arith, stands.3, here.last told);
     }
+
+-- the wanted element at whose start a step stands
+pub element_there : {base place : ℕ} {first old new : Reading} {wanted : Tag → Bool}
+    {step : Option ℕ} → step ≡ Some place → KeepsElements wanted base first old → ReadsOn old new
+    → StandsAtStart wanted base step old new
+    → (old.source.is_told ≡ true → FindsElementIn wanted base step old new)
+    → (tag : Tag) × (start tag ≡ new.source.current)
+    × IsElementFound wanted base tag place first old new
+element_there {base = base} {place = place} {old = old} {new = new} {wanted =
+    wanted} is before reads stands finds =
+    let here : StandsAtStart wanted base (Some place) old new = rw is at stands in
+    let own = start_there new.source.current (λ (tag : Tag). wanted tag ≡ true) here.2 in
+    (own.0, own.1, element_found wanted own.1 before reads here (λ told. rw is at (finds told)))
 
 -- and was read to its end
 pub record IsElementPassed

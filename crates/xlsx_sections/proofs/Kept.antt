@@ -3,7 +3,8 @@ use Rattle.std.proofs.Common.{◌≡◌, List, [], ◌∷◌, ◌++◌, Option, 
 use Rattle.std.proofs.Common.{sym, ◌∙◌, ap, append_assoc, append-nil}
 use Rattle.xlsx_sections.specs.Changes.{all_changes, changed_by}
 use Rattle.xlsx_sections.specs.Refusal.{Refusal}
-use Rattle.xlsx_sections.specs.Answers.{or_earlier, or_later, and_others, and_others_if}
+use Rattle.xlsx_sections.specs.Answers.{or_earlier, or_later, with_first, and_others}
+use Rattle.xlsx_sections.specs.Answers.{and_others_if}
 use Rattle.xlsx_sections.specs.Answers.{all_answers, prepended, last_answer, some_answers}
 
 -- what the last of some gives, with one before them
@@ -105,6 +106,33 @@ all_taken {xs = xs} answer kept same holds =
     let here : prepended kept (some_answers answer xs) ≡ Ok kept = rw (same, append-nil kept) refl
     in
     sym holds ∙ here
+
+some_first : {A : Type 0} (passed : List A) (first : Result (Option A) Refusal)
+    (others all more : Result (List A) Refusal) → and_others_if first others ≡ Ok passed
+    → ((rest : List A) → others ≡ Ok rest → all ≡ prepended rest more)
+    → and_others_if first all ≡ prepended passed more
+some_first passed (Err refusal) others all more is same = absurd (cc)
+some_first passed (Ok None) others all more is same = same passed is
+some_first passed (Ok (Some own)) (Err refusal) all more is same = absurd (cc)
+some_first {A = A} passed (Ok (Some own)) (Ok rest) all (Ok behind) is same =
+    let front : own ∷ rest ≡ passed = cc in
+    ap (with_first own) (same rest refl)
+    ∙ ap (λ (kept : List A). prepended kept (Ok behind)) front
+some_first passed (Ok (Some own)) (Ok rest) all (Err refusal) is same =
+    ap (with_first own) (same rest refl)
+
+-- what is given by some and by more behind them
+pub some_and_more : {X A : Type 0} (answer : X → Result (Option A) Refusal) (front more : List X)
+    (passed : List A) → some_answers answer front ≡ Ok passed
+    → some_answers answer (front ++ more) ≡ prepended passed (some_answers answer more)
+some_and_more {A = A} answer [] more passed is =
+    let none : [] ≡ passed = cc in
+    sym (prepended-nil (some_answers answer more))
+    ∙ ap (λ (kept : List A). prepended kept (some_answers answer more)) none
+some_and_more answer (x ∷ front) more passed is =
+    some_first passed (answer x) (some_answers answer front)
+    (some_answers answer (front ++ more)) (some_answers answer more) is
+    (λ rest own. some_and_more answer front more rest own)
 
 -- with one of those that are left, what all give is the same
 pub all_further : {X A : Type 0} {x : X} {xs rest : List X} {all : Result (List A) Refusal}

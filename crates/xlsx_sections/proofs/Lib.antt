@@ -1,5 +1,6 @@
 pub mod ElementsRead
 pub mod Kept
+pub mod ListsRead
 pub mod NumbersRead
 pub mod Refused
 pub mod SectionsRead

@@ -1,11 +1,11 @@
 -- How a refusal passes from a call to the section and the part that it reads.
 use Rattle.std.proofs.Common.{◌≡◌, ℕ, suc, ◌+◌, ◌≤◌, List, true, false, Option, Some, None, refl}
-use Rattle.std.proofs.Common.{◌∙◌, sym, subst, inl, inr, arith, codes, length, Result, Err, String}
-use Rattle.std.proofs.Common.{Global, string_bytes, ap}
+use Rattle.std.proofs.Common.{◌∙◌, sym, subst, inl, inr, arith, length, String}
+use Rattle.std.proofs.Common.{Global, ap}
 use Rattle.std.specs.Prelude.{MatchOption}
 use Rattle.part_events.specs.Event.{Event}
 use Rattle.part_events.specs.Nesting.{whole}
-use Rattle.part_events.specs.Package.{PackageState, SameParts, part_of}
+use Rattle.part_events.specs.Package.{PackageState, part_of}
 use Rattle.part_events.specs.Reading.{Reading, IsReading, BreaksAt}
 use Rattle.part_events.specs.declared.fault.XmlFault.TheVariants.{EndMismatch, Unclosed, Entity}
 use Rattle.part_events.proofs.Onward.{reads_nothing}
@@ -22,7 +22,7 @@ use Rattle.cell_data.specs.declared.error.XlsxError.TheVariants.{RowNumberOverfl
 use Rattle.cell_data.specs.declared.error.XlsxError.TheVariants.{Unexpected, CellTAttribute}
 use Rattle.cell_data.specs.declared.error.XlsxError.TheVariants.{CellError, ParseFloat}
 use Rattle.xlsx_sections.specs.PartSection.{PartSection, KeepsSection, inside_of, has_end, last_of}
-use Rattle.xlsx_sections.specs.PartSection.{section_left, section_in, EndsOpenIn, SectionCause}
+use Rattle.xlsx_sections.specs.PartSection.{section_left, section_in, SectionCause}
 use Rattle.xlsx_sections.specs.PartSection.{SectionFails, StartCause, EntersSection}
 use Rattle.xlsx_sections.specs.PartSection.{OptionalPartCause, OptionalPartFails, PartFails}
 use Rattle.xlsx_sections.specs.PartSection.{EnterFails, LacksSection, always, Never}

@@ -8,9 +8,9 @@ use Rattle.part_events.specs.Event.{Tag, Event, start, end, leaf, IsStartAnd}
 use Rattle.part_events.specs.Nesting.{whole, whole_rest}
 use Rattle.part_events.specs.Package.{PackageState, SameParts, OpenCounts, Opens, part_of}
 use Rattle.part_events.specs.Package.{event_count}
-use Rattle.part_events.specs.Reading.{Reading, IsReading, ReadsOn, IsTracked, IsAtElement, Skips}
+use Rattle.part_events.specs.Reading.{Reading, IsReading, ReadsOn, IsTracked, IsAtElement}
 use Rattle.part_events.specs.Reading.{TakesEvent, StepsAhead, ahead, events_of}
-use Rattle.part_events.specs.Section.{PlacedTag, content, is_closed, behind, starts_by}
+use Rattle.part_events.specs.Section.{is_closed, behind, starts_by}
 use Rattle.part_events.specs.Section.{behind_start, is_named}
 use Rattle.part_events.specs.Walk.{inside, section_ahead, is_closed_ahead, behind_section}
 use Rattle.part_events.specs.Walk.{section_end, TakesInside, IsNextStart}

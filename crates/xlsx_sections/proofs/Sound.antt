@@ -1,15 +1,14 @@
 -- A section that is closed, and none of whose elements is refused, has no cause to be refused.
 use Rattle.std.proofs.Common.{◌≡◌, ◌⊎◌, ℕ, List, [], ◌∷◌, Bool, true, false, Option, Some, None}
-use Rattle.std.proofs.Common.{refl, ap, subst, inl, inr, string_bytes}
+use Rattle.std.proofs.Common.{refl, subst, inl, inr}
 use Rattle.std.specs.Prelude.{option_map, option_and_then, IsSomeAnd, MatchOption, if◌then◌else◌}
 use Rattle.part_events.specs.Event.{Event}
 use Rattle.part_events.specs.Nesting.{whole}
 use Rattle.part_events.specs.Package.{Part, part_of}
 use Rattle.part_events.specs.Section.{content, is_closed, behind_start, is_named}
-use Rattle.part_events.specs.declared.fault.XmlFault.TheVariants.{EndMismatch, Unclosed, Entity}
+use Rattle.part_events.specs.declared.fault.XmlFault.TheVariants.{EndMismatch, Unclosed}
 use Rattle.cell_data.specs.declared.error.XlsxError.{XlsxError}
-use Rattle.cell_data.specs.declared.error.XlsxError.TheVariants.{Xml, XmlAttr, XmlEof, FileNotFound}
-use Rattle.cell_data.specs.declared.error.XlsxError.TheVariants.{RelationshipNotFound, Unrecognized}
+use Rattle.cell_data.specs.declared.error.XlsxError.TheVariants.{Xml, XmlEof, FileNotFound}
 use Rattle.xlsx_sections.specs.PartSection.{PartSection, inside_of, has_end, last_of, section_from}
 use Rattle.xlsx_sections.specs.PartSection.{section_in, if_closed, closed_section}
 use Rattle.xlsx_sections.specs.PartSection.{closed_section_of, StartCause, SectionCause}

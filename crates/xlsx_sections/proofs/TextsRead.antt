@@ -1,6 +1,6 @@
 -- How a text that can't be read makes its element refused.
-use Rattle.std.proofs.Common.{◌≡◌, ℕ, suc, ◌+◌, List, length, Bool, true, Some, None, Option, sym}
-use Rattle.std.proofs.Common.{◌∙◌, ap, subst, refl, arith}
+use Rattle.std.proofs.Common.{◌≡◌, ℕ, suc, ◌+◌, List, length, Bool, Some, None, Option, sym}
+use Rattle.std.proofs.Common.{◌∙◌, ap, subst, refl}
 use Rattle.std.specs.Prelude.{Ok, Err, IsSomeAnd}
 use Rattle.part_events.specs.Event.{Event}
 use Rattle.part_events.specs.JoinedText.{TextFails, joined_text, unknown_entity}
@@ -12,8 +12,8 @@ use Rattle.part_events.specs.declared.fault.XmlFault.TheVariants.{EndMismatch, U
 use Rattle.cell_data.specs.XlsxError.{of_stream}
 use Rattle.xlsx_sections.specs.Elements.{ElementReadFails, IsTextError}
 use Rattle.xlsx_sections.specs.ElementText.{element_text, known_text}
-use Rattle.xlsx_sections.specs.PartSection.{always, last_of, section_left}
-use Rattle.xlsx_sections.specs.Refusal.{Refusal, no_character}
+use Rattle.xlsx_sections.specs.PartSection.{always}
+use Rattle.xlsx_sections.specs.Refusal.{no_character}
 use Rattle.xlsx_sections.proofs.ElementsRead.{own_inside, own_end}
 
 unknown_there : (at end : ℕ) (written : List ℕ) (unknown : Option ℕ)

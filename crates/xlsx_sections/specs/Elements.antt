@@ -1,9 +1,9 @@
 -- How the elements of a section are read one by one, and where its part ends.
-use Rattle.std.specs.Prelude.{◌≡◌, ⊤, ℕ, suc, List, [], ◌∷◌, length, Bool, true, Option, Some, None}
-use Rattle.std.specs.Prelude.{Result, Ok, Err}
+use Rattle.std.specs.Prelude.{◌≡◌, ⊤, ℕ, suc, List, length, Bool, true, Option, Some, None}
+use Rattle.std.specs.Prelude.{Result, Err}
 use Rattle.part_events.specs.Event.{Tag, Event, IsStartAnd}
 use Rattle.part_events.specs.Reading.{Reading, ahead}
-use Rattle.part_events.specs.Section.{Element, content, unclosed}
+use Rattle.part_events.specs.Section.{Element, unclosed}
 use Rattle.part_events.specs.Walk.{IsNextElement, ClosesSection, section_ahead, is_closed_ahead}
 use Rattle.part_events.specs.Walk.{behind_section, section_end}
 use Rattle.part_events.specs.declared.fault.XmlFault.TheVariants.{EndMismatch, Unclosed, Entity}

@@ -1,5 +1,6 @@
 pub mod Answers
 pub mod Changes
+pub mod ElementLists
 pub mod ElementText
 pub mod Elements
 pub mod NumberText

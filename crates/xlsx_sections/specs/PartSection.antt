@@ -71,9 +71,8 @@ abbrev pub EndsOpenIn : PartSection → Type 0
 EndsOpenIn s = (whole s.events ≡ s.events) × (has_end s ≡ false)
 
 -- Why a section can't be taken: the nesting breaks or the part ends before its end, or one of its
--- elements is refused.
--- `ending` is the text by which the end of the part is told, by what stands in the section; None
--- where an element is skipped.
+-- elements is refused. `ending` is the text by which the end of the part is told, by what stands in
+-- the section; None where an element is skipped.
 abbrev pub SectionCause :
     (List Event → Option (List ℕ)) → (PartSection → Refusal → Type 0) → PartSection → XlsxError
     → Type 0
@@ -92,6 +91,13 @@ SectionFails ending refused base old new Io = HasCause old.source new.source
 SectionFails ending refused base old new OutOfMemory = ⊤
 SectionFails ending refused base old new error =
     old.source.is_told ≡ true → SectionCause ending refused (section_left base old) error
+
+-- when a call is refused for which the parts give no cause: by a fault of the package, or for want
+-- of memory
+abbrev pub SoundFails : PackageState → PackageState → XlsxError → Type 0
+SoundFails old new Io = HasCause old new
+SoundFails old new OutOfMemory = ⊤
+SoundFails old new _ = ⊥
 
 -- the part ends by the end of this element, whatever stands before
 abbrev pub always : List ℕ → List Event → Option (List ℕ)

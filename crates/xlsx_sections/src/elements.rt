@@ -1,6 +1,6 @@
 ghost use Rattle.std.specs.Prelude.{◌≡◌, ◌≤◌, ◌++◌, List, ℕ, suc, length, map, true, Ok, Option};
-ghost use Rattle.std.specs.Prelude.{option_map, string_bytes, IfOk, OnOk, IfErr};
-ghost use Rattle.part_events.specs.JoinedText.{joined_text};
+ghost use Rattle.std.specs.Prelude.{option_map, string_bytes, IfOk, OnOk, IfErr, OnErr};
+ghost use Rattle.part_events.specs.JoinedText.{joined_text, PutsFront};
 ghost use Rattle.part_events.specs.Reading.{reading, open_elements, IsReading, IsAtElement};
 ghost use Rattle.part_events.specs.Reading.{ReadsPart, Skips, ahead};
 ghost use Rattle.part_events.specs.Section.{Element, content, is_any, is_named};
@@ -91,7 +91,8 @@ pub fn next_child_in<P: Package>(
 
 /// Appends the text of the element of this name at whose start the package stands: each Text, each
 /// CharData where `char_data` says so, with their line ends as LF, and the character of each
-/// reference. Reads to the element's end.
+/// reference. Reads to the element's end. After a refusal the texts of some of its first events are
+/// appended.
 pub fn read_element_text<P: Package>(
     package: &mut P,
     cursor: &mut Cursor,
@@ -115,6 +116,10 @@ pub fn read_element_text<P: Package>(
         old.source.is_told ≡ true → OnOk result
         ((element_text char_data inside ≡ Ok text)
         × (string_bytes out.new ≡ string_bytes out.old ++ text)) }
+    ensures front { let old = reading (P.state «package».old) cursor.old in
+        let texts : List ℕ × List ℕ = (string_bytes out.old, string_bytes out.new) in
+        old.source.is_told ≡ true → OnErr result
+        (PutsFront char_data (content 0 (ahead old)) texts) }
     ensures err { let old = reading (P.state «package».old) cursor.old in
         let new = reading (P.state «package».new) cursor.new in
         IfErr result (ElementReadFails (always name.now) (element_text char_data) old new) }

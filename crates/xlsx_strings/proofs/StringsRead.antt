@@ -1,6 +1,6 @@
 -- How the elements of a string, and the strings of their section, are read one by one.
 use Rattle.std.proofs.Common.{◌≡◌, ℕ, List, [], ◌∷◌, ◌++◌, Bool, true, false, Some, Result, Ok, Err}
-use Rattle.std.proofs.Common.{refl, sym, ◌∙◌, ap, subst, codes, append_assoc, length}
+use Rattle.std.proofs.Common.{refl, sym, ◌∙◌, ap, subst, codes, append_assoc, append-nil, length}
 use Rattle.std.specs.Prelude.{◌||◌, if◌then◌else◌, IfErr}
 use Rattle.std.specs.List.{flat_map}
 use Rattle.std.specs.Str.{bytes_eq}
@@ -11,13 +11,14 @@ use Rattle.part_events.specs.Section.{Element, content}
 use Rattle.part_events.specs.Walk.{element_at}
 use Rattle.cell_data.specs.declared.error.XlsxError.{XlsxError}
 use Rattle.xlsx_sections.specs.Answers.{with_first, and_others, all_answers}
+use Rattle.xlsx_sections.specs.ElementLists.{element_said}
 use Rattle.xlsx_sections.specs.Elements.{ElementReadFails}
 use Rattle.xlsx_sections.specs.PartSection.{always, inside_of, section_left}
 use Rattle.xlsx_sections.specs.Refusal.{Refusal, in_element}
 use Rattle.xlsx_sections.proofs.ElementsRead.{own_inside}
 use Rattle.xlsx_sections.proofs.SectionsRead.{same_tag}
-use Rattle.xlsx_strings.specs.Strings.{is_text, text_within, piece_of, end_in_piece, string_piece}
-use Rattle.xlsx_strings.specs.Strings.{all_joined}
+use Rattle.xlsx_strings.specs.Strings.{is_text, text_within, piece_of, end_in_piece, all_joined}
+use Rattle.xlsx_strings.specs.Strings.{IsFrontOf}
 
 or_false : (b : Bool) → (b || false) ≡ b
 or_false true = refl
@@ -38,6 +39,18 @@ text_piece_fails tag old new error is fails =
     (λ (inside : List Event). if b then Some (codes "t") else Some [])
     (λ (inside : List Event). if b then text_within tag inside else Ok []) old new error)
     (sym is) fails
+
+-- a text begins with itself, and with what its beginning begins with
+pub front_same : (text : List ℕ) → IsFrontOf text text
+front_same text = ([], sym (append-nil text))
+
+pub front_further : (first next last : List ℕ) → IsFrontOf first next → IsFrontOf next last
+    → IsFrontOf first last
+front_further first next last before after = (
+  before.0 ++ after.0,
+  after.1 ∙ (ap (λ (text : List ℕ). text ++ after.0) before.1
+      ∙ append_assoc first before.0 after.0),
+)
 
 pub if_err_map : {A E : Type 0} {P Q : E → Type 0} (result : Result A E)
     → ((error : E) → P error → Q error) → IfErr result P → IfErr result Q
@@ -69,17 +82,21 @@ onto-all_joined kept own (Ok texts) =
     (append_assoc kept own (flat_map (λ (text : List ℕ). text) texts))
 onto-all_joined kept own (Err refusal) = refl
 
+-- what the elements of a string add to it
+abbrev pub pieces_joined : List Element → Result (List ℕ) Refusal
+pieces_joined elements = all_joined (all_answers (element_said piece_of) elements)
+
 -- one more element of a string was read
 pub piece_further : {x : Element} {xs rest : List Element} {all : Result (List ℕ) Refusal}
-    (kept own : List ℕ) → xs ≡ x ∷ rest → string_piece x ≡ Ok own
-    → onto kept (all_joined (all_answers string_piece xs)) ≡ all
-    → onto (kept ++ own) (all_joined (all_answers string_piece rest)) ≡ all
+    (kept own : List ℕ) → xs ≡ x ∷ rest → element_said piece_of x ≡ Ok own
+    → onto kept (pieces_joined xs) ≡ all
+    → onto (kept ++ own) (pieces_joined rest) ≡ all
 piece_further {rest = rest} kept own same is holds =
-    let others = all_answers string_piece rest in
+    let others = all_answers (element_said piece_of) rest in
     onto-all_joined kept own others
     ∙ ap (λ (answer : Result (List ℕ) Refusal). onto kept (all_joined (and_others answer others)))
     (sym is)
-    ∙ ap (λ (elements : List Element). onto kept (all_joined (all_answers string_piece elements)))
+    ∙ ap (λ (elements : List Element). onto kept (pieces_joined elements))
     (sym same)
     ∙ holds
 
@@ -90,13 +107,14 @@ onto_refused kept (Err own) refusal is = sym is
 
 -- one of them is refused, and so is the string
 pub piece_refused : {x : Element} {xs rest : List Element} {all : Result (List ℕ) Refusal}
-    {refusal : Refusal} (kept first : List ℕ) → xs ≡ x ∷ rest → string_piece x ≡ Err refusal
-    → onto kept (all_joined (all_answers string_piece xs)) ≡ onto first all → all ≡ Err refusal
+    {refusal : Refusal} (kept first : List ℕ) → xs ≡ x ∷ rest
+    → element_said piece_of x ≡ Err refusal → onto kept (pieces_joined xs) ≡ onto first all
+    → all ≡ Err refusal
 piece_refused {rest = rest} {all = all} {refusal = refusal} kept first same refuses holds =
-    let others = all_answers string_piece rest in
+    let others = all_answers (element_said piece_of) rest in
     onto_refused first all refusal
     (ap (λ (answer : Result (List ℕ) Refusal). onto kept (all_joined (and_others answer others)))
     (sym refuses)
-    ∙ ap (λ (elements : List Element). onto kept (all_joined (all_answers string_piece elements)))
+    ∙ ap (λ (elements : List Element). onto kept (pieces_joined elements))
     (sym same)
     ∙ holds)

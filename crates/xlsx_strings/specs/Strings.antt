@@ -1,7 +1,7 @@
 -- The text of a string element, and the shared strings of a workbook.
-use Rattle.std.specs.Prelude.{◌≡◌, ℕ, ◌-◌, List, [], ◌∷◌, take, drop, length, Bool, true, false}
-use Rattle.std.specs.Prelude.{◌==◌, ◌||◌, if◌then◌else◌, codes, Option, Some, None, Result, Ok, Err}
-use Rattle.std.specs.Prelude.{IsSomeAnd, MatchOption, ◌⊎◌, ⊤}
+use Rattle.std.specs.Prelude.{◌≡◌, ℕ, ◌-◌, List, [], ◌∷◌, ◌++◌, take, drop, length, Bool, true}
+use Rattle.std.specs.Prelude.{false, ◌==◌, ◌||◌, if◌then◌else◌, codes, Option, Some, None, Result}
+use Rattle.std.specs.Prelude.{Ok, Err, IsSomeAnd, MatchOption, ◌⊎◌, ⊤}
 use Rattle.std.specs.List.{prefix_len, suffix_len, flat_map}
 use Rattle.std.specs.Str.{bytes_eq}
 use Rattle.attr_text.specs.Attributes.{value_of}
@@ -9,16 +9,16 @@ use Rattle.attr_text.specs.Text.{unescaped}
 use Rattle.attr_text.specs.declared.fault.AttrFault.{AttrFault}
 use Rattle.part_events.specs.Event.{Tag, Event}
 use Rattle.part_events.specs.Package.{Part, part_of}
-use Rattle.part_events.specs.Section.{Element, outermost, is_named}
+use Rattle.part_events.specs.Section.{Element, is_named}
 use Rattle.part_events.specs.declared.fault.XmlFault.TheVariants.{EndMismatch, Entity}
 use Rattle.cell_data.specs.declared.error.XlsxError.{XlsxError}
 use Rattle.cell_data.specs.declared.error.XlsxError.TheVariants.{OutOfMemory, Io, Xml, XmlAttr}
 use Rattle.cell_data.specs.declared.error.XlsxError.TheVariants.{XmlEof}
-use Rattle.xlsx_sections.specs.Answers.{all_answers}
+use Rattle.xlsx_sections.specs.ElementLists.{list_said, end_in_list}
 use Rattle.xlsx_sections.specs.Elements.{end_among}
 use Rattle.xlsx_sections.specs.ElementText.{element_text}
 use Rattle.xlsx_sections.specs.PartSection.{closed_section_of}
-use Rattle.xlsx_sections.specs.Refusal.{Refusal, lookup_fault, in_element}
+use Rattle.xlsx_sections.specs.Refusal.{Refusal, lookup_fault}
 
 -- space, tab, CR and LF
 abbrev pub is_blank : ℕ → Bool
@@ -69,9 +69,6 @@ is_text_or_phonetic tag = is_named (codes "t" ∷ codes "rPh" ∷ []) tag
 abbrev pub piece_of : Tag → List Event → Result (List ℕ) Refusal
 piece_of tag inside = if is_text tag then text_within tag inside else Ok []
 
-abbrev pub string_piece : Element → Result (List ℕ) Refusal
-string_piece element = in_element element (piece_of element.tag element.inside)
-
 abbrev pub all_joined : Result (List (List ℕ)) Refusal → Result (List ℕ) Refusal
 all_joined (Ok texts) = Ok (flat_map (λ (text : List ℕ). text) texts)
 all_joined (Err refusal) = Err refusal
@@ -79,17 +76,17 @@ all_joined (Err refusal) = Err refusal
 -- the text of a string element, by what stands in it: its outermost texts, those of its
 -- pronunciation left aside
 abbrev pub string_of : List Event → Result (List ℕ) Refusal
-string_of inside = all_joined (all_answers string_piece (outermost is_text_or_phonetic inside))
+string_of inside = all_joined (list_said is_text_or_phonetic piece_of inside)
 
 abbrev pub is_string : Tag → Bool
 is_string tag = is_named (codes "si" ∷ []) tag
 
-abbrev pub string_element : Element → Result (List ℕ) Refusal
-string_element element = in_element element (string_of element.inside)
+abbrev pub string_said : Tag → List Event → Result (List ℕ) Refusal
+string_said tag inside = string_of inside
 
 -- the strings of the section of shared strings, in order
 abbrev pub strings_in : List Event → Result (List (List ℕ)) Refusal
-strings_in inside = all_answers string_element (outermost is_string inside)
+strings_in inside = list_said is_string string_said inside
 
 -- the end of the part in a text is told as `t`, and elsewhere in a string by the empty text
 abbrev pub end_in_piece : Tag → List Event → Option (List ℕ)
@@ -101,11 +98,8 @@ end_in_piece_element element = end_in_piece element.tag element.inside
 abbrev pub end_in_string : List Event → Option (List ℕ)
 end_in_string inside = end_among is_text_or_phonetic [] end_in_piece_element inside
 
-abbrev pub end_in_string_element : Element → Option (List ℕ)
-end_in_string_element element = end_in_string element.inside
-
 abbrev pub end_in_strings : List Event → Option (List ℕ)
-end_in_strings inside = end_among is_string (codes "sst") end_in_string_element inside
+end_in_strings inside = end_in_list is_string (codes "sst") end_in_string inside
 
 -- the shared strings of the part at a path; an absent part has none
 abbrev pub HasStrings : List Part → List ℕ → List (List ℕ) → Type 0
@@ -113,6 +107,10 @@ HasStrings parts path strings =
     MatchOption (part_of parts path) (strings ≡ [])
     (λ _. IsSomeAnd (closed_section_of (codes "sst") path parts)
     (λ inside. strings_in inside ≡ Ok strings))
+
+-- a text begins with another, whatever stands behind it
+abbrev pub IsFrontOf : List ℕ → List ℕ → Type 0
+IsFrontOf front text = (more : List ℕ) × (text ≡ front ++ more)
 
 -- the refusals that reading a string can have, whatever the package tells
 abbrev pub IsStringError : XlsxError → Type 0

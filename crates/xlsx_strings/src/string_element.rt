@@ -1,5 +1,5 @@
 ghost use Rattle.std.specs.Prelude.{◌≡◌, ◌==◌, ◌++◌, List, ℕ, suc, codes, length, true, Ok};
-ghost use Rattle.std.specs.Prelude.{string_bytes, OnOk, IfErr};
+ghost use Rattle.std.specs.Prelude.{string_bytes, OnOk, OnErr, IfErr};
 ghost use Rattle.std.specs.List.{list_any};
 ghost use Rattle.attr_text.specs.Text.{unescaped};
 ghost use Rattle.part_events.specs.Event.{Tag, start, tag_of};
@@ -10,7 +10,8 @@ ghost use Rattle.cell_data.specs.declared.error.XlsxError.TheVariants.{Io};
 ghost use Rattle.xlsx_sections.specs.Elements.{ElementReadFails};
 ghost use Rattle.xlsx_sections.specs.PartSection.{always};
 ghost use Rattle.xlsx_strings.specs.Strings.{blanks_kept, spaced, text_within, piece_of, string_of};
-ghost use Rattle.xlsx_strings.specs.Strings.{end_in_piece, end_in_string, IsStringError};
+ghost use Rattle.xlsx_strings.specs.Strings.{end_in_piece, end_in_string, IsFrontOf};
+ghost use Rattle.xlsx_strings.specs.Strings.{IsStringError};
 
 use crate::trim::trimmed;
 use attr_text::{AttrFault, RawAttributes, unescape_hex};
@@ -38,7 +39,8 @@ fn has_underscore(text: &[u8]) -> bool
 
 /// Appends a text, each `_xHHHH_` of it replaced by the character of its number.
 fn push_unescaped(alloc: Global, out: &mut String, text: &str) -> Result<(), AllocError>
-    ensures { OnOk result (string_bytes out.new ≡ string_bytes out.old ++ unescaped text.now) }
+    ensures ok { OnOk result (string_bytes out.new ≡ string_bytes out.old ++ unescaped text.now) }
+    ensures unchanged { OnErr result (string_bytes out.new ≡ string_bytes out.old) }
 {
     if has_underscore(text.as_bytes()) {
         out.push_str(unescape_hex(alloc, text)?.as_str())?;
@@ -51,8 +53,9 @@ fn push_unescaped(alloc: Global, out: &mut String, text: &str) -> Result<(), All
 /// Appends what is written in a text, without the blanks at its ends where they aren't kept, and
 /// without escapes.
 fn push_spaced(alloc: Global, out: &mut String, written: &str, kept: bool) -> Result<(), AllocError>
-    ensures { OnOk result (string_bytes out.new
+    ensures ok { OnOk result (string_bytes out.new
         ≡ string_bytes out.old ++ unescaped (spaced kept written.now)) }
+    ensures unchanged { OnErr result (string_bytes out.new ≡ string_bytes out.old) }
 {
     if kept {
         push_unescaped(alloc, out, written)
@@ -83,6 +86,7 @@ fn read_text<P: Package>(
         old.source.is_told ≡ true → OnOk result ((tag : Tag) → start tag ≡ old.source.current →
         (text : List ℕ) × (text_within tag (content 0 (ahead old)) ≡ Ok text)
         × (string_bytes out.new ≡ string_bytes out.old ++ text)) }
+    ensures front { IsFrontOf (string_bytes out.old) (string_bytes out.new) }
     ensures err { let old = reading (P.state «package».old) cursor.old in
         let new = reading (P.state «package».new) cursor.new in
         IfErr result (λ error. (tag : Tag) → start tag ≡ old.source.current →
@@ -119,6 +123,7 @@ fn read_piece<P: Package>(
         old.source.is_told ≡ true → OnOk result ((tag : Tag) → start tag ≡ old.source.current →
         (text : List ℕ) × (piece_of tag (content 0 (ahead old)) ≡ Ok text)
         × (string_bytes out.new ≡ string_bytes out.old ++ text)) }
+    ensures front { IsFrontOf (string_bytes out.old) (string_bytes out.new) }
     ensures err { let old = reading (P.state «package».old) cursor.old in
         let new = reading (P.state «package».new) cursor.new in
         IfErr result (λ error. (tag : Tag) → start tag ≡ old.source.current →
@@ -138,7 +143,7 @@ fn read_piece<P: Package>(
 /// (ECMA-376 part 1, section 18.4.8.)
 ///
 /// A part that ends in a `t` is `XmlEof("t")`, and one that ends elsewhere in the string
-/// `XmlEof("")`.
+/// `XmlEof("")`. After a refusal the text begins with what it was.
 pub fn read_string<P: Package>(
     alloc: Global,
     package: &mut P,
@@ -160,6 +165,7 @@ pub fn read_string<P: Package>(
         old.source.is_told ≡ true → OnOk result ((text : List ℕ)
         × (string_of (content 0 (ahead old)) ≡ Ok text)
         × (string_bytes out.new ≡ string_bytes out.old ++ text)) }
+    ensures front { IsFrontOf (string_bytes out.old) (string_bytes out.new) }
     ensures err { let old = reading (P.state «package».old) cursor.old in
         let new = reading (P.state «package».new) cursor.new in
         IfErr result (ElementReadFails end_in_string string_of old new) }

@@ -1,8 +1,9 @@
 -- How the lists of a section of styles are read one by one.
 use Rattle.std.proofs.Common.{◌≡◌, ℕ, suc, List, length, true, false, Result}
 use Rattle.std.proofs.Common.{Ok, Err, refl, sym, ◌∙◌, ap, subst, inl, inr, codes, arith}
-use Rattle.std.specs.Prelude.{IsOkAnd}
+use Rattle.std.specs.Prelude.{IsOkAnd, IfErr}
 use Rattle.std.proofs.lemmas.Bool.{cases_Bool}
+use Rattle.std.proofs.lemmas.Result.{MatchResult-weaker}
 use Rattle.part_events.specs.Event.{Tag, Event, start}
 use Rattle.part_events.specs.Reading.{Reading, IsReading, ReadsOn, Skips, ahead}
 use Rattle.part_events.specs.Section.{Element, content, outermost}
@@ -146,3 +147,22 @@ pub list_there : {own tag : Tag} {event : Event} {found kind : StyleList} → fo
     → found ≡ list_of own → start own ≡ event → start tag ≡ event → kind ≡ list_of tag
 list_there is named here there =
     sym is ∙ named ∙ ap list_of (same_tag (here ∙ sym there))
+
+-- a list that is refused refuses the element at whose start the reader stands
+pub arm_refused : {A T : Type 0} {kind found : StyleList} {own : Tag} {event : Event}
+    (theme : List Color) (lists : StyleLists) (place : ListsSaid → List A → ListsSaid)
+    (kept : ListsSaid → List A) (meaning : List Event → Result (List A) Refusal)
+    (old new : Reading) (result : Result T XlsxError) → IsReading old → found ≡ kind
+    → found ≡ list_of own → start own ≡ event → ((said : ListsSaid) (inside : List Event)
+    → list_read theme kind said inside
+    ≡ with_list (place said) (prepended (kept said) (meaning inside)))
+    → IfErr result (ElementReadFails (list_end kind) meaning old new)
+    → IfErr result (λ error. (tag : Tag) (formats : List WrittenFormat) → start tag ≡ event
+    → AreCodes formats lists.codes → ElementReadFails (list_end (list_of tag))
+    (list_read theme (list_of tag) (lists_said formats lists)) old new error)
+arm_refused theme lists place kept meaning old new result is found named here same refused =
+    MatchResult-weaker result refused (λ _ holds. holds)
+    (λ error fails tag formats there are.
+    let said = lists_said formats lists in
+    list_fails theme said (place said) (kept said) meaning tag old new error is
+    (list_there found named here there) (same said) fails)

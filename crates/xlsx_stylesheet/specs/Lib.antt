@@ -1,4 +1,3 @@
 pub mod Lists
-pub mod Said
 pub mod StyleSheet
 pub mod StylesErrors

@@ -9,14 +9,14 @@ use Rattle.part_events.specs.Section.{is_named}
 use Rattle.cell_styles.specs.declared.border.Borders.{Borders}
 use Rattle.cell_styles.specs.declared.color.Color.{Color}
 use Rattle.cell_styles.specs.declared.fill.Fill.{Fill}
+use Rattle.xlsx_sections.specs.ElementLists.{list_said, end_in_list}
 use Rattle.xlsx_sections.specs.PartSection.{always}
 use Rattle.xlsx_sections.specs.Refusal.{Refusal, lookup_fault}
 use Rattle.xlsx_styles.specs.Borders.{border_of, end_in_border}
 use Rattle.xlsx_styles.specs.Fills.{fill_of}
 use Rattle.xlsx_styles.specs.Fonts.{FontSaid, font_of}
 use Rattle.xlsx_styles.specs.Texts.{truth_or}
-use Rattle.xlsx_formats.specs.Formattings.{PartsSaid, FormattingSaid, formatting_of}
-use Rattle.xlsx_stylesheet.specs.Said.{list_said, end_in_list}
+use Rattle.xlsx_formats.specs.Formattings.{NamedSaid, FormattingSaid, formatting_of}
 
 abbrev pub is_font : Tag → Bool
 is_font tag = is_named (codes "font" ∷ []) tag
@@ -74,9 +74,9 @@ end_in_borders inside = end_in_list is_border (codes "borders") end_in_border in
 abbrev pub is_format : Tag → Bool
 is_format tag = is_named (codes "xf" ∷ []) tag
 
--- each cell format sees the same parts
-abbrev pub formattings_in : PartsSaid → List Event → Result (List FormattingSaid) Refusal
-formattings_in parts inside = list_said is_format (formatting_of parts) inside
+-- each cell format sees the same lists
+abbrev pub formattings_in : NamedSaid → List Event → Result (List FormattingSaid) Refusal
+formattings_in lists inside = list_said is_format (formatting_of lists) inside
 
 abbrev pub end_in_formats : List Event → Option (List ℕ)
 end_in_formats inside = end_in_list is_format (codes "cellXfs") (always (codes "xf")) inside

@@ -17,7 +17,7 @@ use Rattle.xlsx_sections.specs.PartSection.{closed_section_of}
 use Rattle.xlsx_sections.specs.Refusal.{Refusal, in_element}
 use Rattle.xlsx_styles.specs.Fonts.{FontSaid, said_of}
 use Rattle.xlsx_formats.specs.FormatCodes.{WrittenFormat, formats_written, AreCodes}
-use Rattle.xlsx_formats.specs.Formattings.{PartsSaid, StyleSaid, FormattingSaid, formatting_said}
+use Rattle.xlsx_formats.specs.Formattings.{NamedSaid, StyleSaid, FormattingSaid, formatting_said}
 use Rattle.xlsx_stylesheet.specs.Lists.{fonts_in, fills_in, borders_in, formattings_in}
 use Rattle.xlsx_stylesheet.specs.Lists.{end_in_fonts, end_in_fills, end_in_borders, end_in_formats}
 use Rattle.xlsx_stylesheet.specs.declared.style_lists.StyleList.{StyleList}
@@ -27,12 +27,12 @@ use Rattle.xlsx_stylesheet.specs.declared.style_lists.StyleLists.{StyleLists}
 -- the lists of a section of styles, as far as they were read: what a cell format can name, and the
 -- cell formats
 pub record ListsSaid : Type 0 where
-  pub parts : PartsSaid
+  pub named : NamedSaid
   pub formattings : List FormattingSaid
 
 abbrev pub no_lists : ListsSaid
 no_lists = record {
-  parts = record { formats = []; fonts = []; fills = []; borders = [] };
+  named = record { formats = []; fonts = []; fills = []; borders = [] };
   formattings = [];
 }
 
@@ -46,50 +46,50 @@ list_named name =
 
 abbrev pub with_formats : ListsSaid → List WrittenFormat → ListsSaid
 with_formats lists formats = record {
-  parts = record {
+  named = record {
     formats = formats;
-    fonts = lists.parts.fonts;
-    fills = lists.parts.fills;
-    borders = lists.parts.borders;
+    fonts = lists.named.fonts;
+    fills = lists.named.fills;
+    borders = lists.named.borders;
   };
   formattings = lists.formattings;
 }
 
 abbrev pub with_fonts : ListsSaid → List FontSaid → ListsSaid
 with_fonts lists fonts = record {
-  parts = record {
-    formats = lists.parts.formats;
+  named = record {
+    formats = lists.named.formats;
     fonts = fonts;
-    fills = lists.parts.fills;
-    borders = lists.parts.borders;
+    fills = lists.named.fills;
+    borders = lists.named.borders;
   };
   formattings = lists.formattings;
 }
 
 abbrev pub with_fills : ListsSaid → List Fill → ListsSaid
 with_fills lists fills = record {
-  parts = record {
-    formats = lists.parts.formats;
-    fonts = lists.parts.fonts;
+  named = record {
+    formats = lists.named.formats;
+    fonts = lists.named.fonts;
     fills = fills;
-    borders = lists.parts.borders;
+    borders = lists.named.borders;
   };
   formattings = lists.formattings;
 }
 
 abbrev pub with_borders : ListsSaid → List Borders → ListsSaid
 with_borders lists borders = record {
-  parts = record {
-    formats = lists.parts.formats;
-    fonts = lists.parts.fonts;
-    fills = lists.parts.fills;
+  named = record {
+    formats = lists.named.formats;
+    fonts = lists.named.fonts;
+    fills = lists.named.fills;
     borders = borders;
   };
   formattings = lists.formattings;
 }
 
 abbrev pub with_formattings : ListsSaid → List FormattingSaid → ListsSaid
-with_formattings lists formattings = record { parts = lists.parts; formattings = formattings }
+with_formattings lists formattings = record { named = lists.named; formattings = formattings }
 
 abbrev pub with_list : {A : Type 0} → (List A → ListsSaid) → Result (List A) Refusal
     → Result ListsSaid Refusal
@@ -100,16 +100,16 @@ with_list place (Err refusal) = Err refusal
 abbrev pub list_read :
     List Color → StyleList → ListsSaid → List Event → Result ListsSaid Refusal
 list_read theme list.NumberFormats lists inside =
-    with_list (with_formats lists) (prepended lists.parts.formats (formats_written inside))
+    with_list (with_formats lists) (prepended lists.named.formats (formats_written inside))
 list_read theme list.Fonts lists inside =
-    with_list (with_fonts lists) (prepended lists.parts.fonts (fonts_in theme inside))
+    with_list (with_fonts lists) (prepended lists.named.fonts (fonts_in theme inside))
 list_read theme list.Fills lists inside =
-    with_list (with_fills lists) (prepended lists.parts.fills (fills_in theme inside))
+    with_list (with_fills lists) (prepended lists.named.fills (fills_in theme inside))
 list_read theme list.Borders lists inside =
-    with_list (with_borders lists) (prepended lists.parts.borders (borders_in theme inside))
+    with_list (with_borders lists) (prepended lists.named.borders (borders_in theme inside))
 list_read theme list.Formats lists inside =
     with_list (with_formattings lists)
-    (prepended lists.formattings (formattings_in lists.parts inside))
+    (prepended lists.formattings (formattings_in lists.named inside))
 
 abbrev pub list_of : Tag → StyleList
 list_of tag = list_named (local_name_of tag.name)
@@ -153,7 +153,7 @@ end_in_styles inside = end_among is_style_list (codes "styleSheet") list_element
 -- what was read, with these number formats
 abbrev pub lists_said : List WrittenFormat → StyleLists → ListsSaid
 lists_said formats lists = record {
-  parts = record {
+  named = record {
     formats = formats;
     fonts = map said_of lists.fonts.items;
     fills = lists.fills.items;

@@ -13,7 +13,7 @@ ghost use Rattle.xlsx_styles.specs.Borders.{end_in_border};
 ghost use Rattle.xlsx_styles.specs.Errors.{IsBorderError};
 ghost use Rattle.xlsx_styles.specs.Fonts.{said_of};
 ghost use Rattle.xlsx_formats.specs.FormatCodes.{WrittenFormat, AreCodes};
-ghost use Rattle.xlsx_formats.specs.Formattings.{formatting_said, parts_said};
+ghost use Rattle.xlsx_formats.specs.Formattings.{formatting_said, named_said};
 ghost use Rattle.xlsx_stylesheet.specs.Lists.{formattings_in, end_in_formats, fonts_in};
 ghost use Rattle.xlsx_stylesheet.specs.Lists.{end_in_fonts, fills_in, end_in_fills, diagonal_keys};
 ghost use Rattle.xlsx_stylesheet.specs.Lists.{diagonals_of, border_said, borders_in};
@@ -25,7 +25,7 @@ use cell_data::XlsxError;
 use cell_styles::{Borders, Color, Fill, Font};
 use part_events::{Cursor, Package, StartTag};
 use std::alloc::Global;
-use xlsx_formats::{Formatting, StyleParts, read_format};
+use xlsx_formats::{Formatting, NamedLists, read_format};
 use xlsx_sections::{next_element_in, start_tag};
 use xlsx_styles::{read_border, read_fill, read_font, truth_or};
 
@@ -195,7 +195,7 @@ pub fn read_formats<P: Package>(
     alloc: Global,
     package: &mut P,
     cursor: &mut Cursor,
-    parts: &StyleParts<'_>,
+    lists: &NamedLists<'_>,
     formattings: &mut Vec<Formatting>,
 ) -> Result<(), XlsxError>
     requires reading { IsReading (reading (P.state «package».old) cursor.old) }
@@ -211,21 +211,21 @@ pub fn read_formats<P: Package>(
     ensures formattings { let old = reading (P.state «package».old) cursor.old in
         let inside = content 0 (ahead old) in
         old.source.is_told ≡ true → OnOk result ((formats : List WrittenFormat) →
-        AreCodes formats parts.now.codes.now →
+        AreCodes formats lists.now.codes.now →
         prepended (map formatting_said formattings.old.items)
-        (formattings_in (parts_said formats parts.now) inside)
+        (formattings_in (named_said formats lists.now) inside)
         ≡ Ok (map formatting_said formattings.new.items)) }
     ensures err { let old = reading (P.state «package».old) cursor.old in
         let new = reading (P.state «package».new) cursor.new in
         IfErr result (λ error. (formats : List WrittenFormat) →
-        AreCodes formats parts.now.codes.now →
-        ElementReadFails end_in_formats (formattings_in (parts_said formats parts.now))
+        AreCodes formats lists.now.codes.now →
+        ElementReadFails end_in_formats (formattings_in (named_said formats lists.now))
         old new error) }
     ensures kind { IfErr result AreStylesError }
 {
     let base = cursor.depth();
     'formats: while let Some(_at) = next_element_in(package, cursor, base, &["xf"], "cellXfs")? {
-        formattings.push(read_format(alloc, package, cursor, parts)?)?;
+        formattings.push(read_format(alloc, package, cursor, lists)?)?;
     }
     Ok(())
 }

@@ -20,7 +20,7 @@ use cell_data::XlsxError;
 use cell_styles::{Borders, Color, Fill, Font};
 use part_events::{Cursor, Package, StartTag};
 use std::alloc::Global;
-use xlsx_formats::{FormatCodes, Formatting, StyleParts, read_number_formats};
+use xlsx_formats::{FormatCodes, Formatting, NamedLists, read_number_formats};
 use xlsx_sections::{next_element_in, start_tag};
 
 /// A list of the section of styles, by the name of its element.
@@ -102,13 +102,13 @@ fn read_list<P: Package>(
         StyleList::Fills => read_fills(package, cursor, theme_colors, &mut lists.fills),
         StyleList::Borders => read_borders(package, cursor, theme_colors, &mut lists.borders),
         StyleList::Formats => {
-            let parts = StyleParts {
+            let named = NamedLists {
                 codes: &lists.codes,
                 fonts: lists.fonts.as_slice(),
                 fills: lists.fills.as_slice(),
                 borders: lists.borders.as_slice(),
             };
-            read_formats(alloc, package, cursor, &parts, &mut lists.formattings)
+            read_formats(alloc, package, cursor, &named, &mut lists.formattings)
         }
     }
 }

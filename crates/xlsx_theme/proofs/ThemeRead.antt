@@ -27,20 +27,19 @@ scheme_found old found is first told here =
     ∙ here)
 
 -- the theme of a scheme by its slots
-pub scheme_says : {slots : List Color} {own : Option (List Color)} {theme : ThemeColors} (base : ℕ)
-    (old mid : Reading) → base ≡ length mid.names
+pub scheme_says : {slots : List Color} {theme : ThemeColors} (base : ℕ) (old mid : Reading)
+    → base ≡ length mid.names
     → section_in (codes "clrScheme") (events_of old)
     ≡ Some (section_from (events_of old) (ahead mid))
     → is_closed_ahead base mid ≡ true → slot_colors (section_ahead base mid) ≡ Ok slots
-    → own ≡ numbered_colors slots → IsThemeOf own theme → SaysTheme (events_of old) theme
-scheme_says {theme = theme} base old mid whole_it there closed says same is =
+    → IsThemeOf (numbered_colors slots) theme → SaysTheme (events_of old) theme
+scheme_says {theme = theme} base old mid whole_it there closed says is =
     let none : inside base mid ≡ 0 = omega (arith, whole_it) in
     rw there (
       sym (ap (λ (n : ℕ). is_closed n (ahead mid)) none) ∙ closed,
       subst (λ (answer : Result (Option (List Color)) Refusal).
           IsOkAnd answer (λ own. IsThemeOf own theme))
           (sym (ap (λ (n : ℕ). scheme_colors (content n (ahead mid))) (sym none)
-          ∙ ap all_numbered says ∙ ap (λ (own : Option (List Color)). let answer
-          : Result (Option (List Color)) Refusal = Ok own in answer) (sym same)))
+          ∙ ap all_numbered says))
           is,
     )

@@ -5,14 +5,15 @@ use Rattle.std.specs.Option.{option_or}
 use Rattle.attr_text.specs.Attributes.{lookup}
 use Rattle.attr_text.specs.declared.fault.AttrFault.{AttrFault}
 use Rattle.part_events.specs.Event.{Tag, Event}
-use Rattle.part_events.specs.Section.{PlacedTag, Element, starts_by, outermost, is_named}
+use Rattle.part_events.specs.Section.{PlacedTag, starts_by, is_named}
 use Rattle.part_events.specs.declared.fault.XmlFault.TheVariants.{EndMismatch, Unclosed}
 use Rattle.cell_data.specs.declared.error.XlsxError.{XlsxError}
 use Rattle.cell_data.specs.declared.error.XlsxError.TheVariants.{OutOfMemory, Io, Xml, XmlAttr}
 use Rattle.cell_styles.specs.declared.color.Color.{Color}
-use Rattle.xlsx_sections.specs.Answers.{all_answers, with_two}
-use Rattle.xlsx_sections.specs.Refusal.{Refusal, in_element}
+use Rattle.xlsx_sections.specs.Answers.{with_two}
 use Rattle.xlsx_sections.specs.Changes.{or_fault}
+use Rattle.xlsx_sections.specs.ElementLists.{list_said}
+use Rattle.xlsx_sections.specs.Refusal.{Refusal}
 use Rattle.xlsx_styles.specs.Colors.{black, hex_color}
 
 -- an element that stands for one color of the scheme
@@ -67,12 +68,12 @@ or_black (Err refusal) = Err refusal
 abbrev pub slot_color : List Event → Result Color Refusal
 slot_color inside = or_black (first_answer model_answer (starts_by is_color_model inside))
 
-abbrev pub slot_answer : Element → Result Color Refusal
-slot_answer element = in_element element (slot_color element.inside)
+abbrev pub slot_said : Tag → List Event → Result Color Refusal
+slot_said tag inside = slot_color inside
 
 -- the colors of the outermost slots of a scheme, in order, by what stands in it
 abbrev pub slot_colors : List Event → Result (List Color) Refusal
-slot_colors inside = all_answers slot_answer (outermost is_slot inside)
+slot_colors inside = list_said is_slot slot_said inside
 
 -- The colors by the numbers of an attribute `theme` (section 18.8.3), of four slots or more: light
 -- 1 and light 2 are numbered before dark 1 and dark 2, which stand before them in the scheme.

@@ -1,9 +1,10 @@
 -- The colors of a workbook's theme, by the events of its part.
-use Rattle.std.specs.Prelude.{◌≡◌, ⊤, ℕ, List, Bool, true, codes, Option, None, Result, Ok}
-use Rattle.std.specs.Prelude.{Err, unwrap_or, is_none, option_and_then, MatchOption, IsOkAnd}
+use Rattle.std.specs.Prelude.{◌≡◌, ◌≤◌, ⊤, ℕ, List, length, Bool, true, false, codes, Option, None}
+use Rattle.std.specs.Prelude.{Result, Ok, Err, unwrap_or, is_none, option_and_then, MatchOption}
+use Rattle.std.specs.Prelude.{IsOkAnd}
 use Rattle.part_events.specs.Event.{Event}
 use Rattle.part_events.specs.Nesting.{whole}
-use Rattle.part_events.specs.Package.{Part, PackageState, HasCause, part_of}
+use Rattle.part_events.specs.Package.{Part, HasCause, part_of}
 use Rattle.part_events.specs.Reading.{Reading, events_of}
 use Rattle.cell_data.specs.declared.error.XlsxError.{XlsxError}
 use Rattle.cell_data.specs.declared.error.XlsxError.TheVariants.{OutOfMemory, Io}
@@ -46,6 +47,12 @@ pub record IsThemeOf (own : Option (List Color)) (theme : ThemeColors) : Type 0 
   pub colors : theme.colors.items ≡ unwrap_or own default_theme
   pub defaulted : theme.defaulted ≡ is_none own
 
+-- whatever the package tells: what is called the default theme is that one, and other colors are
+-- those of four slots or more
+pub record IsTheme (theme : ThemeColors) : Type 0 where
+  pub default : theme.defaulted ≡ true → theme.colors.items ≡ default_theme
+  pub own : theme.defaulted ≡ false → 4 ≤ length theme.colors.items
+
 -- these are the colors of the theme whose part is at this path
 pub record HasTheme (parts : List Part) (path : List ℕ) (theme : ThemeColors) : Type 0 where
   pub colors : theme.colors.items ≡ theme_colors parts path
@@ -71,9 +78,3 @@ abbrev pub ReadThemeFails : Reading → Reading → XlsxError → Type 0
 ReadThemeFails old new Io = HasCause old.source new.source
 ReadThemeFails old new OutOfMemory = ⊤
 ReadThemeFails old new error = old.source.is_told ≡ true → ThemeCause (events_of old) error
-
--- when a workbook's theme can't be had, for which the default theme may stand
-abbrev pub ThemeFails : PackageState → PackageState → XlsxError → Type 0
-ThemeFails old new Io = HasCause old new
-ThemeFails old new OutOfMemory = ⊤
-ThemeFails old new _ = ⊥

@@ -1,5 +1,5 @@
 ghost use Rattle.std.specs.Prelude.{◌≡◌, ◌≤◌, length, true, None, Ok, IfOk, OnOk, IfErr};
-ghost use Rattle.std.specs.Prelude.{option_map};
+ghost use Rattle.std.specs.Prelude.{option_map, IfSome};
 ghost use Rattle.part_events.specs.Reading.{reading, open_elements, IsReading, ReadsPart};
 ghost use Rattle.part_events.specs.Walk.{section_ahead, is_closed_ahead};
 ghost use Rattle.cell_data.specs.declared.error.XlsxError.TheVariants.{Io};
@@ -85,7 +85,8 @@ pub(crate) fn read_slots<P: Package>(
 /// The colors of slots by the numbers of an attribute `theme`: the first two change places, and so
 /// do the next two. None of fewer than four.
 pub(crate) fn numbered(slots: Vec<Color>) -> Option<Vec<Color>>
-    ensures { option_map (λ colors. colors.items) result ≡ numbered_colors slots.items }
+    ensures colors { option_map (λ colors. colors.items) result ≡ numbered_colors slots.items }
+    ensures length { IfSome result (λ colors. 4 ≤ length colors.items) }
 {
     let mut colors = slots;
     if colors.len() < 4 {

@@ -1,11 +1,12 @@
-ghost use Rattle.std.specs.Prelude.{◌≡◌, None, true, IfOk, IfErr, option_map};
+ghost use Rattle.std.specs.Prelude.{◌≡◌, None, true, IfOk, IfErr};
 ghost use Rattle.part_events.specs.Package.{Uses, event_count};
 ghost use Rattle.part_events.specs.Reader.{reading_by, SamePackage};
 ghost use Rattle.part_events.specs.Reading.{reading, IsReading, ReadsPart, events_of};
 ghost use Rattle.cell_data.specs.declared.error.XlsxError.TheVariants.{Io};
-ghost use Rattle.xlsx_theme.specs.ColorScheme.{IsSchemeError};
-ghost use Rattle.xlsx_theme.specs.ThemePart.{IsThemeOf, HasTheme, SaysTheme, ReadThemeFails};
-ghost use Rattle.xlsx_theme.specs.ThemePart.{ThemeFails};
+ghost use Rattle.xlsx_sections.specs.PartSection.{SoundFails};
+ghost use Rattle.xlsx_theme.specs.ColorScheme.{numbered_colors, IsSchemeError};
+ghost use Rattle.xlsx_theme.specs.ThemePart.{IsThemeOf, IsTheme, HasTheme, SaysTheme};
+ghost use Rattle.xlsx_theme.specs.ThemePart.{ReadThemeFails};
 
 use crate::color_scheme::{numbered, read_slots};
 use cell_data::XlsxError;
@@ -23,7 +24,8 @@ pub struct ThemeColors {
 }
 
 fn default_theme(alloc: Global) -> Result<ThemeColors, AllocError>
-    ensures { IfOk result (IsThemeOf None) }
+    ensures theme { IfOk result (IsThemeOf None) }
+    ensures form { IfOk result IsTheme }
 {
     Ok(ThemeColors {
         colors: Vec::from_array(alloc, default_theme_colors())?,
@@ -31,11 +33,12 @@ fn default_theme(alloc: Global) -> Result<ThemeColors, AllocError>
     })
 }
 
-/// The theme of a scheme with these colors, or the default one.
-fn theme_of(alloc: Global, own: Option<Vec<Color>>) -> Result<ThemeColors, AllocError>
-    ensures { IfOk result (IsThemeOf (option_map (λ colors. colors.items) own)) }
+/// The theme of a scheme with these slots: their colors by number, or the default theme.
+fn theme_of(alloc: Global, slots: Vec<Color>) -> Result<ThemeColors, AllocError>
+    ensures theme { IfOk result (IsThemeOf (numbered_colors slots.items)) }
+    ensures form { IfOk result IsTheme }
 {
-    match own {
+    match numbered(slots) {
         Some(colors) => Ok(ThemeColors {
             colors,
             defaulted: false,
@@ -57,6 +60,7 @@ fn read_scheme<P: Package>(
         ReadsPart Io result old new }
     ensures theme { let old = reading (P.state «package».old) cursor.old in
         old.source.is_told ≡ true → IfOk result (SaysTheme (events_of old)) }
+    ensures form { IfOk result IsTheme }
     ensures err { let old = reading (P.state «package».old) cursor.old in
         let new = reading (P.state «package».new) cursor.new in
         IfErr result (ReadThemeFails old new) }
@@ -66,7 +70,7 @@ fn read_scheme<P: Package>(
         Step::Found => {
             let base = cursor.depth();
             let slots = read_slots(alloc, package, cursor, base)?;
-            Ok(theme_of(alloc, numbered(slots))?)
+            Ok(theme_of(alloc, slots)?)
         }
         Step::Ended => Ok(default_theme(alloc)?),
         Step::Closed => unreachable!(),
@@ -86,6 +90,7 @@ pub fn read_theme_colors<P: Package>(xml: &mut XlReader<'_, P>) -> Result<ThemeC
     ensures reads { ReadsPart Io result (reading_by P.state xml.old) (reading_by P.state xml.new) }
     ensures theme { let old = reading_by P.state xml.old in
         old.source.is_told ≡ true → IfOk result (SaysTheme (events_of old)) }
+    ensures form { IfOk result IsTheme }
     ensures err { IfErr result (ReadThemeFails (reading_by P.state xml.old)
         (reading_by P.state xml.new)) }
     ensures kind { IfErr result IsSchemeError }
@@ -107,7 +112,8 @@ pub fn read_theme<P: Package>(
         Uses (event_count old.parts path.now) Io result old new }
     ensures theme { let old = P.state «package».old in
         old.is_told ≡ true → IfOk result (HasTheme old.parts path.now) }
-    ensures err { IfErr result (ThemeFails (P.state «package».old) (P.state «package».new)) }
+    ensures form { IfOk result IsTheme }
+    ensures err { IfErr result (SoundFails (P.state «package».old) (P.state «package».new)) }
 {
     if !package.open(path)? {
         return Ok(default_theme(alloc)?);

@@ -6,7 +6,7 @@ use Rattle.part_events.specs.Section.{content}
 use Rattle.xlsx_sections.proofs.SectionsRead.{same_tag}
 use Rattle.xlsx_formats.specs.FormatCodes.{code_kept}
 use Rattle.xlsx_formats.specs.Formattings.{formatting_named, no_settings, formatting_said}
-use Rattle.xlsx_formats.specs.Formattings.{parts_said}
+use Rattle.xlsx_formats.specs.Formattings.{named_said}
 use Rattle.xlsx_formats.proofs.FormattingsRead.{formatting_found, names_fail, settings_fail}
 use Rattle.xlsx_formats.proofs.formatting.read_format.Goals as goal
 
@@ -27,20 +27,20 @@ returns-in_err-alignment-clause-err g c =
     c.read_settings.new.cursor in
     let own = tag_of c.start_tag.result in
     let e = c.in_err-alignment.field-0.0 in
-    let parts = c.args.parts.now in
+    let lists = c.args.lists.now in
     let named = formatting_said c.in_ok-formatting.formatting in
     let p = err_from_is_err_and c.from_residual-in_err-alignment.result
     c.from_residual-in_err-alignment.ensures.1 in
     rw (p.1, p.2) (λ tag said current.
     settings_fail (λ (texts : List (Option (List ℕ))).
-    named ≡ formatting_named (code_kept parts.codes.now) (parts_said [] parts) texts no_settings)
+    named ≡ formatting_named (code_kept lists.codes.now) (named_said [] lists) texts no_settings)
     said tag own old new e (same_tag (current ∙ sym c.start_tag.ensures)) c.requires.reading
     (c.in_ok-formatting.ensures.ok []) c.in_err-alignment.ensures.err)
 
 pub returns-clause-formatting : goal.returns-clause-formatting
 returns-clause-formatting g c = λ told tag formats current are.
     let old = reading (g.P.Package.state c.args.package.now) c.args.cursor.now in
-    formatting_found formats c.args.parts.now tag (tag_of c.start_tag.result)
+    formatting_found formats c.args.lists.now tag (tag_of c.start_tag.result)
     (content 0 (ahead old)) c.in_ok-alignment.field-0
     (formatting_said c.in_ok-formatting.formatting)
     (same_tag (current ∙ sym c.start_tag.ensures)) are (c.in_ok-formatting.ensures.ok formats)

@@ -1,16 +1,17 @@
-use Rattle.std.proofs.Common.{◌≡◌, ℕ, codes, subst, length, Err}
+use Rattle.std.proofs.Common.{◌≡◌, ℕ, codes, subst, length, Err, arith}
 use Rattle.std.proofs.lemmas.Result.{err_from_is_err_and}
 use Rattle.part_events.specs.Event.{tag_of}
 use Rattle.part_events.specs.Reading.{reading}
+use Rattle.part_events.specs.Section.{starts_by}
 use Rattle.part_events.specs.Walk.{section_ahead}
 use Rattle.xlsx_sections.specs.Elements.{IsInsideRefused}
 use Rattle.xlsx_sections.specs.PartSection.{SectionFails, always}
 use Rattle.xlsx_sections.specs.Refusal.{Refusal, placed_at}
 use Rattle.xlsx_sections.proofs.Refused.{event_refused}
 use Rattle.xlsx_sections.proofs.SectionsRead.{start_found}
-use Rattle.xlsx_sections.proofs.StartsRead.{behind_start_found, start_refused}
+use Rattle.xlsx_sections.proofs.StartsRead.{starts_none, behind_start_found, start_refused}
 use Rattle.xlsx_formats.specs.FormatCodes.{written_format, formats_written, is_number_format}
-use Rattle.xlsx_formats.proofs.CodesRead.{codes_further, codes_refused}
+use Rattle.xlsx_formats.proofs.CodesRead.{keeps_no_code, codes_further, codes_refused, codes_left}
 use Rattle.xlsx_formats.proofs.number_formats.read_number_formats.Goals as goal
 
 pub returns-in_err-at-clause-err : goal.returns-in_err-at-clause-err
@@ -26,6 +27,35 @@ returns-in_err-at-clause-err g c =
     c.starts.invariant.own
     (start_refused (codes "numFmts") refused new e c.starts.invariant.keeps
     c.in_err-at.ensures.err))
+
+pub starts-init : goal.starts-init
+starts-init g c =
+    let old = reading (g.P.Package.state c.args.package.now) c.args.cursor.now in
+    let base = c.depth-base.result in
+    record {
+      keeps = starts_none base old c.requires.reading (omega (arith, c.depth-base.ensures));
+      own = c.depth-base.ensures;
+      codes_kept = λ _. keeps_no_code (starts_by is_number_format (section_ahead base old))
+          c.args.kept.now;
+    }
+
+pub returns-in_err-at-clause-front : goal.returns-in_err-at-clause-front
+returns-in_err-at-clause-front g c = λ told.
+    let p = err_from_is_err_and c.from_residual.result c.from_residual.ensures.1 in
+    rw p.1
+    (codes_left {now = c.starts.kept}
+    (reading (g.P.Package.state c.args.package.now) c.args.cursor.now)
+    c.starts.invariant.own (c.starts.invariant.codes_kept told) (λ earlier are. are))
+
+pub returns-in_err-keep_format-clause-front : goal.returns-in_err-keep_format-clause-front
+returns-in_err-keep_format-clause-front g c = λ told.
+    let p = err_from_is_err_and c.from_residual-in_err-keep_format.result
+    c.from_residual-in_err-keep_format.ensures.1 in
+    rw p.1
+    (codes_left {now = c.keep_format.new.kept}
+    (reading (g.P.Package.state c.args.package.now) c.args.cursor.now)
+    c.starts.invariant.own (c.starts.invariant.codes_kept told)
+    c.in_err-keep_format.ensures.unchanged)
 
 pub starts-preserved : goal.starts-preserved
 starts-preserved g c =

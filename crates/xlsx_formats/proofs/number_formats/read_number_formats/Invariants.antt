@@ -3,7 +3,7 @@ use Rattle.part_events.specs.Reading.{reading}
 use Rattle.part_events.specs.Section.{starts_by}
 use Rattle.part_events.specs.Walk.{section_ahead}
 use Rattle.xlsx_sections.specs.Elements.{KeepsStarts}
-use Rattle.xlsx_formats.specs.FormatCodes.{is_number_format, formats_written}
+use Rattle.xlsx_formats.specs.FormatCodes.{is_number_format}
 use Rattle.xlsx_formats.proofs.CodesRead.{KeepsCodes}
 use Rattle.xlsx_formats.proofs.number_formats.read_number_formats.Given as goal
 
@@ -16,7 +16,7 @@ invariant-starts g l =
       own : l.base ≡ length old.names;
       codes_kept :
           old.source.is_told ≡ true →
-          KeepsCodes (formats_written (section_ahead l.base old))
+          KeepsCodes (starts_by is_number_format (section_ahead l.base old))
           (starts_by is_number_format (section_ahead l.base now)) l.fn.kept l.kept;
     }
 

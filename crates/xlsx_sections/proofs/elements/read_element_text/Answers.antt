@@ -1,8 +1,8 @@
-use Rattle.std.proofs.Common.{◌≡◌, refl, ◌∙◌, ap, true, false}
+use Rattle.std.proofs.Common.{[], refl, sym, ◌∙◌, append-nil}
 use Rattle.std.proofs.lemmas.Result.{err_from_is_err_and}
 use Rattle.part_events.proofs.Onward.{whole_at_end}
-use Rattle.part_events.specs.JoinedText.{ReadsText}
-use Rattle.part_events.specs.Reading.{reading}
+use Rattle.part_events.specs.Reading.{reading, ahead}
+use Rattle.part_events.specs.Section.{content}
 use Rattle.xlsx_sections.proofs.ElementsRead.{own_end, skips_element}
 use Rattle.xlsx_sections.proofs.TextsRead.{text_refused}
 use Rattle.xlsx_sections.proofs.elements.read_element_text.Goals as goal
@@ -27,6 +27,16 @@ returns-then-not-branch-clause-err g c = λ told.
       ),
       refl,
     )
+
+pub returns-then-not-branch-clause-front : goal.returns-then-not-branch-clause-front
+returns-then-not-branch-clause-front g c = λ told.
+    let old = reading (g.P.Package.state c.args.package.now) c.args.cursor.now in
+    record {
+      front = content 0 (ahead old);
+      more = [];
+      parts = sym (append-nil (content 0 (ahead old)));
+      text = (c.in_ok-read_text.ensures.text told).text;
+    }
 
 pub returns-clause-skips : goal.returns-clause-skips
 returns-clause-skips g c = λ told.

@@ -4,8 +4,8 @@ use Rattle.std.specs.List.{list_any}
 use Rattle.xlsx_strings.proofs.Texts.{unescaped_plain}
 use Rattle.xlsx_strings.proofs.string_element.push_unescaped.Goals as goal
 
-pub returns-in_ok-push_str-2 : goal.returns-in_ok-push_str-2
-returns-in_ok-push_str-2 c =
+pub returns-in_ok-push_str-2-clause-ok : goal.returns-in_ok-push_str-2-clause-ok
+returns-in_ok-push_str-2-clause-ok c =
     let text = c.args.text.now in
     let none : list_any (λ (b : ℕ). b == 95) text ≡ false =
     ap (list_any (λ (b : ℕ). b == 95)) (sym c.as_bytes.ensures.value)

@@ -2,7 +2,7 @@ use Rattle.std.proofs.Common.{◌≡◌, length, true, string_bytes}
 use Rattle.part_events.specs.Reading.{reading}
 use Rattle.part_events.specs.Walk.{section_ahead}
 use Rattle.xlsx_sections.specs.Elements.{KeepsElements}
-use Rattle.xlsx_strings.specs.Strings.{is_text_or_phonetic, string_of}
+use Rattle.xlsx_strings.specs.Strings.{is_text_or_phonetic, string_of, IsFrontOf}
 use Rattle.xlsx_strings.proofs.StringsRead.{onto}
 use Rattle.xlsx_strings.proofs.string_element.read_string.Given as goal
 
@@ -13,6 +13,7 @@ invariant-pieces g l =
     record {
       keeps : KeepsElements is_text_or_phonetic l.base old now;
       own : l.base ≡ length old.names;
+      front : IsFrontOf (string_bytes l.fn.out) (string_bytes l.out);
       text :
           old.source.is_told ≡ true →
           onto (string_bytes l.out) (string_of (section_ahead l.base now))

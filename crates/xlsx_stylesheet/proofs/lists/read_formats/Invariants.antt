@@ -1,10 +1,10 @@
 use Rattle.std.proofs.Common.{◌≡◌, List, length, map}
 use Rattle.part_events.specs.Reading.{reading}
 use Rattle.xlsx_sections.specs.Elements.{KeepsElements}
+use Rattle.xlsx_sections.proofs.ListsRead.{KeepsList}
 use Rattle.xlsx_formats.specs.FormatCodes.{WrittenFormat, AreCodes}
-use Rattle.xlsx_formats.specs.Formattings.{formatting_of, formatting_said, parts_said}
+use Rattle.xlsx_formats.specs.Formattings.{formatting_of, formatting_said, named_said}
 use Rattle.xlsx_stylesheet.specs.Lists.{is_format}
-use Rattle.xlsx_stylesheet.proofs.ListsRead.{KeepsList}
 use Rattle.xlsx_stylesheet.proofs.lists.read_formats.Given as goal
 
 abbrev pub invariant-formats : goal.invariant-formats
@@ -15,8 +15,8 @@ invariant-formats g l =
       keeps : KeepsElements is_format l.base old now;
       own : l.base ≡ length old.names;
       formattings :
-          (formats : List WrittenFormat) → AreCodes formats l.parts.codes.now →
-          KeepsList is_format (formatting_of (parts_said formats l.parts)) l.base
+          (formats : List WrittenFormat) → AreCodes formats l.lists.codes.now →
+          KeepsList is_format (formatting_of (named_said formats l.lists)) l.base
           (map formatting_said l.fn.formattings.items) (map formatting_said l.formattings.items)
           old now;
     }

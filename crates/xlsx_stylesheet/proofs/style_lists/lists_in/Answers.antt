@@ -1,10 +1,8 @@
 use Rattle.std.proofs.Common.{◌≡◌, true, codes}
 use Rattle.std.proofs.lemmas.Result.{err_from_is_err_and}
-use Rattle.part_events.specs.Event.{Tag}
 use Rattle.part_events.specs.Reading.{reading}
 use Rattle.xlsx_sections.specs.Elements.{IsInsideRefused}
-use Rattle.xlsx_sections.proofs.ElementsRead.{element_found, step_refused}
-use Rattle.xlsx_sections.proofs.SectionsRead.{start_there}
+use Rattle.xlsx_sections.proofs.ElementsRead.{element_there, step_refused}
 use Rattle.xlsx_stylesheet.specs.StyleSheet.{is_style_list, list_element_end, lists_in}
 use Rattle.xlsx_stylesheet.proofs.StyleListsRead.{lists_refused, lists_lengthened}
 use Rattle.xlsx_stylesheet.proofs.style_lists.lists_in.Goals as goal
@@ -24,28 +22,20 @@ returns-in_err-read_list-clause-err g c =
     let new = reading (g.P.Package.state c.next_element_in.new.package)
     c.next_element_in.new.cursor in
     let last = reading (g.P.Package.state c.read_list.new.package) c.read_list.new.cursor in
-    let stands = rw c.in-Some.is at c.in_ok-_at.ensures.stands in
-    let own = start_there new.source.current (λ (tag : Tag). is_style_list tag ≡ true) stands.2 in
-    let found = element_found {tag = own.0} {new = new} is_style_list own.1
-    c.lists.invariant.keeps
-    c.in_ok-_at.ensures.reads stands
-    (λ told. rw c.in-Some.is at (c.in_ok-_at.ensures.found told)) in
+    let next = element_there {new = new} c.in-Some.is c.lists.invariant.keeps
+    c.in_ok-_at.ensures.reads c.in_ok-_at.ensures.stands c.in_ok-_at.ensures.found in
     let p = err_from_is_err_and c.from_residual-in_err-read_list.result
     c.from_residual-in_err-read_list.ensures.1 in
     rw (p.1, p.2)
-    (lists_refused last c.in_err-read_list.field-0.0 c.lists.invariant found
-    (λ formats are. c.in_err-read_list.ensures.err own.0 formats own.1 are))
+    (lists_refused last c.in_err-read_list.field-0.0 c.lists.invariant next.2
+    (λ formats are. c.in_err-read_list.ensures.err next.0 formats next.1 are))
 
 pub lists-preserved : goal.lists-preserved
 lists-preserved g c =
     let new = reading (g.P.Package.state c.next_element_in.new.package)
     c.next_element_in.new.cursor in
-    let stands = rw c.in-Some.is at c.in_ok-_at.ensures.stands in
-    let own = start_there new.source.current (λ (tag : Tag). is_style_list tag ≡ true) stands.2 in
-    let found = element_found {tag = own.0} {new = new} is_style_list own.1
-    c.lists.invariant.keeps
-    c.in_ok-_at.ensures.reads stands
-    (λ told. rw c.in-Some.is at (c.in_ok-_at.ensures.found told)) in
-    lists_lengthened c.lists.invariant found c.in_ok-read_list.ensures.reads
+    let next = element_there {new = new} c.in-Some.is c.lists.invariant.keeps
+    c.in_ok-_at.ensures.reads c.in_ok-_at.ensures.stands c.in_ok-_at.ensures.found in
+    lists_lengthened c.lists.invariant next.2 c.in_ok-read_list.ensures.reads
     c.in_ok-read_list.ensures.depth c.in_ok-read_list.ensures.skips
-    (λ told formats are. c.in_ok-read_list.ensures.lists told own.0 formats own.1 are)
+    (λ told formats are. c.in_ok-read_list.ensures.lists told next.0 formats next.1 are)

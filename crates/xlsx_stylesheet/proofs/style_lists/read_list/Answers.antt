@@ -8,6 +8,7 @@ use Rattle.xlsx_stylesheet.specs.Lists.{fonts_in, fills_in, borders_in, formatti
 use Rattle.xlsx_stylesheet.specs.StyleSheet.{with_list, with_formats, with_fonts, with_fills}
 use Rattle.xlsx_stylesheet.specs.StyleSheet.{with_borders, with_formattings, lists_said}
 use Rattle.xlsx_stylesheet.proofs.StyleListsRead.{list_fails, list_lengthened, list_there, answered}
+use Rattle.xlsx_stylesheet.proofs.StyleListsRead.{arm_refused}
 use Rattle.xlsx_stylesheet.proofs.style_lists.read_list.Goals as goal
 
 pub returns-in-NumberFormats-clause-lists : goal.returns-in-NumberFormats-clause-lists
@@ -32,15 +33,9 @@ returns-in-NumberFormats-clause-err g c =
     let old = reading (g.P.Package.state c.args.package.now) c.args.cursor.now in
     let new = reading (g.P.Package.state c.read_number_formats.new.package)
     c.read_number_formats.new.cursor in
-    MatchResult-weaker c.read_number_formats.result
-    c.read_number_formats.ensures.err
-    (λ _ is. is)
-    (λ error fails tag formats there are.
-    let said = lists_said formats c.args.lists.now in
-    list_fails c.args.theme_colors.now said (with_formats said) formats formats_written
-    tag old new error c.requires.reading
-    (list_there c.in-NumberFormats.is c.list_of.ensures c.start_tag.ensures there)
-    (λ _. refl) fails)
+    arm_refused c.args.theme_colors.now c.args.lists.now with_formats (λ said. said.named.formats)
+    formats_written old new c.read_number_formats.result c.requires.reading c.in-NumberFormats.is
+    c.list_of.ensures c.start_tag.ensures (λ _ _. refl) c.read_number_formats.ensures.err
 
 pub returns-in-Fonts-clause-lists : goal.returns-in-Fonts-clause-lists
 returns-in-Fonts-clause-lists g c = λ told.
@@ -55,15 +50,9 @@ pub returns-in-Fonts-clause-err : goal.returns-in-Fonts-clause-err
 returns-in-Fonts-clause-err g c =
     let old = reading (g.P.Package.state c.args.package.now) c.args.cursor.now in
     let new = reading (g.P.Package.state c.read_fonts.new.package) c.read_fonts.new.cursor in
-    MatchResult-weaker c.read_fonts.result
-    c.read_fonts.ensures.err
-    (λ _ is. is)
-    (λ error fails tag formats there are.
-    let said = lists_said formats c.args.lists.now in
-    list_fails c.args.theme_colors.now said (with_fonts said) said.parts.fonts
-    (fonts_in c.args.theme_colors.now) tag old new error c.requires.reading
-    (list_there c.in-Fonts.is c.list_of.ensures c.start_tag.ensures there)
-    (λ _. refl) fails)
+    arm_refused c.args.theme_colors.now c.args.lists.now with_fonts (λ said. said.named.fonts)
+    (fonts_in c.args.theme_colors.now) old new c.read_fonts.result c.requires.reading c.in-Fonts.is
+    c.list_of.ensures c.start_tag.ensures (λ _ _. refl) c.read_fonts.ensures.err
 
 pub returns-in-Fills-clause-lists : goal.returns-in-Fills-clause-lists
 returns-in-Fills-clause-lists g c = λ told.
@@ -78,15 +67,9 @@ pub returns-in-Fills-clause-err : goal.returns-in-Fills-clause-err
 returns-in-Fills-clause-err g c =
     let old = reading (g.P.Package.state c.args.package.now) c.args.cursor.now in
     let new = reading (g.P.Package.state c.read_fills.new.package) c.read_fills.new.cursor in
-    MatchResult-weaker c.read_fills.result
-    c.read_fills.ensures.err
-    (λ _ is. is)
-    (λ error fails tag formats there are.
-    let said = lists_said formats c.args.lists.now in
-    list_fails c.args.theme_colors.now said (with_fills said) said.parts.fills
-    (fills_in c.args.theme_colors.now) tag old new error c.requires.reading
-    (list_there c.in-Fills.is c.list_of.ensures c.start_tag.ensures there)
-    (λ _. refl) fails)
+    arm_refused c.args.theme_colors.now c.args.lists.now with_fills (λ said. said.named.fills)
+    (fills_in c.args.theme_colors.now) old new c.read_fills.result c.requires.reading c.in-Fills.is
+    c.list_of.ensures c.start_tag.ensures (λ _ _. refl) c.read_fills.ensures.err
 
 pub returns-in-Borders-clause-lists : goal.returns-in-Borders-clause-lists
 returns-in-Borders-clause-lists g c = λ told.
@@ -101,15 +84,9 @@ pub returns-in-Borders-clause-err : goal.returns-in-Borders-clause-err
 returns-in-Borders-clause-err g c =
     let old = reading (g.P.Package.state c.args.package.now) c.args.cursor.now in
     let new = reading (g.P.Package.state c.read_borders.new.package) c.read_borders.new.cursor in
-    MatchResult-weaker c.read_borders.result
-    c.read_borders.ensures.err
-    (λ _ is. is)
-    (λ error fails tag formats there are.
-    let said = lists_said formats c.args.lists.now in
-    list_fails c.args.theme_colors.now said (with_borders said) said.parts.borders
-    (borders_in c.args.theme_colors.now) tag old new error c.requires.reading
-    (list_there c.in-Borders.is c.list_of.ensures c.start_tag.ensures there)
-    (λ _. refl) fails)
+    arm_refused c.args.theme_colors.now c.args.lists.now with_borders (λ said. said.named.borders)
+    (borders_in c.args.theme_colors.now) old new c.read_borders.result c.requires.reading c.in-Borders.is
+    c.list_of.ensures c.start_tag.ensures (λ _ _. refl) c.read_borders.ensures.err
 
 pub returns-in-Formats-clause-lists : goal.returns-in-Formats-clause-lists
 returns-in-Formats-clause-lists g c = λ told.
@@ -138,6 +115,6 @@ returns-in-Formats-clause-err g c =
     (λ error fails tag formats there are.
     let said = lists_said formats c.args.lists.now in
     list_fails c.args.theme_colors.now said (with_formattings said) said.formattings
-    (formattings_in said.parts) tag old new error c.requires.reading
+    (formattings_in said.named) tag old new error c.requires.reading
     (list_there c.in-Formats.is c.list_of.ensures c.start_tag.ensures there) (λ _. refl)
     (fails formats are))

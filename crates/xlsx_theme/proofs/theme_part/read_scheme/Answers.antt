@@ -20,8 +20,7 @@ returns-in_ok-theme_of-in-Found-clause-theme g c = λ told.
     scheme_says c.depth-base.result old mid c.depth-base.ensures
     (scheme_found old (Some (ahead mid)) c.requires.reading c.requires.first told next.2.first)
     (c.in_ok-slots-in-Found.ensures.closed still)
-    (c.in_ok-slots-in-Found.ensures.colors still) c.numbered.ensures
-    c.in_ok-theme_of-in-Found.ensures
+    (c.in_ok-slots-in-Found.ensures.colors still) c.in_ok-theme_of-in-Found.ensures.theme
 
 pub returns-in_ok-default_theme-in-Ended-clause-theme :
     goal.returns-in_ok-default_theme-in-Ended-clause-theme
@@ -30,5 +29,5 @@ returns-in_ok-default_theme-in-Ended-clause-theme g c = λ told.
     let ends = rw c.in-Ended.is at (c.in_ok-next_start.ensures.found told) in
     rw (scheme_found old None c.requires.reading c.requires.first told ends.first) (
       whole_at_end c.in_ok-next_start.ensures.reads ends.at_end told,
-      c.in_ok-default_theme-in-Ended.ensures,
+      c.in_ok-default_theme-in-Ended.ensures.theme,
     )

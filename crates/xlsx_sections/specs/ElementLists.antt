@@ -1,4 +1,4 @@
--- What the elements of a list say.
+-- What the elements of a list say, and how the end of its part is told.
 use Rattle.std.specs.Prelude.{ℕ, List, Bool, Option, Result}
 use Rattle.part_events.specs.Event.{Tag, Event}
 use Rattle.part_events.specs.Section.{Element, outermost}
