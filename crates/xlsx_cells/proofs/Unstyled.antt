@@ -17,6 +17,7 @@ use Rattle.xlsx_sections.proofs.Kept.{prepended-nil}
 use Rattle.xlsx_sections.proofs.Refused.{refused_later}
 use Rattle.xlsx_values.specs.Value.{Grounds}
 use Rattle.xlsx_formulas.specs.Formula.{FormulaText, behind_formulas}
+use Rattle.xlsx_formulas.proofs.Groups.{formulas_kept}
 use Rattle.xlsx_cells.specs.CellsReader.{styles_alone}
 use Rattle.xlsx_cells.specs.Ends.{end_in_cell, end_in_data}
 use Rattle.xlsx_cells.specs.Finding.{BehindRow, IsTakenRefused, IsStepRefused}
@@ -288,11 +289,12 @@ styled_refused count grounds old mid new error same keeps skipped fails =
     error = subst (λ (n : ℕ). SectionFails (end_in_data styles_alone) refused n mid.reading
     new.reading error) same fails in
     refused_later old.base old.reading mid.reading (end_in_data styles_alone) refused
-    (IsStyledStepRefused count old) new.reading error keeps.section
+    (IsStyledStepRefused count old.counters) new.reading error keeps.section
     (λ told. ap (end_outside (codes "sheetData") (end_in_cell styles_alone))
     (keeps.unclosed told))
-    (λ told refusal is before earlier stands.
-    let been = skipped told before earlier stands in
+    (λ told refusal is before kept.
+    let some = formulas_kept old.masters in
+    let been = skipped told before some.0 (record { counters = kept; masters = some.1 }) in
     let step : IsPassedRefused count (behind_marks been.passed before) (marks_ahead mid) refusal =
     taken_refused count grounds (behind_marks been.passed before) (marks_ahead mid) refusal
     (rw same (is (behind_marks been.passed before) been.stands.counters)) in

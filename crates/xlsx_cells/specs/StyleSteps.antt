@@ -10,6 +10,7 @@ use Rattle.xlsx_sections.specs.PartSection.{PartSection, SectionFails, inside_of
 use Rattle.xlsx_sections.specs.Refusal.{Refusal}
 use Rattle.xlsx_formulas.specs.Formula.{FormulaText}
 use Rattle.xlsx_cells.specs.CellsReader.{Flow, PassesCell, styles_alone}
+use Rattle.xlsx_cells.specs.Counting.{AreKept}
 use Rattle.xlsx_cells.specs.Ends.{end_in_data}
 use Rattle.xlsx_cells.specs.CellErrors.{IsStyledError}
 use Rattle.xlsx_cells.specs.Finding.{BehindRow}
@@ -19,6 +20,7 @@ use Rattle.xlsx_cells.specs.Sheet.{answers_from}
 use Rattle.xlsx_cells.specs.Stream.{Stream, StandsBehind, StandsBehindCell, marks_ahead}
 use Rattle.xlsx_cells.specs.Stream.{are_closed_ahead}
 use Rattle.xlsx_cells.specs.StyleIds.{placed_id, IsIdRefused}
+use Rattle.xlsx_cells.specs.declared.counters.Counters.{Counters}
 
 -- marks were passed, none of which is refused, and no cell among them has an id that counts
 pub record PassesUnstyled (count : ℕ) (before passed : List Mark) : Type 0 where
@@ -73,16 +75,16 @@ IsPassedRefused count before (cell element ∷ marks) refusal =
     ⊎ (IsUnstyled count before element
     × IsPassedRefused count (cell element ∷ before) marks refusal)
 
-abbrev pub IsStyledStepRefused : ℕ → Stream → PartSection → Refusal → Type 0
-IsStyledStepRefused count old section refusal =
-    (before : List Mark) (earlier : List FormulaText) → StandsBehind before earlier old →
+abbrev pub IsStyledStepRefused : ℕ → Counters → PartSection → Refusal → Type 0
+IsStyledStepRefused count counters section refusal =
+    (before : List Mark) → AreKept before counters →
     IsPassedRefused count before (marks (inside_of section)) refusal
 
 -- when such a step is refused
 abbrev pub StyledStepFails : ℕ → Stream → Stream → XlsxError → Type 0
 StyledStepFails count old new error =
-    SectionFails (end_in_data styles_alone) (IsStyledStepRefused count old) old.base old.reading
-    new.reading error
+    SectionFails (end_in_data styles_alone) (IsStyledStepRefused count old.counters) old.base
+    old.reading new.reading error
 
 -- ---- the same of a stream
 

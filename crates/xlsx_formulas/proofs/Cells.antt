@@ -1,8 +1,8 @@
 -- How the formula of a cell goes on with the children that are read.
-use Rattle.std.proofs.Common.{◌≡◌, ℕ, List, [], ◌∷◌, ◌++◌, true, false, Option, Some, None}
-use Rattle.std.proofs.Common.{Result, Ok, Err, refl, sym, ◌∙◌, ap, subst, codes, append-nil}
-use Rattle.part_events.specs.Section.{Element, is_named}
-use Rattle.xlsx_sections.specs.Answers.{and_others_if, some_answers, prepended}
+use Rattle.std.proofs.Common.{◌≡◌, ℕ, List, [], ◌∷◌, ◌++◌, Some, None}
+use Rattle.std.proofs.Common.{Result, Ok, Err, refl, sym, ◌∙◌, subst}
+use Rattle.part_events.specs.Section.{Element}
+use Rattle.xlsx_sections.specs.Answers.{some_answers, prepended}
 use Rattle.xlsx_sections.specs.Refusal.{Refusal}
 use Rattle.xlsx_sections.proofs.Kept.{prepended-nil, some_taken, some_passed, some_refused}
 use Rattle.xlsx_sections.proofs.Kept.{all_taken}
