@@ -6,4 +6,4 @@ mod string_element;
 mod trim;
 
 pub use shared::read_shared_strings;
-pub use string_element::read_string;
+pub use string_element::{read_string, unescaped};

@@ -1,5 +1,5 @@
 ghost use Rattle.std.specs.Prelude.{◌≡◌, ◌==◌, ◌++◌, List, ℕ, suc, codes, length, true, Ok};
-ghost use Rattle.std.specs.Prelude.{string_bytes, OnOk, OnErr, IfErr};
+ghost use Rattle.std.specs.Prelude.{string_bytes, IfOk, OnOk, OnErr, IfErr};
 ghost use Rattle.std.specs.List.{list_any};
 ghost use Rattle.attr_text.specs.Text.{unescaped};
 ghost use Rattle.part_events.specs.Event.{Tag, start, tag_of};
@@ -48,6 +48,18 @@ fn push_unescaped(alloc: Global, out: &mut String, text: &str) -> Result<(), All
         out.push_str(text)?;
     }
     Ok(())
+}
+
+/// The text, each `_xHHHH_` of it replaced by the character of its number. A text without an
+/// underscore is answered as it is.
+pub fn unescaped(alloc: Global, text: String) -> Result<String, AllocError>
+    ensures { IfOk result (λ own. string_bytes own ≡ unescaped (string_bytes text)) }
+{
+    if has_underscore(text.as_bytes()) {
+        unescape_hex(alloc, text.as_str())
+    } else {
+        Ok(text)
+    }
 }
 
 /// Appends what is written in a text, without the blanks at its ends where they aren't kept, and

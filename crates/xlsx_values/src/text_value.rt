@@ -11,13 +11,13 @@ ghost use Rattle.xlsx_values.specs.Value.{of_first, first_text};
 
 use crate::book::Book;
 use crate::types::CellType;
-use attr_text::unescape_hex;
 use cell_data::{
     CellErrorType, CellFormat, DataRef, Decimal, ExcelDateTime, ExcelDateTimeType, XlsxError,
 };
 use part_events::PartEvent;
 use std::alloc::Global;
 use xlsx_sections::number_text;
+use xlsx_strings::unescaped;
 
 /// The value of the text of a shared string, which is its place, counted from 0.
 fn shared_value(strings: &[String], text: &str) -> Result<DataRef, XlsxError>
@@ -199,7 +199,7 @@ pub(crate) fn value_of_joined(
     ensures kind { IfErr result IsTextValueError }
 {
     match typ {
-        CellType::Text => Ok(DataRef::String(unescape_hex(alloc, text.as_str())?)),
+        CellType::Text => Ok(DataRef::String(unescaped(alloc, text)?)),
         CellType::Date => Ok(DataRef::DateTimeIso(text)),
         CellType::Unknown(own) => Err(XlsxError::CellTAttribute(String::from_str(
             alloc,
