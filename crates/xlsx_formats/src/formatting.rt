@@ -27,7 +27,7 @@ use cell_data::{
     CellFormat, XlsxError, builtin_format_by_id, builtin_format_code_by_id,
     detect_custom_number_format,
 };
-use cell_styles::{Border, Borders, Fill, Font, NumberFormat, Style};
+use cell_styles::{Borders, Fill, Font, NumberFormat, Style};
 use part_events::{Cursor, Package, StartTag};
 use std::alloc::{AllocError, Global};
 use xlsx_sections::{number_text, start_tag};
@@ -86,38 +86,6 @@ fn numbered_font(
         Some(font) => Ok(Some(font.clone_in(alloc)?)),
         None => Ok(None),
     }
-}
-
-fn numbered_fill(fills: &[Fill], text: Option<&str>) -> Result<Option<Fill>, AllocError>
-    ensures { IfOk result (λ fill. fill ≡ numbered fills.now (option_copied text.entry)) }
-{
-    match numbered(fills, text) {
-        Some(fill) => Ok(Some(fill.clone()?)),
-        None => Ok(None),
-    }
-}
-
-fn copied_side(side: &Border) -> Border
-    ensures { result ≡ side.now }
-{
-    Border {
-        style: side.style,
-        color: side.color,
-    }
-}
-
-fn numbered_borders(borders: &[Borders], text: Option<&str>) -> Option<Borders>
-    ensures { result ≡ numbered borders.now (option_copied text.entry) }
-{
-    let found = numbered(borders, text)?;
-    Some(Borders {
-        left: copied_side(&found.left),
-        right: copied_side(&found.right),
-        top: copied_side(&found.top),
-        bottom: copied_side(&found.bottom),
-        diagonal_down: copied_side(&found.diagonal_down),
-        diagonal_up: copied_side(&found.diagonal_up),
-    })
 }
 
 /// What the number format of an id makes of a number.
@@ -195,8 +163,8 @@ fn formatting_named(
         format: format_named(lists.codes, id),
         style: Style {
             font: numbered_font(alloc, lists.fonts, font)?,
-            fill: numbered_fill(lists.fills, fill)?,
-            borders: numbered_borders(lists.borders, borders),
+            fill: numbered(lists.fills, fill).copied(),
+            borders: numbered(lists.borders, borders).copied(),
             alignment: None,
             number_format: number_format_named(alloc, lists.codes, id)?,
             protection: None,
