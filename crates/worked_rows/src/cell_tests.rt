@@ -29,7 +29,7 @@ fn assert_cases(rt: &impl Abort, alloc: Global, cases: &[Case]) -> Result<(), Fa
     Ok(())
 }
 
-const POSITIONS: [Case; 19] = [
+const POSITIONS: [Case; 20] = [
     ("no row", "", ""),
     ("a row without cells", r#"<row r="1"/>"#, ""),
     (
@@ -103,6 +103,7 @@ const POSITIONS: [Case; 19] = [
         "(0,0 n:1)(0,1 n:2)",
     ),
     ("row 0", r#"<row r="0"/>"#, "RangeWithoutRowComponent"),
+    ("no letters", r#"<c r="1"/>"#, "RangeWithoutColumnComponent"),
     (
         "a row past the last",
         r#"<row r="1048577"/>"#,
