@@ -15,11 +15,11 @@ use Rattle.std.proofs.lemmas.List.Folds.{list_all-append}
 use Rattle.cell_refs.specs.declared.dimensions.Dimensions.{Dimensions}
 use Rattle.cell_data.specs.declared.cell.Cell.{Cell}
 use Rattle.cell_data.specs.Cells.{cell_entry, placed_cells, IsInSheet}
-use Rattle.cell_data.specs.Positions.{position_cmp, last_of_each, area_with, least_area, is_in_area}
-use Rattle.cell_data.specs.Positions.{is_in_bounds, lie_inside, is_sheet_area, are_sheet_bounds}
-use Rattle.cell_data.specs.Positions.{lie_from}
+use Rattle.cell_refs.specs.Positions.{position_cmp, last_of_each, area_with, least_area, is_in_area}
+use Rattle.cell_refs.specs.Positions.{is_in_bounds, lie_inside, is_sheet_area, are_sheet_bounds}
+use Rattle.cell_refs.specs.Positions.{lie_from}
 use Rattle.cell_data.specs.Range.{start_of}
-use Rattle.cell_data.specs.Positions.{is_rising}
+use Rattle.cell_refs.specs.Positions.{is_rising}
 use Rattle.cell_data.proofs.Placing.{position_total, and_both, to_T, from_T}
 
 both_orders : (a b : Bool) → (a && b) ≡ (b && (a && true))

@@ -6,13 +6,13 @@ use Rattle.std.specs.Ordering.{int_eq}
 use Rattle.std.specs.Prelude.{string_bytes}
 use Rattle.std.specs.Bool.{beq}
 use Rattle.std.proofs.lemmas.Slice.Eq.{bytes_eq-Decides}
-use Rattle.cell_data.specs.contracts.decimal.DecimalPartialEq.TheImpl.{ghosts as decimal_ghosts}
+use Rattle.decimals.specs.contracts.decimal.DecimalPartialEq.TheImpl.{ghosts as decimal_ghosts}
 use Rattle.cell_data.specs.contracts.value.CellErrorTypePartialEq.TheImpl.{ghosts as error_ghosts}
 use Rattle.cell_data.specs.contracts.value.DataPartialEq.TheImpl.{ghosts as data_ghosts}
 use Rattle.cell_data.specs.contracts.value.DataRefPartialEq.TheImpl.{ghosts as ref_ghosts}
 use Rattle.cell_data.specs.contracts.value.ExcelDateTimePartialEq.TheImpl.{ghosts as time_ghosts}
 use Rattle.cell_data.specs.contracts.value.ExcelDateTimeTypePartialEq.TheImpl.{ghosts as of_kinds}
-use Rattle.cell_data.specs.declared.decimal.Decimal.{Decimal}
+use Rattle.decimals.specs.declared.decimal.Decimal.{Decimal}
 use Rattle.cell_data.specs.declared.value.CellErrorType.{CellErrorType}
 use Rattle.cell_data.specs.declared.value.CellErrorType.TheVariants.{Div0, NA, Name, Null, Num}
 use Rattle.cell_data.specs.declared.value.CellErrorType.TheVariants.{Ref, Value, GettingData}
@@ -23,7 +23,7 @@ use Rattle.cell_data.specs.declared.value.Data.{Data}
 use Rattle.cell_data.specs.declared.value.Data.TheVariants as owned
 use Rattle.cell_data.specs.declared.value.DataRef.{DataRef}
 use Rattle.cell_data.specs.declared.value.DataRef.TheVariants as shared
-use Rattle.cell_data.specs.Decimal.{number_of}
+use Rattle.decimals.specs.Decimal.{number_of}
 use Rattle.cell_data.specs.CellValue.{value_of_data, value_of_data_ref, time_value}
 use Rattle.cell_data.specs.CellValue.{integer, number, text, shared_text, truth, time}
 use Rattle.cell_data.specs.CellValue.{iso_time, failure}

@@ -11,7 +11,7 @@ use Rattle.std.specs.Ordering.{ordering_reverse, ordering_index, is_eq, is_lt, e
 use Rattle.std.proofs.lemmas.Bool.{cases_lt}
 use Rattle.cell_data.specs.declared.cell.Cell.{Cell}
 use Rattle.cell_data.specs.Cells.{placed_cells}
-use Rattle.cell_data.specs.Positions.{position_cmp, is_rising}
+use Rattle.cell_refs.specs.Positions.{position_cmp, is_rising}
 use Rattle.cell_data.proofs.Placing.{position_total, position_same, and_both, less_from}
 
 reversed_eq : (o : Ordering) → is_eq (ordering_reverse o) ≡ is_eq o

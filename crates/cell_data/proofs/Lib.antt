@@ -1,12 +1,5 @@
 pub mod Areas
-pub mod Digits
 pub mod Equalities
 pub mod Finding
 pub mod Formats
-pub mod OneForm
-pub mod Parsed
 pub mod Placing
-pub mod PowerLemmas
-pub mod Printed
-pub mod ReadsBack
-pub mod Significands

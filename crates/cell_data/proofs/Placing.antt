@@ -19,7 +19,7 @@ use Rattle.std.proofs.lemmas.Cmp.{then_total, on_total, nat_cmp_total}
 use Rattle.std.proofs.lemmas.List.{reverse-append, map-append}
 use Rattle.cell_data.specs.declared.cell.Cell.{Cell}
 use Rattle.cell_data.specs.Cells.{cell_entry, placed_cells}
-use Rattle.cell_data.specs.Positions.{position_cmp, last_of_each, is_rising}
+use Rattle.cell_refs.specs.Positions.{position_cmp, last_of_each, is_rising}
 
 pub position_total : IsTotalOrder position_cmp
 position_total =

@@ -1,6 +1,6 @@
 -- The value of a cell, with each text as its bytes and each number as what it stands for.
 use Rattle.std.specs.Prelude.{ℕ, ℤ, Bool, List, string_bytes}
-use Rattle.cell_data.specs.Decimal.{number_of}
+use Rattle.decimals.specs.Decimal.{number_of}
 use Rattle.cell_data.specs.declared.value.ExcelDateTime.{ExcelDateTime}
 use Rattle.cell_data.specs.declared.value.ExcelDateTimeType.{ExcelDateTimeType}
 use Rattle.cell_data.specs.declared.value.CellErrorType.{CellErrorType}

@@ -1,14 +1,7 @@
-pub mod Canonical
 pub mod CellError
 pub mod CellValue
 pub mod Cells
-pub mod Decimal
-pub mod Decimals
 pub mod NumberFormat
-pub mod Positions
-pub mod Powers
 pub mod Range
 pub mod RangeItems
 pub mod SignOf
-pub mod Significand
-pub mod XlsxError

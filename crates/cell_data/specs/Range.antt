@@ -8,7 +8,7 @@ use Rattle.std.specs.Option.{unwrap_or}
 use Rattle.cell_refs.specs.declared.dimensions.Dimensions.{Dimensions}
 use Rattle.cell_data.specs.declared.range.Range.{Range}
 use Rattle.cell_data.specs.Cells.{placed_cells}
-use Rattle.cell_data.specs.Positions.{position_cmp, is_in_bounds}
+use Rattle.cell_refs.specs.Positions.{position_cmp, is_in_bounds}
 
 abbrev pub cells_of : {X : Type 0} → Range X → List ((ℕ × ℕ) × X)
 cells_of range = placed_cells range.cells.items

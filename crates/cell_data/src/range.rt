@@ -1,7 +1,7 @@
 ghost use Rattle.std.specs.Prelude.{◌≡◌, IsTrue};
 ghost use Rattle.cell_data.specs.Cells.{placed_cells};
-ghost use Rattle.cell_data.specs.Positions.{is_rising, lie_inside, are_sheet_bounds};
-ghost use Rattle.cell_data.specs.Positions.{is_in_area};
+ghost use Rattle.cell_refs.specs.Positions.{is_rising, lie_inside, are_sheet_bounds};
+ghost use Rattle.cell_refs.specs.Positions.{is_in_area};
 
 use crate::cell::Cell;
 use crate::range_iterators::{Cells, Rows, UsedCells};
@@ -40,10 +40,10 @@ impl<T> Range<T> {
     ghost use Rattle.std.specs.Prelude.{◌/◌, ◌%◌, ◌≤◌};
     ghost use Rattle.std.specs.List.{filter};
     ghost use Rattle.cell_data.specs.Range.{start_of};
-    ghost use Rattle.cell_data.specs.Positions.{lie_from};
+    ghost use Rattle.cell_refs.specs.Positions.{lie_from};
     ghost use Rattle.cell_data.specs.Cells.{IsInSheet};
-    ghost use Rattle.cell_data.specs.Positions.{position_cmp, last_of_each, least_area};
-    ghost use Rattle.cell_data.specs.Positions.{is_in_bounds};
+    ghost use Rattle.cell_refs.specs.Positions.{position_cmp, last_of_each, least_area};
+    ghost use Rattle.cell_refs.specs.Positions.{is_in_bounds};
 
     /// The range of these cells: the last of them at each position, in the least area that has them
     /// all. Without a cell the range is empty.

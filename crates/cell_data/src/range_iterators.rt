@@ -1,6 +1,6 @@
 ghost use Rattle.std.specs.Prelude.{◌≡◌, ◌<◌, IsTrue};
 ghost use Rattle.cell_data.specs.Cells.{placed_cells};
-ghost use Rattle.cell_data.specs.Positions.{lie_from};
+ghost use Rattle.cell_refs.specs.Positions.{lie_from};
 ghost use Rattle.cell_data.specs.Range.{bounds_of, height_of};
 
 use crate::cell::Cell;

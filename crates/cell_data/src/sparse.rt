@@ -4,8 +4,8 @@ ghost use Rattle.std.specs.FinMap.{find};
 ghost use Rattle.std.specs.Option.{option_copied};
 ghost use Rattle.std.specs.Ordering.{is_lt};
 ghost use Rattle.cell_data.specs.Cells.{placed_cells};
-ghost use Rattle.cell_data.specs.Positions.{position_cmp, is_rising, last_of_each};
-ghost use Rattle.cell_data.specs.Positions.{area_with, least_area};
+ghost use Rattle.cell_refs.specs.Positions.{position_cmp, is_rising, last_of_each};
+ghost use Rattle.cell_refs.specs.Positions.{area_with, least_area};
 
 use crate::cell::Cell;
 use cell_refs::Dimensions;

@@ -5,8 +5,8 @@ use Rattle.std.proofs.Props.{props}
 use Rattle.std.specs.Bool.{beq}
 use Rattle.std.specs.Prelude.{ℤ, pos}
 use Rattle.std.specs.Ordering.{int_eq}
-use Rattle.cell_data.specs.Canonical.{IsTrimmed}
-use Rattle.cell_data.specs.declared.decimal.Decimal.{Decimal}
+use Rattle.decimals.specs.Canonical.{IsTrimmed}
+use Rattle.decimals.specs.declared.decimal.Decimal.{Decimal}
 use Rattle.std.specs.Option.{option_eq}
 use Rattle.std.specs.Cmp.Lexicographic.{pointwise}
 use Rattle.cell_styles.specs.Equality.{IsEquality}
@@ -18,7 +18,7 @@ use Rattle.cell_styles.specs.declared.border.Borders.{Borders}
 use Rattle.cell_styles.specs.declared.fill.Fill.{Fill}
 use Rattle.cell_styles.specs.declared.protection.Protection.{Protection}
 use Rattle.cell_styles.specs.declared.style.Style.{Style}
-use Rattle.cell_data.specs.contracts.decimal.DecimalPartialEq.TheImpl as size
+use Rattle.decimals.specs.contracts.decimal.DecimalPartialEq.TheImpl as size
 use Rattle.cell_styles.specs.contracts.alignment.AlignmentPartialEq.TheImpl as alignment
 use Rattle.cell_styles.specs.contracts.alignment.HorizontalAlignmentPartialEq.TheImpl as horizontal
 use Rattle.cell_styles.specs.contracts.alignment.TextRotationPartialEq.TheImpl as rotation

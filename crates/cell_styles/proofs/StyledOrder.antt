@@ -11,7 +11,7 @@ use Rattle.std.proofs.lemmas.Bool.Decides.{eqb_tells}
 use Rattle.std.proofs.lemmas.List.Elements.{All-nil, All-cons}
 use Rattle.cell_refs.specs.Dimensions.{cell_count}
 use Rattle.cell_refs.specs.declared.dimensions.Dimensions.{Dimensions}
-use Rattle.cell_data.specs.Positions.{position_cmp, is_rising}
+use Rattle.cell_refs.specs.Positions.{position_cmp, is_rising}
 use Rattle.cell_styles.specs.StyleItems.{styled_along, styled_entry, RiseOnSheet}
 use Rattle.cell_styles.specs.StyleMap.{IsArea, IsOnSheet, position_in, width_in}
 use Rattle.cell_styles.proofs.CellLists.{position_inside}

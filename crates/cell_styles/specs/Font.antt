@@ -1,6 +1,6 @@
 -- A font as contracts see it.
 use Rattle.std.specs.Prelude.{ℕ, List, Bool, Option}
-use Rattle.cell_data.specs.declared.decimal.Decimal.{Decimal}
+use Rattle.decimals.specs.declared.decimal.Decimal.{Decimal}
 use Rattle.cell_styles.specs.declared.color.Color.{Color}
 use Rattle.cell_styles.specs.declared.font.FontWeight.{FontWeight}
 use Rattle.cell_styles.specs.declared.font.FontStyle.{FontStyle}

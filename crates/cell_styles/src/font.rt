@@ -1,7 +1,7 @@
 ghost use Rattle.std.specs.Prelude.{◌≡◌, ◌≢◌, ◌↔◌, IsTrue, IfOk};
 
 use crate::Color;
-use cell_data::Decimal;
+use decimals::Decimal;
 use std::alloc::{AllocError, Global};
 use std::marker::Model;
 
@@ -123,7 +123,7 @@ impl PartialEq for Font {
     ghost use Rattle.std.specs.Option.{option_eq};
     ghost use Rattle.std.specs.Cmp.Rules.{comparing};
     ghost use Rattle.std.proofs.Common.{rules};
-    ghost use Rattle.cell_data.specs.contracts.decimal.DecimalEq.TheImpl.Laws as size;
+    ghost use Rattle.decimals.specs.contracts.decimal.DecimalEq.TheImpl.Laws as size;
     ghost use Rattle.cell_styles.specs.contracts.color.ColorEq.TheImpl.Laws as color;
     ghost use Rattle.cell_styles.specs.contracts.font.FontWeightEq.TheImpl.Laws as weight;
     ghost use Rattle.cell_styles.specs.contracts.font.FontStyleEq.TheImpl.Laws as style;

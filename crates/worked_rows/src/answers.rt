@@ -1,11 +1,12 @@
 //! What is read, as texts that tests compare.
 
-use cell_data::{Data, ExcelDateTimeType, Range, XlsxError};
+use cell_data::{Data, ExcelDateTimeType, Range};
 use part_events::Package;
 use std::alloc::Global;
 use std::process::Abort;
 use std::test::Fail;
 use xlsx_core::{SheetAnswer, SheetReading, read_sheet};
+use xlsx_error::XlsxError;
 
 /// A number, a duration or a date, behind a letter for which it is.
 fn push_time(out: &mut String, kind: ExcelDateTimeType) -> Result<(), Fail> {

@@ -6,12 +6,13 @@ ghost use Rattle.xlsx_cells.specs.CellsReader.{flow_by, IsFlowing};
 
 use crate::answers::push_value;
 use crate::test_packages::{SHEET, SHEET_NAME, package_of, sheet_part};
-use cell_data::{Cell, CellFormat, DataRef, XlsxError};
+use cell_data::{Cell, CellFormat, DataRef};
 use cell_styles::Style;
 use part_events::{FailingPackage, Package, XlReader};
 use std::alloc::Global;
 use std::test::Fail;
 use xlsx_cells::{XlsxCellReader, open_data};
+use xlsx_error::XlsxError;
 use xlsx_values::to_data;
 
 /// What a reader is asked for.

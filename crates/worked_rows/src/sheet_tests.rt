@@ -5,10 +5,10 @@ use crate::test_packages::{
     Part, RELATIONSHIPS, RELATIONSHIPS_MARKUP, RELATIONSHIPS_NAME, ROOT, ROOT_NAME, SHEET,
     SHEET_MARKUP, SHEET_NAME, STRINGS_NAME, WORKBOOK, WORKBOOK_NAME, package_of, package_with,
 };
-use cell_data::XlsxError;
 use part_events::{FailingPackage, Package};
 use std::test::Fail;
 use xlsx_core::{SheetAnswer, read_sheet};
+use xlsx_error::XlsxError;
 
 /// What a case shows, the part of a sheet, and what is read of it.
 const SHEETS: [(&str, &str, &str); 16] = [

@@ -1,9 +1,9 @@
 //! The strings of a workbook's part of shared strings.
 
 use crate::test_packages::{STRINGS_NAME, package_of};
-use cell_data::XlsxError;
 use std::alloc::{AllocError, Global};
 use std::test::Fail;
+use xlsx_error::XlsxError;
 use xlsx_strings::read_shared_strings;
 
 fn push_strings(out: &mut String, found: Result<Vec<String>, XlsxError>) -> Result<(), Fail> {

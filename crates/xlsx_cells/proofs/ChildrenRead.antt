@@ -6,7 +6,7 @@ use Rattle.part_events.specs.Event.{Tag, Event, start, end, leaf, IsStartAnd}
 use Rattle.part_events.specs.Reading.{Reading, ReadsOn, LeavesPart}
 use Rattle.part_events.specs.Section.{Element}
 use Rattle.part_events.proofs.Onward.{moves_further}
-use Rattle.cell_data.specs.declared.error.XlsxError.{XlsxError}
+use Rattle.xlsx_error.specs.declared.error.XlsxError.{XlsxError}
 use Rattle.cell_data.specs.declared.format.CellFormat.{CellFormat}
 use Rattle.cell_data.specs.CellValue.{CellValue}
 use Rattle.xlsx_sections.specs.Answers.{or_earlier, some_answers, prepended}

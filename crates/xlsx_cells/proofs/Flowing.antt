@@ -9,7 +9,7 @@ use Rattle.part_events.specs.Event.{Event}
 use Rattle.part_events.specs.Reading.{Reading, IsReading, ReadsOn, ahead, events_of}
 use Rattle.part_events.specs.Section.{behind_start}
 use Rattle.cell_data.specs.declared.cell.Cell.{Cell}
-use Rattle.cell_data.specs.declared.error.XlsxError.{XlsxError}
+use Rattle.xlsx_error.specs.declared.error.XlsxError.{XlsxError}
 use Rattle.cell_data.specs.declared.value.DataRef.{DataRef}
 use Rattle.xlsx_sections.specs.PartSection.{section_left, section_in}
 use Rattle.xlsx_sections.proofs.SectionsRead.{ahead_at_first, first_section_left, nothing_past}

@@ -13,10 +13,10 @@ use Rattle.part_events.specs.Section.{behind_start}
 use Rattle.part_events.specs.declared.fault.StreamError.{StreamError}
 use Rattle.part_events.specs.declared.fault.StreamError.TheVariants as stream
 use Rattle.part_events.specs.declared.fault.XmlFault.TheVariants.{EndMismatch, Unclosed, Entity}
-use Rattle.cell_data.specs.XlsxError.{of_stream}
-use Rattle.cell_data.specs.declared.error.XlsxError.{XlsxError}
-use Rattle.cell_data.specs.declared.error.XlsxError.TheVariants.{OutOfMemory, Io, Xml, XmlEof}
-use Rattle.cell_data.specs.declared.error.XlsxError.TheVariants.{NotAWorksheet}
+use Rattle.xlsx_error.specs.XlsxError.{of_stream}
+use Rattle.xlsx_error.specs.declared.error.XlsxError.{XlsxError}
+use Rattle.xlsx_error.specs.declared.error.XlsxError.TheVariants.{OutOfMemory, Io, Xml, XmlEof}
+use Rattle.xlsx_error.specs.declared.error.XlsxError.TheVariants.{NotAWorksheet}
 use Rattle.xlsx_sections.specs.Answers.{or_earlier, or_later}
 use Rattle.xlsx_sections.specs.Refusal.{Refusal}
 use Rattle.xlsx_sections.proofs.Kept.{or_earlier-or_later, or_earlier-None}

@@ -6,7 +6,7 @@ use Rattle.part_events.specs.Event.{Tag, Event}
 use Rattle.part_events.specs.Nesting.{whole}
 use Rattle.part_events.specs.Section.{Element, behind_start, is_named}
 use Rattle.cell_data.specs.CellValue.{CellValue}
-use Rattle.cell_data.specs.declared.error.XlsxError.{XlsxError}
+use Rattle.xlsx_error.specs.declared.error.XlsxError.{XlsxError}
 use Rattle.cell_styles.specs.StyleMap.{StyledCell}
 use Rattle.xlsx_sections.specs.Answers.{and_others, with_first}
 use Rattle.xlsx_sections.specs.PartSection.{PartSection, inside_of, has_end}

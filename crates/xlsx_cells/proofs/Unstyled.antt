@@ -6,7 +6,7 @@ use Rattle.std.specs.Prelude.{filter, if◌then◌else◌}
 use Rattle.std.proofs.lemmas.List.Elements.{filter-append}
 use Rattle.part_events.specs.Section.{Element}
 use Rattle.part_events.specs.Walk.{is_closed_ahead}
-use Rattle.cell_data.specs.declared.error.XlsxError.{XlsxError}
+use Rattle.xlsx_error.specs.declared.error.XlsxError.{XlsxError}
 use Rattle.cell_styles.proofs.Meaning.{kept, dropped}
 use Rattle.cell_styles.specs.StyleMap.{StyledCell, is_explicit}
 use Rattle.xlsx_sections.specs.Answers.{with_first, and_others, prepended}

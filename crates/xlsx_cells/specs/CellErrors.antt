@@ -1,17 +1,17 @@
 -- The refusals that reading cells can have, whatever the package tells.
 use Rattle.std.specs.Prelude.{◌≡◌, ◌⊎◌, ⊤, ℕ, List, [], codes}
 use Rattle.part_events.specs.declared.fault.XmlFault.TheVariants.{EndMismatch}
-use Rattle.cell_data.specs.declared.error.XlsxError.{XlsxError}
-use Rattle.cell_data.specs.declared.error.XlsxError.TheVariants.{OutOfMemory, Io, Xml, XmlAttr}
-use Rattle.cell_data.specs.declared.error.XlsxError.TheVariants.{XmlEof}
-use Rattle.cell_data.specs.declared.error.XlsxError.TheVariants.{Alphanumeric, DimensionCount}
-use Rattle.cell_data.specs.declared.error.XlsxError.TheVariants.{RangeWithoutRowComponent}
-use Rattle.cell_data.specs.declared.error.XlsxError.TheVariants.{RangeWithoutColumnComponent}
-use Rattle.cell_data.specs.declared.error.XlsxError.TheVariants.{ColumnNumberOverflow}
-use Rattle.cell_data.specs.declared.error.XlsxError.TheVariants.{RowNumberOverflow, UnexpectedNode}
-use Rattle.cell_data.specs.declared.error.XlsxError.TheVariants.{Unexpected, Unrecognized}
-use Rattle.cell_data.specs.declared.error.XlsxError.TheVariants.{CellTAttribute, CellError}
-use Rattle.cell_data.specs.declared.error.XlsxError.TheVariants.{ParseFloat}
+use Rattle.xlsx_error.specs.declared.error.XlsxError.{XlsxError}
+use Rattle.xlsx_error.specs.declared.error.XlsxError.TheVariants.{OutOfMemory, Io, Xml, XmlAttr}
+use Rattle.xlsx_error.specs.declared.error.XlsxError.TheVariants.{XmlEof}
+use Rattle.xlsx_error.specs.declared.error.XlsxError.TheVariants.{Alphanumeric, DimensionCount}
+use Rattle.xlsx_error.specs.declared.error.XlsxError.TheVariants.{RangeWithoutRowComponent}
+use Rattle.xlsx_error.specs.declared.error.XlsxError.TheVariants.{RangeWithoutColumnComponent}
+use Rattle.xlsx_error.specs.declared.error.XlsxError.TheVariants.{ColumnNumberOverflow}
+use Rattle.xlsx_error.specs.declared.error.XlsxError.TheVariants.{RowNumberOverflow, UnexpectedNode}
+use Rattle.xlsx_error.specs.declared.error.XlsxError.TheVariants.{Unexpected, Unrecognized}
+use Rattle.xlsx_error.specs.declared.error.XlsxError.TheVariants.{CellTAttribute, CellError}
+use Rattle.xlsx_error.specs.declared.error.XlsxError.TheVariants.{ParseFloat}
 
 -- those of finding the next cell
 abbrev pub IsFindError : XlsxError → Type 0

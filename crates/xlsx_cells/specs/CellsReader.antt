@@ -11,8 +11,8 @@ use Rattle.part_events.specs.Reading.{Reading, ReadsOn, IsReading, events_of}
 use Rattle.part_events.specs.Section.{Element}
 use Rattle.cell_data.specs.CellValue.{value_of_data_ref}
 use Rattle.cell_data.specs.declared.cell.Cell.{Cell}
-use Rattle.cell_data.specs.declared.error.XlsxError.{XlsxError}
-use Rattle.cell_data.specs.declared.error.XlsxError.TheVariants.{OutOfMemory, Io, Failed}
+use Rattle.xlsx_error.specs.declared.error.XlsxError.{XlsxError}
+use Rattle.xlsx_error.specs.declared.error.XlsxError.TheVariants.{OutOfMemory, Io, Failed}
 use Rattle.cell_data.specs.declared.value.DataRef.{DataRef}
 use Rattle.cell_styles.specs.declared.style.Style.{Style}
 use Rattle.xlsx_sections.specs.Elements.{KeepsElements}

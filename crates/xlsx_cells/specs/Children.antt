@@ -7,7 +7,7 @@ use Rattle.part_events.specs.Section.{Element, content, is_named}
 use Rattle.cell_data.specs.CellValue.{CellValue, value_of_data_ref}
 use Rattle.cell_data.specs.declared.format.CellFormat.{CellFormat}
 use Rattle.cell_data.specs.declared.value.DataRef.{DataRef}
-use Rattle.cell_data.specs.declared.error.XlsxError.{XlsxError}
+use Rattle.xlsx_error.specs.declared.error.XlsxError.{XlsxError}
 use Rattle.xlsx_sections.specs.PartSection.{PartSection, SectionFails, inside_of}
 use Rattle.xlsx_sections.specs.Refusal.{Refusal}
 use Rattle.xlsx_values.specs.CellType.{CellKind}

@@ -1,12 +1,12 @@
 -- The counters of rows and columns, by the marks before them.
 use Rattle.std.specs.Prelude.{◌≡◌, ⊤, ℕ, min, true, List, Result, Ok, Err}
 use Rattle.cell_refs.specs.declared.TheConstants.{MAX_ROWS, MAX_COLUMNS}
-use Rattle.cell_data.specs.declared.error.XlsxError.{XlsxError}
-use Rattle.cell_data.specs.declared.error.XlsxError.TheVariants.{OutOfMemory, XmlAttr, Alphanumeric}
-use Rattle.cell_data.specs.declared.error.XlsxError.TheVariants.{RangeWithoutRowComponent}
-use Rattle.cell_data.specs.declared.error.XlsxError.TheVariants.{RangeWithoutColumnComponent}
-use Rattle.cell_data.specs.declared.error.XlsxError.TheVariants.{ColumnNumberOverflow}
-use Rattle.cell_data.specs.declared.error.XlsxError.TheVariants.{RowNumberOverflow, DimensionCount}
+use Rattle.xlsx_error.specs.declared.error.XlsxError.{XlsxError}
+use Rattle.xlsx_error.specs.declared.error.XlsxError.TheVariants.{OutOfMemory, XmlAttr, Alphanumeric}
+use Rattle.xlsx_error.specs.declared.error.XlsxError.TheVariants.{RangeWithoutRowComponent}
+use Rattle.xlsx_error.specs.declared.error.XlsxError.TheVariants.{RangeWithoutColumnComponent}
+use Rattle.xlsx_error.specs.declared.error.XlsxError.TheVariants.{ColumnNumberOverflow}
+use Rattle.xlsx_error.specs.declared.error.XlsxError.TheVariants.{RowNumberOverflow, DimensionCount}
 use Rattle.part_events.specs.Event.{Event, IsStartAnd}
 use Rattle.xlsx_sections.specs.Refusal.{Refusal, RefusedAs}
 use Rattle.xlsx_cells.specs.Marks.{Mark, is_row}

@@ -7,7 +7,7 @@ use Rattle.part_events.specs.Event.{Tag, start}
 use Rattle.part_events.specs.Reading.{Reading}
 use Rattle.part_events.specs.Section.{Element}
 use Rattle.part_events.specs.Walk.{element_at, section_ahead, section_behind, is_closed_ahead}
-use Rattle.cell_data.specs.declared.error.XlsxError.{XlsxError}
+use Rattle.xlsx_error.specs.declared.error.XlsxError.{XlsxError}
 use Rattle.xlsx_sections.specs.Elements.{FindsElementIn, end_among}
 use Rattle.xlsx_sections.specs.PartSection.{PartSection, SectionFails, StandsAtStart, inside_of}
 use Rattle.xlsx_sections.specs.Refusal.{Refusal}

@@ -13,15 +13,15 @@ use Rattle.part_events.specs.Package.{HasCause}
 use Rattle.part_events.specs.Reading.{Reading, BreaksAt, ahead, events_of}
 use Rattle.part_events.specs.Section.{behind_start, is_named}
 use Rattle.part_events.specs.declared.fault.XmlFault.TheVariants.{EndMismatch}
-use Rattle.cell_data.specs.declared.error.XlsxError.{XlsxError}
-use Rattle.cell_data.specs.declared.error.XlsxError.TheVariants.{OutOfMemory, Io, Xml, XmlAttr}
-use Rattle.cell_data.specs.declared.error.XlsxError.TheVariants.{XmlEof}
-use Rattle.cell_data.specs.declared.error.XlsxError.TheVariants.{UnexpectedNode, NotAWorksheet}
-use Rattle.cell_data.specs.declared.error.XlsxError.TheVariants.{Alphanumeric, DimensionCount}
-use Rattle.cell_data.specs.declared.error.XlsxError.TheVariants.{RangeWithoutRowComponent}
-use Rattle.cell_data.specs.declared.error.XlsxError.TheVariants.{RangeWithoutColumnComponent}
-use Rattle.cell_data.specs.declared.error.XlsxError.TheVariants.{ColumnNumberOverflow}
-use Rattle.cell_data.specs.declared.error.XlsxError.TheVariants.{RowNumberOverflow}
+use Rattle.xlsx_error.specs.declared.error.XlsxError.{XlsxError}
+use Rattle.xlsx_error.specs.declared.error.XlsxError.TheVariants.{OutOfMemory, Io, Xml, XmlAttr}
+use Rattle.xlsx_error.specs.declared.error.XlsxError.TheVariants.{XmlEof}
+use Rattle.xlsx_error.specs.declared.error.XlsxError.TheVariants.{UnexpectedNode, NotAWorksheet}
+use Rattle.xlsx_error.specs.declared.error.XlsxError.TheVariants.{Alphanumeric, DimensionCount}
+use Rattle.xlsx_error.specs.declared.error.XlsxError.TheVariants.{RangeWithoutRowComponent}
+use Rattle.xlsx_error.specs.declared.error.XlsxError.TheVariants.{RangeWithoutColumnComponent}
+use Rattle.xlsx_error.specs.declared.error.XlsxError.TheVariants.{ColumnNumberOverflow}
+use Rattle.xlsx_error.specs.declared.error.XlsxError.TheVariants.{RowNumberOverflow}
 use Rattle.xlsx_sections.specs.Answers.{last_answer}
 use Rattle.xlsx_sections.specs.Refusal.{Refusal, RefusedAs, lookup_fault, lacks_area}
 use Rattle.xlsx_cells.specs.Counting.{IsRefused}

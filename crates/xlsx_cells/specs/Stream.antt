@@ -9,7 +9,7 @@ use Rattle.part_events.specs.Reading.{Reading, reading, IsReading}
 use Rattle.part_events.specs.Section.{Element}
 use Rattle.part_events.specs.Walk.{section_ahead, is_closed_ahead}
 use Rattle.cell_data.specs.CellValue.{value_of_data_ref}
-use Rattle.cell_data.specs.declared.error.XlsxError.{XlsxError}
+use Rattle.xlsx_error.specs.declared.error.XlsxError.{XlsxError}
 use Rattle.xlsx_sections.specs.Elements.{KeepsElements}
 use Rattle.xlsx_sections.specs.PartSection.{PartSection, SectionFails, inside_of}
 use Rattle.xlsx_sections.specs.Refusal.{Refusal, in_element}

@@ -3,8 +3,8 @@
 use Rattle.std.specs.Prelude.{◌≡◌, ◌⊎◌, ⊤, ℕ, List, [], ◌∷◌, ◌++◌, filter, true, false, Option}
 use Rattle.std.specs.Prelude.{Some, None, Ok, Err}
 use Rattle.part_events.specs.Section.{Element}
-use Rattle.cell_data.specs.declared.error.XlsxError.{XlsxError}
-use Rattle.cell_data.specs.declared.error.XlsxError.TheVariants.{Failed}
+use Rattle.xlsx_error.specs.declared.error.XlsxError.{XlsxError}
+use Rattle.xlsx_error.specs.declared.error.XlsxError.TheVariants.{Failed}
 use Rattle.cell_styles.specs.StyleMap.{StyledCell, is_explicit}
 use Rattle.xlsx_sections.specs.PartSection.{PartSection, SectionFails, inside_of}
 use Rattle.xlsx_sections.specs.Refusal.{Refusal}

@@ -6,7 +6,7 @@ ghost use Rattle.part_events.specs.Reading.{reading, open_elements, IsReading, I
 ghost use Rattle.part_events.specs.Reading.{ReadsPart, Skips};
 ghost use Rattle.part_events.specs.Section.{Element};
 ghost use Rattle.cell_data.specs.CellValue.{value_of_data_ref};
-ghost use Rattle.cell_data.specs.declared.error.XlsxError.TheVariants.{Io};
+ghost use Rattle.xlsx_error.specs.declared.error.XlsxError.TheVariants.{Io};
 ghost use Rattle.xlsx_values.specs.Book.{kind_of, grounds_of};
 ghost use Rattle.xlsx_values.specs.Value.{cell_value, value_in, style_number};
 ghost use Rattle.xlsx_formulas.specs.Formula.{FormulaText};
@@ -20,9 +20,10 @@ ghost use Rattle.xlsx_cells.specs.StyleIds.{id_named};
 
 use crate::children::{Asked, CellContents, CellStart, Wants, read_children};
 use attr_text::{RawAttributes, get_attrs};
-use cell_data::{CellFormat, DataRef, XlsxError};
+use cell_data::{CellFormat, DataRef};
 use part_events::{Cursor, Package, StartTag};
 use std::alloc::Global;
+use xlsx_error::XlsxError;
 use xlsx_formulas::Masters;
 use xlsx_sections::{skip_element_in, start_tag};
 use xlsx_values::{CellType, cell_type, format_of_style, style_number};

@@ -2,7 +2,7 @@ ghost use Rattle.std.specs.Prelude.{◌≡◌, List, true, false, is_err, IfOk, 
 ghost use Rattle.std.specs.Prelude.{IsErrAnd};
 ghost use Rattle.part_events.specs.Reading.{ReadsPart};
 ghost use Rattle.cell_styles.specs.StyleMap.{is_explicit};
-ghost use Rattle.cell_data.specs.declared.error.XlsxError.TheVariants.{Io, Failed};
+ghost use Rattle.xlsx_error.specs.declared.error.XlsxError.TheVariants.{Io, Failed};
 ghost use Rattle.xlsx_values.specs.Book.{grounds_of};
 ghost use Rattle.xlsx_formulas.specs.Formula.{FormulaText};
 ghost use Rattle.xlsx_cells.specs.CellsReader.{flow, IsFlowing, FlowsTo, TakesFrom, FlowFails};
@@ -14,8 +14,8 @@ ghost use Rattle.xlsx_cells.specs.StyleSteps.{StyledTo, TakesStyleId, StyleIdFai
 use crate::cell_read::CellRead;
 use crate::children::Asked;
 use crate::sheet_cursor::SheetCursor;
-use cell_data::XlsxError;
 use part_events::Package;
+use xlsx_error::XlsxError;
 
 /// Where reading stands in a sheet's data, and whether these have ended or a call was refused.
 #[derive(Drop)]

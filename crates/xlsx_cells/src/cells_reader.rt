@@ -3,7 +3,7 @@ ghost use Rattle.std.specs.Prelude.{IfOk, IfErr, IfSome, IsErrAnd, length};
 ghost use Rattle.part_events.specs.Reader as xml_reader;
 ghost use Rattle.part_events.specs.Reading.{ReadsPart, IsReading};
 ghost use Rattle.cell_styles.specs.StyleMap.{is_explicit};
-ghost use Rattle.cell_data.specs.declared.error.XlsxError.TheVariants.{Io, Failed};
+ghost use Rattle.xlsx_error.specs.declared.error.XlsxError.TheVariants.{Io, Failed};
 ghost use Rattle.xlsx_formulas.specs.Formula.{FormulaText};
 ghost use Rattle.xlsx_cells.specs.Head.{IsHeadError};
 ghost use Rattle.xlsx_cells.specs.Marks.{Mark};
@@ -14,11 +14,12 @@ use crate::cell_stream::CellStream;
 use crate::children::{Asked, Wants};
 use crate::head::enter_data;
 use crate::sheet_cursor::SheetCursor;
-use cell_data::{Cell, CellFormat, DataRef, XlsxError};
+use cell_data::{Cell, CellFormat, DataRef};
 use cell_refs::Dimensions;
 use cell_styles::Style;
 use part_events::{Package, XlReader};
 use std::alloc::Global;
+use xlsx_error::XlsxError;
 use xlsx_values::Book;
 
 /// Reads the cells of a sheet, in the order of its data (ECMA-376 part 1, 18.3.1.80).

@@ -5,7 +5,7 @@ ghost use Rattle.part_events.specs.Reading.{reading, open_elements, IsReading, I
 ghost use Rattle.part_events.specs.Reading.{ReadsPart, Skips, ahead};
 ghost use Rattle.part_events.specs.Section.{Element, content};
 ghost use Rattle.cell_data.specs.CellValue.{value_of_data_ref};
-ghost use Rattle.cell_data.specs.declared.error.XlsxError.TheVariants.{Io};
+ghost use Rattle.xlsx_error.specs.declared.error.XlsxError.TheVariants.{Io};
 ghost use Rattle.xlsx_sections.specs.PartSection.{SectionFails};
 ghost use Rattle.xlsx_values.specs.Book.{kind_of, grounds_of};
 ghost use Rattle.cell_data.specs.declared.format.CellFormat.{CellFormat};
@@ -21,9 +21,10 @@ ghost use Rattle.xlsx_cells.specs.declared.children.ChildName.TheVariants.{Formu
 ghost use Rattle.xlsx_cells.specs.CellErrors.{IsCellError};
 ghost use Rattle.xlsx_cells.specs.Ends.{reads_children, end_in_children};
 
-use cell_data::{CellFormat, DataRef, XlsxError};
+use cell_data::{CellFormat, DataRef};
 use part_events::{Cursor, Package, StartTag};
 use std::alloc::Global;
+use xlsx_error::XlsxError;
 use xlsx_formulas::{Masters, read_formula};
 use xlsx_sections::{next_child_in, skip_element_in, start_tag};
 use xlsx_values::{Book, CellType, read_inline, read_value};

@@ -9,9 +9,9 @@ ghost use Rattle.xlsx_cells.specs.Position.{row_named, position_named, column_co
 ghost use Rattle.xlsx_cells.specs.Position.{implied_position, cell_position};
 
 use attr_text::RawAttributes;
-use cell_data::XlsxError;
 use cell_refs::{MAX_COLUMNS, MAX_ROWS, get_row, get_row_column};
 use part_events::StartTag;
+use xlsx_error::XlsxError;
 
 /// The row that the start of a row names.
 fn row_named(tag: StartTag<'_>) -> Result<Option<u32>, XlsxError>

@@ -3,7 +3,7 @@ ghost use Rattle.std.specs.Prelude.{IfOk, OnOk, IfErr};
 ghost use Rattle.part_events.specs.Event.{tag_of, event_of};
 ghost use Rattle.part_events.specs.Reading.{reading, open_elements, IsReading, ReadsPart};
 ghost use Rattle.part_events.specs.Section.{Element};
-ghost use Rattle.cell_data.specs.declared.error.XlsxError.TheVariants.{Io};
+ghost use Rattle.xlsx_error.specs.declared.error.XlsxError.TheVariants.{Io};
 ghost use Rattle.xlsx_cells.specs.Counting.{AreKept, IsRefused, IsRowRefused, IsPositionError};
 ghost use Rattle.xlsx_cells.specs.CellErrors.{IsFindError};
 ghost use Rattle.xlsx_cells.specs.Finding.{Finds, FindsCellElement, StandsAtCell, FindFails};
@@ -12,8 +12,8 @@ ghost use Rattle.xlsx_cells.specs.Position.{PassesRows};
 
 use crate::counters::Counters;
 use attr_text::local_name;
-use cell_data::XlsxError;
 use part_events::{Cursor, Package, PartEvent, StartTag, Step};
+use xlsx_error::XlsxError;
 
 /// The start of a cell that an event is.
 fn cell_start(event: PartEvent<'_>) -> Option<StartTag<'_>>

@@ -5,7 +5,7 @@ ghost use Rattle.part_events.specs.Event.{tag_of, event_of};
 ghost use Rattle.part_events.specs.Reading.{reading, open_elements, IsReading, IsAtElement};
 ghost use Rattle.part_events.specs.Reading.{ReadsPart, ahead};
 ghost use Rattle.part_events.specs.Section.{behind_start};
-ghost use Rattle.cell_data.specs.declared.error.XlsxError.TheVariants.{Io};
+ghost use Rattle.xlsx_error.specs.declared.error.XlsxError.TheVariants.{Io};
 ghost use Rattle.xlsx_sections.specs.Answers.{or_earlier};
 ghost use Rattle.xlsx_cells.specs.Counting.{IsRefused};
 ghost use Rattle.xlsx_cells.specs.Head.{is_sheet_data, starts_data, dimension_area, dimensions_by};
@@ -14,10 +14,10 @@ ghost use Rattle.xlsx_cells.specs.Head.{other_name, IsHeadStartRefused, LacksDat
 ghost use Rattle.xlsx_cells.specs.Head.{IsHeadError};
 
 use attr_text::RawAttributes;
-use cell_data::XlsxError;
 use cell_refs::{Dimensions, get_dimension};
 use part_events::{Cursor, Package, PartEvent, StartTag};
 use std::alloc::Global;
+use xlsx_error::XlsxError;
 
 /// Whether an event is the start of a sheet's data.
 fn starts_data(event: PartEvent<'_>) -> bool

@@ -5,7 +5,7 @@ ghost use Rattle.cell_data.specs.CellValue.{value_of_data_ref};
 ghost use Rattle.xlsx_cells.specs.Sheet.{used_values, used_formulas};
 ghost use Rattle.part_events.specs.Reading.{ReadsPart};
 ghost use Rattle.cell_data.specs.Cells.{IsInSheet};
-ghost use Rattle.cell_data.specs.declared.error.XlsxError.TheVariants.{Io, OutOfMemory};
+ghost use Rattle.xlsx_error.specs.declared.error.XlsxError.TheVariants.{Io, OutOfMemory};
 ghost use Rattle.cell_styles.specs.StyleMap.{IsOnSheet, is_explicit};
 ghost use Rattle.xlsx_values.specs.Book.{grounds_of};
 ghost use Rattle.xlsx_cells.specs.Ends.{reads_children};
@@ -19,9 +19,10 @@ ghost use Rattle.xlsx_cells.specs.Stream.{are_closed_ahead};
 use crate::cell_read::CellRead;
 use crate::children::Asked;
 use crate::sheet_cursor::SheetCursor;
-use cell_data::{Cell, Data, DataRef, XlsxError};
+use cell_data::{Cell, Data, DataRef};
 use part_events::Package;
 use std::alloc::Global;
+use xlsx_error::XlsxError;
 use xlsx_values::to_data;
 
 /// The cells of a sheet's data that hold something, in their order there.

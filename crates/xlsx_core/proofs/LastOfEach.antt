@@ -8,7 +8,7 @@ use Rattle.std.specs.FinMap.Entries.{by_order}
 use Rattle.std.proofs.lemmas.List.{reverse-append, map-append}
 use Rattle.cell_data.proofs.Placing.{position_total, nothing_last}
 use Rattle.cell_data.specs.Cells.{placed_cells}
-use Rattle.cell_data.specs.Positions.{position_cmp, last_of_each}
+use Rattle.cell_refs.specs.Positions.{position_cmp, last_of_each}
 use Rattle.cell_data.specs.declared.cell.Cell.{Cell}
 use Rattle.xlsx_core.specs.SheetReading.{with_meaning}
 

@@ -9,8 +9,8 @@ use Rattle.std.proofs.lemmas.Bool.Decides.{nat_tests}
 use Rattle.cell_refs.specs.declared.dimensions.Dimensions.{Dimensions}
 use Rattle.cell_data.specs.CellValue.{value_of_data}
 use Rattle.cell_data.specs.Cells.{IsInSheet, placed_cells}
-use Rattle.cell_data.specs.Positions.{last_of_each, least_area, area_with, is_in_area}
-use Rattle.cell_data.specs.Positions.{lie_inside}
+use Rattle.cell_refs.specs.Positions.{last_of_each, least_area, area_with, is_in_area}
+use Rattle.cell_refs.specs.Positions.{lie_inside}
 use Rattle.cell_data.specs.Range.{cells_of, bounds_of, blank_of}
 use Rattle.cell_data.proofs.Areas.{all_wider, last_inside}
 use Rattle.cell_data.proofs.Placing.{and_both}

@@ -7,9 +7,9 @@ use Rattle.cell_refs.specs.declared.dimensions.Dimensions.{Dimensions}
 use Rattle.part_events.specs.Event.{Event}
 use Rattle.part_events.specs.Package.{Part, part_of}
 use Rattle.cell_data.specs.CellValue.{CellValue}
-use Rattle.cell_data.specs.Positions.{last_of_each}
-use Rattle.cell_data.specs.declared.error.XlsxError.{XlsxError}
-use Rattle.cell_data.specs.declared.error.XlsxError.TheVariants.{WorksheetNotFound}
+use Rattle.cell_refs.specs.Positions.{last_of_each}
+use Rattle.xlsx_error.specs.declared.error.XlsxError.{XlsxError}
+use Rattle.xlsx_error.specs.declared.error.XlsxError.TheVariants.{WorksheetNotFound}
 use Rattle.cell_data.specs.declared.format.CellFormat.{CellFormat}
 use Rattle.xlsx_sections.specs.PartSection.{PartSection, inside_of, closed_section_of}
 use Rattle.xlsx_strings.specs.Strings.{strings_in, HasStrings}

@@ -6,9 +6,9 @@ use Rattle.std.specs.Str.{bytes_eq}
 use Rattle.part_events.specs.Event.{Event}
 use Rattle.part_events.specs.Package.{Part, PackageState, SameParts}
 use Rattle.cell_data.specs.CellValue.{CellValue}
-use Rattle.cell_data.specs.declared.error.XlsxError.{XlsxError}
-use Rattle.cell_data.specs.declared.error.XlsxError.TheVariants.{OutOfMemory, Io}
-use Rattle.cell_data.specs.declared.error.XlsxError.TheVariants.{WorksheetNotFound}
+use Rattle.xlsx_error.specs.declared.error.XlsxError.{XlsxError}
+use Rattle.xlsx_error.specs.declared.error.XlsxError.TheVariants.{OutOfMemory, Io}
+use Rattle.xlsx_error.specs.declared.error.XlsxError.TheVariants.{WorksheetNotFound}
 use Rattle.cell_styles.specs.StyleMap.{StyleMap, styles_of}
 use Rattle.cell_styles.specs.declared.style.Style.{Style}
 use Rattle.xlsx_values.specs.Value.{Grounds}

@@ -7,12 +7,12 @@ use Rattle.part_events.specs.Event.{Event}
 use Rattle.part_events.specs.Nesting.{whole}
 use Rattle.part_events.specs.Package.{Part, PackageState, HasCause, part_of}
 use Rattle.cell_data.specs.CellValue.{CellValue, value_of_data}
-use Rattle.cell_data.specs.Positions.{last_of_each}
+use Rattle.cell_refs.specs.Positions.{last_of_each}
 use Rattle.cell_data.specs.Range.{cells_of}
-use Rattle.cell_data.specs.declared.error.XlsxError.{XlsxError}
+use Rattle.xlsx_error.specs.declared.error.XlsxError.{XlsxError}
 use Rattle.cell_data.specs.declared.format.CellFormat.{CellFormat}
-use Rattle.cell_data.specs.declared.error.XlsxError.TheVariants.{OutOfMemory, Io}
-use Rattle.cell_data.specs.declared.error.XlsxError.TheVariants.{WorksheetNotFound}
+use Rattle.xlsx_error.specs.declared.error.XlsxError.TheVariants.{OutOfMemory, Io}
+use Rattle.xlsx_error.specs.declared.error.XlsxError.TheVariants.{WorksheetNotFound}
 use Rattle.cell_data.specs.declared.range.Range.{Range}
 use Rattle.cell_data.specs.declared.value.Data.{Data}
 use Rattle.cell_styles.specs.StyleMap.{StyledCell, StyleMap, styles_of}

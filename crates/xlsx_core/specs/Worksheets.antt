@@ -8,11 +8,11 @@ use Rattle.part_events.specs.Event.{Event}
 use Rattle.part_events.specs.Nesting.{whole}
 use Rattle.part_events.specs.Package.{Part, PackageState}
 use Rattle.cell_data.specs.CellValue.{CellValue}
-use Rattle.cell_data.specs.Positions.{last_of_each, least_area}
+use Rattle.cell_refs.specs.Positions.{last_of_each, least_area}
 use Rattle.cell_data.specs.Range.{bounds_of, blank_of}
-use Rattle.cell_data.specs.declared.error.XlsxError.{XlsxError}
-use Rattle.cell_data.specs.declared.error.XlsxError.TheVariants.{OutOfMemory, Io, NotAWorksheet}
-use Rattle.cell_data.specs.declared.error.XlsxError.TheVariants.{WorksheetNotFound}
+use Rattle.xlsx_error.specs.declared.error.XlsxError.{XlsxError}
+use Rattle.xlsx_error.specs.declared.error.XlsxError.TheVariants.{OutOfMemory, Io, NotAWorksheet}
+use Rattle.xlsx_error.specs.declared.error.XlsxError.TheVariants.{WorksheetNotFound}
 use Rattle.cell_data.specs.declared.range.Range.{Range}
 use Rattle.cell_data.specs.declared.value.Data.{Data}
 use Rattle.cell_data.specs.declared.value.Data.TheVariants.{Empty}

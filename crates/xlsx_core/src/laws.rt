@@ -1,7 +1,7 @@
 ghost use Rattle.std.specs.Prelude.{◌≡◌, ℕ, List};
 ghost use Rattle.part_events.specs.Package.{Part};
 ghost use Rattle.cell_data.specs.CellValue.{CellValue};
-ghost use Rattle.cell_data.specs.declared.error.XlsxError.{XlsxError};
+ghost use Rattle.xlsx_error.specs.declared.error.XlsxError.{XlsxError};
 ghost use Rattle.cell_styles.specs.StyleMap.{StyleMap};
 ghost use Rattle.xlsx_core.specs.Agreement.{HaveSameSheet};
 ghost use Rattle.xlsx_core.specs.SheetReading.{SayTheSame, ReadsAs, IsReadable, SheetCause};

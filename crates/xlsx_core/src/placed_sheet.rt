@@ -1,7 +1,7 @@
 ghost use Rattle.std.specs.Prelude.{◌≡◌, true, false, option_map, IfOk, OnOk, IfErr, IsSomeAnd};
 ghost use Rattle.std.specs.Option.{option_copied};
 ghost use Rattle.part_events.specs.Package.{SameParts, KeepsFaults};
-ghost use Rattle.cell_data.specs.declared.error.XlsxError.TheVariants.{Io};
+ghost use Rattle.xlsx_error.specs.declared.error.XlsxError.TheVariants.{Io};
 ghost use Rattle.xlsx_values.specs.Book.{grounds_of};
 ghost use Rattle.xlsx_cells.specs.SheetPart.{EntersData, value_entries, formula_entries};
 ghost use Rattle.xlsx_cells.specs.SheetPart.{LieInSheet};
@@ -13,11 +13,11 @@ ghost use Rattle.xlsx_core.specs.SheetReading.{PlacedHeadFails, PlacedSheetFails
 ghost use Rattle.xlsx_core.specs.SheetReading.{IsPlacedHeadError, IsPlacedError};
 ghost use Rattle.xlsx_core.specs.Worksheets.{HoldsWanted, IsStyleRangeError};
 
-use cell_data::XlsxError;
 use cell_refs::Dimensions;
 use part_events::Package;
 use std::alloc::Global;
 use xlsx_cells::{Asked, SheetCells, SheetCursor, collect, open_data};
+use xlsx_error::XlsxError;
 use xlsx_open::Sheet;
 
 /// The path of the part of the first sheet of this name.

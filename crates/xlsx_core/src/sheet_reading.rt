@@ -1,14 +1,15 @@
 ghost use Rattle.std.specs.Prelude.{◌≡◌, true, IfOk, OnOk, IfErr};
 ghost use Rattle.part_events.specs.Package.{SameParts, KeepsFaults};
-ghost use Rattle.cell_data.specs.declared.error.XlsxError.TheVariants.{Io};
+ghost use Rattle.xlsx_error.specs.declared.error.XlsxError.TheVariants.{Io};
 ghost use Rattle.xlsx_core.specs.SheetReading.{ReadsAs, SheetFails, IsSheetError};
 ghost use Rattle.xlsx_core.specs.SheetReading.{value_pairs, formula_pairs};
 
 use crate::xlsx::{OpenFailure, Xlsx};
-use cell_data::{Data, Range, XlsxError};
+use cell_data::{Data, Range};
 use cell_styles::StyleRange;
 use part_events::Package;
 use std::alloc::Global;
+use xlsx_error::XlsxError;
 
 /// What the cells of a sheet hold, each at its row and column, counted from 0.
 #[derive(Drop)]

@@ -1,6 +1,6 @@
 ghost use Rattle.std.specs.Prelude.{◌≡◌, true, false, length, IfOk, OnOk, IfErr, IsSomeAnd};
 ghost use Rattle.part_events.specs.Package.{SameParts, KeepsFaults};
-ghost use Rattle.cell_data.specs.declared.error.XlsxError.TheVariants.{Io};
+ghost use Rattle.xlsx_error.specs.declared.error.XlsxError.TheVariants.{Io};
 ghost use Rattle.xlsx_cells.specs.CellsReader.{values_alone, formulas_alone, area_held, flow_by};
 ghost use Rattle.xlsx_cells.specs.CellsReader.{grounds_by, styles_held, styles_alone};
 ghost use Rattle.xlsx_cells.specs.Ends.{reads_children};
@@ -16,10 +16,11 @@ use crate::placed_sheet::{open_placed, path_named, read_placed};
 use crate::ranges::{formula_range, ranges_of, style_range, value_range};
 use crate::sheet_reading::SheetReading;
 use crate::xlsx::Xlsx;
-use cell_data::{Data, Range, XlsxError};
+use cell_data::{Data, Range};
 use cell_styles::StyleRange;
 use part_events::Package;
 use xlsx_cells::{Asked, SheetCells, Wants, XlsxCellReader};
+use xlsx_error::XlsxError;
 use xlsx_values::Book;
 
 /// Reading the worksheets of an open workbook.

@@ -5,7 +5,7 @@ use Rattle.std.specs.Prelude.{IsOkAnd}
 use Rattle.part_events.specs.Reading.{Reading, ahead}
 use Rattle.part_events.specs.Section.{PlacedTag, content, starts_by}
 use Rattle.part_events.specs.Walk.{inside, section_ahead}
-use Rattle.cell_data.specs.declared.error.XlsxError.{XlsxError}
+use Rattle.xlsx_error.specs.declared.error.XlsxError.{XlsxError}
 use Rattle.xlsx_sections.specs.Answers.{some_answers, and_others_if, prepended}
 use Rattle.xlsx_sections.specs.Refusal.{Refusal, ElementFails}
 use Rattle.xlsx_sections.proofs.Refused.{refused_at_weaker}

@@ -8,9 +8,9 @@ use Rattle.attr_text.specs.Attributes.{lookup}
 use Rattle.part_events.specs.Event.{Tag, Event}
 use Rattle.part_events.specs.Reading.{Reading, IsReading}
 use Rattle.part_events.specs.declared.fault.XmlFault.TheVariants.{EndMismatch}
-use Rattle.cell_data.specs.declared.error.XlsxError.{XlsxError}
-use Rattle.cell_data.specs.declared.error.XlsxError.TheVariants.{OutOfMemory, Io, Xml, XmlAttr}
-use Rattle.cell_data.specs.declared.error.XlsxError.TheVariants.{XmlEof}
+use Rattle.xlsx_error.specs.declared.error.XlsxError.{XlsxError}
+use Rattle.xlsx_error.specs.declared.error.XlsxError.TheVariants.{OutOfMemory, Io, Xml, XmlAttr}
+use Rattle.xlsx_error.specs.declared.error.XlsxError.TheVariants.{XmlEof}
 use Rattle.xlsx_sections.specs.Elements.{ElementReadFails, IsInsideRefused}
 use Rattle.xlsx_sections.specs.NumberText.{number_text}
 use Rattle.xlsx_sections.specs.PartSection.{always, inside_of, section_left}

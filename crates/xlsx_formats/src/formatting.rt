@@ -7,7 +7,7 @@ ghost use Rattle.part_events.specs.Reading.{reading, open_elements, IsReading, I
 ghost use Rattle.part_events.specs.Reading.{ReadsPart, Skips, ahead};
 ghost use Rattle.part_events.specs.Section.{content};
 ghost use Rattle.cell_data.specs.NumberFormat.{builtin_code};
-ghost use Rattle.cell_data.specs.declared.error.XlsxError.TheVariants.{Io};
+ghost use Rattle.xlsx_error.specs.declared.error.XlsxError.TheVariants.{Io};
 ghost use Rattle.xlsx_sections.specs.Elements.{ElementReadFails};
 ghost use Rattle.xlsx_sections.specs.PartSection.{always};
 ghost use Rattle.xlsx_sections.specs.Refusal.{Refusal, ElementFails};
@@ -24,12 +24,12 @@ use crate::format_codes::FormatCodes;
 use crate::settings::{Settings, read_settings};
 use attr_text::{AttrFault, AttrValue, RawAttributes, four_values};
 use cell_data::{
-    CellFormat, XlsxError, builtin_format_by_id, builtin_format_code_by_id,
-    detect_custom_number_format,
+    CellFormat, builtin_format_by_id, builtin_format_code_by_id, detect_custom_number_format,
 };
 use cell_styles::{Borders, Fill, Font, NumberFormat, Style};
 use part_events::{Cursor, Package, StartTag};
 use std::alloc::{AllocError, Global};
+use xlsx_error::XlsxError;
 use xlsx_sections::{number_text, start_tag};
 
 /// What cell formats name: number formats by the texts of their ids, and fonts, fills and borders

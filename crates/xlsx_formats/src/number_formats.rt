@@ -5,7 +5,7 @@ ghost use Rattle.part_events.specs.Event.{tag_of};
 ghost use Rattle.part_events.specs.Reading.{reading, open_elements, IsReading, IsAtElement};
 ghost use Rattle.part_events.specs.Reading.{ReadsPart, Skips, ahead};
 ghost use Rattle.part_events.specs.Section.{content, starts_by};
-ghost use Rattle.cell_data.specs.declared.error.XlsxError.TheVariants.{Io};
+ghost use Rattle.xlsx_error.specs.declared.error.XlsxError.TheVariants.{Io};
 ghost use Rattle.xlsx_sections.specs.Elements.{ElementReadFails};
 ghost use Rattle.xlsx_sections.specs.PartSection.{always};
 ghost use Rattle.xlsx_sections.specs.Refusal.{ElementFails, IsDecodeError, placed_at};
@@ -16,9 +16,9 @@ ghost use Rattle.xlsx_formats.specs.FormatCodes.{KeepsFront};
 
 use crate::format_codes::FormatCodes;
 use attr_text::{RawAttributes, get_attrs};
-use cell_data::XlsxError;
 use part_events::{Cursor, Package, StartTag};
 use std::alloc::Global;
+use xlsx_error::XlsxError;
 use xlsx_sections::{decode_at, next_start_in, start_tag};
 
 /// Keeps the code of the format that a start writes, which is event number `at` of its part.

@@ -4,7 +4,7 @@ ghost use Rattle.part_events.specs.Event.{tag_of};
 ghost use Rattle.part_events.specs.Reading.{reading, open_elements, IsReading, IsAtElement};
 ghost use Rattle.part_events.specs.Reading.{ReadsPart, Skips, ahead};
 ghost use Rattle.part_events.specs.Section.{content};
-ghost use Rattle.cell_data.specs.declared.error.XlsxError.TheVariants.{Io};
+ghost use Rattle.xlsx_error.specs.declared.error.XlsxError.TheVariants.{Io};
 ghost use Rattle.xlsx_sections.specs.Elements.{ElementReadFails};
 ghost use Rattle.xlsx_sections.specs.PartSection.{always};
 ghost use Rattle.xlsx_sections.specs.Refusal.{lookup_fault, placed_at};
@@ -12,9 +12,9 @@ ghost use Rattle.xlsx_styles.specs.Errors.{IsPlainError};
 ghost use Rattle.xlsx_formats.specs.Formattings.{setting_change, settings_of};
 
 use attr_text::{AttrFault, RawAttributes};
-use cell_data::XlsxError;
 use cell_styles::{Alignment, Protection};
 use part_events::{Cursor, Package, StartTag};
+use xlsx_error::XlsxError;
 use xlsx_sections::{next_start_among, start_tag};
 use xlsx_styles::{parse_alignment, parse_protection};
 

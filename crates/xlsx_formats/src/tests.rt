@@ -1,10 +1,11 @@
 use super::*;
-use cell_data::{CellFormat, XlsxError};
+use cell_data::CellFormat;
 use cell_styles::{Borders, Fill, FillPattern, Font, HorizontalAlignment};
 use part_events::{Cursor, MemoryPackage, Package, PartEvent, StartTag, XmlFault};
 use std::alloc::{AllocError, Global};
 use std::process::Abort;
 use std::test::Fail;
+use xlsx_error::XlsxError;
 use xlsx_sections::enter;
 
 fn start<'a>(name: &'a str, attributes: &'a str) -> PartEvent<'a> {

@@ -3,7 +3,7 @@ ghost use Rattle.part_events.specs.Event.{Tag, start, tag_of};
 ghost use Rattle.part_events.specs.Reading.{reading, open_elements, ahead};
 ghost use Rattle.part_events.specs.Reading.{IsReading, IsAtElement, ReadsPart, Skips};
 ghost use Rattle.part_events.specs.Section.{content};
-ghost use Rattle.cell_data.specs.declared.error.XlsxError.TheVariants.{Io};
+ghost use Rattle.xlsx_error.specs.declared.error.XlsxError.TheVariants.{Io};
 ghost use Rattle.xlsx_sections.specs.Elements.{ElementReadFails};
 ghost use Rattle.xlsx_sections.specs.PartSection.{always};
 ghost use Rattle.xlsx_sections.specs.Refusal.{ElementFails};
@@ -12,10 +12,10 @@ ghost use Rattle.xlsx_formulas.specs.Kept.{sharing_seen, formula_seen};
 ghost use Rattle.xlsx_formulas.specs.Refused.{IsShareError, IsFormulaError};
 
 use attr_text::{RawAttributes, get_attrs};
-use cell_data::XlsxError;
 use cell_refs::{Dimensions, get_dimension};
 use part_events::{Cursor, Package, StartTag};
 use std::alloc::Global;
+use xlsx_error::XlsxError;
 use xlsx_sections::{number_text, read_element_text, start_tag};
 
 /// Whose formula an `f` writes.

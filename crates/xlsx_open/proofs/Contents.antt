@@ -10,8 +10,8 @@ use Rattle.part_events.specs.Section.{Element, content}
 use Rattle.part_events.specs.Walk.{section_ahead, section_end, section_behind}
 use Rattle.part_events.specs.declared.fault.XmlFault.TheVariants.{Entity}
 use Rattle.part_events.proofs.Walking.{next_element}
-use Rattle.cell_data.specs.declared.error.XlsxError.{XlsxError}
-use Rattle.cell_data.specs.declared.error.XlsxError.TheVariants.{OutOfMemory, Xml}
+use Rattle.xlsx_error.specs.declared.error.XlsxError.{XlsxError}
+use Rattle.xlsx_error.specs.declared.error.XlsxError.TheVariants.{OutOfMemory, Xml}
 use Rattle.xlsx_sections.specs.Answers.{some_answers, and_others_if, or_earlier, prepended}
 use Rattle.xlsx_sections.specs.PartSection.{PartSection, inside_of}
 use Rattle.xlsx_sections.specs.Refusal.{Refusal, RefusedAt, no_character, placed_at}

@@ -5,8 +5,8 @@ use Rattle.std.proofs.Common.{arith, codes, string_bytes, String, Global}
 use Rattle.std.specs.Prelude.{option_and_then, unwrap_or, IsSomeAnd, MatchOption}
 use Rattle.part_events.specs.Package.{Part, PackageState, SameParts, UsesPackage, LeavesPackage}
 use Rattle.part_events.specs.Package.{Uses, part_of, event_count}
-use Rattle.cell_data.specs.declared.error.XlsxError.{XlsxError}
-use Rattle.cell_data.specs.declared.error.XlsxError.TheVariants.{OutOfMemory, Io}
+use Rattle.xlsx_error.specs.declared.error.XlsxError.{XlsxError}
+use Rattle.xlsx_error.specs.declared.error.XlsxError.TheVariants.{OutOfMemory, Io}
 use Rattle.cell_styles.specs.declared.color.Color.{Color}
 use Rattle.xlsx_sections.specs.Elements.{IsInsideRefused}
 use Rattle.xlsx_sections.specs.PartSection.{always, OptionalPartCause, OptionalPartFails}

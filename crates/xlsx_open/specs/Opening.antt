@@ -7,10 +7,10 @@ use Rattle.part_events.specs.Event.{Event}
 use Rattle.part_events.specs.Package.{Part, PackageState, HasCause, KeepsFaults, SameParts, part_of}
 use Rattle.part_events.specs.Package.{event_count}
 use Rattle.part_events.specs.declared.fault.XmlFault.TheVariants.{EndMismatch, Entity}
-use Rattle.cell_data.specs.declared.error.XlsxError.{XlsxError}
-use Rattle.cell_data.specs.declared.error.XlsxError.TheVariants.{OutOfMemory, Io, Xml}
-use Rattle.cell_data.specs.declared.error.XlsxError.TheVariants.{XmlAttr, XmlEof, FileNotFound}
-use Rattle.cell_data.specs.declared.error.XlsxError.TheVariants.{RelationshipNotFound, Unrecognized}
+use Rattle.xlsx_error.specs.declared.error.XlsxError.{XlsxError}
+use Rattle.xlsx_error.specs.declared.error.XlsxError.TheVariants.{OutOfMemory, Io, Xml}
+use Rattle.xlsx_error.specs.declared.error.XlsxError.TheVariants.{XmlAttr, XmlEof, FileNotFound}
+use Rattle.xlsx_error.specs.declared.error.XlsxError.TheVariants.{RelationshipNotFound, Unrecognized}
 use Rattle.xlsx_sections.specs.PartSection.{always, closed_section_of, PartCause, OptionalPartCause}
 use Rattle.xlsx_sections.specs.Refusal.{Refusal}
 use Rattle.xlsx_stylesheet.specs.StylesErrors.{IsStylesEnd}

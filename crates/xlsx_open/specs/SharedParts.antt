@@ -1,8 +1,8 @@
 -- What the sheets of a workbook share: its strings, its theme and its styles.
 use Rattle.std.specs.Prelude.{◌≡◌, ◌⊎◌, ⊤, ℕ, ◌+◌, List, map, Bool, true, codes, string_bytes}
 use Rattle.part_events.specs.Package.{Part, PackageState, HasCause, part_of, event_count}
-use Rattle.cell_data.specs.declared.error.XlsxError.{XlsxError}
-use Rattle.cell_data.specs.declared.error.XlsxError.TheVariants.{OutOfMemory, Io}
+use Rattle.xlsx_error.specs.declared.error.XlsxError.{XlsxError}
+use Rattle.xlsx_error.specs.declared.error.XlsxError.TheVariants.{OutOfMemory, Io}
 use Rattle.cell_data.specs.declared.format.CellFormat.{CellFormat}
 use Rattle.xlsx_sections.specs.Elements.{IsInsideRefused}
 use Rattle.xlsx_sections.specs.PartSection.{OptionalPartCause}

@@ -5,8 +5,8 @@ use Rattle.part_events.specs.Event.{Event, start, end, leaf}
 use Rattle.part_events.specs.JoinedText.{is_unknown}
 use Rattle.part_events.specs.Section.{content}
 use Rattle.part_events.specs.declared.fault.XmlFault.TheVariants.{Entity}
-use Rattle.cell_data.specs.declared.error.XlsxError.{XlsxError}
-use Rattle.cell_data.specs.declared.error.XlsxError.TheVariants.{OutOfMemory, Xml}
+use Rattle.xlsx_error.specs.declared.error.XlsxError.{XlsxError}
+use Rattle.xlsx_error.specs.declared.error.XlsxError.TheVariants.{OutOfMemory, Xml}
 use Rattle.xlsx_sections.specs.Answers.{and_others_if, or_earlier, prepended}
 use Rattle.xlsx_sections.specs.PartSection.{PartSection, inside_of}
 use Rattle.xlsx_sections.specs.Refusal.{Refusal}

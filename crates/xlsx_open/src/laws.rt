@@ -2,7 +2,7 @@
 
 ghost use Rattle.std.specs.Prelude.{List};
 ghost use Rattle.part_events.specs.Package.{Part};
-ghost use Rattle.cell_data.specs.declared.error.XlsxError.{XlsxError};
+ghost use Rattle.xlsx_error.specs.declared.error.XlsxError.{XlsxError};
 ghost use Rattle.xlsx_open.specs.Opening.{Opening, OpensAs, OpeningCause};
 
 /// A package that opens has no cause of a refusal.

@@ -1,7 +1,7 @@
 ghost use Rattle.std.specs.Prelude.{◌≡◌, [], map, true, false, unwrap_or, string_bytes, IfOk};
 ghost use Rattle.std.specs.Prelude.{IfErr};
 ghost use Rattle.part_events.specs.Package.{Uses};
-ghost use Rattle.cell_data.specs.declared.error.XlsxError.TheVariants.{Io};
+ghost use Rattle.xlsx_error.specs.declared.error.XlsxError.TheVariants.{Io};
 ghost use Rattle.xlsx_open.specs.Opening.{Opening, HoldsOpening, OpensAs, IsOpeningError};
 ghost use Rattle.xlsx_open.specs.Opening.{OpensPackage, WorkbookOpens, WorkbookFails, BookOpens};
 ghost use Rattle.xlsx_open.specs.Opening.{BookFails, OpeningFails, workbook_events, book_events};
@@ -13,9 +13,9 @@ use crate::relationship_parts::{read_path, read_relationships};
 use crate::shared_parts::{SharedParts, read_shared};
 use crate::sheet::Metadata;
 use crate::workbook::{SheetPlaces, WorkbookContents, read_contents};
-use cell_data::XlsxError;
 use part_events::Package;
 use std::alloc::{AllocError, Global};
+use xlsx_error::XlsxError;
 
 fn workbook_part(alloc: Global, path: &str) -> Result<String, AllocError>
     ensures { IfOk result (λ part. string_bytes part ≡ workbook_part path.now) }

@@ -3,7 +3,7 @@ ghost use Rattle.std.specs.Prelude.{string_bytes, IfOk, OnOk, IfErr, IsSomeAnd};
 ghost use Rattle.part_events.specs.Package.{Uses, event_count};
 ghost use Rattle.part_events.specs.Reading.{reading, open_elements, IsReading, ReadsPart};
 ghost use Rattle.part_events.specs.Walk.{section_ahead, is_closed_ahead};
-ghost use Rattle.cell_data.specs.declared.error.XlsxError.TheVariants.{Io};
+ghost use Rattle.xlsx_error.specs.declared.error.XlsxError.TheVariants.{Io};
 ghost use Rattle.xlsx_sections.specs.PartSection.{always, SectionFails, PartFails};
 ghost use Rattle.xlsx_sections.specs.PartSection.{closed_section_of};
 ghost use Rattle.xlsx_open.specs.KeptContents.{related_by_id};
@@ -12,10 +12,10 @@ ghost use Rattle.xlsx_open.specs.Relationships.{path_in, related_in, IsTargetRef
 ghost use Rattle.xlsx_open.specs.Relationships.{IsPathRefused, AreRelationshipsRefused};
 
 use crate::relationships::{Relationship, keep_relationship, keep_target};
-use cell_data::XlsxError;
 use part_events::{Cursor, Package};
 use std::alloc::Global;
 use std::collections::BTreeMap;
+use xlsx_error::XlsxError;
 use xlsx_sections::{enter_part, next_start_in, start_tag};
 
 /// The path of the workbook, in a section of relationships whose element is number `base` of the

@@ -4,7 +4,7 @@ ghost use Rattle.std.specs.Option.{option_copied};
 ghost use Rattle.std.specs.Str.{bytes_eq};
 ghost use Rattle.part_events.specs.Event.{tag_of};
 ghost use Rattle.part_events.specs.Section.{PlacedTag};
-ghost use Rattle.cell_data.specs.declared.error.XlsxError.TheVariants.{OutOfMemory};
+ghost use Rattle.xlsx_error.specs.declared.error.XlsxError.TheVariants.{OutOfMemory};
 ghost use Rattle.xlsx_sections.specs.Answers.{or_earlier};
 ghost use Rattle.xlsx_sections.specs.Refusal.{ElementFails, placed_at};
 ghost use Rattle.xlsx_open.specs.KeptContents.{relationship_of, related_by_id};
@@ -12,10 +12,10 @@ ghost use Rattle.xlsx_open.specs.Opening.{IsOpeningError};
 ghost use Rattle.xlsx_open.specs.Relationships.{is_office_document, target_of, related_of};
 
 use attr_text::{RawAttributes, get_attrs};
-use cell_data::XlsxError;
 use part_events::StartTag;
 use std::alloc::Global;
 use std::collections::BTreeMap;
+use xlsx_error::XlsxError;
 use xlsx_sections::decode_at;
 
 /// What a relationship leads to, and its type, both as written.

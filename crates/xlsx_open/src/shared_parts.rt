@@ -1,6 +1,6 @@
 ghost use Rattle.std.specs.Prelude.{◌≡◌, codes, map, string_bytes, true, IfOk, IfErr};
 ghost use Rattle.part_events.specs.Package.{Uses, event_count};
-ghost use Rattle.cell_data.specs.declared.error.XlsxError.TheVariants.{Io};
+ghost use Rattle.xlsx_error.specs.declared.error.XlsxError.TheVariants.{Io};
 ghost use Rattle.xlsx_sections.specs.Elements.{IsInsideRefused};
 ghost use Rattle.xlsx_sections.specs.PartSection.{OptionalPartFails, SoundFails};
 ghost use Rattle.xlsx_formats.specs.Formattings.{style_said};
@@ -12,10 +12,10 @@ ghost use Rattle.xlsx_open.specs.Paths.{strings_part, theme_part, styles_part};
 ghost use Rattle.xlsx_open.specs.SharedParts.{shared_said, HasShared, SharedFails, shared_events};
 
 use crate::paths::{folder_of, joined};
-use cell_data::XlsxError;
 use cell_styles::Color;
 use part_events::Package;
 use std::alloc::{AllocError, Global};
+use xlsx_error::XlsxError;
 use xlsx_strings::read_shared_strings;
 use xlsx_stylesheet::{StyleSheet, read_styles};
 use xlsx_theme::{ThemeColors, read_theme};

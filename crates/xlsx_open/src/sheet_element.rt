@@ -13,10 +13,10 @@ use crate::paths::{last_piece, sheet_part};
 use crate::relationships::{Relationship, find_relationship, text_or};
 use crate::sheet::{Sheet, SheetEntry, SheetType, SheetVisible};
 use attr_text::{AttrFault, RawAttributes, get_attrs};
-use cell_data::XlsxError;
 use part_events::StartTag;
 use std::alloc::Global;
 use std::collections::BTreeMap;
+use xlsx_error::XlsxError;
 use xlsx_sections::decode_at;
 
 fn state_named(text: &str) -> Option<SheetVisible>

@@ -8,7 +8,7 @@ ghost use Rattle.part_events.specs.Reading.{reading, open_elements, IsReading, I
 ghost use Rattle.part_events.specs.Reading.{ReadsPart, Skips, ahead};
 ghost use Rattle.part_events.specs.Section.{content};
 ghost use Rattle.part_events.specs.Walk.{section_ahead, is_closed_ahead};
-ghost use Rattle.cell_data.specs.declared.error.XlsxError.TheVariants.{Io, OutOfMemory};
+ghost use Rattle.xlsx_error.specs.declared.error.XlsxError.TheVariants.{Io, OutOfMemory};
 ghost use Rattle.xlsx_sections.specs.PartSection.{always, KeepsSection, SectionFails};
 ghost use Rattle.xlsx_sections.specs.PartSection.{OptionalPartFails, closed_section_of};
 ghost use Rattle.xlsx_sections.specs.Refusal.{RefusedAt, ElementFails, placed_at};
@@ -23,10 +23,10 @@ use crate::relationships::Relationship;
 use crate::sheet::SheetEntry;
 use crate::sheet_element::{keep_epoch, push_sheet};
 use attr_text::{RawAttributes, TextFault};
-use cell_data::XlsxError;
 use part_events::{Cursor, Package, PartEvent, StartTag, XmlFault, push_text};
 use std::alloc::Global;
 use std::collections::BTreeMap;
+use xlsx_error::XlsxError;
 use xlsx_sections::{decode_at, enter_part, next_event_in};
 
 /// What was read of a workbook's section.

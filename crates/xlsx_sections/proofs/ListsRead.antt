@@ -5,7 +5,7 @@ use Rattle.part_events.specs.Event.{Tag, Event}
 use Rattle.part_events.specs.Reading.{Reading, ReadsOn, Skips, ahead}
 use Rattle.part_events.specs.Section.{Element, content}
 use Rattle.part_events.specs.Walk.{section_ahead, element_at, ClosesSection}
-use Rattle.cell_data.specs.declared.error.XlsxError.{XlsxError}
+use Rattle.xlsx_error.specs.declared.error.XlsxError.{XlsxError}
 use Rattle.xlsx_sections.specs.Answers.{all_answers, prepended}
 use Rattle.xlsx_sections.specs.ElementLists.{element_said, list_said}
 use Rattle.xlsx_sections.specs.Elements.{KeepsElements, ElementReadFails, IsInsideRefused}

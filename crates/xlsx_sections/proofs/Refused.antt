@@ -9,18 +9,18 @@ use Rattle.part_events.specs.Package.{PackageState, part_of}
 use Rattle.part_events.specs.Reading.{Reading, IsReading, BreaksAt}
 use Rattle.part_events.specs.declared.fault.XmlFault.TheVariants.{EndMismatch, Unclosed, Entity}
 use Rattle.part_events.proofs.Onward.{reads_nothing}
-use Rattle.cell_data.specs.declared.error.XlsxError.{XlsxError}
-use Rattle.cell_data.specs.declared.error.XlsxError.TheVariants.{OutOfMemory, Io, Xml, XmlAttr}
-use Rattle.cell_data.specs.declared.error.XlsxError.TheVariants.{XmlEof}
-use Rattle.cell_data.specs.declared.error.XlsxError.TheVariants.{FileNotFound}
-use Rattle.cell_data.specs.declared.error.XlsxError.TheVariants.{RelationshipNotFound, Unrecognized}
-use Rattle.cell_data.specs.declared.error.XlsxError.TheVariants.{Alphanumeric, DimensionCount}
-use Rattle.cell_data.specs.declared.error.XlsxError.TheVariants.{RangeWithoutRowComponent}
-use Rattle.cell_data.specs.declared.error.XlsxError.TheVariants.{RangeWithoutColumnComponent}
-use Rattle.cell_data.specs.declared.error.XlsxError.TheVariants.{ColumnNumberOverflow}
-use Rattle.cell_data.specs.declared.error.XlsxError.TheVariants.{RowNumberOverflow, UnexpectedNode}
-use Rattle.cell_data.specs.declared.error.XlsxError.TheVariants.{Unexpected, CellTAttribute}
-use Rattle.cell_data.specs.declared.error.XlsxError.TheVariants.{CellError, ParseFloat}
+use Rattle.xlsx_error.specs.declared.error.XlsxError.{XlsxError}
+use Rattle.xlsx_error.specs.declared.error.XlsxError.TheVariants.{OutOfMemory, Io, Xml, XmlAttr}
+use Rattle.xlsx_error.specs.declared.error.XlsxError.TheVariants.{XmlEof}
+use Rattle.xlsx_error.specs.declared.error.XlsxError.TheVariants.{FileNotFound}
+use Rattle.xlsx_error.specs.declared.error.XlsxError.TheVariants.{RelationshipNotFound, Unrecognized}
+use Rattle.xlsx_error.specs.declared.error.XlsxError.TheVariants.{Alphanumeric, DimensionCount}
+use Rattle.xlsx_error.specs.declared.error.XlsxError.TheVariants.{RangeWithoutRowComponent}
+use Rattle.xlsx_error.specs.declared.error.XlsxError.TheVariants.{RangeWithoutColumnComponent}
+use Rattle.xlsx_error.specs.declared.error.XlsxError.TheVariants.{ColumnNumberOverflow}
+use Rattle.xlsx_error.specs.declared.error.XlsxError.TheVariants.{RowNumberOverflow, UnexpectedNode}
+use Rattle.xlsx_error.specs.declared.error.XlsxError.TheVariants.{Unexpected, CellTAttribute}
+use Rattle.xlsx_error.specs.declared.error.XlsxError.TheVariants.{CellError, ParseFloat}
 use Rattle.xlsx_sections.specs.PartSection.{PartSection, KeepsSection, inside_of, has_end, last_of}
 use Rattle.xlsx_sections.specs.PartSection.{section_left, section_in, SectionCause}
 use Rattle.xlsx_sections.specs.PartSection.{SectionFails, StartCause, EntersSection}

@@ -6,7 +6,7 @@ use Rattle.part_events.specs.Reading.{Reading, IsReading, ReadsOn, Skips, ahead}
 use Rattle.part_events.specs.Section.{content, is_closed, behind}
 use Rattle.part_events.specs.Walk.{inside, IsNextStart, ClosesSection}
 use Rattle.part_events.proofs.Onward.{reads_nothing}
-use Rattle.cell_data.specs.declared.error.XlsxError.{XlsxError}
+use Rattle.xlsx_error.specs.declared.error.XlsxError.{XlsxError}
 use Rattle.xlsx_sections.specs.Elements.{KeepsStarts}
 use Rattle.xlsx_sections.specs.PartSection.{PartSection, KeepsSection, SectionFails, FindsStartIn}
 use Rattle.xlsx_sections.specs.PartSection.{Never, always}

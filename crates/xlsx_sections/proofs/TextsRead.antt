@@ -9,7 +9,7 @@ use Rattle.part_events.specs.Section.{content}
 use Rattle.part_events.specs.declared.fault.StreamError.{StreamError}
 use Rattle.part_events.specs.declared.fault.StreamError.TheVariants as stream
 use Rattle.part_events.specs.declared.fault.XmlFault.TheVariants.{EndMismatch, Unclosed, Entity}
-use Rattle.cell_data.specs.XlsxError.{of_stream}
+use Rattle.xlsx_error.specs.XlsxError.{of_stream}
 use Rattle.xlsx_sections.specs.Elements.{ElementReadFails, IsTextError}
 use Rattle.xlsx_sections.specs.ElementText.{element_text, known_text}
 use Rattle.xlsx_sections.specs.PartSection.{always}

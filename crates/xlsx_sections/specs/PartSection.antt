@@ -11,9 +11,9 @@ use Rattle.part_events.specs.Section.{content, is_closed, behind_start, is_named
 use Rattle.part_events.specs.Walk.{is_closed_ahead, TakesInside, TakesLastEnd, IsNextStart}
 use Rattle.part_events.specs.Walk.{ClosesSection, inside}
 use Rattle.part_events.specs.declared.fault.XmlFault.TheVariants.{EndMismatch, Unclosed}
-use Rattle.cell_data.specs.declared.error.XlsxError.{XlsxError}
-use Rattle.cell_data.specs.declared.error.XlsxError.TheVariants.{OutOfMemory, Io, Xml, XmlEof}
-use Rattle.cell_data.specs.declared.error.XlsxError.TheVariants.{FileNotFound}
+use Rattle.xlsx_error.specs.declared.error.XlsxError.{XlsxError}
+use Rattle.xlsx_error.specs.declared.error.XlsxError.TheVariants.{OutOfMemory, Io, Xml, XmlEof}
+use Rattle.xlsx_error.specs.declared.error.XlsxError.TheVariants.{FileNotFound}
 use Rattle.xlsx_sections.specs.Refusal.{Refusal, RefusedAs}
 
 -- What is left of a section: all events of its part, the number of the first event that is left,

@@ -2,9 +2,9 @@ ghost use Rattle.std.specs.Prelude.{◌≡◌, ℕ, Ok, string_bytes, IfOk, IfEr
 ghost use Rattle.xlsx_sections.specs.Refusal.{ElementFails, IsDecodeError, decoded_at};
 
 use attr_text::{TextFault, decode_attr};
-use cell_data::XlsxError;
 use part_events::XmlFault;
 use std::alloc::Global;
+use xlsx_error::XlsxError;
 
 /// A text of the attributes of a start, which is event number `at` of its part, counted from 0,
 /// decoded.

@@ -4,15 +4,15 @@ ghost use Rattle.part_events.specs.JoinedText.{joined_text, PutsFront};
 ghost use Rattle.part_events.specs.Reading.{reading, open_elements, IsReading, IsAtElement};
 ghost use Rattle.part_events.specs.Reading.{ReadsPart, Skips, ahead};
 ghost use Rattle.part_events.specs.Section.{Element, content, is_any, is_named};
-ghost use Rattle.cell_data.specs.declared.error.XlsxError.TheVariants.{Io};
+ghost use Rattle.xlsx_error.specs.declared.error.XlsxError.TheVariants.{Io};
 ghost use Rattle.xlsx_sections.specs.Elements.{end_among, named_end, ElementReadFails};
 ghost use Rattle.xlsx_sections.specs.Elements.{FindsElementIn, IsTextError, IsEndError, ReachesEnd};
 ghost use Rattle.xlsx_sections.specs.ElementText.{element_text};
 ghost use Rattle.xlsx_sections.specs.PartSection.{always, Never, IsStepError, SectionFails};
 ghost use Rattle.xlsx_sections.specs.PartSection.{StandsAtStart};
 
-use cell_data::XlsxError;
 use part_events::{Cursor, Package, Step, XmlFault};
+use xlsx_error::XlsxError;
 
 /// Reads on to the next element with one of these local names in a section, whose element is number
 /// `base` of the open ones, counted from 1. Answers the number of its start in the part, counted

@@ -5,15 +5,15 @@ ghost use Rattle.part_events.specs.Package.{UsesPackage, LeavesPackage, part_of,
 ghost use Rattle.part_events.specs.Reading.{reading, open_elements, IsReading, IsAtElement};
 ghost use Rattle.part_events.specs.Reading.{ReadsPart, ahead};
 ghost use Rattle.part_events.specs.Section.{is_named, behind_start};
-ghost use Rattle.cell_data.specs.declared.error.XlsxError.TheVariants.{Io};
+ghost use Rattle.xlsx_error.specs.declared.error.XlsxError.TheVariants.{Io};
 ghost use Rattle.xlsx_sections.specs.PartSection.{always, Never, IsStepError, EntersSection};
 ghost use Rattle.xlsx_sections.specs.PartSection.{EnterFails, SectionFails, StartFails};
 ghost use Rattle.xlsx_sections.specs.PartSection.{StandsAtEvent, FindsEvent, StandsAtStart};
 ghost use Rattle.xlsx_sections.specs.PartSection.{FindsStartIn};
 
-use cell_data::XlsxError;
 use part_events::{Cursor, Package, PartEvent, StartTag, Step};
 use std::alloc::Global;
+use xlsx_error::XlsxError;
 
 /// The start at which the package stands.
 pub fn start_tag<P: Package>(package: &P) -> StartTag<'_>

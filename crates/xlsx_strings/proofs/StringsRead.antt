@@ -9,7 +9,7 @@ use Rattle.part_events.specs.Event.{Tag, Event, start}
 use Rattle.part_events.specs.Reading.{Reading, ahead}
 use Rattle.part_events.specs.Section.{Element, content}
 use Rattle.part_events.specs.Walk.{element_at}
-use Rattle.cell_data.specs.declared.error.XlsxError.{XlsxError}
+use Rattle.xlsx_error.specs.declared.error.XlsxError.{XlsxError}
 use Rattle.xlsx_sections.specs.Answers.{with_first, and_others, all_answers}
 use Rattle.xlsx_sections.specs.ElementLists.{element_said}
 use Rattle.xlsx_sections.specs.Elements.{ElementReadFails}

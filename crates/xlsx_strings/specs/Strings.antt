@@ -11,9 +11,9 @@ use Rattle.part_events.specs.Event.{Tag, Event}
 use Rattle.part_events.specs.Package.{Part, part_of}
 use Rattle.part_events.specs.Section.{Element, is_named}
 use Rattle.part_events.specs.declared.fault.XmlFault.TheVariants.{EndMismatch, Entity}
-use Rattle.cell_data.specs.declared.error.XlsxError.{XlsxError}
-use Rattle.cell_data.specs.declared.error.XlsxError.TheVariants.{OutOfMemory, Io, Xml, XmlAttr}
-use Rattle.cell_data.specs.declared.error.XlsxError.TheVariants.{XmlEof}
+use Rattle.xlsx_error.specs.declared.error.XlsxError.{XlsxError}
+use Rattle.xlsx_error.specs.declared.error.XlsxError.TheVariants.{OutOfMemory, Io, Xml, XmlAttr}
+use Rattle.xlsx_error.specs.declared.error.XlsxError.TheVariants.{XmlEof}
 use Rattle.xlsx_sections.specs.ElementLists.{list_said, end_in_list}
 use Rattle.xlsx_sections.specs.Elements.{end_among}
 use Rattle.xlsx_sections.specs.ElementText.{element_text}

@@ -3,16 +3,16 @@ ghost use Rattle.std.specs.Prelude.{string_bytes, IfOk, OnOk, IfErr};
 ghost use Rattle.part_events.specs.Package.{Uses, event_count};
 ghost use Rattle.part_events.specs.Reading.{reading, open_elements, IsReading, ReadsPart};
 ghost use Rattle.part_events.specs.Walk.{section_ahead, is_closed_ahead};
-ghost use Rattle.cell_data.specs.declared.error.XlsxError.TheVariants.{Io};
+ghost use Rattle.xlsx_error.specs.declared.error.XlsxError.TheVariants.{Io};
 ghost use Rattle.xlsx_sections.specs.Elements.{IsInsideRefused};
 ghost use Rattle.xlsx_sections.specs.PartSection.{SectionFails, OptionalPartFails};
 ghost use Rattle.xlsx_strings.specs.Strings.{strings_in, end_in_strings, HasStrings};
 ghost use Rattle.xlsx_strings.specs.Strings.{AreStringsError};
 
 use crate::string_element::read_string;
-use cell_data::XlsxError;
 use part_events::{Cursor, Package};
 use std::alloc::{AllocError, Global};
+use xlsx_error::XlsxError;
 use xlsx_sections::{enter_part, next_element_in};
 
 /// Appends a text as a string that takes its bytes alone.

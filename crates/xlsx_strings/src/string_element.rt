@@ -6,7 +6,7 @@ ghost use Rattle.part_events.specs.Event.{Tag, start, tag_of};
 ghost use Rattle.part_events.specs.Reading.{reading, open_elements, IsReading, IsAtElement};
 ghost use Rattle.part_events.specs.Reading.{ReadsPart, Skips, ahead};
 ghost use Rattle.part_events.specs.Section.{content};
-ghost use Rattle.cell_data.specs.declared.error.XlsxError.TheVariants.{Io};
+ghost use Rattle.xlsx_error.specs.declared.error.XlsxError.TheVariants.{Io};
 ghost use Rattle.xlsx_sections.specs.Elements.{ElementReadFails};
 ghost use Rattle.xlsx_sections.specs.PartSection.{always};
 ghost use Rattle.xlsx_strings.specs.Strings.{blanks_kept, spaced, text_within, piece_of, string_of};
@@ -15,9 +15,9 @@ ghost use Rattle.xlsx_strings.specs.Strings.{IsStringError};
 
 use crate::trim::trimmed;
 use attr_text::{AttrFault, RawAttributes, unescape_hex};
-use cell_data::XlsxError;
 use part_events::{Cursor, Package, StartTag};
 use std::alloc::{AllocError, Global};
+use xlsx_error::XlsxError;
 use xlsx_sections::{next_element_in, read_element_text, skip_element_in, start_tag};
 
 /// Whether a text of this start keeps the blanks at its ends.

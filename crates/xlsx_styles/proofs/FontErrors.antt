@@ -1,8 +1,8 @@
 -- Which refusals are those of a font.
 use Rattle.std.proofs.Common.{◌≡◌, ℕ, List, codes, Result, Err, ap}
 use Rattle.part_events.specs.declared.fault.XmlFault.TheVariants.{EndMismatch, Entity}
-use Rattle.cell_data.specs.declared.error.XlsxError.{XlsxError}
-use Rattle.cell_data.specs.declared.error.XlsxError.TheVariants.{OutOfMemory, Io, Xml, XmlEof}
+use Rattle.xlsx_error.specs.declared.error.XlsxError.{XlsxError}
+use Rattle.xlsx_error.specs.declared.error.XlsxError.TheVariants.{OutOfMemory, Io, Xml, XmlEof}
 use Rattle.xlsx_sections.specs.PartSection.{IsStepError}
 use Rattle.xlsx_sections.specs.Refusal.{Refusal, ElementFails, IsDecodeError}
 use Rattle.xlsx_sections.proofs.Refused.{refused_at_weaker}

@@ -4,7 +4,7 @@ use Rattle.std.proofs.Common.{sym, ◌∙◌, inl, inr, false, arith, zero, suc}
 use Rattle.std.specs.Prelude.{ℤ, pos, negsuc, nat_abs}
 use Rattle.std.proofs.Math.Nat.{mul-le-mul_left, mul-le-mul_right, suc-mul, zero-div, zero-mul}
 use Rattle.std.proofs.lemmas.Bool.{cases_lt}
-use Rattle.cell_data.specs.declared.decimal.Decimal.{Decimal}
+use Rattle.decimals.specs.declared.decimal.Decimal.{Decimal}
 use Rattle.cell_styles.specs.declared.color.Color.{Color}
 use Rattle.xlsx_styles.specs.Tint.{Fraction, IsNearest, unit, parts_of, tint_size, is_negative}
 use Rattle.xlsx_styles.specs.Tint.{channel_sum, room_of, tinted_sum, shade, tint_fraction}

@@ -2,7 +2,7 @@
 use Rattle.std.proofs.Common.{◌≡◌, List, Ok, codes, length, sym, ◌∙◌, ap, arith}
 use Rattle.part_events.specs.Event.{Tag, start}
 use Rattle.part_events.specs.Reading.{Reading, IsReading}
-use Rattle.cell_data.specs.declared.error.XlsxError.{XlsxError}
+use Rattle.xlsx_error.specs.declared.error.XlsxError.{XlsxError}
 use Rattle.cell_styles.specs.declared.border.BorderStyle.{BorderStyle}
 use Rattle.cell_styles.specs.declared.color.Color.{Color}
 use Rattle.xlsx_sections.specs.Elements.{ElementReadFails, IsInsideRefused}

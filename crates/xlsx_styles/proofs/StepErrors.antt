@@ -1,9 +1,9 @@
 -- Which refusals are those of an element, by that of a step in it.
 use Rattle.std.proofs.Common.{◌≡◌, ℕ, List, codes, inl, inr}
 use Rattle.part_events.specs.declared.fault.XmlFault.TheVariants.{EndMismatch}
-use Rattle.cell_data.specs.declared.error.XlsxError.{XlsxError}
-use Rattle.cell_data.specs.declared.error.XlsxError.TheVariants.{OutOfMemory, Io, Xml, XmlAttr}
-use Rattle.cell_data.specs.declared.error.XlsxError.TheVariants.{XmlEof}
+use Rattle.xlsx_error.specs.declared.error.XlsxError.{XlsxError}
+use Rattle.xlsx_error.specs.declared.error.XlsxError.TheVariants.{OutOfMemory, Io, Xml, XmlAttr}
+use Rattle.xlsx_error.specs.declared.error.XlsxError.TheVariants.{XmlEof}
 use Rattle.xlsx_sections.specs.PartSection.{IsStepError}
 use Rattle.xlsx_styles.specs.Errors.{IsPlainError, IsBorderError}
 

@@ -8,7 +8,7 @@ use Rattle.attr_text.specs.Attributes.{lookup}
 use Rattle.attr_text.specs.Text.{all_digits}
 use Rattle.attr_text.specs.declared.fault.AttrFault.{AttrFault}
 use Rattle.part_events.specs.Event.{Tag}
-use Rattle.cell_data.specs.Decimals.{decimal_of}
+use Rattle.decimals.specs.Decimals.{decimal_of}
 use Rattle.cell_styles.specs.Color.{color_of_argb}
 use Rattle.cell_styles.specs.declared.color.Color.{Color}
 use Rattle.xlsx_styles.specs.Texts.{number_below}

@@ -7,8 +7,8 @@ use Rattle.attr_text.specs.Attributes.{value_of, local_name_of}
 use Rattle.attr_text.specs.declared.fault.AttrFault.{AttrFault}
 use Rattle.part_events.specs.Event.{Tag, Event}
 use Rattle.part_events.specs.Section.{PlacedTag, starts_by, is_named}
-use Rattle.cell_data.specs.Decimal.{number_of}
-use Rattle.cell_data.specs.Decimals.{decimal_of}
+use Rattle.decimals.specs.Decimal.{number_of}
+use Rattle.decimals.specs.Decimals.{decimal_of}
 use Rattle.cell_styles.specs.Default.{default_font}
 use Rattle.cell_styles.specs.Font.{FontFields}
 use Rattle.cell_styles.specs.declared.color.Color.{Color}

@@ -6,7 +6,7 @@ ghost use Rattle.part_events.specs.Event.{Tag, start, tag_of};
 ghost use Rattle.part_events.specs.Reading.{reading, open_elements, IsReading, IsAtElement};
 ghost use Rattle.part_events.specs.Reading.{ReadsPart, Skips, ahead};
 ghost use Rattle.part_events.specs.Section.{content};
-ghost use Rattle.cell_data.specs.declared.error.XlsxError.TheVariants.{Io};
+ghost use Rattle.xlsx_error.specs.declared.error.XlsxError.TheVariants.{Io};
 ghost use Rattle.xlsx_sections.specs.Answers.{or_earlier};
 ghost use Rattle.xlsx_sections.specs.Elements.{ElementReadFails};
 ghost use Rattle.xlsx_sections.specs.PartSection.{always};
@@ -18,9 +18,9 @@ ghost use Rattle.xlsx_styles.specs.Errors.{IsPlainError, IsBorderError};
 
 use crate::color_text::parse_color;
 use attr_text::{AttrFault, RawAttributes};
-use cell_data::XlsxError;
 use cell_styles::{Border, BorderStyle, Borders, Color};
 use part_events::{Cursor, Package, StartTag};
+use xlsx_error::XlsxError;
 use xlsx_sections::{next_element_in, next_start_in, start_tag};
 
 /// A side of a border, by the name of its element.

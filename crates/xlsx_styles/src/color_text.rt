@@ -13,8 +13,8 @@ ghost use Rattle.xlsx_styles.specs.Colors.{tinted_if, color_keys, color_of};
 use crate::texts::byte_text;
 use crate::tint::apply_tint;
 use attr_text::{AttrFault, AttrValue, RawAttributes, four_values};
-use cell_data::Decimal;
 use cell_styles::Color;
+use decimals::Decimal;
 use part_events::StartTag;
 
 const INDEXED: [u32; 66] = [

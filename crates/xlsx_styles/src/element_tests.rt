@@ -1,13 +1,14 @@
 use super::*;
-use cell_data::{Decimal, XlsxError};
 use cell_styles::{
     BorderStyle, Borders, Color, Fill, FillPattern, Font, FontStyle, FontWeight,
     HorizontalAlignment, TextRotation, UnderlineStyle, VerticalAlignment,
 };
+use decimals::Decimal;
 use part_events::{MemoryPackage, PartEvent, StartTag, XlReader, XmlFault};
 use std::alloc::{AllocError, Global};
 use std::process::Abort;
 use std::test::Fail;
+use xlsx_error::XlsxError;
 
 fn start<'a>(name: &'a str, attributes: &'a str) -> PartEvent<'a> {
     PartEvent::Start(StartTag { name, attributes })

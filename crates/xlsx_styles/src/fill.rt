@@ -6,7 +6,7 @@ ghost use Rattle.part_events.specs.Event.{tag_of};
 ghost use Rattle.part_events.specs.Reading.{reading, open_elements, IsReading, IsAtElement};
 ghost use Rattle.part_events.specs.Reading.{ReadsPart, Skips, ahead};
 ghost use Rattle.part_events.specs.Section.{content};
-ghost use Rattle.cell_data.specs.declared.error.XlsxError.TheVariants.{Io};
+ghost use Rattle.xlsx_error.specs.declared.error.XlsxError.TheVariants.{Io};
 ghost use Rattle.xlsx_sections.specs.Elements.{ElementReadFails};
 ghost use Rattle.xlsx_sections.specs.PartSection.{always};
 ghost use Rattle.xlsx_sections.specs.Changes.{changed_with};
@@ -16,9 +16,9 @@ ghost use Rattle.xlsx_styles.specs.Fills.{with_background, fill_changed, fill_of
 
 use crate::color_text::parse_color;
 use attr_text::{AttrFault, RawAttributes};
-use cell_data::XlsxError;
 use cell_styles::{Color, Fill, FillPattern};
 use part_events::{Cursor, Package, StartTag};
+use xlsx_error::XlsxError;
 use xlsx_sections::{next_start_among, start_tag};
 
 #[tactic(auto, unfolding(crate::specs::Fills::pattern_named))]

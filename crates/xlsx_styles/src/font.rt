@@ -5,7 +5,7 @@ ghost use Rattle.part_events.specs.Event.{tag_of};
 ghost use Rattle.part_events.specs.Reading.{reading, open_elements, IsReading, IsAtElement};
 ghost use Rattle.part_events.specs.Reading.{ReadsPart, Skips, ahead};
 ghost use Rattle.part_events.specs.Section.{content};
-ghost use Rattle.cell_data.specs.declared.error.XlsxError.TheVariants.{Io};
+ghost use Rattle.xlsx_error.specs.declared.error.XlsxError.TheVariants.{Io};
 ghost use Rattle.xlsx_sections.specs.Elements.{ElementReadFails};
 ghost use Rattle.xlsx_sections.specs.PartSection.{always};
 ghost use Rattle.xlsx_sections.specs.Refusal.{ElementFails, placed_at};
@@ -14,10 +14,10 @@ ghost use Rattle.xlsx_styles.specs.Fonts.{said_of, name_changed, font_change, fo
 
 use crate::font_parts::{change_color, change_value};
 use attr_text::RawAttributes;
-use cell_data::XlsxError;
 use cell_styles::{Color, Font};
 use part_events::{Cursor, Package, StartTag};
 use std::alloc::Global;
+use xlsx_error::XlsxError;
 use xlsx_sections::{decode_at, next_start_among, start_tag};
 
 /// Names the font by a start, which is event number `at` of its part.

@@ -12,8 +12,8 @@ ghost use Rattle.xlsx_styles.specs.Fonts.{with_strike, with_color, with_value, v
 use crate::color_text::parse_color;
 use crate::texts::{byte_text, short_text, truth_or};
 use attr_text::{AttrFault, RawAttributes};
-use cell_data::Decimal;
 use cell_styles::{Color, Font, FontStyle, FontWeight, UnderlineStyle};
+use decimals::Decimal;
 use part_events::StartTag;
 
 fn weight_by(number: Option<u16>) -> FontWeight

@@ -1,5 +1,5 @@
 ghost use Rattle.std.specs.Prelude.{◌≡◌, ℕ, ◌≤◌};
-ghost use Rattle.cell_data.specs.declared.decimal.Decimal.{Decimal};
+ghost use Rattle.decimals.specs.declared.decimal.Decimal.{Decimal};
 ghost use Rattle.cell_styles.specs.declared.color.Color.{Color};
 ghost use Rattle.xlsx_styles.specs.Colors.{nearest};
 ghost use Rattle.xlsx_styles.specs.Tint.{Fraction, IsNearest, tint_fraction};

@@ -2,7 +2,7 @@ ghost use Rattle.std.specs.Prelude.{◌≡◌, suc, codes, length, true, Ok, IfO
 ghost use Rattle.part_events.specs.Reader.{reading_by, SamePackage};
 ghost use Rattle.part_events.specs.Reading.{IsReading, IsAtElement, ReadsPart, Skips, ahead};
 ghost use Rattle.part_events.specs.Section.{content};
-ghost use Rattle.cell_data.specs.declared.error.XlsxError.TheVariants.{Io};
+ghost use Rattle.xlsx_error.specs.declared.error.XlsxError.TheVariants.{Io};
 ghost use Rattle.xlsx_sections.specs.Elements.{ElementReadFails};
 ghost use Rattle.xlsx_sections.specs.PartSection.{always};
 ghost use Rattle.xlsx_styles.specs.Borders.{border_of, end_in_border};
@@ -13,9 +13,9 @@ ghost use Rattle.xlsx_styles.specs.Fonts.{said_of, font_of};
 use crate::border::read_border;
 use crate::fill::read_fill;
 use crate::font::read_font;
-use cell_data::XlsxError;
 use cell_styles::{Borders, Color, Fill, Font};
 use part_events::{Package, XlReader};
+use xlsx_error::XlsxError;
 
 /// Reads the font at whose start the reader stands, to its matching end (ECMA-376 part 1, section
 /// 18.8.22). Of each kind the last start in it counts that says something. A number in `theme`

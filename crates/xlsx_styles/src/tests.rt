@@ -1,6 +1,6 @@
 use super::*;
-use cell_data::Decimal;
 use cell_styles::Color;
+use decimals::Decimal;
 use std::test::Fail;
 
 #[test]

@@ -2,8 +2,8 @@ ghost use Rattle.std.specs.Prelude.{◌≡◌, ◌+◌, ◌-◌, ◌*◌, ◌/�
 ghost use Rattle.xlsx_styles.specs.Tint.{IsNearest, Fraction, unit, is_negative, tint_size};
 ghost use Rattle.xlsx_styles.specs.Tint.{channel_sum, room_of, tinted_sum, shade, tint_fraction};
 
-use cell_data::Decimal;
 use cell_styles::Color;
+use decimals::Decimal;
 
 const UNIT: u128 = 100_000_000_000_000_000_000;
 

@@ -8,7 +8,7 @@ use Rattle.part_events.specs.Event.{Tag, Event, start}
 use Rattle.part_events.specs.Reading.{Reading, IsReading, ReadsOn, Skips, ahead}
 use Rattle.part_events.specs.Section.{Element, content, outermost}
 use Rattle.part_events.specs.Walk.{section_ahead, element_at, ClosesSection}
-use Rattle.cell_data.specs.declared.error.XlsxError.{XlsxError}
+use Rattle.xlsx_error.specs.declared.error.XlsxError.{XlsxError}
 use Rattle.cell_styles.specs.declared.color.Color.{Color}
 use Rattle.xlsx_sections.specs.Answers.{prepended}
 use Rattle.xlsx_sections.specs.Changes.{all_changes}

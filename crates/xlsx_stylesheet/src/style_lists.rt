@@ -6,7 +6,7 @@ ghost use Rattle.part_events.specs.Reading.{reading, open_elements, IsReading, I
 ghost use Rattle.part_events.specs.Reading.{ReadsPart, Skips, ahead};
 ghost use Rattle.part_events.specs.Section.{content};
 ghost use Rattle.part_events.specs.Walk.{section_ahead, is_closed_ahead};
-ghost use Rattle.cell_data.specs.declared.error.XlsxError.TheVariants.{Io};
+ghost use Rattle.xlsx_error.specs.declared.error.XlsxError.TheVariants.{Io};
 ghost use Rattle.xlsx_sections.specs.Elements.{ElementReadFails, IsInsideRefused};
 ghost use Rattle.xlsx_sections.specs.PartSection.{SectionFails};
 ghost use Rattle.xlsx_formats.specs.FormatCodes.{WrittenFormat, AreCodes};
@@ -16,10 +16,10 @@ ghost use Rattle.xlsx_stylesheet.specs.StylesErrors.{AreStylesError};
 
 use crate::lists::{read_borders, read_fills, read_fonts, read_formats};
 use attr_text::RawAttributes;
-use cell_data::XlsxError;
 use cell_styles::{Borders, Color, Fill, Font};
 use part_events::{Cursor, Package, StartTag};
 use std::alloc::Global;
+use xlsx_error::XlsxError;
 use xlsx_formats::{FormatCodes, Formatting, NamedLists, read_number_formats};
 use xlsx_sections::{next_element_in, start_tag};
 

@@ -1,6 +1,6 @@
 ghost use Rattle.std.specs.Prelude.{◌≡◌, codes, length, map, true, IfOk, IfErr};
 ghost use Rattle.part_events.specs.Package.{Uses, event_count};
-ghost use Rattle.cell_data.specs.declared.error.XlsxError.TheVariants.{Io};
+ghost use Rattle.xlsx_error.specs.declared.error.XlsxError.TheVariants.{Io};
 ghost use Rattle.xlsx_sections.specs.Elements.{IsInsideRefused};
 ghost use Rattle.xlsx_sections.specs.PartSection.{OptionalPartFails};
 ghost use Rattle.xlsx_formats.specs.Formattings.{formatting_said, style_said};
@@ -9,10 +9,11 @@ ghost use Rattle.xlsx_stylesheet.specs.StyleSheet.{HasStyles};
 ghost use Rattle.xlsx_stylesheet.specs.StylesErrors.{AreStylesError};
 
 use crate::style_lists::lists_in;
-use cell_data::{CellFormat, XlsxError};
+use cell_data::CellFormat;
 use cell_styles::{Color, Style};
 use part_events::Package;
 use std::alloc::{AllocError, Global};
+use xlsx_error::XlsxError;
 use xlsx_formats::Formatting;
 use xlsx_sections::enter_part;
 

@@ -1,10 +1,11 @@
 use crate::{StyleSheet, read_styles};
-use cell_data::{CellFormat, XlsxError};
+use cell_data::CellFormat;
 use cell_styles::{BorderStyle, Color, FillPattern};
 use part_events::{MemoryPackage, PartEvent, StartTag, XmlFault};
 use std::alloc::{AllocError, Global};
 use std::process::Abort;
 use std::test::Fail;
+use xlsx_error::XlsxError;
 use xlsx_styles::default_theme_colors;
 
 fn start<'a>(name: &'a str, attributes: &'a str) -> PartEvent<'a> {

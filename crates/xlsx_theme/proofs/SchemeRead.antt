@@ -4,8 +4,8 @@ use Rattle.std.proofs.Common.{◌∙◌, ap}
 use Rattle.part_events.specs.Event.{Event}
 use Rattle.part_events.specs.Reading.{Reading}
 use Rattle.part_events.specs.declared.fault.XmlFault.TheVariants.{EndMismatch, Unclosed}
-use Rattle.cell_data.specs.declared.error.XlsxError.{XlsxError}
-use Rattle.cell_data.specs.declared.error.XlsxError.TheVariants.{OutOfMemory, Io, Xml, XmlAttr}
+use Rattle.xlsx_error.specs.declared.error.XlsxError.{XlsxError}
+use Rattle.xlsx_error.specs.declared.error.XlsxError.TheVariants.{OutOfMemory, Io, Xml, XmlAttr}
 use Rattle.xlsx_sections.specs.Elements.{IsEndError, named_end}
 use Rattle.xlsx_sections.specs.PartSection.{PartSection, KeepsSection, SectionFails, Never}
 use Rattle.xlsx_sections.specs.Refusal.{Refusal}

@@ -7,8 +7,8 @@ use Rattle.attr_text.specs.declared.fault.AttrFault.{AttrFault}
 use Rattle.part_events.specs.Event.{Tag, Event}
 use Rattle.part_events.specs.Section.{PlacedTag, starts_by, is_named}
 use Rattle.part_events.specs.declared.fault.XmlFault.TheVariants.{EndMismatch, Unclosed}
-use Rattle.cell_data.specs.declared.error.XlsxError.{XlsxError}
-use Rattle.cell_data.specs.declared.error.XlsxError.TheVariants.{OutOfMemory, Io, Xml, XmlAttr}
+use Rattle.xlsx_error.specs.declared.error.XlsxError.{XlsxError}
+use Rattle.xlsx_error.specs.declared.error.XlsxError.TheVariants.{OutOfMemory, Io, Xml, XmlAttr}
 use Rattle.cell_styles.specs.declared.color.Color.{Color}
 use Rattle.xlsx_sections.specs.Answers.{with_two}
 use Rattle.xlsx_sections.specs.Changes.{or_fault}

@@ -6,8 +6,8 @@ use Rattle.part_events.specs.Event.{Event}
 use Rattle.part_events.specs.Nesting.{whole}
 use Rattle.part_events.specs.Package.{Part, HasCause, part_of}
 use Rattle.part_events.specs.Reading.{Reading, events_of}
-use Rattle.cell_data.specs.declared.error.XlsxError.{XlsxError}
-use Rattle.cell_data.specs.declared.error.XlsxError.TheVariants.{OutOfMemory, Io}
+use Rattle.xlsx_error.specs.declared.error.XlsxError.{XlsxError}
+use Rattle.xlsx_error.specs.declared.error.XlsxError.TheVariants.{OutOfMemory, Io}
 use Rattle.cell_styles.specs.declared.color.Color.{Color}
 use Rattle.xlsx_sections.specs.Elements.{IsInsideRefused, named_end}
 use Rattle.xlsx_sections.specs.PartSection.{section_in, closed_section, has_end, inside_of}

@@ -2,7 +2,7 @@ ghost use Rattle.std.specs.Prelude.{◌≡◌, ◌≤◌, length, true, None, Ok
 ghost use Rattle.std.specs.Prelude.{option_map, IfSome};
 ghost use Rattle.part_events.specs.Reading.{reading, open_elements, IsReading, ReadsPart};
 ghost use Rattle.part_events.specs.Walk.{section_ahead, is_closed_ahead};
-ghost use Rattle.cell_data.specs.declared.error.XlsxError.TheVariants.{Io};
+ghost use Rattle.xlsx_error.specs.declared.error.XlsxError.TheVariants.{Io};
 ghost use Rattle.xlsx_sections.specs.Elements.{IsInsideRefused, IsEndError, FindsElementIn};
 ghost use Rattle.xlsx_sections.specs.Elements.{named_end};
 ghost use Rattle.xlsx_sections.specs.PartSection.{Never, SectionFails, StandsAtStart};
@@ -10,10 +10,10 @@ ghost use Rattle.xlsx_theme.specs.ColorScheme.{is_slot, slot_colors, numbered_co
 ghost use Rattle.xlsx_theme.specs.ColorScheme.{IsSchemeError};
 
 use crate::slot::read_slot;
-use cell_data::XlsxError;
 use cell_styles::Color;
 use part_events::{Cursor, Package, Step, XmlFault};
 use std::alloc::Global;
+use xlsx_error::XlsxError;
 
 /// Reads on to the next slot of a scheme, whose element is number `base` of the open ones, counted
 /// from 1. Answers the number of the slot's start in its part, counted from 0, and None at the

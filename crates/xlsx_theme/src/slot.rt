@@ -5,7 +5,7 @@ ghost use Rattle.part_events.specs.Event.{tag_of};
 ghost use Rattle.part_events.specs.Reading.{reading, open_elements, IsReading, IsAtElement};
 ghost use Rattle.part_events.specs.Reading.{ReadsPart, Skips, ahead};
 ghost use Rattle.part_events.specs.Section.{content};
-ghost use Rattle.cell_data.specs.declared.error.XlsxError.TheVariants.{Io};
+ghost use Rattle.xlsx_error.specs.declared.error.XlsxError.TheVariants.{Io};
 ghost use Rattle.xlsx_sections.specs.Elements.{ElementReadFails, IsEndError, named_end};
 ghost use Rattle.xlsx_sections.specs.PartSection.{Never, SectionFails, StandsAtStart, FindsStartIn};
 ghost use Rattle.xlsx_sections.specs.Refusal.{lookup_fault, placed_at};
@@ -14,9 +14,9 @@ ghost use Rattle.xlsx_theme.specs.ColorScheme.{is_color_model, model_color, mode
 ghost use Rattle.xlsx_theme.specs.ColorScheme.{unless_given, slot_color, IsSchemeError};
 
 use attr_text::{AttrFault, RawAttributes, get_attrs};
-use cell_data::XlsxError;
 use cell_styles::Color;
 use part_events::{Cursor, Package, StartTag, Step, XmlFault};
+use xlsx_error::XlsxError;
 use xlsx_sections::start_tag;
 use xlsx_styles::hex_color;
 

@@ -2,17 +2,17 @@ ghost use Rattle.std.specs.Prelude.{◌≡◌, None, true, IfOk, IfErr};
 ghost use Rattle.part_events.specs.Package.{Uses, event_count};
 ghost use Rattle.part_events.specs.Reader.{reading_by, SamePackage};
 ghost use Rattle.part_events.specs.Reading.{reading, IsReading, ReadsPart, events_of};
-ghost use Rattle.cell_data.specs.declared.error.XlsxError.TheVariants.{Io};
+ghost use Rattle.xlsx_error.specs.declared.error.XlsxError.TheVariants.{Io};
 ghost use Rattle.xlsx_sections.specs.PartSection.{SoundFails};
 ghost use Rattle.xlsx_theme.specs.ColorScheme.{numbered_colors, IsSchemeError};
 ghost use Rattle.xlsx_theme.specs.ThemePart.{IsThemeOf, IsTheme, HasTheme, SaysTheme};
 ghost use Rattle.xlsx_theme.specs.ThemePart.{ReadThemeFails};
 
 use crate::color_scheme::{numbered, read_slots};
-use cell_data::XlsxError;
 use cell_styles::Color;
 use part_events::{Cursor, Package, Step, XlReader};
 use std::alloc::{AllocError, Global};
+use xlsx_error::XlsxError;
 use xlsx_styles::default_theme_colors;
 
 /// The colors of a theme, by the numbers of an attribute `theme` (ECMA-376 part 1, section 18.8.3).

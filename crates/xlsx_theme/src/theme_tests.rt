@@ -1,9 +1,9 @@
 use super::*;
-use cell_data::XlsxError;
 use part_events::{FailingPackage, MemoryPackage, PartEvent, StartTag, XlReader, XmlFault};
 use std::alloc::{AllocError, Global};
 use std::process::Abort;
 use std::test::Fail;
+use xlsx_error::XlsxError;
 
 const PATH: &str = "xl/theme/theme1.xml";
 

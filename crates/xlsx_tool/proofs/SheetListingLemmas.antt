@@ -23,7 +23,7 @@ use Rattle.cell_data.specs.declared.cell.Cell.{Cell}
 use Rattle.cell_data.proofs.Placing.{position_total, position_same, and_both, to_T, from_T}
 use Rattle.cell_data.proofs.Placing.{less_from, none_behind, found_in_two}
 use Rattle.cell_data.specs.CellValue.{CellValue, nothing, value_of_data}
-use Rattle.cell_data.specs.Positions.{position_cmp, is_rising}
+use Rattle.cell_refs.specs.Positions.{position_cmp, is_rising}
 use Rattle.cell_data.specs.declared.value.Data.{Data}
 use Rattle.cell_styles.specs.StyleItems.{styled_entry}
 use Rattle.cell_styles.specs.StyleMap.{StyledCell, IsOnSheet}

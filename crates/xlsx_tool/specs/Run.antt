@@ -9,7 +9,7 @@ use Rattle.part_events.specs.Package.{Part, RisesByOne}
 use Rattle.xlsx_core.specs.SheetReading.{ReadsAs, IsReadable, SheetCause}
 use Rattle.cell_data.specs.CellValue.{CellValue}
 use Rattle.cell_styles.specs.StyleMap.{StyleMap}
-use Rattle.cell_data.specs.declared.error.XlsxError.{XlsxError}
+use Rattle.xlsx_error.specs.declared.error.XlsxError.{XlsxError}
 use Rattle.xlsx_tool.specs.Input.{TookTooMany, longest_input}
 use Rattle.xlsx_tool.specs.SheetListing.{listing}
 use Rattle.xlsx_tool.specs.PackageText.{package_in}

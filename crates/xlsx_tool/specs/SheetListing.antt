@@ -16,8 +16,8 @@ use Rattle.cell_data.specs.CellError.{cell_error_text}
 use Rattle.cell_data.specs.CellValue.{CellValue, nothing, integer, number, text, shared_text, truth}
 use Rattle.cell_data.specs.CellValue.{time, iso_time, failure, value_of_data}
 use Rattle.cell_data.specs.Cells.{placed_cells, IsInSheet}
-use Rattle.cell_data.specs.Decimals.{printed}
-use Rattle.cell_data.specs.Positions.{position_cmp, is_rising}
+use Rattle.decimals.specs.Decimals.{printed}
+use Rattle.cell_refs.specs.Positions.{position_cmp, is_rising}
 use Rattle.cell_data.specs.declared.cell.Cell.{Cell}
 use Rattle.cell_data.specs.declared.value.Data.{Data}
 use Rattle.cell_data.specs.declared.value.ExcelDateTimeType.{ExcelDateTimeType}

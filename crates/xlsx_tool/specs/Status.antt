@@ -1,8 +1,8 @@
 -- What the program ends with after each refusal: a status and a text.
 use Rattle.std.specs.Prelude.{ℕ, List, codes, Option, Some}
-use Rattle.cell_data.specs.XlsxError.{text_of}
-use Rattle.cell_data.specs.declared.error.XlsxError.{XlsxError}
-use Rattle.cell_data.specs.declared.error.XlsxError.TheVariants as workbook
+use Rattle.xlsx_error.specs.XlsxError.{text_of}
+use Rattle.xlsx_error.specs.declared.error.XlsxError.{XlsxError}
+use Rattle.xlsx_error.specs.declared.error.XlsxError.TheVariants as workbook
 use Rattle.xlsx_tool.specs.declared.error.ToolError.{ToolError}
 use Rattle.xlsx_tool.specs.declared.error.ToolError.TheVariants.{Usage, ReadFault, InputTooLarge}
 use Rattle.xlsx_tool.specs.declared.error.ToolError.TheVariants.{NotAPackage, Workbook}

@@ -1,10 +1,10 @@
 ghost use Rattle.std.specs.Prelude.{◌≡◌};
 ghost use Rattle.xlsx_tool.specs.Status.{status_of};
 
-use cell_data::XlsxError;
 use std::alloc::{AllocError, AllocFailed};
 use std::error::Error;
 use std::fmt;
+use xlsx_error::XlsxError;
 
 /// Why the program fails (docs/FORMAT.md).
 #[derive(Debug, PartialEq, Eq, Drop)]

@@ -6,11 +6,11 @@ use crate::package_text::package_from_json;
 use crate::program::{answer, ending};
 use crate::sink::MemorySink;
 use crate::source::MemorySource;
-use cell_data::XlsxError;
 use serde_json::Value;
 use std::alloc::Global;
 use std::process::ExitCode;
 use std::test::Fail;
+use xlsx_error::XlsxError;
 
 /// The front of the types of relationships.
 const TYPES: &str = "http://schemas.openxmlformats.org/officeDocument/2006/relationships";

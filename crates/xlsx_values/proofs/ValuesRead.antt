@@ -7,11 +7,11 @@ use Rattle.part_events.specs.Reading.{Reading, IsReading, IsAtElement, ahead}
 use Rattle.part_events.specs.Section.{content}
 use Rattle.part_events.specs.Walk.{section_ahead, TakesInside}
 use Rattle.part_events.specs.declared.fault.XmlFault.TheVariants.{EndMismatch, Unclosed, Entity}
-use Rattle.cell_data.specs.declared.error.XlsxError.{XlsxError}
-use Rattle.cell_data.specs.declared.error.XlsxError.TheVariants.{OutOfMemory, Io, Xml, XmlEof}
-use Rattle.cell_data.specs.declared.error.XlsxError.TheVariants.{Unexpected, Unrecognized}
-use Rattle.cell_data.specs.declared.error.XlsxError.TheVariants.{CellError, ParseFloat}
-use Rattle.cell_data.specs.declared.error.XlsxError.TheVariants.{CellTAttribute}
+use Rattle.xlsx_error.specs.declared.error.XlsxError.{XlsxError}
+use Rattle.xlsx_error.specs.declared.error.XlsxError.TheVariants.{OutOfMemory, Io, Xml, XmlEof}
+use Rattle.xlsx_error.specs.declared.error.XlsxError.TheVariants.{Unexpected, Unrecognized}
+use Rattle.xlsx_error.specs.declared.error.XlsxError.TheVariants.{CellError, ParseFloat}
+use Rattle.xlsx_error.specs.declared.error.XlsxError.TheVariants.{CellTAttribute}
 use Rattle.xlsx_sections.specs.Elements.{IsTextError, IsEndError}
 use Rattle.xlsx_sections.specs.ElementText.{element_text}
 use Rattle.xlsx_sections.specs.PartSection.{always, inside_of, section_left}

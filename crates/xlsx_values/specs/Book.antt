@@ -1,11 +1,11 @@
 -- What the types of this crate are to definitions, and the refusals that a value can have.
 use Rattle.std.specs.Prelude.{◌≡◌, ⊤, map, codes, string_bytes}
 use Rattle.part_events.specs.declared.fault.XmlFault.TheVariants.{EndMismatch, Unclosed, Entity}
-use Rattle.cell_data.specs.declared.error.XlsxError.{XlsxError}
-use Rattle.cell_data.specs.declared.error.XlsxError.TheVariants.{OutOfMemory, Io, Xml, XmlEof}
-use Rattle.cell_data.specs.declared.error.XlsxError.TheVariants.{Unexpected, Unrecognized}
-use Rattle.cell_data.specs.declared.error.XlsxError.TheVariants.{CellError, ParseFloat}
-use Rattle.cell_data.specs.declared.error.XlsxError.TheVariants.{CellTAttribute}
+use Rattle.xlsx_error.specs.declared.error.XlsxError.{XlsxError}
+use Rattle.xlsx_error.specs.declared.error.XlsxError.TheVariants.{OutOfMemory, Io, Xml, XmlEof}
+use Rattle.xlsx_error.specs.declared.error.XlsxError.TheVariants.{Unexpected, Unrecognized}
+use Rattle.xlsx_error.specs.declared.error.XlsxError.TheVariants.{CellError, ParseFloat}
+use Rattle.xlsx_error.specs.declared.error.XlsxError.TheVariants.{CellTAttribute}
 use Rattle.xlsx_values.specs.CellType.{CellKind, untyped, of_number, of_shared, of_truth, of_error}
 use Rattle.xlsx_values.specs.CellType.{of_text, of_date, of_inline, of_unknown}
 use Rattle.xlsx_values.specs.Value.{Grounds}

@@ -12,7 +12,7 @@ use Rattle.part_events.specs.Section.{Element, children, is_named}
 use Rattle.cell_data.specs.CellError.{cell_error}
 use Rattle.cell_data.specs.CellValue as value
 use Rattle.cell_data.specs.CellValue.{CellValue}
-use Rattle.cell_data.specs.Decimals.{decimal_of}
+use Rattle.decimals.specs.Decimals.{decimal_of}
 use Rattle.cell_data.specs.declared.format.CellFormat.{CellFormat}
 use Rattle.cell_data.specs.declared.format.CellFormat.TheVariants as format
 use Rattle.cell_data.specs.declared.value.CellErrorType.{CellErrorType}

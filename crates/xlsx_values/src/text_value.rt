@@ -2,7 +2,7 @@ ghost use Rattle.std.specs.Prelude.{◌≡◌, ℕ, List, ◌∷◌, Ok, map, st
 ghost use Rattle.std.specs.Str.{str_to_ascii_lowercase, str_eq_ignore_ascii_case};
 ghost use Rattle.part_events.specs.Event.{Event, event_of};
 ghost use Rattle.cell_data.specs.CellValue.{value_of_data_ref};
-ghost use Rattle.cell_data.specs.Decimal.{number_of};
+ghost use Rattle.decimals.specs.Decimal.{number_of};
 ghost use Rattle.xlsx_sections.specs.Refusal.{ElementFails};
 ghost use Rattle.xlsx_values.specs.Book.{kind_of, grounds_of, IsTextValueError};
 ghost use Rattle.xlsx_values.specs.Value.{shared_value, lower_truth, truth_value, error_value};
@@ -11,11 +11,10 @@ ghost use Rattle.xlsx_values.specs.Value.{of_first, first_text};
 
 use crate::book::Book;
 use crate::types::CellType;
-use cell_data::{
-    CellErrorType, CellFormat, DataRef, Decimal, ExcelDateTime, ExcelDateTimeType, XlsxError,
-};
+use cell_data::{CellErrorType, CellFormat, DataRef, Decimal, ExcelDateTime, ExcelDateTimeType};
 use part_events::PartEvent;
 use std::alloc::Global;
+use xlsx_error::XlsxError;
 use xlsx_sections::number_text;
 use xlsx_strings::unescaped;
 

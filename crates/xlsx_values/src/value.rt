@@ -4,7 +4,7 @@ ghost use Rattle.part_events.specs.Reading.{reading, open_elements, IsReading, I
 ghost use Rattle.part_events.specs.Reading.{ReadsPart, Skips, ahead};
 ghost use Rattle.part_events.specs.Section.{content};
 ghost use Rattle.cell_data.specs.CellValue.{value_of_data_ref};
-ghost use Rattle.cell_data.specs.declared.error.XlsxError.TheVariants.{Io};
+ghost use Rattle.xlsx_error.specs.declared.error.XlsxError.TheVariants.{Io};
 ghost use Rattle.xlsx_sections.specs.Elements.{ElementReadFails};
 ghost use Rattle.xlsx_sections.specs.PartSection.{always};
 ghost use Rattle.xlsx_strings.specs.Strings.{end_in_string, IsStringError};
@@ -16,9 +16,10 @@ ghost use Rattle.xlsx_values.specs.Value.{end_in_first, end_in_value};
 use crate::book::Book;
 use crate::text_value::{value_of_event, value_of_joined};
 use crate::types::CellType;
-use cell_data::{CellFormat, DataRef, XlsxError};
+use cell_data::{CellFormat, DataRef};
 use part_events::{Cursor, Package, Step};
 use std::alloc::Global;
+use xlsx_error::XlsxError;
 use xlsx_sections::{read_element_text, read_to_end, skip_element_in};
 use xlsx_strings::read_string;
 

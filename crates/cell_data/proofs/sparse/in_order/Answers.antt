@@ -1,6 +1,6 @@
 use Rattle.std.proofs.Common.{rules, ◌≡◌, true}
 use Rattle.cell_data.specs.Cells.{placed_cells}
-use Rattle.cell_data.specs.Positions.{is_rising}
+use Rattle.cell_refs.specs.Positions.{is_rising}
 use Rattle.cell_data.proofs.Placing.{rising_last}
 use Rattle.cell_data.proofs.sparse.in_order.Goals as goal
 

@@ -1,7 +1,7 @@
 use Rattle.std.proofs.Common.{rules, ◌∙◌, ◌≡◌, true, Some}
 use Rattle.std.specs.Prelude.{slice_get}
 use Rattle.std.specs.Ordering.{is_lt}
-use Rattle.cell_data.specs.Positions.{position_cmp}
+use Rattle.cell_refs.specs.Positions.{position_cmp}
 use Rattle.cell_data.proofs.Placing.{rising_left}
 use Rattle.cell_data.proofs.sparse.is_rising.Goals as goal
 

@@ -1,6 +1,6 @@
 use Rattle.std.proofs.Common.{◌≡◌, length}
 use Rattle.cell_data.specs.Cells.{placed_cells}
-use Rattle.cell_data.specs.Positions.{is_rising}
+use Rattle.cell_refs.specs.Positions.{is_rising}
 use Rattle.cell_data.proofs.sparse.is_rising.Given as goal
 
 abbrev pub invariant-loop-first : goal.invariant-loop-first

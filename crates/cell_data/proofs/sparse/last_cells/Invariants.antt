@@ -1,6 +1,6 @@
 use Rattle.std.proofs.Common.{◌≡◌}
 use Rattle.cell_data.specs.Cells.{placed_cells}
-use Rattle.cell_data.specs.Positions.{last_of_each}
+use Rattle.cell_refs.specs.Positions.{last_of_each}
 use Rattle.cell_data.proofs.sparse.last_cells.Given as goal
 
 abbrev pub invariant-loop-cell : goal.invariant-loop-cell

@@ -1,6 +1,6 @@
 use Rattle.std.proofs.Common.{◌≡◌, ◌≤◌, length, drop}
 use Rattle.cell_data.specs.Cells.{placed_cells}
-use Rattle.cell_data.specs.Positions.{least_area}
+use Rattle.cell_refs.specs.Positions.{least_area}
 use Rattle.cell_data.proofs.sparse.least_area.Given as goal
 
 abbrev pub invariant-loop-place : goal.invariant-loop-place

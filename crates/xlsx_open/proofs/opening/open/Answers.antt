@@ -1,7 +1,7 @@
 use Rattle.std.proofs.Common.{ℕ, List, ◌∙◌, subst, string_bytes}
 use Rattle.std.proofs.lemmas.Result.{err_from_is_err_and, IfOk-weaker, IfErr-weaker}
 use Rattle.part_events.specs.Package.{Uses}
-use Rattle.cell_data.specs.declared.error.XlsxError.TheVariants.{Io}
+use Rattle.xlsx_error.specs.declared.error.XlsxError.TheVariants.{Io}
 use Rattle.xlsx_open.specs.Opening.{Opening, HoldsOpening, OpensAs, OpeningFails}
 use Rattle.xlsx_open.specs.Opening.{BookOpens, BookFails, book_events}
 use Rattle.xlsx_open.proofs.Openings.{root_fails, opens_as, book_fails, opens_package}

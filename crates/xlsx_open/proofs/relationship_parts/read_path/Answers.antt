@@ -2,7 +2,7 @@ use Rattle.std.proofs.Common.{◌≡◌, None, Ok, refl, true, ℕ, inl, inr, su
 use Rattle.std.proofs.lemmas.Result.{err_from_is_err_and}
 use Rattle.part_events.specs.Reading.{reading}
 use Rattle.part_events.specs.Walk.{section_ahead, is_closed_ahead}
-use Rattle.cell_data.specs.declared.error.XlsxError.TheVariants.{RelationshipNotFound}
+use Rattle.xlsx_error.specs.declared.error.XlsxError.TheVariants.{RelationshipNotFound}
 use Rattle.xlsx_sections.specs.PartSection.{always, SectionFails}
 use Rattle.xlsx_sections.proofs.Refused.{part_refused, required_part_refused, refused_as}
 use Rattle.xlsx_open.specs.Relationships.{path_in, IsTargetRefused, IsPathRefused}

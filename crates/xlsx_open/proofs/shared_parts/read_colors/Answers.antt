@@ -1,7 +1,7 @@
 use Rattle.std.proofs.Common.{ℕ, List, ◌∙◌, subst}
 use Rattle.std.specs.Prelude.{IfOk}
 use Rattle.part_events.specs.Package.{Uses, event_count}
-use Rattle.cell_data.specs.declared.error.XlsxError.TheVariants.{Io}
+use Rattle.xlsx_error.specs.declared.error.XlsxError.TheVariants.{Io}
 use Rattle.xlsx_theme.specs.ThemePart.{HasTheme}
 use Rattle.xlsx_open.proofs.shared_parts.read_colors.Goals as goal
 

@@ -1,7 +1,7 @@
 use Rattle.std.proofs.Common.{ℕ, ap, codes, subst}
 use Rattle.std.proofs.lemmas.Result.{err_from_is_err_and}
 use Rattle.part_events.specs.Reading.{reading}
-use Rattle.cell_data.specs.declared.error.XlsxError.TheVariants.{XmlAttr}
+use Rattle.xlsx_error.specs.declared.error.XlsxError.TheVariants.{XmlAttr}
 use Rattle.xlsx_sections.specs.Elements.{IsInsideRefused}
 use Rattle.xlsx_sections.specs.PartSection.{SectionFails, always}
 use Rattle.xlsx_sections.proofs.SectionsRead.{start_found}

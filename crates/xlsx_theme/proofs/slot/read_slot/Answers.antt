@@ -2,7 +2,7 @@ use Rattle.std.proofs.Common.{ℕ, None, ap, subst, length}
 use Rattle.std.proofs.lemmas.Result.{err_from_is_err_and}
 use Rattle.part_events.specs.Reading.{reading}
 use Rattle.part_events.specs.Walk.{section_ahead}
-use Rattle.cell_data.specs.declared.error.XlsxError.TheVariants.{XmlAttr}
+use Rattle.xlsx_error.specs.declared.error.XlsxError.TheVariants.{XmlAttr}
 use Rattle.xlsx_sections.specs.Elements.{IsInsideRefused, named_end}
 use Rattle.xlsx_sections.specs.PartSection.{SectionFails}
 use Rattle.xlsx_sections.proofs.SectionsRead.{start_found}

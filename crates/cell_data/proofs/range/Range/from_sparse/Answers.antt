@@ -1,6 +1,6 @@
 use Rattle.std.proofs.Common.{rules, ◌∙◌, ◌≡◌, ap}
 use Rattle.cell_data.specs.Cells.{placed_cells}
-use Rattle.cell_data.specs.Positions.{is_rising, lie_inside, are_sheet_bounds, least_area}
+use Rattle.cell_refs.specs.Positions.{is_rising, lie_inside, are_sheet_bounds, least_area}
 use Rattle.cell_data.proofs.Areas.{last_inside, sheet_bounds}
 use Rattle.cell_data.proofs.Placing.{last_rising}
 use Rattle.cell_data.proofs.range.Range.from_sparse.Goals as goal

@@ -3,7 +3,7 @@ use Rattle.std.specs.List.{filter}
 use Rattle.std.proofs.lemmas.Fn.{filter_same}
 use Rattle.cell_refs.specs.declared.dimensions.Dimensions.{Dimensions}
 use Rattle.cell_data.specs.declared.cell.Cell.{Cell}
-use Rattle.cell_data.specs.Positions.{is_in_area}
+use Rattle.cell_refs.specs.Positions.{is_in_area}
 use Rattle.cell_data.proofs.Areas.{selected, area_on_sheet}
 use Rattle.cell_data.proofs.range.Range.range.Goals as goal
 

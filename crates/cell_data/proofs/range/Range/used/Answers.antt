@@ -1,5 +1,5 @@
 use Rattle.std.proofs.Common.{◌≡◌, true}
-use Rattle.cell_data.specs.Positions.{lie_from}
+use Rattle.cell_refs.specs.Positions.{lie_from}
 use Rattle.cell_data.specs.Range.{start_of, bounds_of, cells_of}
 use Rattle.cell_data.proofs.Areas.{lie_from_start, used_in_sheet}
 use Rattle.cell_data.proofs.range.Range.used.Goals as goal

@@ -1,0 +1,7 @@
+pub mod Digits
+pub mod OneForm
+pub mod Parsed
+pub mod PowerLemmas
+pub mod Printed
+pub mod ReadsBack
+pub mod Significands

@@ -1,0 +1,5 @@
+pub mod Canonical
+pub mod Decimal
+pub mod Decimals
+pub mod Powers
+pub mod Significand

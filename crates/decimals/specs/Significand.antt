@@ -1,0 +1,29 @@
+-- What is kept of digits while they are read.
+use Rattle.std.specs.Prelude.{ℕ, ◌+◌, ◌-◌, ◌*◌, ◌^◌, ◌==◌, if◌then◌else◌, List, length}
+use Rattle.std.specs.List.{fold}
+use Rattle.std.specs.Str.Parse.{digits_value}
+use Rattle.decimals.specs.Decimals.{trailing_zeros, without_trailing_zeros}
+use Rattle.decimals.specs.declared.significand.Significand.{Significand}
+
+-- what is kept of these digits
+unfoldable pub significand_of : List ℕ → Significand
+significand_of digits = record {
+  number = digits_value 10 (without_trailing_zeros digits);
+  zeros = trailing_zeros digits;
+  count = length digits;
+}
+
+-- one digit more, given by its value
+abbrev pub digit_added : Significand → ℕ → Significand
+digit_added before digit =
+    if digit == 0
+    then record { number = before.number; zeros = before.zeros + 1; count = before.count + 1 }
+    else record {
+      number = before.number * 10 ^ (before.zeros + 1) + digit;
+      zeros = 0;
+      count = before.count + 1;
+    }
+
+-- digits more, given by their characters
+abbrev pub digits_added : Significand → List ℕ → Significand
+digits_added before digits = fold (λ s b. digit_added s (b - 48)) before digits

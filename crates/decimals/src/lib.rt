@@ -1,0 +1,14 @@
+//! Exact decimal numbers: a whole number, times ten to a power.
+#![tactic(auto)]
+
+mod decimal;
+mod decimal_printing;
+mod decimal_text;
+mod laws;
+mod significand;
+
+pub use decimal::Decimal;
+pub use laws::{equal_numbers_have_one_form, zeros_at_the_end_are_powers_of_ten};
+
+#[cfg(test)]
+mod tests;

@@ -1,0 +1,9 @@
+//! Why reading a workbook fails.
+#![tactic(auto)]
+
+mod error;
+
+pub use error::XlsxError;
+
+#[cfg(test)]
+mod tests;
