@@ -120,17 +120,11 @@ reads_over one two name values formulas styles same reads = record {
   opening = reads.opening;
   palette = reads.palette;
   events = reads.events;
-  all = reads.all;
-  written = reads.written;
-  ids = reads.ids;
   opens = opens_over one two reads.opening same.root same.book reads.opens;
   named = reads.named;
   found = sym (events_over one two (path_named name reads.opening.sheets)
       (λ (at : List ℕ) is. same.sheet reads.opening at reads.opens is)) ∙ reads.found;
-  sheet = reads.sheet;
-  valued = reads.valued;
-  listed = reads.listed;
-  styled = reads.styled;
+  holds = reads.holds;
 }
 
 pub readable_over : (one two : List Part) (name : List ℕ) → HaveSameSheet one two name

@@ -216,29 +216,30 @@ one_reading parts name values others formulas more styles again first second =
     same_events parts name second.opening first.opening (Some second.events) (Some first.events)
     second.opens first.opens second.found first.found in
     let events : second.events ≡ first.events = cc in
-    let sheet : IsSoundSheet (opened_grounds first.opening) first.events second.all second.written
-    second.ids = subst (λ (own : Grounds). IsSoundSheet own first.events second.all second.written
-    second.ids)
+    let one = first.holds in
+    let two = second.holds in
+    let sheet : IsSoundSheet (opened_grounds first.opening) first.events two.all two.written
+    two.ids = subst (λ (own : Grounds). IsSoundSheet own first.events two.all two.written two.ids)
     (same_grounds parts second.opening first.opening second.opens first.opens)
-    (subst (λ (own : List Event). IsSoundSheet (opened_grounds second.opening) own second.all
-    second.written second.ids) events second.sheet) in
-    let both = sounds_alike (opened_grounds first.opening) first.events first.all second.all
-    first.written second.written first.ids second.ids first.sheet sheet in
+    (subst (λ (own : List Event). IsSoundSheet (opened_grounds second.opening) own two.all
+    two.written two.ids) events two.sheet) in
+    let both = sounds_alike (opened_grounds first.opening) first.events one.all two.all
+    one.written two.written one.ids two.ids one.sheet sheet in
     let shared = same_shared parts first.opening second.opening first.opens second.opens in
-    let styles = styles_of_alike first.palette second.palette first.ids
+    let styles = styles_of_alike first.palette second.palette one.ids
     (first.named ∙ shared.styles ∙ sym second.named) in (
-      first.valued
-          ∙ ap (λ (own : List (List ℕ)). last_of_each (used_values own first.all)) shared.strings
+      one.valued
+          ∙ ap (λ (own : List (List ℕ)). last_of_each (used_values own one.all)) shared.strings
           ∙ ap (λ (all : List ((ℕ × ℕ) × CellValue)).
           last_of_each (used_values second.opening.shared.strings all)) both.0
-          ∙ sym second.valued,
-      first.listed
+          ∙ sym two.valued,
+      one.listed
           ∙ ap (λ (written : List ((ℕ × ℕ) × List FormulaText)).
           last_of_each (used_formulas (formulas_along [] written))) both.1
-          ∙ sym second.listed,
-      subst (λ (own : StyleMap). SayTheSame own again) (sym first.styled)
-          (subst (SayTheSame (styles_of first.palette first.ids)) (sym second.styled)
-          (subst (λ (ids : List StyledCell). SayTheSame (styles_of first.palette first.ids)
+          ∙ sym two.listed,
+      subst (λ (own : StyleMap). SayTheSame own again) (sym one.styled)
+          (subst (SayTheSame (styles_of first.palette one.ids)) (sym two.styled)
+          (subst (λ (ids : List StyledCell). SayTheSame (styles_of first.palette one.ids)
           (styles_of second.palette ids)) both.2 styles)),
     )
 
@@ -266,8 +267,9 @@ part_never parts name values formulas styles error reads has =
     (same_grounds parts has.opening reads.opening has.opens reads.opens)
     (subst (λ (own : List Event). SheetPartCause all_wanted (opened_grounds has.opening) own error)
     events has.cause) in
-    no_part_cause all_wanted (opened_grounds reads.opening) reads.events reads.all reads.written
-    reads.ids error reads.sheet cause
+    let holds = reads.holds in
+    no_part_cause all_wanted (opened_grounds reads.opening) reads.events holds.all holds.written
+    holds.ids error holds.sheet cause
 
 either_never : (parts : List Part) (name : List ℕ) (values : List ((ℕ × ℕ) × CellValue))
     (formulas : List ((ℕ × ℕ) × List ℕ)) (styles : StyleMap) (error : XlsxError)

@@ -112,16 +112,10 @@ reads_as name path grounds palette old mid values formulas styles same opens has
       opening = opens.opening;
       palette = palette;
       events = there.0;
-      all = there.2.all;
-      written = there.2.written;
-      ids = there.2.ids;
       opens = opens.opens;
       named = opens.styled;
       found = there.1;
-      sheet = there.2.sheet;
-      valued = there.2.valued;
-      listed = there.2.listed;
-      styled = there.2.styled;
+      holds = there.2;
     }
 
 -- a workbook that opens, and whose sheet isn't read

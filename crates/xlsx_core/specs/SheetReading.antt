@@ -101,16 +101,10 @@ pub record ReadsAs
   pub opening : Opening
   pub palette : List Style
   pub events : List Event
-  pub all : List ((ℕ × ℕ) × CellValue)
-  pub written : List ((ℕ × ℕ) × List FormulaText)
-  pub ids : List StyledCell
   pub opens : OpensAs parts opening
   pub named : IsPaletteOf opening palette
   pub found : events_named name opening.sheets parts ≡ Some events
-  pub sheet : IsSoundSheet (opened_grounds opening) events all written ids
-  pub valued : values ≡ last_of_each (used_values opening.shared.strings all)
-  pub listed : formulas ≡ last_of_each (used_formulas (formulas_along [] written))
-  pub styled : styles ≡ styles_of palette ids
+  pub holds : HoldsSheet (opened_grounds opening) palette events values formulas styles
 
 -- the package has a sheet of this name that is read
 abbrev pub IsReadable : List Part → List ℕ → Type 0
