@@ -20,6 +20,3 @@ pub use range_iterators::{Cells, RowCells, Rows, UsedCells};
 pub use value::{
     CellErrorType, Data, DataRef, ExcelDateTime, ExcelDateTimeType, HeaderRow, UnknownCellError,
 };
-
-#[cfg(test)]
-mod tests;

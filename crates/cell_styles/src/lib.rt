@@ -34,6 +34,3 @@ pub use style::Style;
 pub use style_cells::StyleRangeCells;
 pub use style_range::{StyleRange, copied_palette};
 pub use styled_cells::StyledCells;
-
-#[cfg(test)]
-mod tests;

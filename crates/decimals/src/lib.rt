@@ -9,6 +9,3 @@ mod significand;
 
 pub use decimal::Decimal;
 pub use laws::{equal_numbers_have_one_form, zeros_at_the_end_are_powers_of_ten};
-
-#[cfg(test)]
-mod tests;

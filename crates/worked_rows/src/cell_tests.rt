@@ -1,10 +1,10 @@
 //! Cells in the data of a sheet: where they stand, what they hold, and why they are refused.
 
 use crate::answers::{answer, assert_answer};
-use crate::test_packages::{SHEET_NAME, STRINGS_NAME, add_front, package_with, sheet_part};
 use std::alloc::Global;
 use std::process::Abort;
 use std::test::Fail;
+use test_packages::{SHEET_NAME, STRINGS_NAME, add_front, package_with, sheet_part};
 
 /// What a case shows, the data of a sheet, and what is read of them.
 type Case = (&'static str, &'static str, &'static str);

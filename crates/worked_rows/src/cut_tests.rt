@@ -1,14 +1,14 @@
 //! Parts that end early, and packages of which a call fails.
 
 use crate::answers::{answer, assert_answer};
-use crate::test_packages::{
-    Part, RELATIONSHIPS, ROOT, SHEET, SHEET_NAME, STRINGS_NAME, WORKBOOK, events_of, package_cut,
-    package_of,
-};
 use part_events::FailingPackage;
 use std::alloc::Global;
 use std::process::Abort;
 use std::test::Fail;
+use test_packages::{
+    Part, RELATIONSHIPS, ROOT, SHEET, SHEET_NAME, STRINGS_NAME, WORKBOOK, events_of, package_cut,
+    package_of,
+};
 
 /// A sheet with a formula, a text, a number, a string in its cell, and values and dimensions beside.
 const LONG_SHEET: &str =

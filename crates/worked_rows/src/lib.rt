@@ -21,6 +21,4 @@ mod string_tests;
 #[cfg(test)]
 mod style_tests;
 #[cfg(test)]
-mod test_packages;
-#[cfg(test)]
 mod worksheet_tests;

@@ -1,13 +1,13 @@
 //! Workbooks as they are opened: their sheets, their defined names, their shared strings, and how
 //! their dates count.
 
-use crate::test_packages::{
-    Part, RELATIONSHIPS, RELATIONSHIPS_MARKUP, RELATIONSHIPS_NAME, ROOT, ROOT_MARKUP, ROOT_NAME,
-    STRINGS_NAME, WORKBOOK, WORKBOOK_NAME, package_of,
-};
 use part_events::{MemoryPackage, Package};
 use std::alloc::{AllocError, Global};
 use std::test::Fail;
+use test_packages::{
+    Part, RELATIONSHIPS, RELATIONSHIPS_MARKUP, RELATIONSHIPS_NAME, ROOT, ROOT_MARKUP, ROOT_NAME,
+    STRINGS_NAME, WORKBOOK, WORKBOOK_NAME, package_of,
+};
 use xlsx_core::{OpenFailure, Sheet, SheetType, SheetVisible, Xlsx};
 
 const OFFICE: &str = ROOT_MARKUP;

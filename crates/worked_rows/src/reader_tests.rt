@@ -5,12 +5,12 @@ ghost use Rattle.part_events.specs.Package.{SameParts};
 ghost use Rattle.xlsx_cells.specs.CellsReader.{flow_by, IsFlowing};
 
 use crate::answers::push_value;
-use crate::test_packages::{SHEET, SHEET_NAME, package_of, sheet_part};
 use cell_data::{Cell, CellFormat, DataRef};
 use cell_styles::Style;
 use part_events::{FailingPackage, Package, XlReader};
 use std::alloc::Global;
 use std::test::Fail;
+use test_packages::{SHEET, SHEET_NAME, package_of, sheet_part};
 use xlsx_cells::{XlsxCellReader, open_data};
 use xlsx_error::XlsxError;
 use xlsx_values::to_data;

@@ -2,12 +2,12 @@
 //! fails.
 
 use crate::answers::answer;
-use crate::test_packages::{
-    Part, RELATIONSHIPS, ROOT, SHEET_NAME, STRINGS_NAME, WORKBOOK_NAME, add_front, package_of,
-};
 use part_events::FailingPackage;
 use std::alloc::Global;
 use std::test::Fail;
+use test_packages::{
+    Part, RELATIONSHIPS, ROOT, SHEET_NAME, STRINGS_NAME, WORKBOOK_NAME, add_front, package_of,
+};
 
 const SALES: [Part<'static>; 6] = [
     ROOT,

@@ -1,12 +1,12 @@
 //! Sheets as wholes: their heads, where their data end, and how they are found by their names.
 
 use crate::answers::{answer, assert_answer};
-use crate::test_packages::{
+use part_events::{FailingPackage, Package};
+use std::test::Fail;
+use test_packages::{
     Part, RELATIONSHIPS, RELATIONSHIPS_MARKUP, RELATIONSHIPS_NAME, ROOT, ROOT_NAME, SHEET,
     SHEET_MARKUP, SHEET_NAME, STRINGS_NAME, WORKBOOK, WORKBOOK_NAME, package_of, package_with,
 };
-use part_events::{FailingPackage, Package};
-use std::test::Fail;
 use xlsx_core::{SheetAnswer, read_sheet};
 use xlsx_error::XlsxError;
 

@@ -1,8 +1,8 @@
 //! The strings of a workbook's part of shared strings.
 
-use crate::test_packages::{STRINGS_NAME, package_of};
 use std::alloc::{AllocError, Global};
 use std::test::Fail;
+use test_packages::{STRINGS_NAME, package_of};
 use xlsx_error::XlsxError;
 use xlsx_strings::read_shared_strings;
 

@@ -1,10 +1,10 @@
 //! The styles of worksheets, over the styles of their workbook.
 
-use crate::test_packages::{RELATIONSHIPS, ROOT, SHEET_NAME, WORKBOOK, add_front, package_of};
 use cell_styles::StyleRange;
 use part_events::MemoryPackage;
 use std::alloc::Global;
 use std::test::Fail;
+use test_packages::{RELATIONSHIPS, ROOT, SHEET_NAME, WORKBOOK, add_front, package_of};
 use xlsx_core::{OpenFailure, Xlsx};
 
 const STYLED: &str =

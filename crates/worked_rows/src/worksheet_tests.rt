@@ -2,13 +2,11 @@
 
 use crate::answers::{push_formulas, push_values};
 use crate::opening_tests::opened;
-use crate::test_packages::{
-    RELATIONSHIPS, ROOT, SHEET, SHEET_NAME, WORKBOOK, package_of, package_with,
-};
 use cell_data::{HeaderRow, Range};
 use part_events::{FailingPackage, MemoryPackage, Package};
 use std::alloc::Global;
 use std::test::Fail;
+use test_packages::{RELATIONSHIPS, ROOT, SHEET, SHEET_NAME, WORKBOOK, package_of, package_with};
 use xlsx_core::Xlsx;
 
 /// The minimal workbook with this part of its sheet.

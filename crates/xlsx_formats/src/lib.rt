@@ -9,6 +9,3 @@ mod settings;
 pub use format_codes::FormatCodes;
 pub use formatting::{Formatting, NamedLists, read_format};
 pub use number_formats::read_number_formats;
-
-#[cfg(test)]
-mod tests;

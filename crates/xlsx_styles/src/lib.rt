@@ -24,8 +24,3 @@ pub use parsing::{parse_border, parse_fill, parse_font};
 pub use texts::truth_or;
 pub use theme::default_theme_colors;
 pub use tint::apply_tint;
-
-#[cfg(test)]
-mod element_tests;
-#[cfg(test)]
-mod tests;

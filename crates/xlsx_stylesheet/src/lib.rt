@@ -7,6 +7,3 @@ mod style_lists;
 mod style_sheet;
 
 pub use style_sheet::{StyleSheet, read_styles};
-
-#[cfg(test)]
-mod tests;

@@ -6,6 +6,3 @@ mod slot;
 mod theme_part;
 
 pub use theme_part::{ThemeColors, read_theme, read_theme_colors};
-
-#[cfg(test)]
-mod theme_tests;

@@ -1,4 +1,9 @@
-use super::*;
+//! Styles, and which style each cell of a worksheet has.
+
+use cell_styles::{
+    Alignment, Color, Font, FontStyle, FontWeight, NumberFormat, Protection, Style, StyleRange,
+    TextRotation, UnderlineStyle,
+};
 use std::alloc::{AllocError, Global};
 use std::test::Fail;
 
@@ -22,7 +27,7 @@ fn hidden() -> Style {
     }
 }
 
-// Entry 0 names nothing, entry 1 is locked, entry 2 hidden.
+/// Entry 0 names nothing, entry 1 is locked, entry 2 hidden.
 fn palette(alloc: Global) -> Result<Vec<Style>, AllocError> {
     let mut styles = Vec::new(alloc);
     styles.push(Style::default())?;
@@ -31,16 +36,55 @@ fn palette(alloc: Global) -> Result<Vec<Style>, AllocError> {
     Ok(styles)
 }
 
+/// The corners of a range, its height and width, and how many runs it has.
+fn area_told(alloc: Global, range: &StyleRange) -> Result<String, AllocError> {
+    let mut out = String::new(alloc);
+    if let (Some(start), Some(end)) = (range.start(), range.end()) {
+        write!(out, "{},{} to {},{}: ", start.0, start.1, end.0, end.1)?;
+    }
+    let (height, width, runs) = (range.height(), range.width(), range.run_count());
+    write!(out, "{height} by {width} in {runs}")?;
+    Ok(out)
+}
+
+/// How many cells a range has, and its positions with an id above 0.
+fn cells_told(alloc: Global, range: &StyleRange) -> Result<String, AllocError> {
+    let mut count = 0usize;
+    for _ in range.cells() {
+        count = count.saturating_add(1);
+    }
+    let mut out = String::new(alloc);
+    write!(out, "{count}:")?;
+    for (row, column, id) in range.styled() {
+        write!(out, " {row},{column} {id}")?;
+    }
+    Ok(out)
+}
+
+/// Which style of the palette the range has at a position.
+fn style_at(range: &StyleRange, position: (u32, u32)) -> &'static str {
+    let Some(style) = range.get(position) else {
+        return "outside";
+    };
+    if *style == locked() {
+        "locked"
+    } else if *style == hidden() {
+        "hidden"
+    } else if *style == Style::default() {
+        "plain"
+    } else {
+        "another"
+    }
+}
+
 #[test]
 fn far_corners_give_three_runs(rt: HostRuntime) -> Result<(), Fail> {
     let alloc = rt.alloc();
     let cells = vec![in alloc; (0, 0, 1), (999_999, 16_383, 2)]?;
     let range = StyleRange::from_style_ids(alloc, cells, palette(alloc)?)?;
-    assert_eq!(rt; range.width(), 16_384);
-    assert_eq!(rt; range.height(), 1_000_000);
-    assert_eq!(rt; range.run_count(), 3);
-    let between = range.get((500_000, 8_000)).ok_or("outside")?;
-    assert!(rt; *between == Style::default());
+    let told = area_told(alloc, &range)?;
+    assert_eq!(rt; told.as_str(), "0,0 to 999999,16383: 1000000 by 16384 in 3");
+    assert_eq!(rt; style_at(&range, (500_000, 8_000)), "plain");
     Ok(())
 }
 
@@ -49,17 +93,17 @@ fn unsorted_entries_give_their_styles(rt: HostRuntime) -> Result<(), Fail> {
     let alloc = rt.alloc();
     let cells = vec![in alloc; (3, 1, 2), (1, 3, 1), (1, 1, 1)]?;
     let range = StyleRange::from_style_ids(alloc, cells, palette(alloc)?)?;
-    assert_eq!(rt; range.start(), Some((1, 1)));
-    assert_eq!(rt; range.end(), Some((3, 3)));
-    assert_eq!(rt; range.run_count(), 6);
+    let told = area_told(alloc, &range)?;
+    assert_eq!(rt; told.as_str(), "1,1 to 3,3: 3 by 3 in 6");
     let copy = range.clone_in(alloc)?;
-    let corner = copy.get((1, 3)).ok_or("outside")?;
-    assert!(rt; *corner == locked());
-    let last = copy.get((3, 1)).ok_or("outside")?;
-    assert!(rt; *last == hidden());
-    let between = copy.get((2, 2)).ok_or("outside")?;
-    assert!(rt; *between == Style::default());
-    assert!(rt; copy.get((4, 1)).is_none());
+    for (position, style) in [
+        ((1, 3), "locked"),
+        ((3, 1), "hidden"),
+        ((2, 2), "plain"),
+        ((4, 1), "outside"),
+    ] {
+        assert_eq!(rt; style_at(&copy, position), style, "for {style}");
+    }
     Ok(())
 }
 
@@ -68,14 +112,21 @@ fn ids_past_the_palette_are_left_out(rt: HostRuntime) -> Result<(), Fail> {
     let alloc = rt.alloc();
     let cells = vec![in alloc; (0, 0, 0), (0, 1, 99), (5, 5, 1)]?;
     let range = StyleRange::from_style_ids(alloc, cells, palette(alloc)?)?;
-    assert_eq!(rt; range.start(), Some((5, 5)));
-    assert_eq!(rt; range.end(), Some((5, 5)));
-    assert_eq!(rt; range.run_count(), 1);
-    assert_eq!(rt; range.cells().count(), 1);
-    assert_eq!(rt; range.styled().next(), Some((5, 5, 1)));
-    let none = StyleRange::from_style_ids(alloc, vec![in alloc; (0, 0, 3)]?, palette(alloc)?)?;
-    assert!(rt; none.is_empty());
-    assert_eq!(rt; none.cells().count(), 0);
+    let told = area_told(alloc, &range)?;
+    assert_eq!(rt; told.as_str(), "5,5 to 5,5: 1 by 1 in 1");
+    let told = cells_told(alloc, &range)?;
+    assert_eq!(rt; told.as_str(), "1: 5,5 1");
+    Ok(())
+}
+
+#[test]
+fn an_id_past_the_palette_alone_gives_no_area(rt: HostRuntime) -> Result<(), Fail> {
+    let alloc = rt.alloc();
+    let cells = vec![in alloc; (0, 0, 3)]?;
+    let range = StyleRange::from_style_ids(alloc, cells, palette(alloc)?)?;
+    assert!(rt; range.is_empty());
+    let told = cells_told(alloc, &range)?;
+    assert_eq!(rt; told.as_str(), "0:");
     Ok(())
 }
 

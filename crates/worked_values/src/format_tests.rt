@@ -1,4 +1,6 @@
-use crate::{
+//! What number formats make of numbers.
+
+use cell_data::{
     CellFormat, builtin_format_by_id, builtin_format_code_by_id, detect_custom_number_format,
 };
 

@@ -1,8 +1,10 @@
-use crate::{Cell, Range};
+//! Ranges of cells.
+
+use cell_data::{Cell, Range};
 use std::alloc::{AllocError, Global};
 use std::test::Fail;
 
-// The area of a range, and the values of its rows.
+/// The area of a range, and the values of its rows.
 fn shown(alloc: Global, range: &Range<u8>) -> Result<String, AllocError> {
     let mut out = String::new(alloc);
     if let (Some(start), Some(end)) = (range.start(), range.end()) {
@@ -17,7 +19,7 @@ fn shown(alloc: Global, range: &Range<u8>) -> Result<String, AllocError> {
     Ok(out)
 }
 
-// A2 = 1, B4 = 2, in this order or turned.
+/// A2 = 1, B4 = 2, in this order or turned.
 fn two_cells(alloc: Global, turned: bool) -> Result<Range<u8>, AllocError> {
     let first = Cell::new((1, 0), 1);
     let second = Cell::new((3, 1), 2);

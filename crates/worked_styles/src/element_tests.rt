@@ -1,40 +1,23 @@
-use super::*;
+//! The elements of the styles part: colors, alignments, protections, fills, fonts and borders.
+
 use cell_styles::{
     BorderStyle, Borders, Color, Fill, FillPattern, Font, FontStyle, FontWeight,
     HorizontalAlignment, TextRotation, UnderlineStyle, VerticalAlignment,
 };
 use decimals::Decimal;
-use part_events::{MemoryPackage, PartEvent, StartTag, XlReader, XmlFault};
-use std::alloc::{AllocError, Global};
-use std::process::Abort;
+use part_events::{PartEvent, StartTag, XlReader, XmlFault};
+use std::alloc::Global;
 use std::test::Fail;
+use test_packages::package_of;
 use xlsx_error::XlsxError;
+use xlsx_styles::{
+    default_theme_colors, parse_alignment, parse_border, parse_color, parse_fill, parse_font,
+    parse_protection,
+};
 
-fn start<'a>(name: &'a str, attributes: &'a str) -> PartEvent<'a> {
-    PartEvent::Start(StartTag { name, attributes })
-}
-
-// A package with one part of these events.
-fn held_package(
-    rt: &impl Abort,
-    alloc: Global,
-    events: &[PartEvent<'_>],
-) -> Result<MemoryPackage, AllocError> {
-    let mut package = MemoryPackage::new(alloc);
-    package.add_part("part")?;
-    for event in events {
-        assert!(rt; package.part_count() == 1);
-        package.push_event(*event)?;
-    }
-    Ok(package)
-}
-
-fn fill_in(
-    rt: &impl Abort,
-    alloc: Global,
-    events: &[PartEvent<'_>],
-) -> Result<Option<Fill>, XlsxError> {
-    let mut package = held_package(rt, alloc, events)?;
+/// The fill of this markup, which begins with its start.
+fn fill_in(alloc: Global, markup: &str) -> Result<Option<Fill>, XlsxError> {
+    let mut package = package_of(alloc, &[("part", markup)])?;
     let Some(mut xml) = XlReader::open(alloc, &mut package, "part")? else {
         return Ok(None);
     };
@@ -46,12 +29,9 @@ fn fill_in(
     Ok(None)
 }
 
-fn font_in(
-    rt: &impl Abort,
-    alloc: Global,
-    events: &[PartEvent<'_>],
-) -> Result<Option<Font>, XlsxError> {
-    let mut package = held_package(rt, alloc, events)?;
+/// The font of this markup, which begins with its start.
+fn font_in(alloc: Global, markup: &str) -> Result<Option<Font>, XlsxError> {
+    let mut package = package_of(alloc, &[("part", markup)])?;
     let Some(mut xml) = XlReader::open(alloc, &mut package, "part")? else {
         return Ok(None);
     };
@@ -63,14 +43,14 @@ fn font_in(
     Ok(None)
 }
 
+/// The borders of this markup, which begins with its start.
 fn borders_in(
-    rt: &impl Abort,
     alloc: Global,
-    events: &[PartEvent<'_>],
+    markup: &str,
     down: bool,
     up: bool,
 ) -> Result<Option<Borders>, XlsxError> {
-    let mut package = held_package(rt, alloc, events)?;
+    let mut package = package_of(alloc, &[("part", markup)])?;
     let Some(mut xml) = XlReader::open(alloc, &mut package, "part")? else {
         return Ok(None);
     };
@@ -153,61 +133,48 @@ fn alignments_and_protections_are_read(rt: HostRuntime) -> Result<(), Fail> {
     Ok(())
 }
 
+const FILL: &str = r#"
+    <fill>
+        <x:patternFill patternType="solid">
+            <fgColor theme="2" tint="-0.0999786370433668"/>
+            <bgColor indexed="64"/>
+            <fgColor rgb="none"/>
+        </x:patternFill>
+    </fill>"#;
+
 #[test]
 fn fills_are_read(rt: HostRuntime) -> Result<(), Fail> {
     let alloc = rt.alloc();
-    let part = [
-        start("fill", ""),
-        start("x:patternFill", " patternType=\"solid\""),
-        start("fgColor", " theme=\"2\" tint=\"-0.0999786370433668\""),
-        PartEvent::End("fgColor"),
-        start("bgColor", " indexed=\"64\""),
-        PartEvent::End("bgColor"),
-        start("fgColor", " rgb=\"none\""),
-        PartEvent::End("fgColor"),
-        PartEvent::End("x:patternFill"),
-        PartEvent::End("fill"),
-    ];
-    let Ok(Some(fill)) = fill_in(&rt, alloc, &part) else {
+    let Ok(Some(fill)) = fill_in(alloc, FILL) else {
         return Err("no fill")?;
     };
     assert!(rt; fill.pattern == FillPattern::Solid);
     assert!(rt; fill.foreground_color == Some(Color::from_argb(0xFFDDD9C3)));
     assert!(rt; fill.background_color == Some(Color::from_argb(0xFF000000)));
-    let open = [start("fill", ""), start("patternFill", "")];
-    let Err(XlsxError::XmlEof(name)) = fill_in(&rt, alloc, &open) else {
+    let Err(XlsxError::XmlEof(name)) = fill_in(alloc, "<fill><patternFill>") else {
         return Err("not refused")?;
     };
     assert_eq!(rt; name, "fill");
     Ok(())
 }
 
+const FONT: &str = r#"
+    <font>
+        <sz val="11"/>
+        <color theme="1"/>
+        <name val="A&amp;B"/>
+        <family val="2"/>
+        <sz val="big"/>
+        <b val="600"/>
+        <i/>
+        <u val="doubleAccounting"/>
+        <strike val="0"/>
+    </font>"#;
+
 #[test]
 fn fonts_are_read(rt: HostRuntime) -> Result<(), Fail> {
     let alloc = rt.alloc();
-    let part = [
-        start("font", ""),
-        start("sz", " val=\"11\""),
-        PartEvent::End("sz"),
-        start("color", " theme=\"1\""),
-        PartEvent::End("color"),
-        start("name", " val=\"A&amp;B\""),
-        PartEvent::End("name"),
-        start("family", " val=\"2\""),
-        PartEvent::End("family"),
-        start("sz", " val=\"big\""),
-        PartEvent::End("sz"),
-        start("b", " val=\"600\""),
-        PartEvent::End("b"),
-        start("i", ""),
-        PartEvent::End("i"),
-        start("u", " val=\"doubleAccounting\""),
-        PartEvent::End("u"),
-        start("strike", " val=\"0\""),
-        PartEvent::End("strike"),
-        PartEvent::End("font"),
-    ];
-    let Ok(Some(font)) = font_in(&rt, alloc, &part) else {
+    let Ok(Some(font)) = font_in(alloc, FONT) else {
         return Err("no font")?;
     };
     assert!(rt; font.size == Decimal::parse("11"));
@@ -221,35 +188,27 @@ fn fonts_are_read(rt: HostRuntime) -> Result<(), Fail> {
         return Err("no name")?;
     };
     assert_eq!(rt; name.as_str(), "A&B");
-    let faulty = [
-        start("font", ""),
-        start("name", " val=\"A&B\""),
-        PartEvent::End("name"),
-        PartEvent::End("font"),
-    ];
-    let Err(XlsxError::Xml(XmlFault::Entity { at })) = font_in(&rt, alloc, &faulty) else {
+    let faulty = r#"<font><name val="A&B"/></font>"#;
+    let Err(XlsxError::Xml(XmlFault::Entity { at })) = font_in(alloc, faulty) else {
         return Err("not refused")?;
     };
     assert_eq!(rt; at, 1);
     Ok(())
 }
 
+const BORDERS: &str = r#"
+    <border>
+        <left style="thin">
+            <color indexed="10"/>
+            <right style="thick"/>
+        </left>
+        <diagonal style="slantDashDot"/>
+    </border>"#;
+
 #[test]
 fn borders_are_read(rt: HostRuntime) -> Result<(), Fail> {
     let alloc = rt.alloc();
-    let part = [
-        start("border", ""),
-        start("left", " style=\"thin\""),
-        start("color", " indexed=\"10\""),
-        PartEvent::End("color"),
-        start("right", " style=\"thick\""),
-        PartEvent::End("right"),
-        PartEvent::End("left"),
-        start("diagonal", " style=\"slantDashDot\""),
-        PartEvent::End("diagonal"),
-        PartEvent::End("border"),
-    ];
-    let Ok(Some(borders)) = borders_in(&rt, alloc, &part, true, false) else {
+    let Ok(Some(borders)) = borders_in(alloc, BORDERS, true, false) else {
         return Err("no borders")?;
     };
     assert!(rt; borders.left.style == BorderStyle::Thin);
@@ -263,19 +222,14 @@ fn borders_are_read(rt: HostRuntime) -> Result<(), Fail> {
 #[test]
 fn a_part_that_ends_in_borders_tells_where(rt: HostRuntime) -> Result<(), Fail> {
     let alloc = rt.alloc();
-    let side = [start("border", ""), start("left", ""), start("color", "")];
-    let Err(XlsxError::XmlEof(name)) = borders_in(&rt, alloc, &side, true, true) else {
-        return Err("not refused")?;
-    };
-    assert_eq!(rt; name, "border side");
-    let outside = [
-        start("border", ""),
-        start("left", ""),
-        PartEvent::End("left"),
-    ];
-    let Err(XlsxError::XmlEof(name)) = borders_in(&rt, alloc, &outside, true, true) else {
-        return Err("not refused")?;
-    };
-    assert_eq!(rt; name, "border");
+    for (markup, wanted) in [
+        ("<border><left><color>", "border side"),
+        ("<border><left/>", "border"),
+    ] {
+        let Err(XlsxError::XmlEof(name)) = borders_in(alloc, markup, true, true) else {
+            return Err("not refused")?;
+        };
+        assert_eq!(rt; name, wanted);
+    }
     Ok(())
 }

@@ -1,4 +1,8 @@
-use crate::{CellErrorType, Data, DataRef, Decimal, ExcelDateTime, ExcelDateTimeType, HeaderRow};
+//! What cells hold.
+
+use cell_data::{CellErrorType, Data, DataRef, ExcelDateTime, ExcelDateTimeType, HeaderRow};
+use decimals::Decimal;
+use std::alloc::{AllocError, Global};
 use std::test::Fail;
 
 #[test]
@@ -18,28 +22,36 @@ fn texts_name_errors(rt: HostRuntime) {
     }
 }
 
+fn has_equal_copy(alloc: Global, value: &Data) -> Result<bool, AllocError> {
+    Ok(value.clone_in(alloc)? == *value)
+}
+
 #[test]
 fn a_copy_is_the_same_value(rt: HostRuntime) -> Result<(), Fail> {
     let alloc = rt.alloc();
     let value = Data::String(String::from_str(alloc, "a b")?);
-    assert!(rt; value.clone_in(alloc)? == value);
+    assert!(rt; has_equal_copy(alloc, &value)?);
     let date = Data::DateTimeIso(String::from_str(alloc, "a b")?);
-    assert!(rt; date.clone_in(alloc)? == date);
+    assert!(rt; has_equal_copy(alloc, &date)?);
     assert!(rt; date != value);
-    if let Some(days) = Decimal::parse("1.5") {
-        let time = ExcelDateTime {
-            value: days,
-            kind: ExcelDateTimeType::DateTime,
-            is_1904: false,
-        };
-        assert!(rt; Data::DateTime(time).clone_in(alloc)? == Data::DateTime(time));
-        assert!(rt; Data::Decimal(days) != Data::DateTime(time));
-        let later = ExcelDateTime {
-            is_1904: true,
-            ..time
-        };
-        assert!(rt; Data::DateTime(later) != Data::DateTime(time));
-    }
+    Ok(())
+}
+
+#[test]
+fn values_of_two_kinds_differ(rt: HostRuntime) -> Result<(), Fail> {
+    let days = Decimal::parse("1.5").ok_or("no decimal")?;
+    let time = ExcelDateTime {
+        value: days,
+        kind: ExcelDateTimeType::DateTime,
+        is_1904: false,
+    };
+    let later = ExcelDateTime {
+        is_1904: true,
+        ..time
+    };
+    assert!(rt; has_equal_copy(rt.alloc(), &Data::DateTime(time))?);
+    assert!(rt; Data::Decimal(days) != Data::DateTime(time));
+    assert!(rt; Data::DateTime(later) != Data::DateTime(time));
     assert!(rt; DataRef::SharedString(1) != DataRef::SharedString(2));
     assert!(rt; HeaderRow::default() == HeaderRow::FirstNonEmptyRow);
     Ok(())

@@ -1,39 +1,18 @@
-use super::*;
+//! Number formats and cell formats.
+
 use cell_data::CellFormat;
 use cell_styles::{Borders, Fill, FillPattern, Font, HorizontalAlignment};
-use part_events::{Cursor, MemoryPackage, Package, PartEvent, StartTag, XmlFault};
+use part_events::{Cursor, Package, XmlFault};
 use std::alloc::{AllocError, Global};
-use std::process::Abort;
 use std::test::Fail;
+use test_packages::package_of;
 use xlsx_error::XlsxError;
+use xlsx_formats::{FormatCodes, Formatting, NamedLists, read_format, read_number_formats};
 use xlsx_sections::enter;
 
-fn start<'a>(name: &'a str, attributes: &'a str) -> PartEvent<'a> {
-    PartEvent::Start(StartTag { name, attributes })
-}
-
-// A package with one part of these events.
-fn held_package(
-    rt: &impl Abort,
-    alloc: Global,
-    events: &[PartEvent<'_>],
-) -> Result<MemoryPackage, AllocError> {
-    let mut package = MemoryPackage::new(alloc);
-    package.add_part("part")?;
-    for event in events {
-        assert!(rt; package.part_count() == 1);
-        package.push_event(*event)?;
-    }
-    Ok(package)
-}
-
-fn keep_codes(
-    rt: &impl Abort,
-    alloc: Global,
-    events: &[PartEvent<'_>],
-    kept: &mut FormatCodes,
-) -> Result<(), XlsxError> {
-    let mut package = held_package(rt, alloc, events)?;
+/// Keeps the codes that the number formats of this markup write.
+fn keep_codes(alloc: Global, markup: &str, kept: &mut FormatCodes) -> Result<(), XlsxError> {
+    let mut package = package_of(alloc, &[("part", markup)])?;
     if !package.open("part")? {
         return Err(XlsxError::FileNotFound(String::from_str(alloc, "part")?));
     }
@@ -42,13 +21,13 @@ fn keep_codes(
     read_number_formats(alloc, &mut package, &mut cursor, kept)
 }
 
+/// What the cell format of this markup makes of a number, and its style.
 fn formatting_in(
-    rt: &impl Abort,
     alloc: Global,
-    events: &[PartEvent<'_>],
+    markup: &str,
     lists: &NamedLists<'_>,
 ) -> Result<Formatting, XlsxError> {
-    let mut package = held_package(rt, alloc, events)?;
+    let mut package = package_of(alloc, &[("part", markup)])?;
     if !package.open("part")? {
         return Err(XlsxError::FileNotFound(String::from_str(alloc, "part")?));
     }
@@ -57,7 +36,7 @@ fn formatting_in(
     read_format(alloc, &mut package, &mut cursor, lists)
 }
 
-// The codes of three ids, of which one is built in.
+/// The codes of three ids, of which one is built in.
 fn known_codes(alloc: Global) -> Result<FormatCodes, AllocError> {
     let mut kept = FormatCodes::new(alloc);
     for (id, code) in [("164", "[hH]:mm"), ("20", "0.0"), ("x", "d")] {
@@ -66,31 +45,27 @@ fn known_codes(alloc: Global) -> Result<FormatCodes, AllocError> {
     Ok(kept)
 }
 
+const FIRST_CODES: &str = r#"
+    <numFmts count="99999999999">
+        <numFmt numFmtId="164" formatCode="0&quot;a&quot;"/>
+        <extLst>
+            <x:numFmt formatCode="@" numFmtId="0164"/>
+        </extLst>
+        <numFmt numFmtId="5"/>
+    </numFmts>"#;
+
+const SECOND_CODES: &str = r#"
+    <numFmts>
+        <numFmt numFmtId="164" formatCode="[h]&lt;"/>
+    </numFmts>"#;
+
 #[test]
 fn codes_stand_for_their_ids_as_written(rt: HostRuntime) -> Result<(), Fail> {
     let alloc = rt.alloc();
     let mut kept = FormatCodes::new(alloc);
-    let first = [
-        start("numFmts", " count=\"99999999999\""),
-        start("numFmt", " numFmtId=\"164\" formatCode=\"0&quot;a&quot;\""),
-        PartEvent::End("numFmt"),
-        start("extLst", ""),
-        start("x:numFmt", " formatCode=\"@\" numFmtId=\"0164\""),
-        PartEvent::End("x:numFmt"),
-        PartEvent::End("extLst"),
-        start("numFmt", " numFmtId=\"5\""),
-        PartEvent::End("numFmt"),
-        PartEvent::End("numFmts"),
-    ];
-    keep_codes(&rt, alloc, &first, &mut kept)?;
-    let second = [
-        start("numFmts", ""),
-        start("numFmt", " numFmtId=\"164\" formatCode=\"[h]&lt;\""),
-        PartEvent::End("numFmt"),
-        PartEvent::End("numFmts"),
-    ];
+    keep_codes(alloc, FIRST_CODES, &mut kept)?;
     assert!(rt; kept.code("164") == Some("0\"a\""));
-    keep_codes(&rt, alloc, &second, &mut kept)?;
+    keep_codes(alloc, SECOND_CODES, &mut kept)?;
     for (id, want) in [("164", Some("[h]<")), ("0164", Some("@")), ("5", None)] {
         assert!(rt; kept.code(id) == want, "at {id}");
     }
@@ -101,17 +76,12 @@ fn codes_stand_for_their_ids_as_written(rt: HostRuntime) -> Result<(), Fail> {
 fn faults_of_number_formats_are_told(rt: HostRuntime) -> Result<(), Fail> {
     let alloc = rt.alloc();
     let mut kept = FormatCodes::new(alloc);
-    let open = [start("numFmts", ""), start("numFmt", "")];
-    let Err(XlsxError::XmlEof(name)) = keep_codes(&rt, alloc, &open, &mut kept) else {
+    let Err(XlsxError::XmlEof(name)) = keep_codes(alloc, "<numFmts><numFmt>", &mut kept) else {
         return Err("not refused")?;
     };
     assert_eq!(rt; name, "numFmts");
-    let faulty = [
-        start("numFmts", ""),
-        start("numFmt", " numFmtId=\"1\" formatCode=\"&a\""),
-    ];
-    let Err(XlsxError::Xml(XmlFault::Entity { at })) = keep_codes(&rt, alloc, &faulty, &mut kept)
-    else {
+    let faulty = r#"<numFmts><numFmt numFmtId="1" formatCode="&a">"#;
+    let Err(XlsxError::Xml(XmlFault::Entity { at })) = keep_codes(alloc, faulty, &mut kept) else {
         return Err("not refused")?;
     };
     assert_eq!(rt; at, 1);
@@ -156,8 +126,8 @@ fn number_formats_go_by_their_ids(rt: HostRuntime) -> Result<(), Fail> {
         (" numFmtId=\"x\"", CellFormat::DateTime, None),
         (" numFmtId=\"4294967296\"", CellFormat::Other, None),
     ] {
-        let part = [start("xf", attributes), PartEvent::End("xf")];
-        let formatting = formatting_in(&rt, alloc, &part, &lists)?;
+        let markup = format!(in alloc; "<xf{attributes}/>")?;
+        let formatting = formatting_in(alloc, markup.as_str(), &lists)?;
         assert!(rt; formatting.format == format, "at {attributes}");
         match (formatting.style.number_format.as_ref(), number) {
             (None, None) => {}
@@ -204,8 +174,8 @@ fn fonts_fills_and_borders_go_by_their_numbers(rt: HostRuntime) -> Result<(), Fa
         ),
         (" fontId=\"+0\" fillId=\"-1\"", false, false, false),
     ] {
-        let part = [start("xf", attributes), PartEvent::End("xf")];
-        let style = formatting_in(&rt, alloc, &part, &lists)?.style;
+        let markup = format!(in alloc; "<xf{attributes}/>")?;
+        let style = formatting_in(alloc, markup.as_str(), &lists)?.style;
         assert!(rt; style.font.is_some() == font, "at {attributes}");
         assert!(rt; style.borders.is_some() == bordered, "at {attributes}");
         match style.fill {
@@ -215,6 +185,19 @@ fn fonts_fills_and_borders_go_by_their_numbers(rt: HostRuntime) -> Result<(), Fa
     }
     Ok(())
 }
+
+const SETTINGS: &str = r#"
+    <xf>
+        <alignment horizontal="left" wrapText="1">
+            <protection hidden="1"/>
+        </alignment>
+        <alignment horizontal="right"/>
+    </xf>"#;
+
+const OPEN_SETTINGS: &str = r#"
+    <xf>
+        <alignment horizontal="left" wrapText="1">
+            <protection hidden="1">"#;
 
 #[test]
 fn the_last_alignment_and_protection_count(rt: HostRuntime) -> Result<(), Fail> {
@@ -226,24 +209,14 @@ fn the_last_alignment_and_protection_count(rt: HostRuntime) -> Result<(), Fail> 
         fills: &[],
         borders: &[],
     };
-    let part = [
-        start("xf", ""),
-        start("alignment", " horizontal=\"left\" wrapText=\"1\""),
-        start("protection", " hidden=\"1\""),
-        PartEvent::End("protection"),
-        PartEvent::End("alignment"),
-        start("alignment", " horizontal=\"right\""),
-        PartEvent::End("alignment"),
-        PartEvent::End("xf"),
-    ];
-    let style = formatting_in(&rt, alloc, &part, &lists)?.style;
+    let style = formatting_in(alloc, SETTINGS, &lists)?.style;
     let (Some(alignment), Some(protection)) = (style.alignment, style.protection) else {
         return Err("not set")?;
     };
     assert!(rt; alignment.horizontal == HorizontalAlignment::Right);
     assert!(rt; !alignment.wrap_text);
     assert!(rt; protection.locked && protection.hidden);
-    let Err(XlsxError::XmlEof(name)) = formatting_in(&rt, alloc, &part[..3], &lists) else {
+    let Err(XlsxError::XmlEof(name)) = formatting_in(alloc, OPEN_SETTINGS, &lists) else {
         return Err("not refused")?;
     };
     assert_eq!(rt; name, "xf");

@@ -1,7 +1,9 @@
-use super::*;
+//! Tints, and the colors of the default theme.
+
 use cell_styles::Color;
 use decimals::Decimal;
 use std::test::Fail;
+use xlsx_styles::{apply_tint, default_theme_colors};
 
 #[test]
 fn tints_of_single_colors(rt: HostRuntime) -> Result<(), Fail> {

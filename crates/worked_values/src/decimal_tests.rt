@@ -1,8 +1,10 @@
-use crate::Decimal;
+//! Decimals: their texts and their form.
+
+use decimals::Decimal;
 use std::alloc::{AllocError, Global};
 use std::test::Fail;
 
-// The text of the number that a text writes.
+/// The text of the number that a text writes.
 fn reprinted(alloc: Global, text: &str) -> Result<Option<String>, AllocError> {
     let Some(number) = Decimal::parse(text) else {
         return Ok(None);

@@ -1,3 +1,0 @@
-mod formats;
-mod ranges;
-mod values;

@@ -1,0 +1,59 @@
+//! The parts of the smallest workbook, and packages of them.
+
+use crate::markup::{Part, add_front};
+use part_events::MemoryPackage;
+use std::alloc::{AllocError, Global};
+
+pub const ROOT_NAME: &str = "_rels/.rels";
+
+pub const RELATIONSHIPS_NAME: &str = "xl/_rels/workbook.xml.rels";
+
+pub const WORKBOOK_NAME: &str = "xl/workbook.xml";
+
+pub const STRINGS_NAME: &str = "xl/sharedStrings.xml";
+
+pub const SHEET_NAME: &str = "xl/worksheets/sheet1.xml";
+
+pub const ROOT_MARKUP: &str =
+    r#"<Relationships><Relationship Id="rId1" Type="http://schemas.openxmlformats.org/officeDocument/2006/relationships/officeDocument" Target="xl/workbook.xml"></Relationship></Relationships>"#;
+
+pub const ROOT: Part<'static> = (ROOT_NAME, ROOT_MARKUP);
+
+pub const RELATIONSHIPS_MARKUP: &str =
+    r#"<Relationships><Relationship Id="rId1" Type="http://schemas.openxmlformats.org/officeDocument/2006/relationships/worksheet" Target="worksheets/sheet1.xml"></Relationship></Relationships>"#;
+
+pub const RELATIONSHIPS: Part<'static> = (RELATIONSHIPS_NAME, RELATIONSHIPS_MARKUP);
+
+pub const WORKBOOK: Part<'static> = (
+    WORKBOOK_NAME,
+    r#"<workbook><sheets><sheet name="S" sheetId="1" r:id="rId1"></sheet></sheets></workbook>"#,
+);
+
+pub const SHEET_MARKUP: &str =
+    r#"<worksheet><sheetData><row r="1"><c r="A1" t="str"><v>nut</v></c></row></sheetData></worksheet>"#;
+
+pub const SHEET: Part<'static> = (SHEET_NAME, SHEET_MARKUP);
+
+/// The minimal package with the first events of this part in front.
+pub fn package_cut(
+    alloc: Global,
+    part: Part<'_>,
+    count: usize,
+) -> Result<MemoryPackage, AllocError> {
+    let mut package = MemoryPackage::new(alloc);
+    add_front(&mut package, alloc, part, count)?;
+    for other in [ROOT, RELATIONSHIPS, WORKBOOK, SHEET] {
+        add_front(&mut package, alloc, other, usize::MAX)?;
+    }
+    Ok(package)
+}
+
+/// The minimal package with this part in front.
+pub fn package_with(alloc: Global, part: Part<'_>) -> Result<MemoryPackage, AllocError> {
+    package_cut(alloc, part, usize::MAX)
+}
+
+/// The part of a sheet with these data.
+pub fn sheet_part(alloc: Global, data: &str) -> Result<String, AllocError> {
+    format!(in alloc; "<worksheet><sheetData>{data}</sheetData></worksheet>")
+}

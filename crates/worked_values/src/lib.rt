@@ -1,0 +1,13 @@
+//! What values are: tests of decimals, number formats, ranges and styles by their public calls.
+#![tactic(auto)]
+
+#[cfg(test)]
+mod decimal_tests;
+#[cfg(test)]
+mod format_tests;
+#[cfg(test)]
+mod range_tests;
+#[cfg(test)]
+mod style_tests;
+#[cfg(test)]
+mod value_tests;
