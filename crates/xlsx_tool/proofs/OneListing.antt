@@ -16,9 +16,9 @@ use Rattle.cell_styles.specs.declared.style.Style.{Style}
 use Rattle.xlsx_formats.specs.Formattings.{StyleSaid, style_said}
 use Rattle.xlsx_core.specs.SheetReading.{SayTheSame, ReadsAs}
 use Rattle.xlsx_tool.specs.Run.{AreLinesOf}
-use Rattle.xlsx_tool.specs.SheetListing.{shown_color, fill_field, line_of, value_placed}
-use Rattle.xlsx_tool.specs.SheetListing.{formula_placed, id_placed, used_positions, lines_with}
-use Rattle.xlsx_tool.specs.SheetListing.{placed_ids, listing}
+use Rattle.sheet_listing.specs.SheetListing.{shown_color, fill_field, line_of, value_placed}
+use Rattle.sheet_listing.specs.SheetListing.{formula_placed, id_placed, used_positions, lines_with}
+use Rattle.sheet_listing.specs.SheetListing.{placed_ids, listing}
 
 -- ---- the fill of a position
 

@@ -12,7 +12,7 @@ use Rattle.cell_styles.specs.StyleMap.{StyleMap}
 use Rattle.xlsx_error.specs.declared.error.XlsxError.{XlsxError}
 use Rattle.xlsx_error.specs.declared.error.XlsxError.TheVariants as workbook
 use Rattle.xlsx_tool.specs.Input.{InputRead, InputFails}
-use Rattle.xlsx_tool.specs.PackageText.{package_in}
+use Rattle.package_text.specs.PackageText.{package_in}
 use Rattle.xlsx_tool.specs.Run.{Streams, sheet_asked, Spells, Succeeds, HasPackageCause}
 use Rattle.xlsx_tool.specs.Run.{ReadingFails, Refuses}
 use Rattle.xlsx_tool.specs.Run.{AnswersExactly, NoPackage, ListsLines, LinesFail, LinesRead, IsSent}

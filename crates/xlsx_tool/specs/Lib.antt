@@ -1,10 +1,7 @@
-pub mod Escaped
 pub mod Input
 pub mod MemoryForms
-pub mod PackageText
 pub mod Program
 pub mod Run
-pub mod SheetListing
 pub mod Sink
 pub mod Source
 pub mod Status

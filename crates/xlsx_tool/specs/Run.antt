@@ -11,8 +11,8 @@ use Rattle.cell_data.specs.CellValue.{CellValue}
 use Rattle.cell_styles.specs.StyleMap.{StyleMap}
 use Rattle.xlsx_error.specs.declared.error.XlsxError.{XlsxError}
 use Rattle.xlsx_tool.specs.Input.{TookTooMany, longest_input}
-use Rattle.xlsx_tool.specs.SheetListing.{listing}
-use Rattle.xlsx_tool.specs.PackageText.{package_in}
+use Rattle.sheet_listing.specs.SheetListing.{listing}
+use Rattle.package_text.specs.PackageText.{package_in}
 use Rattle.xlsx_tool.specs.Sink.{SinkState}
 use Rattle.xlsx_tool.specs.Source.{SourceState}
 use Rattle.xlsx_tool.specs.declared.error.ToolError.{ToolError}

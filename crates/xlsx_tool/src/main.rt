@@ -2,15 +2,10 @@
 #![tactic(auto)]
 
 mod error;
-mod escaping;
 mod input;
 mod laws;
-mod package_text;
 mod program;
 mod run;
-mod sheet_listing;
-#[cfg(test)]
-mod sheet_listing_tests;
 mod sink;
 mod source;
 #[cfg(test)]

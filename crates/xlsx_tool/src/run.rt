@@ -3,19 +3,18 @@ ghost use Rattle.std.specs.Prelude.{Err};
 ghost use Rattle.xlsx_tool.specs.Run.{texts, sheet_asked, Streams, Succeeds, Refuses};
 ghost use Rattle.xlsx_tool.specs.Run.{AnswersExactly, PackageRead, NoPackage, ListsLines};
 ghost use Rattle.xlsx_tool.specs.Run.{LinesRead, LinesFail, ReadingFails, IsSent, SendFails};
-ghost use Rattle.xlsx_tool.specs.PackageText.{package_in, package_of};
+ghost use Rattle.package_text.specs.PackageText.{package_in, package_of};
 ghost use Rattle.xlsx_tool.specs.declared.error.ToolError.TheVariants.{Usage, WriteFault};
 ghost use Rattle.serde_json.specs.View.{view};
 
 use crate::error::ToolError;
 use crate::input::read_input;
-use crate::laws::sheets_have_one_listing;
-use crate::package_text::package_from_json;
-use crate::sheet_listing::listing_of;
 use crate::sink::Sink;
 use crate::source::Source;
+use package_text::package_from_json;
 use part_events::MemoryPackage;
 use serde_json::Value;
+use sheet_listing::listing_of;
 use std::alloc::Global;
 use xlsx_core::{SheetAnswer, read_sheet, readable_sheets_are_not_refused};
 
@@ -75,7 +74,7 @@ fn lines_of(alloc: Global, package: MemoryPackage, name: &str) -> Result<String,
     // What is read needs the package no more.
     drop(package);
     let reading = result?;
-    Ok(listing_of(alloc, &reading)?)
+    Ok(listing_of(alloc, &reading.values, &reading.formulas, &reading.styles)?)
 }
 
 /// The lines of the sheet of this name, of the package that the source spells.
@@ -155,6 +154,5 @@ pub fn run<S: Source, K: Sink>(
         old.is_told ≡ true → AnswersExactly (texts words.now) old result }
 {
     readable_sheets_are_not_refused();
-    sheets_have_one_listing();
     run_command(alloc, words, source, sink)
 }

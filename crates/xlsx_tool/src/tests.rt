@@ -2,11 +2,9 @@ ghost use Rattle.std.specs.Prelude.{◌<◌};
 
 use crate::error::ToolError;
 use crate::input::INPUT_LIMIT;
-use crate::package_text::package_from_json;
 use crate::program::{answer, ending};
 use crate::sink::MemorySink;
 use crate::source::MemorySource;
-use serde_json::Value;
 use std::alloc::Global;
 use std::process::ExitCode;
 use std::test::Fail;
@@ -243,54 +241,6 @@ fn refusals_have_statuses_and_texts(rt: HostRuntime) -> Result<(), Fail> {
     ] {
         assert_eq!(rt; error.status(), status);
         assert_eq!(rt; error.to_string(rt.alloc())?.as_str(), text);
-    }
-    Ok(())
-}
-
-#[test]
-fn a_package_text_of_version_1_spells_its_parts(rt: HostRuntime) -> Result<(), Fail> {
-    let alloc = rt.alloc();
-    for (text, parts) in [
-        (r#"{"parts":[],"version":1}"#, Some(0)),
-        (
-            r#"{"version":1,"made by":["x",-3],"parts":[
-{"name":"a","events":[["o"],["r","amp"],["d","x"]],"more":null}]}"#,
-            Some(1),
-        ),
-        (
-            r#"{"version":1,"parts":[{"name":"a","events":[]},{"name":"a","events":[["t",""]]}]}"#,
-            Some(2),
-        ),
-        (r#"{"version":"1","parts":[]}"#, None),
-        (r#"{"version":1.0,"parts":[]}"#, None),
-        (r#"{"version":1,"parts":[],"more":[{"deep":0.5}]}"#, None),
-        (r#"{"version":1,"parts":{}}"#, None),
-        (r#"{"version":1,"parts":[{"name":"a"}]}"#, None),
-        (r#"{"version":1,"parts":[{"name":1,"events":[]}]}"#, None),
-        (
-            r#"{"version":1,"parts":[{"name":"a","events":[["s","x"]]}]}"#,
-            None,
-        ),
-        (
-            r#"{"version":1,"parts":[{"name":"a","events":[["o","x"]]}]}"#,
-            None,
-        ),
-        (
-            r#"{"version":1,"parts":[{"name":"a","events":[["q","x"]]}]}"#,
-            None,
-        ),
-        (
-            r#"{"version":1,"parts":[{"name":"a","events":[["t",1]]}]}"#,
-            None,
-        ),
-    ] {
-        let value = Value::from_str(alloc, text)?;
-        let found = package_from_json(alloc, &value)?;
-        assert_eq!(rt;
-            found.map(|package| package.part_count()),
-            parts,
-            "of {text}"
-        );
     }
     Ok(())
 }

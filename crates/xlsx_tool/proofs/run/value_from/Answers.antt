@@ -1,5 +1,5 @@
 use Rattle.std.proofs.Common.{sym, true≢false}
-use Rattle.xlsx_tool.proofs.PackageTextLemmas.{package_in-read, package_in-none}
+use Rattle.package_text.proofs.PackageTextLemmas.{package_in-read, package_in-none}
 use Rattle.xlsx_tool.proofs.run.value_from.Goals as goal
 
 pub returns-in-Ok-clause-ok : goal.returns-in-Ok-clause-ok

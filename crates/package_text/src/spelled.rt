@@ -1,0 +1,192 @@
+ghost use Rattle.std.specs.Prelude.{◌≡◌, ◌<◌, ◌++◌, ◌∷◌, [], length, Some, None, IfOk, IfSome};
+ghost use Rattle.std.specs.Prelude.{option_map, option_and_then, OnErr, OnOk};
+ghost use Rattle.serde_json.specs.View.{view, items_view, members_view};
+ghost use Rattle.serde_json.specs.Written.{has_float, items_have_float, members_have_float};
+ghost use Rattle.part_events.specs.Event.{event_of};
+ghost use Rattle.part_events.specs.Memory.{closed};
+ghost use Rattle.package_text.specs.PackageText.{texts_of, event_of_texts, event_in, events_in};
+ghost use Rattle.package_text.specs.PackageText.{package_of, named_part, members_have_float_beside};
+ghost use Rattle.package_text.specs.PackageText.{has_float_beside, part_beside, package_beside};
+ghost use Rattle.package_text.specs.PackageText.{AppendsPart};
+
+use part_events::{MemoryPackage, PartEvent, StartTag};
+use serde_json::{Map, Value};
+use std::alloc::{AllocError, Global};
+
+/// Whether some number in the value, at any depth, is no integer of 64 bits.
+#[cycle(floats)]
+fn has_float(value: &Value) -> bool
+    ensures { result ≡ has_float (view value.now) }
+{
+    match value {
+        Value::Null | Value::Bool(_) | Value::String(_) => false,
+        Value::Number(number) => number.is_f64(),
+        Value::Array(items) => items_have_float(items),
+        Value::Object(members) => members_have_float(members),
+    }
+}
+
+#[cycle(floats)]
+fn items_have_float(items: &Vec<Value>) -> bool
+    ensures { result ≡ items_have_float (items_view items.now.items) }
+{
+    for item in items {
+        if has_float(item) {
+            return true;
+        }
+    }
+    false
+}
+
+#[cycle(floats)]
+fn members_have_float(members: &Map<String, Value>) -> bool
+    ensures { result ≡ members_have_float (members_view members.now.entries) }
+{
+    for (_, member) in members.iter() {
+        if has_float(member) {
+            return true;
+        }
+    }
+    false
+}
+
+/// The same of the members of an object, the first of this key left aside.
+fn members_have_float_beside(members: &Map<String, Value>, key: &str) -> bool
+    ensures { result ≡ members_have_float_beside key.now (members_view members.now.entries) }
+{
+    let mut is_passed = false;
+    for (own, member) in members.iter() {
+        if !is_passed && key == own.as_str() {
+            is_passed = true;
+        } else if has_float(member) {
+            return true;
+        }
+    }
+    false
+}
+
+/// The same of the value, where of an object its first member of this key is left aside.
+fn has_float_beside(value: &Value, key: &str) -> bool
+    ensures { result ≡ has_float_beside key.now (view value.now) }
+{
+    match value {
+        Value::Object(members) => members_have_float_beside(members, key),
+        _ => has_float(value),
+    }
+}
+
+fn event_from(value: &Value) -> Option<PartEvent<'_>>
+    ensures { option_map (λ event. event_of event) result ≡ event_in (view value.now) }
+{
+    match value.as_array()?.as_slice() {
+        [kind] => plain_event(kind.as_str()?),
+        [kind, content] => text_event(kind.as_str()?, content.as_str()?),
+        [kind, name, attributes] => {
+            start_event(kind.as_str()?, name.as_str()?, attributes.as_str()?)
+        }
+        [] => None,
+        [_, _, _, _, ..] => None,
+    }
+}
+
+fn plain_event(kind: &str) -> Option<PartEvent<'_>>
+    ensures { option_map (λ event. event_of event) result ≡ event_of_texts (kind.now ∷ []) }
+{
+    match kind {
+        "o" => Some(PartEvent::Other),
+        _ => None,
+    }
+}
+
+fn text_event<'a>(kind: &str, content: &'a str) -> Option<PartEvent<'a>>
+    ensures { let texts = kind.now ∷ content.now ∷ [] in
+        option_map (λ event. event_of event) result ≡ event_of_texts texts }
+{
+    match kind {
+        "e" => Some(PartEvent::End(content)),
+        "t" => Some(PartEvent::Text(content)),
+        "d" => Some(PartEvent::CharData(content)),
+        "r" => Some(PartEvent::EntityRef(content)),
+        _ => None,
+    }
+}
+
+fn start_event<'a>(kind: &str, name: &'a str, attributes: &'a str) -> Option<PartEvent<'a>>
+    ensures { let texts = kind.now ∷ name.now ∷ attributes.now ∷ [] in
+        option_map (λ event. event_of event) result ≡ event_of_texts texts }
+{
+    match kind {
+        "s" => Some(PartEvent::Start(StartTag { name, attributes })),
+        _ => None,
+    }
+}
+
+/// Appends a part of this name with these events. Answers false where one of them is no event.
+fn push_part_of(
+    package: &mut MemoryPackage,
+    name: &str,
+    events: &[Value],
+) -> Result<bool, AllocError>
+    ensures { let part = named_part name.now (events_in (items_view events.now)) in
+        IfOk result (AppendsPart part «package».old «package».new) }
+{
+    package.add_part(name)?;
+    for value in events {
+        let Some(event) = event_from(value) else {
+            return Ok(false);
+        };
+        package.push_event(event)?;
+    }
+    Ok(true)
+}
+
+/// Appends the part that the value spells. Answers false where it spells none, or has a number that
+/// is no integer of 64 bits.
+fn push_part(package: &mut MemoryPackage, value: &Value) -> Result<bool, AllocError>
+    ensures { let part = part_beside (view value.now) in
+        IfOk result (AppendsPart part «package».old «package».new) }
+{
+    // Events have no numbers, so that they are looked at once.
+    if has_float_beside(value, "events") {
+        return Ok(false);
+    }
+    let Some(name) = value.get("name").and_then(Value::as_str) else {
+        return Ok(false);
+    };
+    let Some(events) = value.get("events").and_then(Value::as_array) else {
+        return Ok(false);
+    };
+    push_part_of(package, name, events)
+}
+
+/// The package that a JSON value spells, by numbers that stand beside its parts and their events.
+#[tactic(auto, unfolding(crate::specs::PackageText::package_beside))]
+fn package_beside(alloc: Global, value: &Value) -> Result<Option<MemoryPackage>, AllocError>
+    ensures value { let spelled = package_beside (view value.now) in
+        IfOk result (λ found. option_map (λ held. held.parts) found ≡ spelled) }
+    ensures fresh { IfOk result (λ found. IfSome found (λ held. held ≡ closed held.parts 0)) }
+{
+    if has_float_beside(value, "parts") || value.get("version").and_then(Value::as_u64) != Some(1) {
+        return Ok(None);
+    }
+    let Some(parts) = value.get("parts").and_then(Value::as_array) else {
+        return Ok(None);
+    };
+    let mut package = MemoryPackage::new(alloc);
+    for part in parts {
+        if !push_part(&mut package, part)? {
+            return Ok(None);
+        }
+    }
+    Ok(Some(package))
+}
+
+/// The package that a JSON value spells (docs/FORMAT.md), or None where it spells none.
+#[tactic(auto, using(crate::proofs::FloatsBeside::checked_beside))]
+pub fn package_from_json(alloc: Global, value: &Value) -> Result<Option<MemoryPackage>, AllocError>
+    ensures value { let spelled = package_of (view value.now) in
+        IfOk result (λ found. option_map (λ held. held.parts) found ≡ spelled) }
+    ensures fresh { IfOk result (λ found. IfSome found (λ held. held ≡ closed held.parts 0)) }
+{
+    package_beside(alloc, value)
+}

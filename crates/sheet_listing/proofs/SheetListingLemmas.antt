@@ -1,0 +1,660 @@
+-- A step through three lists of cells takes the first line of their listing.
+use Rattle.std.proofs.Common.{◌≡◌, ℕ, suc, ◌+◌, ◌<◌, ◌≤◌, Bool, true, false, cond, ◌&&◌, ◌||◌}
+use Rattle.std.proofs.Common.{List, [], ◌∷◌, ◌++◌, length, Some, None, Option, refl, sym, ap, ◌∙◌}
+use Rattle.std.proofs.Common.{subst, arith, append_assoc, string_bytes}
+use Rattle.std.specs.Prelude.{map, is_some, nat_eq, String, MatchOption, ◌⊎◌, All}
+use Rattle.std.proofs.Common.{inl, inr}
+use Rattle.std.specs.declared.alloc.Global.{Global}
+use Rattle.std.specs.declared.cmp.Ordering.{Ordering}
+use Rattle.std.specs.declared.cmp.Ordering.TheVariants.{Less, Equal, Greater}
+use Rattle.std.specs.Cmp.{tied_itself}
+use Rattle.std.specs.FinMap.{empty, entries, from_entries, find, put, entries-insert, len-entries}
+use Rattle.std.specs.FinMap.{len-empty, get-entries, get-from_entries, entries_sorted, is_sorted}
+use Rattle.std.specs.FinMap.Entries.{by_order, below_all, same_entries}
+use Rattle.std.specs.List.{flat_map}
+use Rattle.std.specs.Option.{option_map, option_or, unwrap_or}
+use Rattle.std.specs.Ordering.{is_lt, is_le, is_eq, ordering_reverse, eq_by_cmp}
+use Rattle.std.proofs.lemmas.Bool.Decides.{nat_tests}
+use Rattle.std.proofs.lemmas.List.{append-nil, length-map, map-append}
+use Rattle.cell_refs.specs.declared.TheConstants.{MAX_ROWS, MAX_COLUMNS}
+use Rattle.std.proofs.lemmas.List.Elements.{All-head, All-push, All-same}
+use Rattle.cell_data.specs.Cells.{cell_entry, placed_cells, IsInSheet}
+use Rattle.cell_data.specs.declared.cell.Cell.{Cell}
+use Rattle.cell_data.proofs.Placing.{position_total, position_same, and_both, to_T, from_T}
+use Rattle.cell_data.proofs.Placing.{less_from, none_behind, found_in_two}
+use Rattle.cell_data.specs.CellValue.{CellValue, nothing, value_of_data}
+use Rattle.cell_refs.specs.Positions.{position_cmp, is_rising}
+use Rattle.cell_data.specs.declared.value.Data.{Data}
+use Rattle.cell_styles.specs.StyleItems.{styled_entry}
+use Rattle.cell_styles.specs.StyleMap.{StyledCell, IsOnSheet}
+use Rattle.cell_styles.specs.declared.style.Style.{Style}
+use Rattle.sheet_listing.specs.SheetListing.{line_of, value_placed, formula_placed, id_placed, used}
+use Rattle.sheet_listing.specs.SheetListing.{lines_with, fill_field, cell_values, cell_formulas}
+use Rattle.sheet_listing.specs.SheetListing.{value_given, formula_given, id_given, given}
+use Rattle.sheet_listing.specs.SheetListing.{Splits, AreInOrder, IsFirstOf, IsOfFirst, StandsFirst}
+use Rattle.sheet_listing.specs.SheetListing.{StandsUpTo, IsEarlier, first_place}
+
+and_true : (b : Bool) → (b && true) ≡ b
+and_true true = refl
+and_true false = refl
+
+and_false : (b : Bool) → (b && false) ≡ false
+and_false true = refl
+and_false false = refl
+
+-- what is looked for at a position that some of three lists begin with
+some_found : (at a b c : Bool) (x y z : Option (Unit {0})) → (a || (b || c)) ≡ true →
+    option_or (cond (at && a) (Some tt) x)
+    (option_or (cond (at && b) (Some tt) y) (cond (at && c) (Some tt) z))
+    ≡ cond at (Some tt) (option_or x (option_or y z))
+some_found false a b c x y z some = refl
+some_found true true b c x y z some = refl
+some_found true false true c None y z some = refl
+some_found true false true c (Some u) y z some = refl
+some_found true false false true None None z some = refl
+some_found true false false true None (Some u) z some = refl
+some_found true false false true (Some u) y z some = refl
+some_found true false false false x y z some = absurd (cc)
+
+module _ {X : Type 0} where
+  found_entries : (q : ℕ × ℕ) (es : List ((ℕ × ℕ) × X)) →
+      find position_cmp q (entries (from_entries {R = position_cmp} es)) ≡ find position_cmp q es
+  found_entries q es =
+      sym (get-entries (from_entries {R = position_cmp} es) q)
+      ∙ get-from_entries position_total es q
+
+  below_cons : (x : ℕ × ℕ) (e : (ℕ × ℕ) × X) (es : List ((ℕ × ℕ) × X)) →
+      is_lt (position_cmp x e.0) ≡ true → below_all position_cmp x es ≡ true →
+      below_all position_cmp x (e ∷ es) ≡ true
+  below_cons x e es first rest = ap (λ t. t && below_all position_cmp x es) first ∙ rest
+
+  below_by_order : (x : ℕ × ℕ) (o : Ordering) (a b c : List ((ℕ × ℕ) × X)) →
+      below_all position_cmp x a ≡ true → below_all position_cmp x b ≡ true →
+      below_all position_cmp x c ≡ true → below_all position_cmp x (by_order o a b c) ≡ true
+  below_by_order x Less a b c below_a below_b below_c = below_a
+  below_by_order x Equal a b c below_a below_b below_c = below_b
+  below_by_order x Greater a b c below_a below_b below_c = below_c
+
+  below_put : (x k : ℕ × ℕ) (v : X) (es : List ((ℕ × ℕ) × X)) →
+      is_lt (position_cmp x k) ≡ true → below_all position_cmp x es ≡ true →
+      below_all position_cmp x (put position_cmp k v es) ≡ true
+  below_put x k v [] first rest = below_cons x (k, v) [] first refl
+  below_put x k v (e ∷ es) first rest =
+      let (own, others) =
+      and_both (is_lt (position_cmp x e.0)) (below_all position_cmp x es) rest in
+      below_by_order x (position_cmp k e.0) ((k, v) ∷ e ∷ es) ((e.0, v) ∷ es)
+      (e ∷ put position_cmp k v es)
+      (below_cons x (k, v) (e ∷ es) first rest) (below_cons x (e.0, v) es own others)
+      (below_cons x e (put position_cmp k v es) own (below_put x k v es first others))
+
+  below_none : (x : ℕ × ℕ) (es : List ((ℕ × ℕ) × X)) → length es ≡ 0 →
+      below_all position_cmp x es ≡ true
+  below_none x [] none = refl
+  below_none x (e ∷ es) none = absurd (omega arith)
+
+  below_entries : (x : ℕ × ℕ) (es : List ((ℕ × ℕ) × X)) → below_all position_cmp x es ≡ true →
+      below_all position_cmp x (entries (from_entries {R = position_cmp} es)) ≡ true
+  below_entries x [] rest =
+      below_none x _
+      (sym (len-entries (empty {X = X} {R = position_cmp})) ∙ len-empty position_cmp X)
+  below_entries x (e ∷ es) rest =
+      let (own, others) =
+      and_both (is_lt (position_cmp x e.0)) (below_all position_cmp x es) rest in
+      ap (below_all position_cmp x)
+      (entries-insert position_total (from_entries {R = position_cmp} es) e.0 e.1)
+      ∙ below_put x e.0 e.1 _ own (below_entries x es others)
+
+  -- what stands behind the first cell is found as before
+  past : (p : ℕ × ℕ) (v : Option X) (q : ℕ × ℕ) (es : List ((ℕ × ℕ) × X)) →
+      is_lt (position_cmp p q) ≡ true →
+      find position_cmp q (given p v ++ es) ≡ find position_cmp q es
+  past p None q es less = refl
+  past p (Some v) q es less =
+      let apart : eq_by_cmp position_cmp q p ≡ false =
+      ap is_eq (position_total.antisymm q p ∙ ap ordering_reverse (less_from _ less)) in
+      ap (λ t. cond t (Some v) (find position_cmp q es)) apart
+
+  at_first : (p : ℕ × ℕ) (v : Option X) (es : List ((ℕ × ℕ) × X)) →
+      below_all position_cmp p es ≡ true → find position_cmp p (given p v ++ es) ≡ v
+  at_first p None es below = none_behind p p es (tied_itself position_total p) below
+  at_first p (Some v) es below =
+      ap (λ t. cond t (Some v) (find position_cmp p es)) (ap is_eq (tied_itself position_total p))
+
+module _ {X : Type 0} where
+  below_used : (x : ℕ × ℕ) (es : List ((ℕ × ℕ) × X)) → below_all position_cmp x es ≡ true →
+      below_all position_cmp x (used es) ≡ true
+  below_used x [] below = refl
+  below_used x (e ∷ es) below =
+      let (own, others) =
+      and_both (is_lt (position_cmp x e.0)) (below_all position_cmp x es) below in
+      below_cons x (e.0, tt) (used es) own (below_used x es others)
+
+  below_both : (x : ℕ × ℕ) (es fs : List ((ℕ × ℕ) × X)) → below_all position_cmp x es ≡ true →
+      below_all position_cmp x fs ≡ true → below_all position_cmp x (es ++ fs) ≡ true
+  below_both x [] fs in_es in_fs = in_fs
+  below_both x (e ∷ es) fs in_es in_fs =
+      let (own, others) =
+      and_both (is_lt (position_cmp x e.0)) (below_all position_cmp x es) in_es in
+      below_cons x e (es ++ fs) own (below_both x es fs others in_fs)
+
+  found_given : (p q : ℕ × ℕ) (v : Option X) (es : List ((ℕ × ℕ) × X)) →
+      find position_cmp q (used (given p v ++ es))
+      ≡ cond (eq_by_cmp position_cmp q p && is_some v) (Some tt) (find position_cmp q (used es))
+  found_given p q None es =
+      ap (λ t. cond t (Some tt) (find position_cmp q (used es)))
+      (sym (and_false (eq_by_cmp position_cmp q p)))
+  found_given p q (Some v) es =
+      ap (λ t. cond t (Some tt) (find position_cmp q (used es)))
+      (sym (and_true (eq_by_cmp position_cmp q p)))
+
+module _ {X Y Z : Type 0} where
+  -- the positions of three lists
+  abbrev places : List ((ℕ × ℕ) × X) → List ((ℕ × ℕ) × Y) → List ((ℕ × ℕ) × Z) →
+      List ((ℕ × ℕ) × Unit {0})
+  places vs fs ds = used vs ++ (used fs ++ used ds)
+
+  below_places : (p : ℕ × ℕ)
+      (vs : List ((ℕ × ℕ) × X)) (fs : List ((ℕ × ℕ) × Y)) (ds : List ((ℕ × ℕ) × Z)) →
+      below_all position_cmp p vs ≡ true → below_all position_cmp p fs ≡ true →
+      below_all position_cmp p ds ≡ true → below_all position_cmp p (places vs fs ds) ≡ true
+  below_places p vs fs ds in_vs in_fs in_ds =
+      below_both p (used vs) (used fs ++ used ds) (below_used p vs in_vs)
+      (below_both p (used fs) (used ds) (below_used p fs in_fs) (below_used p ds in_ds))
+
+  found_places : (q : ℕ × ℕ)
+      (vs : List ((ℕ × ℕ) × X)) (fs : List ((ℕ × ℕ) × Y)) (ds : List ((ℕ × ℕ) × Z)) →
+      find position_cmp q (places vs fs ds)
+      ≡ option_or (find position_cmp q (used vs))
+      (option_or (find position_cmp q (used fs)) (find position_cmp q (used ds)))
+  found_places q vs fs ds =
+      found_in_two q (used vs) (used fs ++ used ds)
+      ∙ ap (option_or (find position_cmp q (used vs))) (found_in_two q (used fs) (used ds))
+
+  found_used : (p q : ℕ × ℕ) (v : Option X) (f : Option Y) (d : Option Z)
+      (vs : List ((ℕ × ℕ) × X)) (fs : List ((ℕ × ℕ) × Y)) (ds : List ((ℕ × ℕ) × Z)) →
+      (is_some v || (is_some f || is_some d)) ≡ true →
+      find position_cmp q (places (given p v ++ vs) (given p f ++ fs) (given p d ++ ds))
+      ≡ cond (eq_by_cmp position_cmp q p) (Some tt) (find position_cmp q (places vs fs ds))
+  found_used p q v f d vs fs ds some =
+      let value = found_given p q v vs in
+      let formula = found_given p q f fs in
+      let id = found_given p q d ds in
+      found_places q (given p v ++ vs) (given p f ++ fs) (given p d ++ ds)
+      ∙ ((λ i. option_or (value i) (option_or (formula i) (id i)))
+      ∙ (some_found (eq_by_cmp position_cmp q p) (is_some v) (is_some f) (is_some d)
+      (find position_cmp q (used vs)) (find position_cmp q (used fs))
+      (find position_cmp q (used ds)) some
+      ∙ ap (cond (eq_by_cmp position_cmp q p) (Some tt)) (sym (found_places q vs fs ds))))
+
+  -- the first position of three lists is the first of their map
+  first_entries : (p : ℕ × ℕ) (v : Option X) (f : Option Y) (d : Option Z)
+      (vs : List ((ℕ × ℕ) × X)) (fs : List ((ℕ × ℕ) × Y)) (ds : List ((ℕ × ℕ) × Z)) →
+      (is_some v || (is_some f || is_some d)) ≡ true →
+      below_all position_cmp p (places vs fs ds) ≡ true →
+      entries (from_entries {R = position_cmp}
+      (places (given p v ++ vs) (given p f ++ fs) (given p d ++ ds)))
+      ≡ (p, tt) ∷ entries (from_entries {R = position_cmp} (places vs fs ds))
+  first_entries p v f d vs fs ds some below =
+      let whole : List ((ℕ × ℕ) × Unit {0}) =
+      places (given p v ++ vs) (given p f ++ fs) (given p d ++ ds) in
+      let rest : List ((ℕ × ℕ) × Unit {0}) =
+      entries (from_entries {R = position_cmp} (places vs fs ds)) in
+      let sorted : is_sorted position_cmp ((p, tt) ∷ rest) ≡ true =
+      ap (λ t. t && is_sorted position_cmp rest) (below_entries p (places vs fs ds) below)
+      ∙ from_T _ (entries_sorted (from_entries {R = position_cmp} (places vs fs ds))) in
+      same_entries position_cmp position_total position_same
+      (entries (from_entries {R = position_cmp} whole))
+      ((p, tt) ∷ rest) (entries_sorted _) (to_T _ sorted)
+      (λ q. found_entries q whole
+      ∙ (found_used p q v f d vs fs ds some
+      ∙ ap (cond (eq_by_cmp position_cmp q p) (Some tt))
+      (sym (found_entries q (places vs fs ds)))))
+
+module _ (style : ℕ × ℕ → Option Style) where
+  line_at : List ((ℕ × ℕ) × CellValue) → List ((ℕ × ℕ) × List ℕ) → List ((ℕ × ℕ) × ℕ) →
+      ℕ × ℕ → List ℕ
+  line_at values formulas ids q =
+      line_of q (value_placed q values) (formula_placed q formulas) (id_placed q ids)
+      (fill_field (style q))
+
+  lines_past : (p : ℕ × ℕ) (v : Option CellValue) (f : Option (List ℕ)) (d : Option ℕ)
+      (vs : List ((ℕ × ℕ) × CellValue)) (fs : List ((ℕ × ℕ) × List ℕ))
+      (ds : List ((ℕ × ℕ) × ℕ)) (es : List ((ℕ × ℕ) × Unit {0})) →
+      below_all position_cmp p es ≡ true →
+      flat_map (line_at (given p v ++ vs) (given p f ++ fs) (given p d ++ ds)) (map (λ e. e.0) es)
+      ≡ flat_map (line_at vs fs ds) (map (λ e. e.0) es)
+  unfolding line_at
+  lines_past p v f d vs fs ds [] below = refl
+  lines_past p v f d vs fs ds (e ∷ es) below =
+      let (own, others) =
+      and_both (is_lt (position_cmp p e.0)) (below_all position_cmp p es) below in
+      let value = past p v e.0 vs own in
+      let formula = past p f e.0 fs own in
+      let id = past p d e.0 ds own in
+      let rest = lines_past p v f d vs fs ds es others in
+      λ i. line_of e.0 (unwrap_or (value i) nothing) (unwrap_or (formula i) [])
+      (unwrap_or (id i) 0) (fill_field (style e.0)) ++ rest i
+
+  some_step : (p : ℕ × ℕ) (v : Option CellValue) (f : Option (List ℕ)) (d : Option ℕ)
+      (vs : List ((ℕ × ℕ) × CellValue)) (fs : List ((ℕ × ℕ) × List ℕ))
+      (ds : List ((ℕ × ℕ) × ℕ)) →
+      (is_some v || (is_some f || is_some d)) ≡ true →
+      below_all position_cmp p vs ≡ true → below_all position_cmp p fs ≡ true →
+      below_all position_cmp p ds ≡ true →
+      lines_with style (given p v ++ vs) (given p f ++ fs) (given p d ++ ds)
+      ≡ line_of p (unwrap_or v nothing) (unwrap_or f []) (unwrap_or d 0) (fill_field (style p))
+      ++ lines_with style vs fs ds
+  unfolding lines_with line_at
+  some_step p v f d vs fs ds some in_values in_formulas in_ids =
+      let below = below_places p vs fs ds in_values in_formulas in_ids in
+      let rest : List ((ℕ × ℕ) × Unit {0}) =
+      entries (from_entries {R = position_cmp} (places vs fs ds)) in
+      let value = at_first p v vs in_values in
+      let formula = at_first p f fs in_formulas in
+      let id = at_first p d ds in_ids in
+      let further =
+      lines_past p v f d vs fs ds rest (below_entries p (places vs fs ds) below) in
+      ap (λ es. flat_map (line_at (given p v ++ vs) (given p f ++ fs) (given p d ++ ds))
+      (map (λ e. e.0) es))
+      (first_entries p v f d vs fs ds some below)
+      ∙ (λ i. line_of p (unwrap_or (value i) nothing) (unwrap_or (formula i) [])
+      (unwrap_or (id i) 0) (fill_field (style p)) ++ further i)
+
+  listing_step : (p : ℕ × ℕ) (v : Option CellValue) (f : Option (List ℕ)) (d : Option ℕ)
+      (vs : List ((ℕ × ℕ) × CellValue)) (fs : List ((ℕ × ℕ) × List ℕ))
+      (ds : List ((ℕ × ℕ) × ℕ)) →
+      below_all position_cmp p vs ≡ true → below_all position_cmp p fs ≡ true →
+      below_all position_cmp p ds ≡ true →
+      lines_with style (given p v ++ vs) (given p f ++ fs) (given p d ++ ds)
+      ≡ line_of p (unwrap_or v nothing) (unwrap_or f []) (unwrap_or d 0) (fill_field (style p))
+      ++ lines_with style vs fs ds
+  listing_step p None None None vs fs ds in_values in_formulas in_ids = refl
+  listing_step p None None (Some d) vs fs ds in_values in_formulas in_ids =
+      some_step p None None (Some d) vs fs ds refl in_values in_formulas in_ids
+  listing_step p None (Some f) d vs fs ds in_values in_formulas in_ids =
+      some_step p None (Some f) d vs fs ds refl in_values in_formulas in_ids
+  listing_step p (Some v) f d vs fs ds in_values in_formulas in_ids =
+      some_step p (Some v) f d vs fs ds refl in_values in_formulas in_ids
+
+module _ {X Y : Type 0} (g : X → Y) where
+  seen : List ((ℕ × ℕ) × X) → List ((ℕ × ℕ) × Y)
+  seen es = map (λ e. (e.0, g e.1)) es
+
+  seen_given : (p : ℕ × ℕ) (v : Option X) (es : List ((ℕ × ℕ) × X)) →
+      seen (given p v ++ es) ≡ given p (option_map g v) ++ seen es
+  unfolding seen
+  seen_given p None es = refl
+  seen_given p (Some v) es = refl
+
+  seen_below : (p : ℕ × ℕ) (es : List ((ℕ × ℕ) × X)) →
+      below_all position_cmp p (seen es) ≡ below_all position_cmp p es
+  unfolding seen
+  seen_below p [] = refl
+  seen_below p (e ∷ es) = ap (λ t. is_lt (position_cmp p e.0) && t) (seen_below p es)
+
+-- the lines of cells that are left
+abbrev pub lines_left :
+    (ℕ × ℕ → Option Style) → List (Cell Data) → List (Cell (String Global)) → List (Cell ℕ) →
+    List ℕ
+lines_left style values formulas ids =
+    lines_with style (cell_values (placed_cells values)) (cell_formulas (placed_cells formulas))
+    (placed_cells ids)
+
+cells_step : (style : ℕ × ℕ → Option Style) (p : ℕ × ℕ)
+    (v : Option Data) (f : Option (String Global)) (d : Option ℕ)
+    (values vs : List (Cell Data)) (formulas fs : List (Cell (String Global)))
+    (ids ds : List (Cell ℕ)) →
+    Splits p values v vs → Splits p formulas f fs → Splits p ids d ds →
+    lines_left style values formulas ids
+    ≡ line_of p (value_given v) (formula_given f) (id_given d) (fill_field (style p))
+    ++ lines_left style vs fs ds
+unfolding seen
+cells_step style p v f d values vs formulas fs ids ds splits_v splits_f splits_d =
+    let seen_v = ap cell_values splits_v.whole ∙ seen_given value_of_data p v (placed_cells vs) in
+    let seen_f = ap cell_formulas splits_f.whole ∙ seen_given string_bytes p f (placed_cells fs) in
+    let seen_d = splits_d.whole in
+    (λ i. lines_with style (seen_v i) (seen_f i) (seen_d i))
+    ∙ listing_step style p (option_map value_of_data v) (option_map string_bytes f) d
+    (cell_values (placed_cells vs)) (cell_formulas (placed_cells fs)) (placed_cells ds)
+    (seen_below value_of_data p (placed_cells vs) ∙ splits_v.below)
+    (seen_below string_bytes p (placed_cells fs) ∙ splits_f.below) splits_d.below
+
+goes_on : (old new line rest left whole : List ℕ) → new ≡ old ++ line → left ≡ line ++ rest →
+    old ++ left ≡ whole → new ++ rest ≡ whole
+goes_on old new line rest left whole printed taken same =
+    rw (printed, append_assoc, ← taken) same
+
+-- what is printed with the lines that are left stays the same
+pub lines_on : (style : ℕ × ℕ → Option Style) (p : ℕ × ℕ)
+    (v : Option Data) (f : Option (String Global)) (d : Option ℕ) (found : Option Style)
+    (values vs : List (Cell Data)) (formulas fs : List (Cell (String Global)))
+    (ids ds : List (Cell ℕ)) (old new whole : List ℕ) →
+    Splits p values v vs → Splits p formulas f fs → Splits p ids d ds → found ≡ style p →
+    new ≡ old ++ line_of p (value_given v) (formula_given f) (id_given d) (fill_field found) →
+    old ++ lines_left style values formulas ids ≡ whole →
+    new ++ lines_left style vs fs ds ≡ whole
+lines_on style p v f d found values vs formulas fs ids ds old new whole splits_v splits_f splits_d
+    is printed same =
+    let line : Option Style → List ℕ =
+    λ found. line_of p (value_given v) (formula_given f) (id_given d) (fill_field found) in
+    goes_on old new (line (style p)) (lines_left style vs fs ds)
+    (lines_left style values formulas ids) whole (printed ∙ ap (λ found. old ++ line found) is)
+    (cells_step style p v f d values vs formulas fs ids ds splits_v splits_f splits_d) same
+
+no_entries : (es : List ((ℕ × ℕ) × Unit {0})) → length es ≡ 0 → es ≡ []
+no_entries [] none = refl
+no_entries (e ∷ es) none = absurd (omega arith)
+
+nothing_listed : (style : ℕ × ℕ → Option Style) → lines_with style [] [] [] ≡ []
+unfolding lines_with line_at
+nothing_listed style =
+    ap (λ es. flat_map (line_at style [] [] []) (map (λ e. e.0) es))
+    (no_entries (entries (empty {X = Unit {0}} {R = position_cmp}))
+    (sym (len-entries (empty {X = Unit {0}} {R = position_cmp}))
+    ∙ len-empty position_cmp (Unit {0})))
+
+pub lines_end : (style : ℕ × ℕ → Option Style) (out whole : List ℕ)
+    (values : List (Cell Data)) (formulas : List (Cell (String Global))) (ids : List (Cell ℕ)) →
+    (values ≡ []) × (formulas ≡ []) × (ids ≡ []) →
+    out ++ lines_left style values formulas ids ≡ whole →
+    out ≡ whole
+lines_end style out whole values formulas ids none same =
+    sym (append-nil out) ∙ (ap (λ bytes. out ++ bytes) (sym (nothing_listed style))
+    ∙ ((λ i. out ++ lines_left style (sym none.0 i) (sym none.1 i) (sym none.2 i)) ∙ same))
+
+module _ {X : Type 0} where
+  given_length : (p : ℕ × ℕ) (v : Option X) (behind : List ((ℕ × ℕ) × X)) →
+      length behind ≤ length (given p v ++ behind)
+  given_length p None behind = omega arith
+  given_length p (Some v) behind = omega arith
+
+  no_longer : (p : ℕ × ℕ) (v : Option X) (cells behind : List (Cell X)) →
+      Splits p cells v behind → length behind ≤ length cells
+  no_longer p v cells behind splits =
+      omega (
+        arith,
+        given_length p v (placed_cells behind),
+        ap length splits.whole,
+        length-map cells cell_entry,
+        length-map behind cell_entry,
+      )
+
+  not_below : (p : ℕ × ℕ) (es : List ((ℕ × ℕ) × X)) → IsOfFirst p es →
+      below_all position_cmp p es ≡ true → ⊥
+  not_below p [] first below = first
+  not_below p (e ∷ es) first below =
+      let (own, others) =
+      and_both (is_lt (position_cmp p e.0)) (below_all position_cmp p es) below in
+      let tied : position_cmp p e.0 ≡ Equal =
+      ap (position_cmp p) first ∙ tied_itself position_total p in
+      let less = less_from _ own in
+      absurd (cc)
+
+  first_longer : (p : ℕ × ℕ) (v : Option X) (es behind : List ((ℕ × ℕ) × X)) →
+      IsOfFirst p es → es ≡ given p v ++ behind → below_all position_cmp p behind ≡ true →
+      length behind < length es
+  first_longer p None es behind first whole below =
+      absurd (not_below p behind (subst (IsOfFirst p) whole first) below)
+  first_longer p (Some v) es behind first whole below =
+      let lengths : length es ≡ length ((p, v) ∷ behind) = ap length whole in
+      omega arith
+
+  first_shorter : (p : ℕ × ℕ) (v : Option X) (cells behind : List (Cell X)) →
+      IsOfFirst p (placed_cells cells) → Splits p cells v behind → length behind < length cells
+  first_shorter p v cells behind first splits =
+      omega (
+        arith,
+        first_longer p v (placed_cells cells) (placed_cells behind) first splits.whole splits.below,
+        length-map cells cell_entry,
+        length-map behind cell_entry,
+      )
+
+-- each step leaves fewer cells
+pub shorter : {X Y Z : Type 0} (p : ℕ × ℕ) (v : Option X) (f : Option Y) (d : Option Z)
+    (values vs : List (Cell X)) (formulas fs : List (Cell Y)) (ids ds : List (Cell Z)) →
+    IsFirstOf values formulas ids p →
+    Splits p values v vs → Splits p formulas f fs → Splits p ids d ds →
+    length vs + length fs + length ds < length values + length formulas + length ids
+shorter p v f d values vs formulas fs ids ds first splits_v splits_f splits_d =
+    let in_values = no_longer p v values vs splits_v in
+    let in_formulas = no_longer p f formulas fs splits_f in
+    let in_ids = no_longer p d ids ds splits_d in
+    elim first.is_used [
+      | inl of_values ↦
+          let fewer = first_shorter p v values vs of_values splits_v in
+          omega (arith, fewer, in_formulas, in_ids)
+      | inr (inl of_formulas) ↦
+          let fewer = first_shorter p f formulas fs of_formulas splits_f in
+          omega (arith, fewer, in_values, in_ids)
+      | inr (inr of_ids) ↦
+          let fewer = first_shorter p d ids ds of_ids splits_d in
+          omega (arith, fewer, in_values, in_formulas)
+    ]
+
+order_behind : {X : Type 0} (cell : Cell X) (behind : List (Cell X)) →
+    AreInOrder (cell ∷ behind) → AreInOrder behind
+order_behind cell behind order = record {
+  rising = (and_both (below_all position_cmp cell.pos (placed_cells behind))
+      (is_rising (placed_cells behind)) order.rising).1;
+  sheet = λ k d below. order.sheet (suc k) d (omega arith);
+}
+
+-- the first cell stands at the position
+pub splits_first : {X : Type 0} (p : ℕ × ℕ) (cell : Cell X) (cells behind : List (Cell X)) →
+    cells ≡ cell ∷ behind → cell.pos ≡ p → AreInOrder cells → Splits p cells (Some cell.val) behind
+splits_first p cell cells behind whole at order =
+    let own : AreInOrder (cell ∷ behind) = subst AreInOrder whole order in
+    let (below, rest) =
+    and_both (below_all position_cmp cell.pos (placed_cells behind))
+    (is_rising (placed_cells behind)) own.rising in
+    record {
+      whole = ap placed_cells whole ∙ (λ i. (at i, cell.val) ∷ placed_cells behind);
+      below = subst (λ q. below_all position_cmp q (placed_cells behind) ≡ true) at below;
+      order = order_behind cell behind own;
+    }
+
+pub splits_nothing : {X : Type 0} (p : ℕ × ℕ) (cells : List (Cell X)) → cells ≡ [] →
+    AreInOrder cells → Splits p cells None cells
+splits_nothing p cells none order = record {
+  whole = refl;
+  below = rw none refl;
+  order = order;
+}
+
+further_below : {X : Type 0} (p q : ℕ × ℕ) (es : List ((ℕ × ℕ) × X)) →
+    position_cmp p q ≡ Less → below_all position_cmp q es ≡ true →
+    below_all position_cmp p es ≡ true
+further_below p q [] less below = refl
+further_below p q (e ∷ es) less below =
+    let (own, others) =
+    and_both (is_lt (position_cmp q e.0)) (below_all position_cmp q es) below in
+    below_cons p e es (ap is_lt (position_total.trans p q e.0 less (less_from _ own)))
+    (further_below p q es less others)
+
+less_or_tied : (o : Ordering) → is_le o ≡ true → (o ≡ Equal → ⊥) → o ≡ Less
+less_or_tied Less le apart = refl
+less_or_tied Equal le apart = absurd (apart refl)
+less_or_tied Greater le apart = absurd (cc)
+
+-- the first cell stands behind the position
+pub splits_later : {X : Type 0} (p : ℕ × ℕ) (cell : Cell X) (cells behind : List (Cell X)) →
+    cells ≡ cell ∷ behind → (cell.pos ≡ p → ⊥) → StandsFirst p (placed_cells cells) →
+    AreInOrder cells → Splits p cells None cells
+splits_later p cell cells behind whole apart first order =
+    let own : AreInOrder (cell ∷ behind) = subst AreInOrder whole order in
+    let (below, rest) =
+    and_both (below_all position_cmp cell.pos (placed_cells behind))
+    (is_rising (placed_cells behind)) own.rising in
+    let le : is_le (position_cmp p cell.pos) ≡ true =
+    subst (λ cs. StandsFirst p (placed_cells cs)) whole first in
+    let less : position_cmp p cell.pos ≡ Less =
+    less_or_tied _ le (λ tied. apart (sym (position_same p cell.pos tied))) in
+    record {
+      whole = refl;
+      below = subst (λ cs. below_all position_cmp p (placed_cells cs) ≡ true) (sym whole)
+          (below_cons p (cell_entry cell) (placed_cells behind) (ap is_lt less)
+          (further_below p cell.pos (placed_cells behind) less below));
+      order = order;
+    }
+
+pub same_position : (a b : ℕ × ℕ) (test : Bool) → test ≡ (nat_eq a.0 b.0 && nat_eq a.1 b.1) →
+    test ≡ true → a ≡ b
+same_position a b test is holds =
+    let (rows, columns) = and_both (nat_eq a.0 b.0) (nat_eq a.1 b.1) (sym is ∙ holds) in
+    let row : a.0 ≡ b.0 = grind (arith, nat_tests, rows) in
+    let column : a.1 ≡ b.1 = grind (arith, nat_tests, columns) in
+    λ i. (row i, column i)
+
+pub other_position : (a b : ℕ × ℕ) (test : Bool) → test ≡ (nat_eq a.0 b.0 && nat_eq a.1 b.1) →
+    test ≡ false → a ≡ b → ⊥
+other_position a b test is fails same =
+    let rows : nat_eq a.0 b.0 ≡ true = grind (arith, nat_tests, ap (λ (p : ℕ × ℕ). p.0) same) in
+    let columns : nat_eq a.1 b.1 ≡ true = grind (arith, nat_tests, ap (λ (p : ℕ × ℕ). p.1) same) in
+    let both : (nat_eq a.0 b.0 && nat_eq a.1 b.1) ≡ true =
+    ap (λ t. t && nat_eq a.1 b.1) rows ∙ columns in
+    let clash : false ≡ true = sym fails ∙ (is ∙ both) in
+    absurd (cc)
+
+-- ---- the first position of three lists
+
+le_follows : (a b c : ℕ × ℕ) → is_le (position_cmp a b) ≡ true → is_le (position_cmp b c) ≡ true →
+    (o : Ordering) → position_cmp a b ≡ o → (u : Ordering) → position_cmp b c ≡ u →
+    is_le (position_cmp a c) ≡ true
+le_follows a b c first second Less less Less further =
+    ap is_le (position_total.trans a b c less further)
+le_follows a b c first second Less less Equal tied =
+    subst (λ q. is_le (position_cmp a q) ≡ true) (position_same b c tied) first
+le_follows a b c first second Equal tied u is =
+    subst (λ q. is_le (position_cmp q c) ≡ true) (sym (position_same a b tied)) second
+le_follows a b c first second Greater greater u is = absurd (cc)
+le_follows a b c first second o less Greater greater = absurd (cc)
+
+stands_before : (p b : ℕ × ℕ) (other : Option (ℕ × ℕ)) → is_le (position_cmp p b) ≡ true →
+    StandsUpTo b other → StandsUpTo p other
+stands_before p b None le upto = tt
+stands_before p b (Some q) le upto = le_follows p b q le upto _ refl _ refl
+
+module _ {X : Type 0} where
+  stands_first : (p : ℕ × ℕ) (cells : List (Cell X)) → StandsUpTo p (first_place cells) →
+      StandsFirst p (placed_cells cells)
+  stands_first p [] upto = tt
+  stands_first p (cell ∷ cells) upto = upto
+
+  no_cell : (cells : List (Cell X)) → first_place cells ≡ None → cells ≡ []
+  no_cell [] none = refl
+  no_cell (cell ∷ cells) none = absurd (cc)
+
+  first_is : (p : ℕ × ℕ) (cells : List (Cell X)) → first_place cells ≡ Some p →
+      IsOfFirst p (placed_cells cells)
+  first_is p [] some = absurd (cc)
+  first_is p (cell ∷ cells) some = ap (λ place. unwrap_or place cell.pos) some
+
+  first_in_sheet : (p : ℕ × ℕ) (cells : List (Cell X)) → AreInOrder cells →
+      first_place cells ≡ Some p → (p.0 < MAX_ROWS) × (p.1 < MAX_COLUMNS)
+  first_in_sheet p [] order some = absurd (cc)
+  first_in_sheet p (cell ∷ cells) order some =
+      subst (λ (q : ℕ × ℕ). (q.0 < MAX_ROWS) × (q.1 < MAX_COLUMNS)) (first_is p (cell ∷ cells) some)
+      (order.sheet 0 cell (omega arith))
+
+module _ {X Y Z : Type 0} (values : List (Cell X)) (formulas : List (Cell Y)) (ids : List (Cell Z))
+  where
+    -- the first cell of some list stands at the position
+    abbrev BeginsAt : ℕ × ℕ → Type 0
+    BeginsAt p =
+        (first_place values ≡ Some p)
+        ⊎ ((first_place formulas ≡ Some p) ⊎ (first_place ids ≡ Some p))
+
+    first_of_lists : (p : ℕ × ℕ) → AreInOrder values → AreInOrder formulas → AreInOrder ids →
+        StandsUpTo p (first_place values) → StandsUpTo p (first_place formulas) →
+        StandsUpTo p (first_place ids) → BeginsAt p → IsFirstOf values formulas ids p
+    first_of_lists p in_values in_formulas in_ids upto_v upto_f upto_d begins =
+        let sheet : (p.0 < MAX_ROWS) × (p.1 < MAX_COLUMNS) = elim begins [
+          | inl of_values ↦ first_in_sheet p values in_values of_values
+          | inr (inl of_formulas) ↦ first_in_sheet p formulas in_formulas of_formulas
+          | inr (inr of_ids) ↦ first_in_sheet p ids in_ids of_ids
+        ] in
+        record {
+          in_rows = sheet.0;
+          in_columns = sheet.1;
+          before_values = stands_first p values upto_v;
+          before_formulas = stands_first p formulas upto_f;
+          before_ids = stands_first p ids upto_d;
+          is_used = elim begins [
+            | inl of_values ↦ inl (first_is p values of_values)
+            | inr (inl of_formulas) ↦ inr (inl (first_is p formulas of_formulas))
+            | inr (inr of_ids) ↦ inr (inr (first_is p ids of_ids))
+          ];
+        }
+
+    first_found : (behind result : Option (ℕ × ℕ)) → AreInOrder values → AreInOrder formulas →
+        AreInOrder ids →
+        MatchOption behind ((first_place formulas ≡ None) × (first_place ids ≡ None))
+        (IsEarlier (first_place formulas) (first_place ids)) →
+        MatchOption result ((first_place values ≡ None) × (behind ≡ None))
+        (IsEarlier (first_place values) behind) →
+        MatchOption result ((values ≡ []) × (formulas ≡ []) × (ids ≡ []))
+        (IsFirstOf values formulas ids)
+    first_found None None in_values in_formulas in_ids later own =
+        (no_cell values own.0, no_cell formulas later.0, no_cell ids later.1)
+    first_found (Some b) None in_values in_formulas in_ids later own = absurd (cc)
+    first_found None (Some p) in_values in_formulas in_ids later own =
+        let begins : BeginsAt p = elim own.is_one [
+          | inl of_values ↦ inl of_values
+          | inr none ↦ absurd (cc)
+        ] in
+        first_of_lists p in_values in_formulas in_ids own.before_one
+        (subst (StandsUpTo p) (sym later.0) tt) (subst (StandsUpTo p) (sym later.1) tt) begins
+    first_found (Some b) (Some p) in_values in_formulas in_ids later own =
+        let begins : BeginsAt p = elim own.is_one [
+          | inl of_values ↦ inl of_values
+          | inr same ↦
+              inr (subst (λ q. (first_place formulas ≡ Some q) ⊎ (first_place ids ≡ Some q))
+              (ap (λ place. unwrap_or place b) same) later.is_one)
+        ] in
+        first_of_lists p in_values in_formulas in_ids own.before_one
+        (stands_before p b (first_place formulas) own.before_other later.before_one)
+        (stands_before p b (first_place ids) own.before_other later.before_other) begins
+
+pub first_is_found : {X Y Z : Type 0}
+    (values : List (Cell X)) (formulas : List (Cell Y)) (ids : List (Cell Z))
+    (value formula id behind result : Option (ℕ × ℕ)) →
+    value ≡ first_place values → formula ≡ first_place formulas → id ≡ first_place ids →
+    AreInOrder values → AreInOrder formulas → AreInOrder ids →
+    MatchOption behind ((formula ≡ None) × (id ≡ None)) (IsEarlier formula id) →
+    MatchOption result ((value ≡ None) × (behind ≡ None)) (IsEarlier value behind) →
+    MatchOption result ((values ≡ []) × (formulas ≡ []) × (ids ≡ []))
+    (IsFirstOf values formulas ids)
+first_is_found values formulas ids value formula id behind result is_v is_f is_d in_values
+    in_formulas in_ids later own =
+    first_found values formulas ids behind result in_values in_formulas in_ids
+    (subst (λ f. MatchOption behind ((f ≡ None) × (first_place ids ≡ None))
+    (IsEarlier f (first_place ids))) is_f
+    (subst (λ d. MatchOption behind ((formula ≡ None) × (d ≡ None)) (IsEarlier formula d)) is_d
+    later))
+    (subst (λ v. MatchOption result ((v ≡ None) × (behind ≡ None)) (IsEarlier v behind)) is_v own)
+
+-- ---- the styled positions
+
+-- one styled position more is listed
+pub styled_more : (cells after : List (Cell ℕ)) (cell : Cell ℕ) (item : StyledCell)
+    (left rest : List StyledCell) (whole : List ((ℕ × ℕ) × ℕ)) → left ≡ item ∷ rest →
+    after ≡ cells ++ cell ∷ [] → cell ≡ record { pos = (item.0, item.1); val = item.2 } →
+    placed_cells cells ++ map styled_entry left ≡ whole →
+    placed_cells after ++ map styled_entry rest ≡ whole
+styled_more cells after cell item left rest whole is more own same =
+    let placed : placed_cells after ≡ placed_cells cells ++ styled_entry item ∷ [] =
+    ap placed_cells more
+    ∙ (map-append cell_entry cells (cell ∷ [])
+    ∙ ap (λ cell. placed_cells cells ++ cell_entry cell ∷ []) own) in
+    ap (λ es. es ++ map styled_entry rest) placed
+    ∙ (append_assoc (placed_cells cells) (styled_entry item ∷ []) (map styled_entry rest)
+    ∙ (ap (λ es. placed_cells cells ++ map styled_entry es) (sym is) ∙ same))
+
+pub in_sheet_more : (cells after : List (Cell ℕ)) (cell : Cell ℕ) (item : StyledCell)
+    (left rest : List StyledCell) → left ≡ item ∷ rest →
+    after ≡ cells ++ cell ∷ [] → cell ≡ record { pos = (item.0, item.1); val = item.2 } →
+    All IsInSheet cells → All IsOnSheet left → All IsInSheet after
+in_sheet_more cells after cell item left rest is more own before on_sheet =
+    let first = All-head IsOnSheet item rest (subst (All IsOnSheet) is on_sheet) in
+    All-same IsInSheet after (cells ++ cell ∷ []) more
+    (All-push IsInSheet cells cell before (subst IsInSheet (sym own) first))

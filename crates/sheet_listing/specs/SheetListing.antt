@@ -1,0 +1,217 @@
+-- The lines that `cells` prints of the values, the formulas and the fills of a sheet: one for each
+-- position that has a value, a formula or a style id above 0, row by row.
+use Rattle.std.specs.Prelude.{◌≡◌, ℕ, ◌<◌, Bool, true, false, ◌||◌, ◌++◌, codes, map}
+use Rattle.std.specs.Prelude.{if◌then◌else◌, List, [], ◌∷◌, Option, Some, None, is_some}
+use Rattle.std.specs.Prelude.{All, String, string_bytes, ◌⊎◌, nat_lt, option_and_then}
+use Rattle.std.specs.Ordering.{is_le}
+use Rattle.std.specs.FinMap.{find, from_entries, keys}
+use Rattle.std.specs.FinMap.Entries.{below_all}
+use Rattle.std.specs.Fmt.{signed_decimal}
+use Rattle.std.specs.List.{flat_map}
+use Rattle.std.specs.Option.{option_map, unwrap_or}
+use Rattle.std.specs.declared.alloc.Global.{Global}
+use Rattle.cell_refs.specs.Reference.{reference}
+use Rattle.cell_refs.specs.declared.TheConstants.{MAX_ROWS, MAX_COLUMNS}
+use Rattle.cell_data.specs.CellError.{cell_error_text}
+use Rattle.cell_data.specs.CellValue.{CellValue, nothing, integer, number, text, shared_text, truth}
+use Rattle.cell_data.specs.CellValue.{time, iso_time, failure, value_of_data}
+use Rattle.cell_data.specs.Cells.{placed_cells, IsInSheet}
+use Rattle.decimals.specs.Decimals.{printed}
+use Rattle.cell_refs.specs.Positions.{position_cmp, is_rising}
+use Rattle.cell_data.specs.declared.cell.Cell.{Cell}
+use Rattle.cell_data.specs.declared.value.Data.{Data}
+use Rattle.cell_data.specs.declared.value.ExcelDateTimeType.{ExcelDateTimeType}
+use Rattle.cell_data.specs.declared.value.ExcelDateTimeType.TheVariants.{DateTime, TimeDelta}
+use Rattle.cell_styles.specs.Color.{color_text}
+use Rattle.cell_styles.specs.Fill.{fill_color}
+use Rattle.cell_styles.specs.StyleItems.{styled_entry, styled_of}
+use Rattle.cell_styles.specs.StyleMap.{StyleMap, style_at}
+use Rattle.cell_styles.specs.declared.color.Color.{Color}
+use Rattle.cell_styles.specs.declared.fill.FillPattern.{FillPattern}
+use Rattle.cell_styles.specs.declared.fill.FillPattern.TheVariants as pattern
+use Rattle.cell_styles.specs.declared.style.Style.{Style}
+use Rattle.sheet_listing.specs.Escaped.{escaped}
+
+abbrev pub truth_text : Bool → List ℕ
+truth_text true = codes "b:true"
+truth_text false = codes "b:false"
+
+-- what a number of days counts
+abbrev pub kind_text : ExcelDateTimeType → List ℕ
+kind_text DateTime = codes " date"
+kind_text TimeDelta = codes " duration"
+
+-- the year that days are counted from
+abbrev pub calendar_text : Bool → List ℕ
+calendar_text true = codes " 1904"
+calendar_text false = codes " 1900"
+
+-- a value as it is printed, its kind first
+abbrev pub value_field : CellValue → Option (List ℕ)
+value_field nothing = None
+value_field (integer n) = Some (codes "n:" ++ signed_decimal n)
+value_field (number decimal) = Some (codes "n:" ++ printed decimal)
+value_field (text bytes) = Some (codes "s:" ++ escaped bytes)
+-- it is no value before its text is known
+value_field (shared_text place) = None
+value_field (truth holds) = Some (truth_text holds)
+value_field (time days kind is_1904) =
+    Some (codes "t:" ++ (printed days ++ (kind_text kind ++ calendar_text is_1904)))
+value_field (iso_time bytes) = Some (codes "i:" ++ escaped bytes)
+value_field (failure error) = Some (codes "e:" ++ cell_error_text error)
+
+-- an empty text is no formula
+abbrev pub formula_field : List ℕ → Option (List ℕ)
+formula_field [] = None
+formula_field (byte ∷ bytes) = Some (codes "=" ++ escaped (byte ∷ bytes))
+
+-- `-` where there is nothing
+abbrev pub field : Option (List ℕ) → List ℕ
+field content = unwrap_or content (codes "-")
+
+-- a fill without a pattern shows no color
+abbrev pub shown_color : FillPattern → Option Color → Option Color
+shown_color pattern.None color = None
+shown_color _ color = color
+
+-- the color that the fill of a style shows
+abbrev pub fill_shown : Style → Option Color
+fill_shown style = option_and_then (λ fill. shown_color fill.pattern (fill_color fill)) style.fill
+
+-- the color of the style's fill as it is printed
+abbrev pub fill_field : Option Style → Option (List ℕ)
+fill_field style = option_map color_text (option_and_then fill_shown style)
+
+-- the fields of a position, with tabs between them
+abbrev pub line : ℕ × ℕ → Option (List ℕ) → Option (List ℕ) → Option (List ℕ) → List ℕ
+line position value formula fill =
+    reference position
+    ++ (codes "\t" ++ (field value ++ (codes "\t"
+    ++ (field formula ++ (codes "\t" ++ (field fill ++ codes "\n"))))))
+
+-- the line of a position, where it has a value, a formula or a style id above 0
+abbrev pub line_of : ℕ × ℕ → CellValue → List ℕ → ℕ → Option (List ℕ) → List ℕ
+line_of position value formula id fill =
+    if is_some (value_field value) || (is_some (formula_field formula) || nat_lt 0 id)
+    then line position (value_field value) (formula_field formula) fill else []
+
+abbrev pub value_placed : ℕ × ℕ → List ((ℕ × ℕ) × CellValue) → CellValue
+value_placed position values = unwrap_or (find position_cmp position values) nothing
+
+abbrev pub formula_placed : ℕ × ℕ → List ((ℕ × ℕ) × List ℕ) → List ℕ
+formula_placed position formulas = unwrap_or (find position_cmp position formulas) []
+
+abbrev pub id_placed : ℕ × ℕ → List ((ℕ × ℕ) × ℕ) → ℕ
+id_placed position ids = unwrap_or (find position_cmp position ids) 0
+
+-- the positions alone, as entries of a map
+abbrev pub used : {X : Type 0} → List ((ℕ × ℕ) × X) → List ((ℕ × ℕ) × Unit {0})
+used cells = map (λ cell. (cell.0, tt)) cells
+
+-- the positions that some list has, each once, row by row
+abbrev pub used_positions :
+    {X Y Z : Type 0} → List ((ℕ × ℕ) × X) → List ((ℕ × ℕ) × Y) → List ((ℕ × ℕ) × Z)
+    → List (ℕ × ℕ)
+used_positions values formulas ids =
+    keys (from_entries {R = position_cmp} (used values ++ (used formulas ++ used ids)))
+
+-- the lines of values, formulas and style ids, where this is the style of each position
+unfoldable pub lines_with :
+    (ℕ × ℕ → Option Style) → List ((ℕ × ℕ) × CellValue) → List ((ℕ × ℕ) × List ℕ)
+    → List ((ℕ × ℕ) × ℕ) → List ℕ
+lines_with style values formulas ids =
+    flat_map
+    (λ position. line_of position (value_placed position values) (formula_placed position formulas)
+    (id_placed position ids) (fill_field (style position)))
+    (used_positions values formulas ids)
+
+-- the positions that have a style id above 0, with that id
+abbrev pub placed_ids : StyleMap → List ((ℕ × ℕ) × ℕ)
+placed_ids styles = map styled_entry (styled_of styles)
+
+-- the lines of a sheet's values, formulas and styles
+abbrev pub listing :
+    List ((ℕ × ℕ) × CellValue) → List ((ℕ × ℕ) × List ℕ) → StyleMap → List ℕ
+listing values formulas styles =
+    lines_with (style_at styles) values formulas (placed_ids styles)
+
+-- ---- the cells of ranges
+
+abbrev pub cell_values : List ((ℕ × ℕ) × Data) → List ((ℕ × ℕ) × CellValue)
+cell_values cells = map (λ cell. (cell.0, value_of_data cell.1)) cells
+
+abbrev pub cell_formulas : List ((ℕ × ℕ) × String Global) → List ((ℕ × ℕ) × List ℕ)
+cell_formulas cells = map (λ cell. (cell.0, string_bytes cell.1)) cells
+
+abbrev pub value_given : Option Data → CellValue
+value_given value = unwrap_or (option_map value_of_data value) nothing
+
+abbrev pub formula_given : Option (String Global) → List ℕ
+formula_given formula = unwrap_or (option_map string_bytes formula) []
+
+abbrev pub id_given : Option ℕ → ℕ
+id_given id = unwrap_or id 0
+
+-- ---- the steps through the lists
+
+-- cells row by row, on a sheet
+pub record AreInOrder {X : Type 0} (cells : List (Cell X)) : Type 0 where
+  pub rising : is_rising (placed_cells cells) ≡ true
+  pub sheet : All IsInSheet cells
+
+-- no cell stands before the position
+abbrev pub StandsFirst : {X : Type 0} → ℕ × ℕ → List ((ℕ × ℕ) × X) → Type 0
+StandsFirst position [] = Unit {0}
+StandsFirst position (cell ∷ cells) = is_le (position_cmp position cell.0) ≡ true
+
+-- the first cell stands at the position
+abbrev pub IsOfFirst : {X : Type 0} → ℕ × ℕ → List ((ℕ × ℕ) × X) → Type 0
+IsOfFirst position [] = ⊥
+IsOfFirst position (cell ∷ cells) = cell.0 ≡ position
+
+-- the position isn't behind the other one, where there is one
+abbrev pub StandsUpTo : ℕ × ℕ → Option (ℕ × ℕ) → Type 0
+StandsUpTo position None = Unit {0}
+StandsUpTo position (Some other) = is_le (position_cmp position other) ≡ true
+
+-- the earlier one of two positions
+pub record IsEarlier (one other : Option (ℕ × ℕ)) (position : ℕ × ℕ) : Type 0 where
+  pub before_one : StandsUpTo position one
+  pub before_other : StandsUpTo position other
+  pub is_one : (one ≡ Some position) ⊎ (other ≡ Some position)
+
+-- where the first cell stands
+abbrev pub first_place : {X : Type 0} → List (Cell X) → Option (ℕ × ℕ)
+first_place [] = None
+first_place (cell ∷ cells) = Some cell.pos
+
+-- a cell at the position, or none
+abbrev pub given : {X : Type 0} → ℕ × ℕ → Option X → List ((ℕ × ℕ) × X)
+given position None = []
+given position (Some value) = (position, value) ∷ []
+
+-- a position among those that the lists begin with
+abbrev pub IsOfSome :
+    {X Y Z : Type 0} → ℕ × ℕ → List ((ℕ × ℕ) × X) → List ((ℕ × ℕ) × Y) → List ((ℕ × ℕ) × Z)
+    → Type 0
+IsOfSome position values formulas ids =
+    IsOfFirst position values ⊎ (IsOfFirst position formulas ⊎ IsOfFirst position ids)
+
+-- the first position that some list has
+pub record IsFirstOf
+    {X Y Z : Type 0} (values : List (Cell X)) (formulas : List (Cell Y)) (ids : List (Cell Z))
+    (position : ℕ × ℕ) : Type 0 where
+  pub in_rows : position.0 < MAX_ROWS
+  pub in_columns : position.1 < MAX_COLUMNS
+  pub before_values : StandsFirst position (placed_cells values)
+  pub before_formulas : StandsFirst position (placed_cells formulas)
+  pub before_ids : StandsFirst position (placed_cells ids)
+  pub is_used : IsOfSome position (placed_cells values) (placed_cells formulas) (placed_cells ids)
+
+-- the cell at the position and the ones behind it
+pub record Splits
+    {X : Type 0} (position : ℕ × ℕ) (cells : List (Cell X)) (value : Option X)
+    (behind : List (Cell X)) : Type 0 where
+  pub whole : placed_cells cells ≡ given position value ++ placed_cells behind
+  pub below : below_all position_cmp position (placed_cells behind) ≡ true
+  pub order : AreInOrder behind

@@ -1,0 +1,376 @@
+ghost use Rattle.std.specs.Prelude.{◌≡◌, ◌<◌, ◌++◌, ◌||◌, [], is_some, MatchOption, IfOk, OnOk};
+ghost use Rattle.std.specs.Prelude.{codes, string_bytes, nat_lt, option_and_then, None, OnErr};
+ghost use Rattle.std.specs.Fmt.{signed_decimal};
+ghost use Rattle.std.specs.Option.{option_copied};
+ghost use Rattle.cell_data.specs.CellValue.{value_of_data, time_value};
+ghost use Rattle.cell_data.specs.Cells.{placed_cells};
+ghost use Rattle.cell_data.specs.Range.{cells_of};
+ghost use Rattle.cell_refs.specs.Reference.{reference};
+ghost use Rattle.cell_styles.specs.Fill.{fill_color};
+ghost use Rattle.cell_styles.specs.StyleMap.{style_at};
+ghost use Rattle.sheet_listing.specs.Escaped.{escaped};
+ghost use Rattle.sheet_listing.specs.SheetListing.{kind_text, calendar_text, value_field};
+ghost use Rattle.sheet_listing.specs.SheetListing.{formula_field};
+ghost use Rattle.sheet_listing.specs.SheetListing.{field, line, line_of, listing};
+ghost use Rattle.sheet_listing.specs.SheetListing.{cell_values, cell_formulas};
+ghost use Rattle.sheet_listing.specs.SheetListing.{value_given, formula_given, AreInOrder, IsFirstOf};
+ghost use Rattle.sheet_listing.specs.SheetListing.{StandsFirst, Splits, IsEarlier, first_place};
+ghost use Rattle.sheet_listing.specs.SheetListing.{shown_color, fill_shown, fill_field, id_given};
+ghost use Rattle.sheet_listing.specs.SheetListing.{lines_with, placed_ids};
+
+use crate::escaping::push_escaped;
+use cell_data::{Cell, Data, ExcelDateTime, ExcelDateTimeType, Range};
+use cell_refs::{MAX_COLUMNS, MAX_ROWS, push_reference};
+use cell_styles::{Color, Fill, Style, StyleRange};
+use itoa::Buffer;
+use std::alloc::{AllocError, Global};
+
+fn kind_text(kind: ExcelDateTimeType) -> &'static str
+    ensures { result.now ≡ kind_text kind }
+{
+    match kind {
+        ExcelDateTimeType::DateTime => " date",
+        ExcelDateTimeType::TimeDelta => " duration",
+    }
+}
+
+fn calendar_text(is_1904: bool) -> &'static str
+    ensures { result.now ≡ calendar_text is_1904 }
+{
+    if is_1904 { " 1904" } else { " 1900" }
+}
+
+fn push_time(out: &mut String, time: &ExcelDateTime) -> Result<(), AllocError>
+    ensures { OnOk result (string_bytes out.new
+        ≡ string_bytes out.old ++ field (value_field (time_value time.now))) }
+{
+    out.push_str("t:")?;
+    time.value.push_to(out)?;
+    out.push_str(kind_text(time.kind))?;
+    out.push_str(calendar_text(time.is_1904))
+}
+
+fn push_text(out: &mut String, mark: &str, text: &str) -> Result<(), AllocError>
+    ensures { OnOk result
+        (string_bytes out.new ≡ string_bytes out.old ++ (mark.now ++ escaped text.now)) }
+{
+    out.push_str(mark)?;
+    push_escaped(out, text)
+}
+
+fn push_integer(out: &mut String, number: i64) -> Result<(), AllocError>
+    ensures { OnOk result
+        (string_bytes out.new ≡ string_bytes out.old ++ (codes "n:" ++ signed_decimal number)) }
+{
+    let mut buffer = Buffer::new();
+    out.push_str("n:")?;
+    out.push_str(buffer.format(number))
+}
+
+fn push_data(out: &mut String, value: &Data) -> Result<(), AllocError>
+    ensures { OnOk result (string_bytes out.new
+        ≡ string_bytes out.old ++ field (value_field (value_of_data value.now))) }
+{
+    match value {
+        Data::Int(number) => push_integer(out, *number),
+        Data::Decimal(number) => {
+            out.push_str("n:")?;
+            number.push_to(out)
+        }
+        Data::String(text) => push_text(out, "s:", text.as_str()),
+        Data::Bool(true) => out.push_str("b:true"),
+        Data::Bool(false) => out.push_str("b:false"),
+        Data::DateTime(time) => push_time(out, time),
+        Data::DateTimeIso(text) => push_text(out, "i:", text.as_str()),
+        Data::Error(error) => {
+            out.push_str("e:")?;
+            out.push_str(error.as_str())
+        }
+        Data::Empty => out.push_str("-"),
+    }
+}
+
+fn push_value(out: &mut String, value: Option<&Data>) -> Result<(), AllocError>
+    ensures { let printed = field (value_field (value_given (option_copied value.entry))) in
+        OnOk result (string_bytes out.new ≡ string_bytes out.old ++ printed) }
+{
+    match value {
+        Some(value) => push_data(out, value),
+        None => out.push_str("-"),
+    }
+}
+
+fn push_formula_text(out: &mut String, formula: &str) -> Result<(), AllocError>
+    ensures { OnOk result (string_bytes out.new
+        ≡ string_bytes out.old ++ field (formula_field formula.now)) }
+{
+    if formula.is_empty() {
+        out.push_str("-")
+    } else {
+        push_text(out, "=", formula)
+    }
+}
+
+fn push_formula(out: &mut String, formula: Option<&String>) -> Result<(), AllocError>
+    ensures { let printed = field (formula_field (formula_given (option_copied formula.entry))) in
+        OnOk result (string_bytes out.new ≡ string_bytes out.old ++ printed) }
+{
+    match formula {
+        Some(formula) => push_formula_text(out, formula.as_str()),
+        None => out.push_str("-"),
+    }
+}
+
+fn has_value(value: Option<&Data>) -> bool
+    ensures { result ≡ is_some (value_field (value_given (option_copied value.entry))) }
+{
+    match value {
+        Some(value) => !matches!(value, Data::Empty),
+        None => false,
+    }
+}
+
+fn has_formula(formula: Option<&String>) -> bool
+    ensures { result ≡ is_some (formula_field (formula_given (option_copied formula.entry))) }
+{
+    match formula {
+        Some(formula) => !formula.is_empty(),
+        None => false,
+    }
+}
+
+fn has_id(id: Option<&usize>) -> bool
+    ensures { result ≡ nat_lt 0 (id_given (option_copied id.entry)) }
+{
+    match id {
+        Some(id) => *id > 0,
+        None => false,
+    }
+}
+
+fn shown_color(fill: &Fill) -> Option<Color>
+    ensures { result ≡ shown_color fill.now.pattern (fill_color fill.now) }
+{
+    if fill.is_visible() {
+        fill.get_color()
+    } else {
+        None
+    }
+}
+
+fn fill_shown(style: Option<&Style>) -> Option<Color>
+    ensures { result ≡ option_and_then fill_shown (option_copied style.entry) }
+{
+    let fill = style?.fill.as_ref()?;
+    shown_color(fill)
+}
+
+fn push_fill(out: &mut String, style: Option<&Style>) -> Result<(), AllocError>
+    ensures { let printed = field (fill_field (option_copied style.entry)) in
+        OnOk result (string_bytes out.new ≡ string_bytes out.old ++ printed) }
+{
+    match fill_shown(style) {
+        Some(color) => write!(out, "{color}"),
+        None => out.push_str("-"),
+    }
+}
+
+fn has_line(value: Option<&Data>, formula: Option<&String>, id: Option<&usize>) -> bool
+    ensures { let has_value = is_some (value_field (value_given (option_copied value.entry))) in
+        let has_formula = is_some (formula_field (formula_given (option_copied formula.entry))) in
+        let has_id = nat_lt 0 (id_given (option_copied id.entry)) in
+        result ≡ (has_value || (has_formula || has_id)) }
+{
+    has_value(value) || has_formula(formula) || has_id(id)
+}
+
+/// Appends a position, counted from 0, and the value there, each with a tab behind it.
+fn push_front(
+    out: &mut String,
+    position: (u32, u32),
+    value: Option<&Data>,
+) -> Result<(), AllocError>
+    requires in_rows { position.0 < MAX_ROWS }
+    requires in_columns { position.1 < MAX_COLUMNS }
+    ensures { let printed = field (value_field (value_given (option_copied value.entry))) in
+        OnOk result (string_bytes out.new ≡ string_bytes out.old
+        ++ (reference position ++ (codes "\t" ++ (printed ++ codes "\t")))) }
+{
+    push_reference(out, position.0, position.1)?;
+    out.push_str("\t")?;
+    push_value(out, value)?;
+    out.push_str("\t")
+}
+
+/// Appends the fields of a position, counted from 0, with tabs between them.
+fn push_fields(
+    out: &mut String,
+    position: (u32, u32),
+    value: Option<&Data>,
+    formula: Option<&String>,
+    style: Option<&Style>,
+) -> Result<(), AllocError>
+    requires in_rows { position.0 < MAX_ROWS }
+    requires in_columns { position.1 < MAX_COLUMNS }
+    ensures { let printed = line position (value_field (value_given (option_copied value.entry)))
+        (formula_field (formula_given (option_copied formula.entry)))
+        (fill_field (option_copied style.entry)) in
+        OnOk result (string_bytes out.new ≡ string_bytes out.old ++ printed) }
+{
+    push_front(out, position, value)?;
+    push_formula(out, formula)?;
+    out.push_str("\t")?;
+    push_fill(out, style)?;
+    out.push_str("\n")
+}
+
+/// Appends the line of a position, counted from 0, where it has a value, a formula or a style id
+/// above 0.
+fn push_line(
+    out: &mut String,
+    position: (u32, u32),
+    value: Option<&Data>,
+    formula: Option<&String>,
+    id: Option<&usize>,
+    style: Option<&Style>,
+) -> Result<(), AllocError>
+    requires in_rows { position.0 < MAX_ROWS }
+    requires in_columns { position.1 < MAX_COLUMNS }
+    ensures { let printed = line_of position (value_given (option_copied value.entry))
+        (formula_given (option_copied formula.entry)) (id_given (option_copied id.entry))
+        (fill_field (option_copied style.entry)) in
+        OnOk result (string_bytes out.new ≡ string_bytes out.old ++ printed) }
+{
+    if !has_line(value, formula, id) {
+        return Ok(());
+    }
+    push_fields(out, position, value, formula, style)
+}
+
+fn first_place<T>(cells: &[Cell<T>]) -> Option<(u32, u32)>
+    ensures { result ≡ first_place cells.now }
+{
+    match cells.first() {
+        Some(cell) => Some(cell.pos),
+        None => None,
+    }
+}
+
+fn earlier(one: Option<(u32, u32)>, other: Option<(u32, u32)>) -> Option<(u32, u32)>
+    ensures { MatchOption result ((one ≡ None) × (other ≡ None)) (IsEarlier one other) }
+{
+    match (one, other) {
+        (Some(one), Some(other)) => Some(one.min(other)),
+        (Some(one), None) => Some(one),
+        (None, other) => other,
+    }
+}
+
+/// The first position that some list has.
+fn first_position(
+    values: &[Cell<Data>],
+    formulas: &[Cell<String>],
+    ids: &[Cell<usize>],
+) -> Option<(u32, u32)>
+    requires values { AreInOrder values.now }
+    requires formulas { AreInOrder formulas.now }
+    requires ids { AreInOrder ids.now }
+    ensures { MatchOption result ((values.now ≡ []) × (formulas.now ≡ []) × (ids.now ≡ []))
+        (IsFirstOf values.now formulas.now ids.now) }
+{
+    let behind_values = earlier(first_place(formulas), first_place(ids));
+    earlier(first_place(values), behind_values)
+}
+
+/// What the first cell has, where it stands at the position, and the cells behind.
+fn split_at_position<T>(cells: &[Cell<T>], position: (u32, u32)) -> (Option<&T>, &[Cell<T>])
+    requires order { AreInOrder cells.now }
+    requires first { StandsFirst position (placed_cells cells.now) }
+    ensures { Splits position cells.now (option_copied result.0) result.1.now }
+{
+    let Some((cell, behind)) = cells.split_first() else {
+        return (None, cells);
+    };
+    if cell.pos == position {
+        (Some(&cell.val), behind)
+    } else {
+        (None, cells)
+    }
+}
+
+/// Appends the lines of the positions that some list has, row by row.
+fn push_lines(
+    out: &mut String,
+    values: &[Cell<Data>],
+    formulas: &[Cell<String>],
+    ids: &[Cell<usize>],
+    styles: &StyleRange,
+) -> Result<(), AllocError>
+    requires values { AreInOrder values.now }
+    requires formulas { AreInOrder formulas.now }
+    requires ids { AreInOrder ids.now }
+    ensures { let printed = lines_with (style_at styles.now) (cell_values (placed_cells values.now))
+        (cell_formulas (placed_cells formulas.now)) (placed_cells ids.now) in
+        OnOk result (string_bytes out.new ≡ string_bytes out.old ++ printed) }
+{
+    let mut values_left = values;
+    let mut formulas_left = formulas;
+    let mut ids_left = ids;
+    'positions: while let Some(position) = first_position(values_left, formulas_left, ids_left) {
+        let (value, values_behind) = split_at_position(values_left, position);
+        let (formula, formulas_behind) = split_at_position(formulas_left, position);
+        let (id, ids_behind) = split_at_position(ids_left, position);
+        push_line(out, position, value, formula, id, styles.get(position))?;
+        values_left = values_behind;
+        formulas_left = formulas_behind;
+        ids_left = ids_behind;
+    }
+    Ok(())
+}
+
+/// The positions that have a style id above 0, with that id, row by row.
+fn styled_cells(alloc: Global, styles: &StyleRange) -> Result<Vec<Cell<usize>>, AllocError>
+    ensures cells { IfOk result (λ cells. placed_cells cells.items ≡ placed_ids styles.now) }
+    ensures order { IfOk result (λ cells. AreInOrder cells.items) }
+{
+    let mut cells = Vec::new(alloc);
+    for (row, column, id) in styles.styled() {
+        cells.push(Cell::new((row, column), id))?;
+    }
+    Ok(cells)
+}
+
+/// The lines of a sheet's values, formulas and styles: one for each position that has a value, a
+/// formula or a style id above 0, row by row (docs/FORMAT.md). It goes over what is used of the
+/// ranges once, and looks up the style of each line.
+pub fn listing_of(
+    alloc: Global,
+    values: &Range<Data>,
+    formulas: &Range<String>,
+    styles: &StyleRange,
+) -> Result<String, AllocError>
+    ensures { let printed = listing (cell_values (cells_of values.now))
+        (cell_formulas (cells_of formulas.now)) styles.now in
+        IfOk result (λ out. string_bytes out ≡ printed) }
+{
+    let ids = styled_cells(alloc, styles)?;
+    let mut out = String::new(alloc);
+    push_lines(&mut out, values.used(), formulas.used(), &ids, styles)?;
+    Ok(out)
+}
+
+/// Appends the lines of a sheet's values, formulas and styles. A refusal leaves the text as it was.
+pub fn push_listing(
+    out: &mut String,
+    values: &Range<Data>,
+    formulas: &Range<String>,
+    styles: &StyleRange,
+) -> Result<(), AllocError>
+    ensures ok { let printed = listing (cell_values (cells_of values.now))
+        (cell_formulas (cells_of formulas.now)) styles.now in
+        OnOk result (string_bytes out.new ≡ string_bytes out.old ++ printed) }
+    ensures err { OnErr result (string_bytes out.new ≡ string_bytes out.old) }
+{
+    let lines = listing_of(*out.allocator(), values, formulas, styles)?;
+    out.push_str(lines.as_str())
+}
