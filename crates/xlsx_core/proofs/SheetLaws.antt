@@ -27,12 +27,13 @@ use Rattle.xlsx_cells.specs.Sheet.{formulas_along}
 use Rattle.xlsx_cells.specs.SheetPart.{SheetPartCause, IsSoundSheet}
 use Rattle.xlsx_cells.specs.StyleIds.{ids_in}
 use Rattle.xlsx_cells.proofs.SoundSheet.{no_part_cause}
+use Rattle.xlsx_workbook.specs.Paths.{folder_of, workbook_part, strings_part, theme_part}
+use Rattle.xlsx_workbook.specs.Paths.{styles_part}
+use Rattle.xlsx_workbook.specs.Relationships.{Related}
+use Rattle.xlsx_workbook.specs.Sheets.{PlacedSheet}
 use Rattle.xlsx_open.specs.Opening.{Opening, HasRelationships, HasWorkbook, IsOpening, OpensAs}
 use Rattle.xlsx_open.specs.Opening.{HasNothing, OpeningCause}
-use Rattle.xlsx_open.specs.Paths.{folder_of, workbook_part, strings_part, theme_part, styles_part}
-use Rattle.xlsx_open.specs.Relationships.{Related}
 use Rattle.xlsx_open.specs.SharedParts.{SharedSaid, HasShared}
-use Rattle.xlsx_open.specs.Sheets.{PlacedSheet}
 use Rattle.xlsx_open.proofs.Sound.{both_at, same_path, same_related, no_cause}
 use Rattle.xlsx_core.specs.SheetReading.{events_named, grounds_with, opened_grounds, all_wanted}
 use Rattle.xlsx_core.specs.SheetReading.{SayTheSame, ReadsAs, LacksSheet, HasPartCause}

@@ -13,13 +13,13 @@ use Rattle.cell_styles.specs.StyleMap.{StyleMap, styles_of}
 use Rattle.cell_styles.specs.declared.style.Style.{Style}
 use Rattle.xlsx_values.specs.Value.{Grounds}
 use Rattle.xlsx_cells.specs.SheetPart.{SheetPartCause}
+use Rattle.xlsx_workbook.specs.Sheets.{PlacedSheet}
+use Rattle.xlsx_workbook.specs.declared.sheet.Metadata.{Metadata}
+use Rattle.xlsx_workbook.specs.declared.sheet.Sheet.{Sheet}
 use Rattle.xlsx_open.specs.Opening.{Opening, ListedSheet, listed_sheet, without_path}
 use Rattle.xlsx_open.specs.Opening.{HoldsOpening, OpensAs}
 use Rattle.xlsx_open.specs.SharedParts.{SharedSaid}
-use Rattle.xlsx_open.specs.Sheets.{PlacedSheet}
 use Rattle.xlsx_open.specs.declared.shared_parts.SharedParts.{SharedParts}
-use Rattle.xlsx_open.specs.declared.sheet.Metadata.{Metadata}
-use Rattle.xlsx_open.specs.declared.sheet.Sheet.{Sheet}
 use Rattle.xlsx_core.specs.Opened.{path_listed}
 use Rattle.xlsx_core.specs.SheetReading.{path_named, events_at, events_named, grounds_with}
 use Rattle.xlsx_core.specs.SheetReading.{opened_grounds, all_wanted, HoldsSheet, IsPaletteOf}

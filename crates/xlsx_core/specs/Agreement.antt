@@ -1,9 +1,9 @@
 -- Packages that have the same parts where a sheet is read from.
 use Rattle.std.specs.Prelude.{◌≡◌, ℕ, List, codes, Option, Some}
 use Rattle.part_events.specs.Package.{Part, part_of}
+use Rattle.xlsx_workbook.specs.Paths.{workbook_part, relationships_part, strings_part, theme_part}
+use Rattle.xlsx_workbook.specs.Paths.{styles_part}
 use Rattle.xlsx_open.specs.Opening.{Opening, OpensAs, HasPath}
-use Rattle.xlsx_open.specs.Paths.{workbook_part, relationships_part, strings_part, theme_part}
-use Rattle.xlsx_open.specs.Paths.{styles_part}
 use Rattle.xlsx_core.specs.SheetReading.{path_named}
 
 -- two packages have the same events in the part of this name, or neither has such a part

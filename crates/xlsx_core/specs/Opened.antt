@@ -4,7 +4,7 @@ use Rattle.std.specs.Prelude.{ℕ, List, [], ◌∷◌, Option, Some, None, if�
 use Rattle.std.specs.Prelude.{String}
 use Rattle.std.specs.Str.{bytes_eq}
 use Rattle.std.specs.declared.alloc.Global.{Global}
-use Rattle.xlsx_open.specs.declared.sheet.Sheet.{Sheet}
+use Rattle.xlsx_workbook.specs.declared.sheet.Sheet.{Sheet}
 
 -- the path of the part of the first sheet of this name, where the paths stand in the order of the
 -- sheets

@@ -1,5 +1,3 @@
-pub mod Contents
 pub mod OpeningErrors
 pub mod Openings
-pub mod Pieces
 pub mod Sound

@@ -1,34 +1,30 @@
 -- Which refusals of the layers below are refusals of opening.
-use Rattle.std.proofs.Common.{◌≡◌, ℕ, List, Option, Result, Err, codes, ap, inl, inr}
+use Rattle.std.proofs.Common.{inl, inr}
 use Rattle.part_events.specs.Package.{PackageState}
 use Rattle.part_events.specs.declared.fault.XmlFault.TheVariants.{EndMismatch, Entity}
 use Rattle.xlsx_error.specs.declared.error.XlsxError.{XlsxError}
 use Rattle.xlsx_error.specs.declared.error.XlsxError.TheVariants.{OutOfMemory, Io, Xml, XmlAttr}
-use Rattle.xlsx_error.specs.declared.error.XlsxError.TheVariants.{XmlEof}
-use Rattle.xlsx_sections.specs.PartSection.{IsStepError, SoundFails}
-use Rattle.xlsx_sections.specs.Refusal.{Refusal, ElementFails, IsDecodeError}
-use Rattle.xlsx_sections.proofs.Refused.{refused_at_weaker}
+use Rattle.xlsx_error.specs.declared.error.XlsxError.TheVariants.{XmlEof, FileNotFound}
+use Rattle.xlsx_error.specs.declared.error.XlsxError.TheVariants.{RelationshipNotFound}
+use Rattle.xlsx_error.specs.declared.error.XlsxError.TheVariants.{Unrecognized}
+use Rattle.xlsx_sections.specs.PartSection.{SoundFails}
 use Rattle.xlsx_stylesheet.specs.StylesErrors.{AreStylesError}
 use Rattle.xlsx_strings.specs.Strings.{AreStringsError}
+use Rattle.xlsx_workbook.specs.WorkbookErrors.{IsWorkbookError}
 use Rattle.xlsx_open.specs.Opening.{IsOpeningError}
-use Rattle.xlsx_open.specs.Relationships.{Related, some_text}
-use Rattle.xlsx_open.specs.Sheets.{named_sheet}
 
-pub relationships_step : (error : XlsxError) → IsStepError (codes "Relationships") error
-    → IsOpeningError error
-relationships_step OutOfMemory is = tt
-relationships_step Io is = tt
-relationships_step (Xml (EndMismatch at)) is = tt
-relationships_step (XmlEof element) is = inl is
-relationships_step _ is = absurd is
-
-pub workbook_step : (error : XlsxError) → IsStepError (codes "workbook") error
-    → IsOpeningError error
-workbook_step OutOfMemory is = tt
-workbook_step Io is = tt
-workbook_step (Xml (EndMismatch at)) is = tt
-workbook_step (XmlEof element) is = inr (inl is)
-workbook_step _ is = absurd is
+pub workbook_error : (error : XlsxError) → IsWorkbookError error → IsOpeningError error
+workbook_error OutOfMemory is = tt
+workbook_error Io is = tt
+workbook_error (Xml (EndMismatch at)) is = tt
+workbook_error (Xml (Entity at)) is = tt
+workbook_error (XmlAttr fault) is = tt
+workbook_error (XmlEof element) (inl is) = inl is
+workbook_error (XmlEof element) (inr is) = inr (inl is)
+workbook_error (FileNotFound path) is = tt
+workbook_error RelationshipNotFound is = tt
+workbook_error (Unrecognized typ val) is = is
+workbook_error _ is = absurd is
 
 pub strings_step : (error : XlsxError) → AreStringsError error → IsOpeningError error
 strings_step OutOfMemory is = tt
@@ -54,26 +50,3 @@ pub theme_step : (old new : PackageState) (error : XlsxError) → SoundFails old
 theme_step old new OutOfMemory fails = tt
 theme_step old new Io fails = tt
 theme_step old new _ fails = absurd fails
-
-pub decoding : (error : XlsxError) → IsDecodeError error → IsOpeningError error
-decoding OutOfMemory is = tt
-decoding (Xml (Entity at)) is = tt
-decoding _ is = absurd is
-
--- a text that doesn't decode is refused also where it is given as one that may be absent
-pub some_text_fails : (at behind : ℕ) (decoded : Result (List ℕ) Refusal) (error : XlsxError)
-    → ElementFails decoded at behind error → ElementFails (some_text decoded) at behind error
-some_text_fails at behind decoded error fails =
-    refused_at_weaker at behind (λ (refusal : Refusal). some_text decoded
-    ≡ Err refusal) (λ (refusal : Refusal). decoded
-    ≡ Err refusal) error (λ refusal is. ap some_text is) fails
-
--- a sheet whose name doesn't decode is refused
-pub named_sheet_fails : (folder : List ℕ) (related : List ℕ
-    → Option Related) (id state : List ℕ) (at behind : ℕ) (decoded : Result (List ℕ) Refusal)
-    (error : XlsxError) → ElementFails decoded at behind error
-    → ElementFails (named_sheet folder related id state decoded) at behind error
-named_sheet_fails folder related id state at behind decoded error fails =
-    refused_at_weaker at behind (λ (refusal : Refusal). named_sheet folder related id state decoded
-    ≡ Err refusal) (λ (refusal : Refusal). decoded
-    ≡ Err refusal) error (λ refusal is. ap (named_sheet folder related id state) is) fails

@@ -10,27 +10,29 @@ use Rattle.xlsx_error.specs.declared.error.XlsxError.TheVariants.{OutOfMemory, I
 use Rattle.cell_styles.specs.declared.color.Color.{Color}
 use Rattle.xlsx_sections.specs.Elements.{IsInsideRefused}
 use Rattle.xlsx_sections.specs.PartSection.{always, OptionalPartCause, OptionalPartFails}
-use Rattle.xlsx_sections.specs.PartSection.{PartFails, SoundFails, closed_section, closed_section_of}
+use Rattle.xlsx_sections.specs.PartSection.{PartFails, SoundFails, closed_section}
+use Rattle.xlsx_sections.specs.PartSection.{closed_section_of}
 use Rattle.xlsx_theme.specs.ThemePart.{theme_colors, HasTheme}
 use Rattle.xlsx_theme.specs.declared.theme_part.ThemeColors.{ThemeColors}
 use Rattle.xlsx_stylesheet.specs.StyleSheet.{cell_formats_in, end_in_styles, HasStyles}
 use Rattle.xlsx_strings.specs.Strings.{strings_in, end_in_strings, HasStrings}
-use Rattle.xlsx_open.specs.KeptContents.{pair_of, sheet_of_entry}
+use Rattle.xlsx_workbook.specs.KeptContents.{pair_of, sheet_of_entry}
+use Rattle.xlsx_workbook.specs.Paths.{folder_of, workbook_part, strings_part, theme_part}
+use Rattle.xlsx_workbook.specs.Paths.{styles_part}
+use Rattle.xlsx_workbook.specs.Relationships.{Related, IsPathRefused}
+use Rattle.xlsx_workbook.specs.Sheets.{PlacedSheet}
+use Rattle.xlsx_workbook.specs.Workbook.{IsContents, AreContentsRefused}
+use Rattle.xlsx_workbook.specs.declared.sheet.Metadata.{Metadata}
+use Rattle.xlsx_workbook.specs.declared.sheet.SheetEntry.{SheetEntry}
+use Rattle.xlsx_workbook.specs.declared.workbook.WorkbookContents.{WorkbookContents}
 use Rattle.xlsx_open.specs.Opening.{Opening, HoldsOpening, ListedSheet, listed_sheet, without_path}
 use Rattle.xlsx_open.specs.Opening.{HasPath, HasRelationships, HasWorkbook, HasNothing, IsOpening}
 use Rattle.xlsx_open.specs.Opening.{OpensAs}
 use Rattle.xlsx_open.specs.Opening.{OpeningFails, WorkbookCause, WorkbookOpens, WorkbookFails}
 use Rattle.xlsx_open.specs.Opening.{OpensPackage, FailsToOpen, BookCause, BookOpens, BookFails}
 use Rattle.xlsx_open.specs.Opening.{epoch_or_1900, book_events}
-use Rattle.xlsx_open.specs.Paths.{folder_of, workbook_part, strings_part, theme_part, styles_part}
-use Rattle.xlsx_open.specs.Relationships.{Related, IsPathRefused}
 use Rattle.xlsx_open.specs.SharedParts.{SharedSaid, shared_said, HasShared, SharedFails}
-use Rattle.xlsx_open.specs.Sheets.{PlacedSheet}
-use Rattle.xlsx_open.specs.Workbook.{IsContents, AreContentsRefused}
 use Rattle.xlsx_open.specs.declared.shared_parts.SharedParts.{SharedParts}
-use Rattle.xlsx_open.specs.declared.sheet.Metadata.{Metadata}
-use Rattle.xlsx_open.specs.declared.sheet.SheetEntry.{SheetEntry}
-use Rattle.xlsx_open.specs.declared.workbook.WorkbookContents.{WorkbookContents}
 
 -- a call that takes no more than another may take
 pub uses_more : {few most : ℕ} {old new : PackageState} → few ≤ most → UsesPackage few old new

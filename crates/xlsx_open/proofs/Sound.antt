@@ -14,16 +14,16 @@ use Rattle.xlsx_sections.proofs.Sound.{is_sound_part, no_optional_cause, no_part
 use Rattle.xlsx_theme.specs.ThemePart.{theme_colors}
 use Rattle.xlsx_stylesheet.proofs.Sound.{no_styles_cause}
 use Rattle.xlsx_strings.proofs.Sound.{no_strings_cause}
+use Rattle.xlsx_workbook.specs.Paths.{folder_of, workbook_part, relationships_part, strings_part}
+use Rattle.xlsx_workbook.specs.Paths.{theme_part, styles_part}
+use Rattle.xlsx_workbook.specs.Relationships.{Related, path_in, related_in, IsTargetRefused}
+use Rattle.xlsx_workbook.specs.Relationships.{IsPathRefused, AreRelationshipsRefused}
+use Rattle.xlsx_workbook.specs.Workbook.{AreContentsRefused}
 use Rattle.xlsx_open.specs.Opening.{Opening, HasPath, HasRelationships, HasWorkbook, HasNothing}
 use Rattle.xlsx_open.specs.Opening.{IsOpening, OpensAs, OpensSoundly, OpeningCause, ContentsCause}
 use Rattle.xlsx_open.specs.Opening.{WorkbookCause, BookCause, OpeningFails}
 use Rattle.xlsx_open.specs.Opening.{epoch_or_1900}
-use Rattle.xlsx_open.specs.Paths.{folder_of, workbook_part, relationships_part, strings_part}
-use Rattle.xlsx_open.specs.Paths.{theme_part, styles_part}
-use Rattle.xlsx_open.specs.Relationships.{Related, path_in, related_in, IsTargetRefused}
-use Rattle.xlsx_open.specs.Relationships.{IsPathRefused, AreRelationshipsRefused}
 use Rattle.xlsx_open.specs.SharedParts.{SharedSaid, HasShared, SharedCause}
-use Rattle.xlsx_open.specs.Workbook.{AreContentsRefused}
 
 path_never : (path : List ℕ) (s : PartSection) → path_in (inside_of s) ≡ Ok (Some path)
     → (refusal : Refusal) → IsPathRefused s refusal → ⊥

@@ -10,25 +10,26 @@ use Rattle.part_events.specs.declared.fault.XmlFault.TheVariants.{EndMismatch, E
 use Rattle.xlsx_error.specs.declared.error.XlsxError.{XlsxError}
 use Rattle.xlsx_error.specs.declared.error.XlsxError.TheVariants.{OutOfMemory, Io, Xml}
 use Rattle.xlsx_error.specs.declared.error.XlsxError.TheVariants.{XmlAttr, XmlEof, FileNotFound}
-use Rattle.xlsx_error.specs.declared.error.XlsxError.TheVariants.{RelationshipNotFound, Unrecognized}
+use Rattle.xlsx_error.specs.declared.error.XlsxError.TheVariants.{RelationshipNotFound}
+use Rattle.xlsx_error.specs.declared.error.XlsxError.TheVariants.{Unrecognized}
 use Rattle.xlsx_sections.specs.PartSection.{always, closed_section_of, PartCause, OptionalPartCause}
 use Rattle.xlsx_sections.specs.Refusal.{Refusal}
 use Rattle.xlsx_stylesheet.specs.StylesErrors.{IsStylesEnd}
 use Rattle.xlsx_strings.specs.Strings.{IsStringsEnd}
-use Rattle.xlsx_open.specs.DefinedNames.{names_in}
-use Rattle.xlsx_open.specs.KeptContents.{pair_of}
-use Rattle.xlsx_open.specs.Paths.{folder_of, workbook_part, relationships_part}
-use Rattle.xlsx_open.specs.Relationships.{Related, path_in, related_in, IsPathRefused}
-use Rattle.xlsx_open.specs.Relationships.{AreRelationshipsRefused}
+use Rattle.xlsx_workbook.specs.DefinedNames.{names_in}
+use Rattle.xlsx_workbook.specs.KeptContents.{pair_of}
+use Rattle.xlsx_workbook.specs.Paths.{folder_of, workbook_part, relationships_part}
+use Rattle.xlsx_workbook.specs.Relationships.{Related, path_in, related_in, IsPathRefused}
+use Rattle.xlsx_workbook.specs.Relationships.{AreRelationshipsRefused}
+use Rattle.xlsx_workbook.specs.Sheets.{PlacedSheet, sheets_in, epoch_in}
+use Rattle.xlsx_workbook.specs.Workbook.{AreContentsRefused}
+use Rattle.xlsx_workbook.specs.declared.sheet.Sheet.{Sheet}
+use Rattle.xlsx_workbook.specs.declared.sheet.Metadata.{Metadata}
+use Rattle.xlsx_workbook.specs.declared.sheet.SheetType.{SheetType}
+use Rattle.xlsx_workbook.specs.declared.sheet.SheetVisible.{SheetVisible}
 use Rattle.xlsx_open.specs.SharedParts.{SharedSaid, shared_said, HasShared, SharedCause}
 use Rattle.xlsx_open.specs.SharedParts.{shared_events}
-use Rattle.xlsx_open.specs.Sheets.{PlacedSheet, sheets_in, epoch_in}
-use Rattle.xlsx_open.specs.Workbook.{AreContentsRefused}
 use Rattle.xlsx_open.specs.declared.shared_parts.SharedParts.{SharedParts}
-use Rattle.xlsx_open.specs.declared.sheet.Sheet.{Sheet}
-use Rattle.xlsx_open.specs.declared.sheet.Metadata.{Metadata}
-use Rattle.xlsx_open.specs.declared.sheet.SheetType.{SheetType}
-use Rattle.xlsx_open.specs.declared.sheet.SheetVisible.{SheetVisible}
 
 -- what a workbook opens as: its sheets with the paths of their parts, its defined names with their
 -- texts, what its sheets share, and whether its dates count from 1904

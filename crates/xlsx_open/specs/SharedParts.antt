@@ -10,7 +10,7 @@ use Rattle.xlsx_formats.specs.Formattings.{StyleSaid, style_said}
 use Rattle.xlsx_theme.specs.ThemePart.{theme_colors, is_theme_default}
 use Rattle.xlsx_stylesheet.specs.StyleSheet.{cell_formats_in, end_in_styles, HasStyles}
 use Rattle.xlsx_strings.specs.Strings.{strings_in, end_in_strings, HasStrings}
-use Rattle.xlsx_open.specs.Paths.{strings_part, theme_part, styles_part}
+use Rattle.xlsx_workbook.specs.Paths.{strings_part, theme_part, styles_part}
 use Rattle.xlsx_open.specs.declared.shared_parts.SharedParts.{SharedParts}
 
 -- the shared strings, whether the default theme stands, and what the cell formats make of numbers,

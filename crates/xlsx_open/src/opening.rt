@@ -2,20 +2,20 @@ ghost use Rattle.std.specs.Prelude.{◌≡◌, [], map, true, false, unwrap_or, 
 ghost use Rattle.std.specs.Prelude.{IfErr};
 ghost use Rattle.part_events.specs.Package.{Uses};
 ghost use Rattle.xlsx_error.specs.declared.error.XlsxError.TheVariants.{Io};
+ghost use Rattle.xlsx_workbook.specs.Paths.{workbook_part, relationships_part};
 ghost use Rattle.xlsx_open.specs.Opening.{Opening, HoldsOpening, OpensAs, IsOpeningError};
 ghost use Rattle.xlsx_open.specs.Opening.{OpensPackage, WorkbookOpens, WorkbookFails, BookOpens};
 ghost use Rattle.xlsx_open.specs.Opening.{BookFails, OpeningFails, workbook_events, book_events};
-ghost use Rattle.xlsx_open.specs.Paths.{workbook_part, relationships_part};
 ghost use Rattle.xlsx_open.specs.SharedParts.{shared_said};
 
-use crate::paths::{file_of, folder_of, joined};
-use crate::relationship_parts::{read_path, read_relationships};
 use crate::shared_parts::{SharedParts, read_shared};
-use crate::sheet::Metadata;
-use crate::workbook::{SheetPlaces, WorkbookContents, read_contents};
 use part_events::Package;
 use std::alloc::{AllocError, Global};
 use xlsx_error::XlsxError;
+use xlsx_workbook::{
+    Metadata, SheetPlaces, WorkbookContents, file_of, folder_of, joined, read_contents, read_path,
+    read_relationships,
+};
 
 fn workbook_part(alloc: Global, path: &str) -> Result<String, AllocError>
     ensures { IfOk result (λ part. string_bytes part ≡ workbook_part path.now) }

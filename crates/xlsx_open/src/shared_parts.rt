@@ -7,11 +7,10 @@ ghost use Rattle.xlsx_formats.specs.Formattings.{style_said};
 ghost use Rattle.xlsx_theme.specs.ThemePart.{HasTheme};
 ghost use Rattle.xlsx_stylesheet.specs.StyleSheet.{cell_formats_in, end_in_styles, HasStyles};
 ghost use Rattle.xlsx_strings.specs.Strings.{strings_in, end_in_strings, HasStrings};
+ghost use Rattle.xlsx_workbook.specs.Paths.{strings_part, theme_part, styles_part};
 ghost use Rattle.xlsx_open.specs.Opening.{IsOpeningError};
-ghost use Rattle.xlsx_open.specs.Paths.{strings_part, theme_part, styles_part};
 ghost use Rattle.xlsx_open.specs.SharedParts.{shared_said, HasShared, SharedFails, shared_events};
 
-use crate::paths::{folder_of, joined};
 use cell_styles::Color;
 use part_events::Package;
 use std::alloc::{AllocError, Global};
@@ -19,6 +18,7 @@ use xlsx_error::XlsxError;
 use xlsx_strings::read_shared_strings;
 use xlsx_stylesheet::{StyleSheet, read_styles};
 use xlsx_theme::{ThemeColors, read_theme};
+use xlsx_workbook::{folder_of, joined};
 
 fn strings_part(alloc: Global, path: &str) -> Result<String, AllocError>
     ensures { IfOk result (λ part. string_bytes part ≡ strings_part path.now) }

@@ -1,5 +1,5 @@
 use Rattle.std.proofs.Common.{◌≡◌, map}
-use Rattle.xlsx_open.specs.declared.sheet.SheetEntry.{SheetEntry}
+use Rattle.xlsx_workbook.specs.declared.sheet.SheetEntry.{SheetEntry}
 use Rattle.xlsx_open.proofs.opening.from_contents.Given as goal
 
 abbrev pub invariant-loop-entry : goal.invariant-loop-entry

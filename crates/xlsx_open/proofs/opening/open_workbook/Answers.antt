@@ -4,12 +4,12 @@ use Rattle.std.proofs.lemmas.Result.{err_from_is_err_and}
 use Rattle.std.specs.Prelude.{IsSomeAnd}
 use Rattle.part_events.specs.Package.{Part, part_of}
 use Rattle.xlsx_sections.specs.PartSection.{always, closed_section_of, OptionalPartFails}
-use Rattle.xlsx_open.specs.KeptContents.{related_by_id}
+use Rattle.xlsx_workbook.specs.KeptContents.{related_by_id}
+use Rattle.xlsx_workbook.specs.Paths.{folder_of, workbook_part}
+use Rattle.xlsx_workbook.specs.Relationships.{related_in}
+use Rattle.xlsx_workbook.specs.Workbook.{IsContents, AreContentsRefused}
 use Rattle.xlsx_open.specs.Opening.{HasRelationships}
-use Rattle.xlsx_open.specs.Paths.{folder_of, workbook_part}
-use Rattle.xlsx_open.specs.Relationships.{related_in}
 use Rattle.xlsx_open.specs.SharedParts.{shared_said}
-use Rattle.xlsx_open.specs.Workbook.{IsContents, AreContentsRefused}
 use Rattle.xlsx_open.proofs.Openings.{opening_of, holds_contents, has_contents, has_nothing}
 use Rattle.xlsx_open.proofs.Openings.{contents_fail}
 use Rattle.xlsx_open.proofs.opening.open_workbook.Goals as goal

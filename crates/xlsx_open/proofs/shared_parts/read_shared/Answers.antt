@@ -2,7 +2,7 @@ use Rattle.std.proofs.Common.{◌≡◌, ◌+◌, List, true, arith, ap, ◌∙�
 use Rattle.std.proofs.lemmas.Result.{err_from_is_err_and}
 use Rattle.part_events.specs.Package.{Part, UsesPackage, event_count}
 use Rattle.xlsx_theme.specs.ThemePart.{theme_colors}
-use Rattle.xlsx_open.specs.Paths.{strings_part, theme_part}
+use Rattle.xlsx_workbook.specs.Paths.{strings_part, theme_part}
 use Rattle.xlsx_open.proofs.Openings.{uses_then, styles_fail}
 use Rattle.xlsx_open.proofs.shared_parts.read_shared.Goals as goal
 

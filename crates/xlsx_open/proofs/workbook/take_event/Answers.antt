@@ -1,4 +1,0 @@
-use Rattle.xlsx_open.proofs.workbook.take_event.Goals as goal
-
-pub returns-in-Start-clause-err : goal.returns-in-Start-clause-err
-returns-in-Start-clause-err c = rw c.in-Start.is c.take_start.ensures.err

@@ -1,0 +1,137 @@
+use Rattle.std.proofs.Common.{◌≡◌, ◌∷◌, ◌-◌, Ok, Err, length, refl, sym, ◌∙◌, inl, inr, arith}
+use Rattle.std.proofs.Common.{codes, option_map, string_bytes}
+use Rattle.std.proofs.lemmas.Result.{err_from_is_err_and}
+use Rattle.part_events.specs.Event.{event_of, tag_of}
+use Rattle.part_events.specs.Reading.{reading, ahead}
+use Rattle.part_events.specs.Section.{content}
+use Rattle.part_events.specs.Walk.{inside, section_ahead, section_behind}
+use Rattle.xlsx_sections.specs.PartSection.{section_left, always}
+use Rattle.xlsx_sections.specs.Refusal.{Refusal, placed_at}
+use Rattle.xlsx_sections.proofs.Refused.{event_refused, refused_later}
+use Rattle.xlsx_sections.proofs.SectionsRead.{event_inside, keeps_further}
+use Rattle.xlsx_workbook.specs.DefinedNames.{name_by}
+use Rattle.xlsx_workbook.specs.KeptContents.{related_by_id}
+use Rattle.xlsx_workbook.specs.Workbook.{AreSheetsRefused, IsNameRefused, AreContentsRefused}
+use Rattle.xlsx_workbook.proofs.Contents.{refused_earlier, event_taken, sheets_further}
+use Rattle.xlsx_workbook.proofs.Contents.{contents_refused, name_next, name_refused, name_taken}
+use Rattle.xlsx_workbook.proofs.workbook.contents_in.Goals as goal
+
+pub returns-in_err-take_event-clause-err : goal.returns-in_err-take_event-clause-err
+returns-in_err-take_event-clause-err g c =
+    let old = reading (g.P.Package.state c.args.package.now) c.args.cursor.now in
+    let new = reading (g.P.Package.state c.next_event_in.new.package) c.next_event_in.new.cursor in
+    let step = event_inside {place =
+    c.in-Some.at} c.event-event.ensures c.events.invariant.section c.in_ok-at.ensures.reads
+    (rw c.in-Some.is at c.in_ok-at.ensures.stands)
+    (λ told. rw c.in-Some.is at (c.in_ok-at.ensures.found told)) in
+    let folder = c.args.places.folder.now in
+    let related = related_by_id c.args.places.relationships.now in
+    let left = section_ahead c.args.base new in
+    let p = err_from_is_err_and c.from_residual-in_err-take_event.result
+    c.from_residual-in_err-take_event.ensures.1 in
+    rw (p.1, p.2)
+    (event_refused c.args.base c.in-Some.at (length left) old (always (codes "workbook"))
+    (AreSheetsRefused folder related c.events.found (event_of c.event-event.result ∷ left))
+    (AreContentsRefused folder related) new c.in_err-take_event.field-0.0 step.there
+    (λ told refusal refuses. contents_refused (section_left c.args.base old) refusal
+    (c.events.invariant.keeps told) (rw (step.left told) refuses))
+    (c.in_err-take_event.ensures.err left))
+
+pub returns-in_err-name-clause-err : goal.returns-in_err-name-clause-err
+returns-in_err-name-clause-err g c =
+    let old = reading (g.P.Package.state c.args.package.now) c.args.cursor.now in
+    let mid = reading (g.P.Package.state c.events.package) c.events.cursor in
+    let new = reading (g.P.Package.state c.next_event_in.new.package) c.next_event_in.new.cursor in
+    let base = c.args.base in
+    let step = event_inside {place =
+    c.in-Some.at} c.event-event.ensures c.events.invariant.section c.in_ok-at.ensures.reads
+    (rw c.in-Some.is at c.in_ok-at.ensures.stands)
+    (λ told. rw c.in-Some.is at (c.in_ok-at.ensures.found told)) in
+    let starts = rw c.in-Some-name_start.is at c.name_start.ensures in
+    let folder = c.args.places.folder.now in
+    let related = related_by_id c.args.places.relationships.now in
+    let tag = tag_of c.in-Some-name_start.tag in
+    let left = section_ahead base new in
+    let p = err_from_is_err_and c.from_residual-in_err-name.result
+    c.from_residual-in_err-name.ensures.1 in
+    rw (p.1, p.2)
+    (event_refused base c.in-Some.at (length left) old (always (codes "workbook"))
+    (λ (refusal : Refusal). name_by (placed_at tag (length left))
+    ≡ Err refusal) (AreContentsRefused folder related) new c.in_err-name.field-0.0 step.there
+    (λ told refusal refuses.
+    let next = name_next base tag mid new step.takes (step.steps told) (sym starts.0
+    ∙ step.current) step.was (step.ends told) starts.1 in
+    name_refused (section_left base old) tag (section_ahead base mid) (content 0 (ahead new))
+    (section_behind base new) (length (section_ahead base new)) (Err refusal) refusal
+    (c.events.invariant.keeps told) next refuses refl)
+    (c.in_err-name.ensures.err (length left)))
+
+pub returns-in_err-read_name-clause-err : goal.returns-in_err-read_name-clause-err
+returns-in_err-read_name-clause-err g c =
+    let old = reading (g.P.Package.state c.args.package.now) c.args.cursor.now in
+    let mid = reading (g.P.Package.state c.events.package) c.events.cursor in
+    let new = reading (g.P.Package.state c.next_event_in.new.package) c.next_event_in.new.cursor in
+    let later = reading (g.P.Package.state c.read_name.new.package) c.read_name.new.cursor in
+    let base = c.args.base in
+    let step = event_inside {place =
+    c.in-Some.at} c.event-event.ensures c.events.invariant.section c.in_ok-at.ensures.reads
+    (rw c.in-Some.is at c.in_ok-at.ensures.stands)
+    (λ told. rw c.in-Some.is at (c.in_ok-at.ensures.found told)) in
+    let starts = rw c.in-Some-name_start.is at c.name_start.ensures in
+    let folder = c.args.places.folder.now in
+    let related = related_by_id c.args.places.relationships.now in
+    let tag = tag_of c.in-Some-name_start.tag in
+    let name = option_map string_bytes c.in_ok-name.name in
+    let p = err_from_is_err_and c.from_residual-in_err-read_name.result
+    c.from_residual-in_err-read_name.ensures.1 in
+    rw (p.1, p.2)
+    (refused_later base old new (always (codes "workbook"))
+    (IsNameRefused folder related c.take_event.new.found name)
+    (AreContentsRefused folder related) later c.in_err-read_name.field-0.0 step.read (λ _. refl)
+    (λ told refusal refuses. elim refuses [
+      | inl sheets ↦ contents_refused (section_left c.args.base old) refusal
+          (c.events.invariant.keeps told)
+          (refused_earlier refusal (event_taken (step.left told) c.in_ok-take_event.ensures.ok)
+          sheets)
+      | inr text ↦
+          let next = name_next base tag mid new step.takes (step.steps told) (sym starts.0
+          ∙ step.current) step.was (step.ends told) starts.1 in
+          name_refused (section_left base old) tag (section_ahead base mid) (content 0 (ahead new))
+          (section_behind base new) (length (section_ahead base new)) (Ok name) refusal
+          (c.events.invariant.keeps told) next
+          (c.in_ok-name.ensures.ok (length (section_ahead base new))) text
+    ])
+    c.in_err-read_name.ensures.err)
+
+pub events-preserved-in-Continue-branch-5 : goal.events-preserved-in-Continue-branch-5
+events-preserved-in-Continue-branch-5 g c =
+    let mid = reading (g.P.Package.state c.events.package) c.events.cursor in
+    let new = reading (g.P.Package.state c.next_event_in.new.package) c.next_event_in.new.cursor in
+    let later = reading (g.P.Package.state c.read_name.new.package) c.read_name.new.cursor in
+    let base = c.args.base in
+    let step = event_inside {place =
+    c.in-Some.at} c.event-event.ensures c.events.invariant.section c.in_ok-at.ensures.reads
+    (rw c.in-Some.is at c.in_ok-at.ensures.stands)
+    (λ told. rw c.in-Some.is at (c.in_ok-at.ensures.found told)) in
+    let starts = rw c.in-Some-name_start.is at c.name_start.ensures in
+    let tag = tag_of c.in-Some-name_start.tag in
+    let out : inside base later ≡ inside base new - 1 =
+    omega (arith, c.in_ok-read_name.ensures.depth) in
+    record {
+      section = keeps_further step.read c.in_ok-read_name.ensures.section;
+      keeps = λ told.
+          let still = step.read.reads.moves.parts.is_told ∙ told in
+          let skipped = c.in_ok-read_name.ensures.skips still in
+          let left : section_ahead base later ≡ section_behind base new =
+          rw (out, skipped.ahead) refl in
+          let next = name_next base tag mid new step.takes (step.steps told) (sym starts.0
+          ∙ step.current) step.was (step.ends told) starts.1 in
+          let sheets = sheets_further (event_taken (step.left told) c.in_ok-take_event.ensures.ok)
+          (c.in_ok-read_name.ensures.sheets still) in
+          name_taken tag (section_ahead base mid) (content 0 (ahead new)) (section_ahead base later)
+          (length (section_ahead base new)) c.take_event.new.found
+          (option_map string_bytes c.in_ok-name.name) (c.events.invariant.keeps told) sheets
+          c.in_ok-take_event.ensures.names (rw left next)
+          (c.in_ok-name.ensures.ok (length (section_ahead base new)))
+          (c.in_ok-read_name.ensures.names still);
+    }

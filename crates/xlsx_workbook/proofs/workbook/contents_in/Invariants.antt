@@ -1,0 +1,23 @@
+use Rattle.std.proofs.Common.{◌≡◌, true}
+use Rattle.part_events.specs.Reading.{reading}
+use Rattle.part_events.specs.Walk.{section_ahead}
+use Rattle.xlsx_sections.specs.PartSection.{KeepsSection}
+use Rattle.xlsx_workbook.specs.KeptContents.{related_by_id}
+use Rattle.xlsx_workbook.proofs.Contents.{KeepsContents}
+use Rattle.xlsx_workbook.proofs.workbook.contents_in.Given as goal
+
+abbrev pub invariant-events : goal.invariant-events
+invariant-events g l =
+    let old = reading (g.P.Package.state l.fn.package) l.fn.cursor in
+    let now = reading (g.P.Package.state l.package) l.cursor in
+    let related = related_by_id l.places.relationships.now in
+    record {
+      section : KeepsSection l.base old now;
+      keeps :
+          old.source.is_told ≡ true →
+          KeepsContents l.places.folder.now related (section_ahead l.base old) l.found
+          (section_ahead l.base now);
+    }
+
+abbrev pub decreases-events : goal.decreases-events
+decreases-events g l = (g.P.Package.state l.package).left

@@ -1,0 +1,35 @@
+use Rattle.std.proofs.Common.{◌≡◌, length, true, string_bytes}
+use Rattle.std.specs.Prelude.{is_some}
+use Rattle.part_events.specs.Reading.{reading, ahead}
+use Rattle.part_events.specs.Section.{content, behind}
+use Rattle.part_events.specs.Walk.{section_ahead, behind_section}
+use Rattle.xlsx_sections.specs.PartSection.{KeepsSection}
+use Rattle.xlsx_workbook.specs.KeptContents.{related_by_id}
+use Rattle.xlsx_workbook.specs.Workbook.{KeepsSheets, names_of}
+use Rattle.xlsx_workbook.proofs.Contents.{JoinsText}
+use Rattle.xlsx_workbook.proofs.workbook.read_name.Given as goal
+
+abbrev pub invariant-events : goal.invariant-events
+invariant-events g l =
+    let old = reading (g.P.Package.state l.fn.package) l.fn.cursor in
+    let now = reading (g.P.Package.state l.package) l.cursor in
+    let related = related_by_id l.places.relationships.now in
+    record {
+      section : KeepsSection l.base old now;
+      element : KeepsSection l.depth old now;
+      depth : l.depth ≡ length old.names;
+      own : l.name ≡ l.fn.name;
+      wanted : l.wanted ≡ is_some l.name;
+      names : names_of l.found ≡ names_of l.fn.found;
+      sheets :
+          old.source.is_told ≡ true →
+          KeepsSheets l.places.folder.now related l.fn.found (section_ahead l.base old) l.found
+          (section_ahead l.base now);
+      text :
+          old.source.is_told ≡ true → l.wanted ≡ true →
+          JoinsText (content 0 (ahead old)) (string_bytes l.text) (section_ahead l.depth now);
+      behind : old.source.is_told ≡ true → behind_section l.depth now ≡ behind 0 (ahead old);
+    }
+
+abbrev pub decreases-events : goal.decreases-events
+decreases-events g l = (g.P.Package.state l.package).left

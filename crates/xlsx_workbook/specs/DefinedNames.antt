@@ -1,0 +1,53 @@
+-- What the elements of defined names say.
+use Rattle.std.specs.Prelude.{ℕ, ◌+◌, ◌-◌, List, [], ◌∷◌, length, Bool, false, codes, Option, Some}
+use Rattle.std.specs.Prelude.{None, Result, Ok, Err}
+use Rattle.attr_text.specs.Attributes.{value_of}
+use Rattle.attr_text.specs.declared.fault.AttrFault.{AttrFault}
+use Rattle.part_events.specs.Event.{Tag, Event}
+use Rattle.part_events.specs.JoinedText.{joined_text, unknown_entity}
+use Rattle.part_events.specs.Section.{PlacedTag, Element, outermost, is_named}
+use Rattle.xlsx_sections.specs.Answers.{some_answers}
+use Rattle.xlsx_sections.specs.Refusal.{Refusal, lookup_fault, no_character, decoded_at}
+use Rattle.xlsx_workbook.specs.Relationships.{some_text}
+
+abbrev pub name_from :
+    ℕ → Result (Option (List ℕ)) AttrFault → Result (Option (List ℕ)) Refusal
+name_from behind (Ok (Some name)) = some_text (decoded_at behind name)
+name_from behind (Ok None) = Ok None
+name_from behind (Err fault) = Err (lookup_fault fault)
+
+-- the name, decoded, of a start that has one
+abbrev pub name_by : PlacedTag → Result (Option (List ℕ)) Refusal
+name_by start = name_from start.behind (value_of (codes "name") start.tag.attributes)
+
+-- How many events of a section stand behind one that has `within` behind it in an element. `behind`
+-- stand behind the start of the element, and `inside` in it.
+abbrev pub behind_in_section : List Event → ℕ → ℕ → ℕ
+behind_in_section inside behind within = (behind - length inside) + within
+
+abbrev pub text_or_refusal :
+    List ℕ → List ℕ → (ℕ → ℕ) → Option ℕ → Result (Option (List ℕ × List ℕ)) Refusal
+text_or_refusal name text place None = Ok (Some (name, text))
+text_or_refusal name text place (Some within) = Err (no_character (place within))
+
+-- a name with the text of its element, behind whose start `behind` events of the section stand
+abbrev pub with_text :
+    List Event → ℕ → Result (Option (List ℕ)) Refusal → Result (Option (List ℕ × List ℕ)) Refusal
+with_text inside behind (Ok (Some name)) =
+    text_or_refusal name (joined_text false inside) (behind_in_section inside behind)
+    (unknown_entity inside)
+with_text inside behind (Ok None) = Ok None
+with_text inside behind (Err refusal) = Err refusal
+
+-- the defined name of an element; one without a name is passed over
+abbrev pub defined_name : Element → Result (Option (List ℕ × List ℕ)) Refusal
+defined_name element =
+    with_text element.inside element.behind
+    (name_by (record { tag = element.tag; behind = element.behind }))
+
+abbrev pub is_defined_name : Tag → Bool
+is_defined_name tag = is_named (codes "definedName" ∷ []) tag
+
+-- the defined names of a workbook's section, in order
+abbrev pub names_in : List Event → Result (List (List ℕ × List ℕ)) Refusal
+names_in inside = some_answers defined_name (outermost is_defined_name inside)

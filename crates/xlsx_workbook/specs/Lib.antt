@@ -1,0 +1,7 @@
+pub mod DefinedNames
+pub mod KeptContents
+pub mod Paths
+pub mod Relationships
+pub mod Sheets
+pub mod Workbook
+pub mod WorkbookErrors

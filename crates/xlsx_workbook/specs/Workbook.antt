@@ -1,0 +1,85 @@
+-- What is kept of a workbook's section while it is read.
+use Rattle.std.specs.Prelude.{◌≡◌, ◌⊎◌, ⊤, ℕ, List, length, map, Bool, true, false, Option, Result}
+use Rattle.std.specs.Prelude.{Ok, Err}
+use Rattle.part_events.specs.Event.{Event, start, end, leaf}
+use Rattle.part_events.specs.JoinedText.{is_unknown}
+use Rattle.part_events.specs.Section.{content}
+use Rattle.part_events.specs.declared.fault.XmlFault.TheVariants.{Entity}
+use Rattle.xlsx_error.specs.declared.error.XlsxError.{XlsxError}
+use Rattle.xlsx_error.specs.declared.error.XlsxError.TheVariants.{OutOfMemory, Xml}
+use Rattle.xlsx_sections.specs.Answers.{and_others_if, or_earlier, prepended}
+use Rattle.xlsx_sections.specs.PartSection.{PartSection, inside_of}
+use Rattle.xlsx_sections.specs.Refusal.{Refusal}
+use Rattle.xlsx_workbook.specs.DefinedNames.{with_text, is_defined_name, names_in}
+use Rattle.xlsx_workbook.specs.KeptContents.{pair_of, sheet_of_entry}
+use Rattle.xlsx_workbook.specs.Relationships.{Related}
+use Rattle.xlsx_workbook.specs.Sheets.{PlacedSheet, sheets_in, epoch_in}
+use Rattle.xlsx_workbook.specs.declared.workbook.WorkbookContents.{WorkbookContents}
+
+abbrev pub sheets_of : WorkbookContents → List PlacedSheet
+sheets_of found = map sheet_of_entry found.entries.items
+
+abbrev pub names_of : WorkbookContents → List (List ℕ × List ℕ)
+names_of found = map pair_of found.names.items
+
+-- What is kept at last of sheets and dates, with what the events say that are left, is what was
+-- kept at first, with what the events said that were left then.
+pub record KeepsSheets
+    (folder : List ℕ) (related : List ℕ → Option Related)
+    (first : WorkbookContents) (events : List Event) (last : WorkbookContents)
+    (left : List Event) : Type 0 where
+  pub sheets :
+      prepended (sheets_of last) (sheets_in folder related left)
+      ≡ prepended (sheets_of first) (sheets_in folder related events)
+  pub epoch : or_earlier last.epoch (epoch_in left) ≡ or_earlier first.epoch (epoch_in events)
+
+-- a sheet of these events, or what they say of the dates, is refused
+abbrev pub AreSheetsRefused :
+    List ℕ → (List ℕ → Option Related) → WorkbookContents → List Event → Refusal → Type 0
+AreSheetsRefused folder related found events refusal =
+    (prepended (sheets_of found) (sheets_in folder related events) ≡ Err refusal)
+    ⊎ (or_earlier found.epoch (epoch_in events) ≡ Err refusal)
+
+-- when the text of an event, number `place` of its part, can't be joined
+abbrev pub TextRefused : Bool → Event → ℕ → XlsxError → Type 0
+TextRefused wanted event place (Xml (Entity at)) =
+    (at ≡ place) × (wanted ≡ true) × (is_unknown event ≡ true)
+TextRefused wanted event place OutOfMemory = ⊤
+TextRefused wanted event place _ = ⊥
+
+-- the name, with the text of its element, was kept, where there is a name
+abbrev pub KeepsName :
+    Option (List ℕ) → List Event → ℕ → List (List ℕ × List ℕ) → List (List ℕ × List ℕ) → Type 0
+KeepsName name inside behind first last =
+    (others : Result (List (List ℕ × List ℕ)) Refusal) →
+    prepended last others
+    ≡ prepended first (and_others_if (with_text inside behind (Ok name)) others)
+
+-- Why the element of a name is refused, at whose start reading stands: by a sheet or the dates, in
+-- the element or behind it, or by its text.
+abbrev pub IsNameRefused :
+    List ℕ → (List ℕ → Option Related) → WorkbookContents → Option (List ℕ) →
+    PartSection → Refusal → Type 0
+IsNameRefused folder related found name s refusal =
+    AreSheetsRefused folder related found (inside_of s) refusal
+    ⊎ (with_text (content 0 s.ahead) (length (inside_of s)) (Ok name) ≡ Err refusal)
+
+abbrev pub is_name_start : Event → Bool
+is_name_start (start tag) = is_defined_name tag
+is_name_start (end name) = false
+is_name_start (leaf kind) = false
+
+-- what a workbook's section holds: its sheets, its defined names, and what it says of the dates
+pub record IsContents
+    (folder : List ℕ) (related : List ℕ → Option Related)
+    (inside : List Event) (found : WorkbookContents) : Type 0 where
+  pub sheets : sheets_in folder related inside ≡ Ok (sheets_of found)
+  pub names : names_in inside ≡ Ok (names_of found)
+  pub epoch : epoch_in inside ≡ Ok found.epoch
+
+-- why a workbook's section holds nothing that can be taken
+unfoldable pub AreContentsRefused :
+    List ℕ → (List ℕ → Option Related) → PartSection → Refusal → Type 0
+AreContentsRefused folder related s refusal =
+    (sheets_in folder related (inside_of s) ≡ Err refusal)
+    ⊎ ((names_in (inside_of s) ≡ Err refusal) ⊎ (epoch_in (inside_of s) ≡ Err refusal))

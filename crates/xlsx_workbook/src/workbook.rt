@@ -1,0 +1,323 @@
+ghost use Rattle.std.specs.Prelude.{◌≡◌, ◌<◌, ◌≤◌, ℕ, List, ◌∷◌, ◌++◌, suc, codes, length, map};
+ghost use Rattle.std.specs.Prelude.{true, false, None, Ok, option_map, option_to_list};
+ghost use Rattle.std.specs.Prelude.{string_bytes, IfOk, OnOk, IfErr, MatchOption, IsSomeAnd};
+ghost use Rattle.part_events.specs.Event.{Event, start, tag_of, event_of};
+ghost use Rattle.part_events.specs.JoinedText.{event_text, is_unknown};
+ghost use Rattle.part_events.specs.Package.{Uses, part_of, event_count};
+ghost use Rattle.part_events.specs.Reading.{reading, open_elements, IsReading, IsAtElement};
+ghost use Rattle.part_events.specs.Reading.{ReadsPart, Skips, ahead};
+ghost use Rattle.part_events.specs.Section.{content};
+ghost use Rattle.part_events.specs.Walk.{section_ahead, is_closed_ahead};
+ghost use Rattle.xlsx_error.specs.declared.error.XlsxError.TheVariants.{Io, OutOfMemory};
+ghost use Rattle.xlsx_sections.specs.PartSection.{always, KeepsSection, SectionFails};
+ghost use Rattle.xlsx_sections.specs.PartSection.{OptionalPartFails, closed_section_of};
+ghost use Rattle.xlsx_sections.specs.Refusal.{RefusedAt, ElementFails, placed_at};
+ghost use Rattle.xlsx_workbook.specs.DefinedNames.{name_by, is_defined_name};
+ghost use Rattle.xlsx_workbook.specs.KeptContents.{pair_of, related_by_id};
+ghost use Rattle.xlsx_workbook.specs.Workbook.{KeepsSheets, AreSheetsRefused, names_of};
+ghost use Rattle.xlsx_workbook.specs.Workbook.{TextRefused, KeepsName, IsNameRefused};
+ghost use Rattle.xlsx_workbook.specs.Workbook.{is_name_start, IsContents, AreContentsRefused};
+ghost use Rattle.xlsx_workbook.specs.WorkbookErrors.{IsWorkbookError};
+
+use crate::relationships::Relationship;
+use crate::sheet::SheetEntry;
+use crate::sheet_element::{keep_epoch, push_sheet};
+use attr_text::{RawAttributes, TextFault};
+use part_events::{Cursor, Package, PartEvent, StartTag, XmlFault, push_text};
+use std::alloc::Global;
+use std::collections::BTreeMap;
+use xlsx_error::XlsxError;
+use xlsx_sections::{decode_at, enter_part, next_event_in};
+
+/// What was read of a workbook's section.
+#[derive(Debug, Drop)]
+pub struct WorkbookContents {
+    pub entries: Vec<SheetEntry>,
+    /// The defined names, with their texts.
+    pub names: Vec<(String, String)>,
+    /// Whether dates count from 1904, where it was said.
+    pub epoch: Option<bool>,
+}
+
+/// Where the sheets of a workbook are looked for.
+#[derive(Clone, Copy)]
+pub struct SheetPlaces<'a> {
+    pub folder: &'a str,
+    pub relationships: &'a BTreeMap<String, Relationship>,
+}
+
+/// Takes a start of the section, which is event number `at` of its part: that of a sheet, or of the
+/// workbook's properties.
+fn take_start(
+    alloc: Global,
+    found: &mut WorkbookContents,
+    places: SheetPlaces<'_>,
+    tag: StartTag<'_>,
+    at: u64,
+) -> Result<(), XlsxError>
+    ensures ok { let folder = places.entry.folder.now in
+        let related = related_by_id places.entry.relationships.now in
+        OnOk result ((others : List Event) →
+        KeepsSheets folder related found.old (start (tag_of tag.entry) ∷ others)
+        found.new others) }
+    ensures names { OnOk result (names_of found.new ≡ names_of found.old) }
+    ensures err { let folder = places.entry.folder.now in
+        let related = related_by_id places.entry.relationships.now in
+        IfErr result (λ error. (others : List Event) →
+        RefusedAt
+        (AreSheetsRefused folder related found.old (start (tag_of tag.entry) ∷ others))
+        at (length others) error) }
+    ensures kind { IfErr result IsWorkbookError }
+{
+    let name = tag.local_name();
+    if name == "sheet" {
+        push_sheet(
+            alloc,
+            &mut found.entries,
+            places.folder,
+            places.relationships,
+            tag,
+            at,
+        )
+    } else if name == "workbookPr" {
+        Ok(keep_epoch(&mut found.epoch, tag)?)
+    } else {
+        Ok(())
+    }
+}
+
+/// Takes an event of the section, which is number `at` of its part.
+fn take_event(
+    alloc: Global,
+    found: &mut WorkbookContents,
+    places: SheetPlaces<'_>,
+    event: PartEvent<'_>,
+    at: u64,
+) -> Result<(), XlsxError>
+    ensures ok { let folder = places.entry.folder.now in
+        let related = related_by_id places.entry.relationships.now in
+        OnOk result ((others : List Event) →
+        KeepsSheets folder related found.old (event_of event.entry ∷ others) found.new others) }
+    ensures names { OnOk result (names_of found.new ≡ names_of found.old) }
+    ensures err { let folder = places.entry.folder.now in
+        let related = related_by_id places.entry.relationships.now in
+        IfErr result (λ error. (others : List Event) →
+        RefusedAt
+        (AreSheetsRefused folder related found.old (event_of event.entry ∷ others))
+        at (length others) error) }
+    ensures kind { IfErr result IsWorkbookError }
+{
+    match event {
+        PartEvent::Start(tag) => take_start(alloc, found, places, tag, at),
+        PartEvent::End(_)
+        | PartEvent::Text(_)
+        | PartEvent::CharData(_)
+        | PartEvent::EntityRef(_)
+        | PartEvent::Other => Ok(()),
+    }
+}
+
+/// The name of the start of a defined name, decoded, which is event number `at` of its part.
+#[tactic(auto, using(crate::proofs::WorkbookErrors::decoding))]
+fn name_by(alloc: Global, tag: StartTag<'_>, at: u64) -> Result<Option<String>, XlsxError>
+    ensures ok { IfOk result (λ name. (behind : ℕ) →
+        name_by (placed_at (tag_of tag.entry) behind) ≡ Ok (option_map string_bytes name)) }
+    ensures err { IfErr result (λ error. (behind : ℕ) →
+        ElementFails (name_by (placed_at (tag_of tag.entry) behind)) at behind error) }
+    ensures kind { IfErr result IsWorkbookError }
+{
+    match tag.raw_attr("name")? {
+        Some(name) => Ok(Some(decode_at(alloc, name, at)?)),
+        None => Ok(None),
+    }
+}
+
+/// Appends the text of an event, number `at` of its part, where it is wanted.
+fn push_wanted(
+    out: &mut String,
+    wanted: bool,
+    event: PartEvent<'_>,
+    at: u64,
+) -> Result<(), XlsxError>
+    ensures text { let text = event_text false (event_of event.entry) in
+        OnOk result (wanted ≡ true → string_bytes out.new ≡ string_bytes out.old ++ text) }
+    ensures known { OnOk result (wanted ≡ true → is_unknown (event_of event.entry) ≡ false) }
+    ensures err { IfErr result (TextRefused wanted (event_of event.entry) at) }
+    ensures kind { IfErr result IsWorkbookError }
+{
+    if !wanted {
+        return Ok(());
+    }
+    match push_text(out, event, false) {
+        Ok(()) => Ok(()),
+        Err(TextFault::Entity { .. }) => Err(XlsxError::Xml(XmlFault::Entity { at })),
+        Err(TextFault::OutOfMemory) => Err(XlsxError::OutOfMemory),
+    }
+}
+
+/// Appends a defined name with its text, where it has a name.
+fn push_name(
+    names: &mut Vec<(String, String)>,
+    name: Option<String>,
+    text: String,
+) -> Result<(), XlsxError>
+    ensures ok { let pair = option_map (λ own. (string_bytes own, string_bytes text)) name in
+        OnOk result (map pair_of names.new.items
+        ≡ map pair_of names.old.items ++ option_to_list pair) }
+    ensures err { IfErr result (λ error. error ≡ OutOfMemory) }
+{
+    if let Some(name) = name {
+        names.push((name, text))?;
+    }
+    Ok(())
+}
+
+/// Reads on to the end of a defined name, at whose start reading stands, in the section whose
+/// element is number `base` of the open ones. Takes the starts inside it, and keeps its text where
+/// it has a name.
+#[tactic(auto, using(crate::proofs::WorkbookErrors::workbook_step))]
+fn read_name<P: Package>(
+    alloc: Global,
+    found: &mut WorkbookContents,
+    places: SheetPlaces<'_>,
+    package: &mut P,
+    cursor: &mut Cursor,
+    base: usize,
+    name: Option<String>,
+) -> Result<(), XlsxError>
+    requires reading { IsReading (reading (P.state «package».old) cursor.old) }
+    requires within { base < length (open_elements cursor.old) }
+    ensures reads { let old = reading (P.state «package».old) cursor.old in
+        let new = reading (P.state «package».new) cursor.new in
+        ReadsPart Io result old new }
+    ensures section { let old = reading (P.state «package».old) cursor.old in
+        let new = reading (P.state «package».new) cursor.new in
+        OnOk result (KeepsSection base old new) }
+    ensures depth { OnOk result (length (open_elements cursor.old)
+        ≡ suc (length (open_elements cursor.new))) }
+    ensures skips { let old = reading (P.state «package».old) cursor.old in
+        let new = reading (P.state «package».new) cursor.new in
+        old.source.is_told ≡ true → OnOk result (Skips old new) }
+    ensures sheets { let old = reading (P.state «package».old) cursor.old in
+        let new = reading (P.state «package».new) cursor.new in
+        let folder = places.entry.folder.now in
+        let related = related_by_id places.entry.relationships.now in
+        old.source.is_told ≡ true → OnOk result (KeepsSheets folder related
+        found.old (section_ahead base old) found.new (section_ahead base new)) }
+    ensures names { let old = reading (P.state «package».old) cursor.old in
+        let inside = content 0 (ahead old) in
+        old.source.is_told ≡ true → OnOk result (KeepsName (option_map string_bytes name) inside
+        (length (section_ahead base old)) (names_of found.old) (names_of found.new)) }
+    ensures err { let old = reading (P.state «package».old) cursor.old in
+        let new = reading (P.state «package».new) cursor.new in
+        let folder = places.entry.folder.now in
+        let related = related_by_id places.entry.relationships.now in
+        let refused = IsNameRefused folder related found.old (option_map string_bytes name) in
+        IfErr result (SectionFails (always (codes "workbook")) refused base old new) }
+    ensures kind { IfErr result IsWorkbookError }
+{
+    let depth = cursor.depth();
+    let wanted = name.is_some();
+    let mut text = String::new(alloc);
+    'events: while let Some(at) = next_event_in(package, cursor, depth, "workbook")? {
+        let event = package.event();
+        take_event(alloc, found, places, event, at)?;
+        push_wanted(&mut text, wanted, event, at)?;
+    }
+    push_name(&mut found.names, name, text)?;
+    Ok(())
+}
+
+/// The start of a defined name that an event is.
+fn name_start(event: PartEvent<'_>) -> Option<StartTag<'_>>
+    ensures { MatchOption result (is_name_start (event_of event.entry) ≡ false) (λ tag.
+        (event_of event.entry ≡ start (tag_of tag)) × (is_defined_name (tag_of tag) ≡ true)) }
+{
+    match event {
+        PartEvent::Start(tag) if tag.local_name() == "definedName" => Some(tag),
+        _ => None,
+    }
+}
+
+/// What a workbook's section holds whose element is number `base` of the open ones, behind whose
+/// start reading stands.
+#[tactic(auto, using(crate::proofs::WorkbookErrors::workbook_step))]
+fn contents_in<P: Package>(
+    alloc: Global,
+    places: SheetPlaces<'_>,
+    package: &mut P,
+    cursor: &mut Cursor,
+    base: usize,
+) -> Result<WorkbookContents, XlsxError>
+    requires reading { IsReading (reading (P.state «package».old) cursor.old) }
+    requires within { base ≤ length (open_elements cursor.old) }
+    ensures reads { let old = reading (P.state «package».old) cursor.old in
+        let new = reading (P.state «package».new) cursor.new in
+        ReadsPart Io result old new }
+    ensures closed { let old = reading (P.state «package».old) cursor.old in
+        let new = reading (P.state «package».new) cursor.new in
+        old.source.is_told ≡ true → OnOk result (is_closed_ahead base old ≡ true) }
+    ensures contents { let old = reading (P.state «package».old) cursor.old in
+        let new = reading (P.state «package».new) cursor.new in
+        let folder = places.entry.folder.now in
+        let related = related_by_id places.entry.relationships.now in
+        old.source.is_told ≡ true →
+        IfOk result (IsContents folder related (section_ahead base old)) }
+    ensures err { let old = reading (P.state «package».old) cursor.old in
+        let new = reading (P.state «package».new) cursor.new in
+        let folder = places.entry.folder.now in
+        let related = related_by_id places.entry.relationships.now in
+        let refused = AreContentsRefused folder related in
+        IfErr result (SectionFails (always (codes "workbook")) refused base old new) }
+    ensures kind { IfErr result IsWorkbookError }
+{
+    let mut found = WorkbookContents {
+        entries: Vec::new(alloc),
+        names: Vec::new(alloc),
+        epoch: None,
+    };
+    'events: while let Some(at) = next_event_in(package, cursor, base, "workbook")? {
+        let event = package.event();
+        take_event(alloc, &mut found, places, event, at)?;
+        if let Some(tag) = name_start(event) {
+            let name = name_by(alloc, tag, at)?;
+            read_name(alloc, &mut found, places, package, cursor, base, name)?;
+        }
+    }
+    Ok(found)
+}
+
+/// What the workbook's part at this path holds. A part that is absent holds nothing.
+#[tactic(auto, using(crate::proofs::WorkbookErrors::workbook_step))]
+pub fn read_contents<P: Package>(
+    alloc: Global,
+    package: &mut P,
+    part: &str,
+    places: SheetPlaces<'_>,
+) -> Result<Option<WorkbookContents>, XlsxError>
+    ensures uses { let old = P.state «package».old in
+        let new = P.state «package».new in
+        Uses (event_count old.parts part.now) Io result old new }
+    ensures contents { let old = P.state «package».old in
+        let new = P.state «package».new in
+        let folder = places.entry.folder.now in
+        let related = related_by_id places.entry.relationships.now in
+        let inside = closed_section_of (codes "workbook") part.now old.parts in
+        old.is_told ≡ true → IfOk result (λ found. MatchOption found
+        (part_of old.parts part.now ≡ None)
+        (λ contents. IsSomeAnd inside (λ inside. IsContents folder related inside contents))) }
+    ensures err { let old = P.state «package».old in
+        let new = P.state «package».new in
+        let folder = places.entry.folder.now in
+        let related = related_by_id places.entry.relationships.now in
+        let name = codes "workbook" in
+        let refused = AreContentsRefused folder related in
+        IfErr result (OptionalPartFails name (always name) refused part.now old new) }
+    ensures kind { IfErr result IsWorkbookError }
+{
+    let Some(mut cursor) = enter_part(alloc, package, part, "workbook")? else {
+        return Ok(None);
+    };
+    let base = cursor.depth();
+    Ok(Some(contents_in(alloc, places, package, &mut cursor, base)?))
+}
