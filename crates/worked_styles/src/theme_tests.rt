@@ -3,7 +3,7 @@
 use part_events::{FailingPackage, MemoryPackage, XlReader, XmlFault};
 use std::alloc::{AllocError, Global};
 use std::test::Fail;
-use test_packages::{events_of, package_front};
+use test_packages::{events_of, package_front, package_of};
 use xlsx_error::XlsxError;
 use xlsx_theme::{ThemeColors, read_theme, read_theme_colors};
 
@@ -54,14 +54,24 @@ fn told(alloc: Global, theme: &ThemeColors) -> Result<String, Fail> {
     Ok(out)
 }
 
+/// The colors that a reader of the first events of this markup answers.
+fn scheme_told(alloc: Global, markup: &str, count: usize) -> Result<String, Fail> {
+    told(alloc, &scheme_in(alloc, markup, count)?)
+}
+
+/// The colors of the theme at this path, where the workbook's theme has this markup.
+fn theme_told(alloc: Global, markup: &str, path: &str) -> Result<String, Fail> {
+    let mut package = package_of(alloc, &[(PATH, markup)])?;
+    told(alloc, &read_theme(alloc, &mut package, path)?)
+}
+
 const DEFAULT: &str = "#FFFFFF #000000 #EEECE1 #1F497D #4F81BD #C0504D #9BBB59 #8064A2 #4BACC6 \
     #F79646 #0000FF #800080 default";
 
 #[test]
 fn light_colors_are_numbered_before_dark_ones(rt: HostRuntime) -> Result<(), Fail> {
     let alloc = rt.alloc();
-    let theme = scheme_in(alloc, FOUR_SLOTS, 20)?;
-    let found = told(alloc, &theme)?;
+    let found = scheme_told(alloc, FOUR_SLOTS, 20)?;
     assert_eq!(rt; found.as_str(), "#FFFFFE #000001 #EEECE1 #1F497D ");
     Ok(())
 }
@@ -120,22 +130,29 @@ fn slots_are_read(rt: HostRuntime) -> Result<(), Fail> {
     Ok(())
 }
 
+const FAULTY_SLOT: &str = r#"<clrScheme><dk1><srgbClr val="000000" broken>"#;
+
 #[test]
 fn parts_without_colors_leave_the_default_theme(rt: HostRuntime) -> Result<(), Fail> {
     let alloc = rt.alloc();
-    let three = "<clrScheme><dk1/><lt1/><dk2/></clrScheme>";
-    let found = told(alloc, &scheme_in(alloc, three, 8)?)?;
-    assert_eq!(rt; found.as_str(), DEFAULT);
-    let found = told(alloc, &scheme_in(alloc, "<theme><dk1/>", 3)?)?;
-    assert_eq!(rt; found.as_str(), DEFAULT);
-    let faulty = r#"<clrScheme><dk1><srgbClr val="000000" broken>"#;
-    let answer = scheme_in(alloc, faulty, 3);
+    for (markup, count) in [
+        ("<clrScheme><dk1/><lt1/><dk2/></clrScheme>", 8),
+        ("<theme><dk1/>", 3),
+    ] {
+        let found = scheme_told(alloc, markup, count)?;
+        assert_eq!(rt; found.as_str(), DEFAULT, "of {markup}");
+    }
+    for path in [PATH, "xl/theme1.xml"] {
+        let found = theme_told(alloc, FAULTY_SLOT, path)?;
+        assert_eq!(rt; found.as_str(), DEFAULT, "at {path}");
+    }
+    Ok(())
+}
+
+#[test]
+fn a_fault_in_a_slot_is_told_to_a_reader(rt: HostRuntime) -> Result<(), Fail> {
+    let answer = scheme_in(rt.alloc(), FAULTY_SLOT, 3);
     assert!(rt; matches!(&answer, Err(XlsxError::XmlAttr(_))));
-    let mut package = held_package(alloc, faulty, 3)?;
-    let found = told(alloc, &read_theme(alloc, &mut package, PATH)?)?;
-    assert_eq!(rt; found.as_str(), DEFAULT);
-    let found = told(alloc, &read_theme(alloc, &mut package, "xl/theme1.xml")?)?;
-    assert_eq!(rt; found.as_str(), DEFAULT);
     Ok(())
 }
 
