@@ -1,10 +1,12 @@
 //! Markup as events. A tag that begins with `!` is an event that has no other spelling here: `<!>`
 //! one that nests nothing and says nothing, `<!text>` an empty text, `<!data>` the character data
-//! `x`, and any other a reference of that name. A line end with blanks behind it, alone between two
-//! tags, is no event, so that markup can stand on several lines.
+//! `x`, and any other a reference of that name. A line end with blanks behind it, alone before a
+//! tag or between two, is no event, so that markup can stand on several lines. Markup with another
+//! text before its first tag, or with a tag that has no `>`, is refused.
 
 use part_events::{MemoryPackage, PartEvent, StartTag};
 use std::alloc::{AllocError, Global};
+use xlsx_error::XlsxError;
 
 /// The name of a part and its markup.
 pub type Part<'a> = (&'a str, &'a str);
@@ -51,16 +53,36 @@ fn is_layout(text: &str) -> bool {
     text.starts_with('\n') && text.trim().is_empty()
 }
 
+/// The events of the text behind a `<`: a tag, and what stands behind it.
+fn push_piece<'a>(events: &mut Vec<PartEvent<'a>>, piece: &'a str) -> Result<(), XlsxError> {
+    let Some((tag, text)) = piece.split_once('>') else {
+        return Err(XlsxError::Unexpected("test markup with a tag that has no end"));
+    };
+    push_tag(events, tag)?;
+    if !text.is_empty() && !is_layout(text) {
+        events.push(PartEvent::Text(text))?;
+    }
+    Ok(())
+}
+
+/// Refuses a text where none can stand.
+fn refuse_text(text: &str) -> Result<(), XlsxError> {
+    if text.is_empty() || is_layout(text) {
+        return Ok(());
+    }
+    Err(XlsxError::Unexpected("test markup with a text before its first tag"))
+}
+
 /// The events of this markup.
-pub fn events_of(alloc: Global, markup: &str) -> Result<Vec<PartEvent<'_>>, AllocError> {
+pub fn events_of(alloc: Global, markup: &str) -> Result<Vec<PartEvent<'_>>, XlsxError> {
     let mut events = Vec::new(alloc);
-    for piece in markup.split('<') {
-        if let Some((tag, text)) = piece.split_once('>') {
-            push_tag(&mut events, tag)?;
-            if !text.is_empty() && !is_layout(text) {
-                events.push(PartEvent::Text(text))?;
-            }
-        }
+    let Some((before, pieces)) = markup.split_once('<') else {
+        refuse_text(markup)?;
+        return Ok(events);
+    };
+    refuse_text(before)?;
+    for piece in pieces.split('<') {
+        push_piece(&mut events, piece)?;
     }
     Ok(events)
 }
@@ -71,7 +93,7 @@ pub fn add_front(
     alloc: Global,
     (name, markup): Part<'_>,
     count: usize,
-) -> Result<(), AllocError> {
+) -> Result<(), XlsxError> {
     package.add_part(name)?;
     for (place, event) in events_of(alloc, markup)?.iter().enumerate() {
         if place < count && package.part_count() > 0 {
@@ -82,7 +104,7 @@ pub fn add_front(
 }
 
 /// A package of these parts. The first of a name is found.
-pub fn package_of(alloc: Global, parts: &[Part<'_>]) -> Result<MemoryPackage, AllocError> {
+pub fn package_of(alloc: Global, parts: &[Part<'_>]) -> Result<MemoryPackage, XlsxError> {
     let mut package = MemoryPackage::new(alloc);
     for part in parts {
         add_front(&mut package, alloc, *part, usize::MAX)?;
@@ -95,7 +117,7 @@ pub fn package_front(
     alloc: Global,
     part: Part<'_>,
     count: usize,
-) -> Result<MemoryPackage, AllocError> {
+) -> Result<MemoryPackage, XlsxError> {
     let mut package = MemoryPackage::new(alloc);
     add_front(&mut package, alloc, part, count)?;
     Ok(package)

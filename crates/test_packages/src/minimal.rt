@@ -3,6 +3,7 @@
 use crate::markup::{Part, add_front};
 use part_events::MemoryPackage;
 use std::alloc::{AllocError, Global};
+use xlsx_error::XlsxError;
 
 pub const ROOT_NAME: &str = "_rels/.rels";
 
@@ -39,7 +40,7 @@ pub fn package_cut(
     alloc: Global,
     part: Part<'_>,
     count: usize,
-) -> Result<MemoryPackage, AllocError> {
+) -> Result<MemoryPackage, XlsxError> {
     let mut package = MemoryPackage::new(alloc);
     add_front(&mut package, alloc, part, count)?;
     for other in [ROOT, RELATIONSHIPS, WORKBOOK, SHEET] {
@@ -49,7 +50,7 @@ pub fn package_cut(
 }
 
 /// The minimal package with this part in front.
-pub fn package_with(alloc: Global, part: Part<'_>) -> Result<MemoryPackage, AllocError> {
+pub fn package_with(alloc: Global, part: Part<'_>) -> Result<MemoryPackage, XlsxError> {
     package_cut(alloc, part, usize::MAX)
 }
 

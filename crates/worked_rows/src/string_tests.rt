@@ -1,6 +1,6 @@
 //! The strings of a workbook's part of shared strings.
 
-use std::alloc::{AllocError, Global};
+use std::alloc::Global;
 use std::test::Fail;
 use test_packages::{STRINGS_NAME, package_of};
 use xlsx_error::XlsxError;

@@ -1,7 +1,7 @@
 //! The theme of a workbook.
 
 use part_events::{FailingPackage, MemoryPackage, XlReader, XmlFault};
-use std::alloc::{AllocError, Global};
+use std::alloc::Global;
 use std::test::Fail;
 use test_packages::{events_of, package_front, package_of};
 use xlsx_error::XlsxError;
@@ -29,7 +29,7 @@ const FOUR_SLOTS: &str = r#"
     </a:theme>"#;
 
 /// A package whose theme has the first events of this markup.
-fn held_package(alloc: Global, markup: &str, count: usize) -> Result<MemoryPackage, AllocError> {
+fn held_package(alloc: Global, markup: &str, count: usize) -> Result<MemoryPackage, XlsxError> {
     package_front(alloc, (PATH, markup), count)
 }
 
