@@ -13,10 +13,10 @@ use crate::cuts::split_first;
 use crate::fault::TextFault;
 use std::alloc::Global;
 
-// The least number that is above each character's.
+/// The least number that is above each character's.
 const PAST_CHARACTERS: u32 = 0x11_0000;
 
-// The number that these digits spell, or `PAST_CHARACTERS` where it is larger.
+/// The number that these digits spell, or `PAST_CHARACTERS` where it is larger.
 pub(crate) fn digits_number(digits: &[u8], base: u32) -> Option<u32>
     requires low { 2 ≤ base }
     requires high { base ≤ 16 }
@@ -32,7 +32,7 @@ pub(crate) fn digits_number(digits: &[u8], base: u32) -> Option<u32>
     Some(number)
 }
 
-// The character whose number these digits spell.
+/// The character whose number these digits spell.
 fn digits_char(digits: &[u8], base: u32) -> Option<char>
     requires low { 2 ≤ base }
     requires high { base ≤ 16 }
@@ -47,7 +47,7 @@ fn digits_char(digits: &[u8], base: u32) -> Option<char>
     }
 }
 
-// The character of a name that begins with `#`.
+/// The character of a name that begins with `#`.
 fn numbered_char(name: &[u8]) -> Option<char>
     ensures { result ≡ unnamed_character name.now }
 {

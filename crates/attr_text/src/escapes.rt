@@ -6,7 +6,7 @@ ghost use Rattle.attr_text.specs.Escapes.{HasEscapeAt};
 use crate::entity::digits_number;
 use std::alloc::{AllocError, Global};
 
-// The character of the escape `_xHHHH_` with which the bytes begin.
+/// The character of the escape `_xHHHH_` with which the bytes begin.
 fn escape_at(bytes: &[u8]) -> Option<char>
     ensures { result ≡ escaped_character bytes.now }
 {
@@ -16,7 +16,7 @@ fn escape_at(bytes: &[u8]) -> Option<char>
     char::from_u32(digits_number(&bytes[2..6], 16)?)
 }
 
-// The place of the first escape that has a character, and that character.
+/// The place of the first escape that has a character, and that character.
 fn next_escape(bytes: &[u8]) -> Option<(usize, char)>
     ensures { MatchOption result (unescaped bytes.now ≡ bytes.now)
         (λ p. HasEscapeAt bytes.now p.0 p.1) }

@@ -7,14 +7,14 @@ ghost use Rattle.attr_text.specs.FirstItem.{front_read};
 use crate::cuts::{split_first, trim_end, trim_start};
 use crate::fault::AttrFault;
 
-// What stands first in a text.
+/// What stands first in a text.
 enum FirstItem<'a> {
     Nothing,
     Broken(AttrFault),
     Attribute(&'a str, &'a str, &'a str),
 }
 
-// The quote with which the text begins, and the text behind it.
+/// The quote with which the text begins, and the text behind it.
 fn opening_quote(text: &str) -> Option<(char, &str)>
     ensures { MatchOption result (begins_with_quote text.now ≡ false)
         (λ p. (text.now ≡ p.0 ∷ p.1.now) × (is_quote p.0 ≡ true)) }
@@ -26,7 +26,7 @@ fn opening_quote(text: &str) -> Option<(char, &str)>
     }
 }
 
-// The value before the closing quote, or the whole text, and what follows the quote.
+/// The value before the closing quote, or the whole text, and what follows the quote.
 fn to_quote(text: &str, quote: char) -> (&str, &str)
     requires { quote < 128 }
     ensures value { result.0.now ≡ before_first (λ b. b == quote) text.now }
@@ -38,7 +38,7 @@ fn to_quote(text: &str, quote: char) -> (&str, &str)
     }
 }
 
-// What stands first in `text`, the end of a text of `size` bytes.
+/// What stands first in `text`, the end of a text of `size` bytes.
 fn first_item(size: usize, text: &str) -> FirstItem<'_>
     requires { length text.now ≤ size }
     ensures { front_read result ≡ front_of size text.now }

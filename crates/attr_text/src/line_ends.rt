@@ -7,7 +7,7 @@ ghost use Rattle.attr_text.specs.Lines.{without_line_feed};
 use crate::cuts::split_first;
 use std::alloc::AllocError;
 
-// The text without an LF in front.
+/// The text without an LF in front.
 fn skip_line_feed(text: &str) -> &str
     ensures { result.now ≡ without_line_feed text.now }
 {
@@ -17,7 +17,7 @@ fn skip_line_feed(text: &str) -> &str
     }
 }
 
-// Appends a run and the line end behind it, for which there is room.
+/// Appends a run and the line end behind it, for which there is room.
 fn push_line(out: &mut String, run: &str)
     requires { string_len out.old + length run.now + 1 ≤ string_capacity out.old }
     ensures bytes { string_bytes out.new ≡ string_bytes out.old ++ run.now ++ 10 ∷ [] }

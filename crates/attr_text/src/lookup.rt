@@ -31,7 +31,7 @@ pub fn local_name(name: &str) -> &str
     }
 }
 
-// Which key is looked up.
+/// Which key is looked up.
 #[derive(Clone, Copy)]
 enum Wanted<'k> {
     Key(&'k str),
@@ -49,7 +49,7 @@ impl Wanted<'_> {
     }
 }
 
-// The value of the first pair whose key is wanted.
+/// The value of the first pair whose key is wanted.
 fn find_value<'a>(raw: &'a str, wanted: Wanted<'_>) -> Result<Option<&'a str>, AttrFault>
     ensures { MatchResult result
         (λ value. answer_of wanted.entry raw.now ≡ Ok (option_copied value))

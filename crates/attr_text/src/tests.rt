@@ -10,7 +10,7 @@ use std::alloc::{AllocError, Global};
 use std::process::Abort;
 use std::test::Fail;
 
-// The items of a text, each in brackets.
+/// The items of a text, each in brackets.
 fn shown(alloc: Global, text: &str) -> Result<String, AllocError> {
     let mut out = String::new(alloc);
     for item in RawAttrIter::new(text) {
@@ -189,7 +189,7 @@ fn line_ends_and_escapes_are_read(rt: HostRuntime) -> Result<(), Fail> {
     Ok(())
 }
 
-// The iterator gives what the slow reader reads.
+/// The iterator gives what the slow reader reads.
 fn compare(rt: &impl Abort, alloc: Global, text: &str) -> Result<(), AllocError> {
     let slow = slow_items(alloc, text.as_bytes())?;
     let mut place = 0;

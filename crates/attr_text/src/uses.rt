@@ -1,11 +1,11 @@
-// Uses of `get_attrs!` under contracts, so that each of its lines is proved: it has none itself.
+//! Uses of `get_attrs!` under contracts, so that each of its lines is proved: it has none itself.
 ghost use Rattle.std.specs.Prelude.{◌≡◌, [], ◌∷◌, MatchResult, Ok, Err, codes};
 ghost use Rattle.std.specs.Option.{option_copied};
 ghost use Rattle.attr_text.specs.Attributes.{lookup};
 
 use crate::{AttrFault, AttrValue, RawAttributes, get_attrs};
 
-// An attribute text by itself.
+/// An attribute text by itself.
 #[derive(Clone, Copy)]
 pub(crate) struct Tag<'a> {
     pub(crate) text: &'a str,
@@ -19,7 +19,7 @@ impl RawAttributes for Tag<'_> {
     }
 }
 
-// Each use of the macro is the lookup of its keys, in their order.
+/// Each use of the macro is the lookup of its keys, in their order.
 pub(crate) fn two_keys<'a>(tag: &'a Tag<'a>) -> Result<(AttrValue<'a>, AttrValue<'a>), AttrFault>
     ensures { let keys = codes "r" ∷ codes "s" ∷ [] in
         MatchResult result

@@ -10,7 +10,7 @@ use crate::items::RawAttrIter;
 /// The value of a key, if a pair has it.
 pub type AttrValue<'a> = Option<&'a str>;
 
-// What is found for a wanted key once this pair was read too.
+/// What is found for a wanted key once this pair was read too.
 fn with_pair<'a>(found: AttrValue<'a>, wanted: &str, key: &str, value: &'a str) -> AttrValue<'a>
     ensures { option_copied result
         ≡ value_noted key.now value.now wanted.now (option_copied found.entry) }
@@ -22,7 +22,7 @@ fn with_pair<'a>(found: AttrValue<'a>, wanted: &str, key: &str, value: &'a str) 
     }
 }
 
-// Gives the pair's value to each wanted key that is the pair's and has no value yet.
+/// Gives the pair's value to each wanted key that is the pair's and has no value yet.
 fn note_value<'a>(keys: &[&str], values: &mut [AttrValue<'a>], key: &str, value: &'a str)
     requires { length keys.now ≡ length values.old }
     ensures { map option_copied values.new
@@ -33,14 +33,14 @@ fn note_value<'a>(keys: &[&str], values: &mut [AttrValue<'a>], key: &str, value:
     }
 }
 
-// Whether each wanted key has a value.
+/// Whether each wanted key has a value.
 fn are_all_found(values: &[AttrValue<'_>]) -> bool
     ensures { result ≡ list_all is_some values.now }
 {
     values.iter().all(|value| value.is_some())
 }
 
-// The lookup of several keys, in one reading of the text.
+/// The lookup of several keys, in one reading of the text.
 fn find_values<'a>(
     raw: &'a str,
     keys: &[&str],

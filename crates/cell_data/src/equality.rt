@@ -1,5 +1,5 @@
-// `==` of what cells hold is true exactly where the values are the same: a text by its bytes, and
-// anything else by what it is.
+//! `==` of what cells hold is true exactly where the values are the same: a text by its bytes, and
+//! anything else by what it is.
 ghost use Rattle.std.specs.Prelude.{◌≡◌, ◌↔◌, IsTrue};
 ghost use Rattle.cell_data.specs.CellValue.{value_of_data, value_of_data_ref};
 

@@ -1,4 +1,4 @@
-// What a number format says of the numbers that it shows.
+//! What a number format says of the numbers that it shows.
 ghost use Rattle.std.specs.Prelude.{◌≡◌, ◌≤◌, ◌||◌, ◌==◌, drop, length};
 ghost use Rattle.std.specs.Char.{to_ascii_lowercase};
 ghost use Rattle.std.specs.List.{after_first, list_all, position_or_len};
@@ -71,15 +71,15 @@ pub fn builtin_format_code_by_id(id: u32) -> Option<&'static str>
     }
 }
 
-// Whether each of these is the letter, in either case.
+/// Whether each of these is the letter, in either case.
 fn all_are(text: &[u8], letter: u8) -> bool
     ensures { result ≡ list_all (λ b. to_ascii_lowercase b == letter) text.now }
 {
     text.iter().all(|b| b.to_ascii_lowercase() == letter)
 }
 
-// Whether the content of a bracketed group counts time that has passed: one letter h, m or s of
-// either case, once or repeated.
+/// Whether the content of a bracketed group counts time that has passed: one letter h, m or s of
+/// either case, once or repeated.
 fn is_elapsed(content: &[u8]) -> bool
     ensures { result ≡ is_elapsed content.now }
 {
@@ -90,7 +90,7 @@ fn is_elapsed(content: &[u8]) -> bool
     matches!(letter, b'h' | b'm' | b's') && all_are(others, letter)
 }
 
-// Whether a date or a time of day begins here: a letter d, m, h, y or s, or `a/p`, of either case.
+/// Whether a date or a time of day begins here: a letter d, m, h, y or s, or `a/p`, of either case.
 fn begins_date(first: u8, behind: &[u8]) -> bool
     ensures { result ≡ (is_date_letter first || begins_half_day first behind.now) }
 {
@@ -101,7 +101,7 @@ fn begins_date(first: u8, behind: &[u8]) -> bool
     matches!(letter, b'd' | b'm' | b'h' | b'y' | b's')
 }
 
-// Where the byte stands first, or the length.
+/// Where the byte stands first, or the length.
 fn place_of(text: &[u8], byte: u8) -> usize
     ensures bound { result ≤ length text.now }
     ensures value { result ≡ position_or_len (λ b. b == byte) text.now }
@@ -113,7 +113,7 @@ fn place_of(text: &[u8], byte: u8) -> usize
     place
 }
 
-// What stands behind the first such byte, or nothing.
+/// What stands behind the first such byte, or nothing.
 fn behind_byte(text: &[u8], byte: u8) -> &[u8]
     ensures { result.now ≡ after_first (λ b. b == byte) text.now }
 {
@@ -122,7 +122,7 @@ fn behind_byte(text: &[u8], byte: u8) -> &[u8]
     behind
 }
 
-// What a group in brackets says, by what stands behind its bracket.
+/// What a group in brackets says, by what stands behind its bracket.
 fn pass_group(behind: &[u8]) -> ControlFlow<CellFormat, &[u8]>
     ensures { sign_of result ≡ group_sign behind.now }
 {
@@ -137,7 +137,7 @@ fn pass_group(behind: &[u8]) -> ControlFlow<CellFormat, &[u8]>
     ControlFlow::Continue(behind_byte(behind, b']'))
 }
 
-// What stands behind the first byte.
+/// What stands behind the first byte.
 fn behind_one(text: &[u8]) -> &[u8]
     ensures { result.now ≡ drop 1 text.now }
 {
@@ -147,7 +147,7 @@ fn behind_one(text: &[u8]) -> &[u8]
     }
 }
 
-// What stands first in a format tells what it makes of a number, or is passed over.
+/// What stands first in a format tells what it makes of a number, or is passed over.
 fn pass_sign(first: u8, behind: &[u8]) -> ControlFlow<CellFormat, &[u8]>
     ensures { sign_of result ≡ first_sign first behind.now }
 {

@@ -22,7 +22,7 @@ pub struct Range<T> {
     ghost limits: { IsTrue (are_sheet_bounds bounds) },
 }
 
-// Whether a position lies in the area with these first and last positions.
+/// Whether a position lies in the area with these first and last positions.
 fn is_between(start: (u32, u32), end: (u32, u32), pos: (u32, u32)) -> bool
     ensures { result ≡ is_in_area (record { start = start; end = end }) pos }
 {
@@ -122,7 +122,7 @@ impl<T> Range<T> {
         }
     }
 
-    // The value of the cell at a position, or else the blank.
+    /// The value of the cell at a position, or else the blank.
     fn value_or_blank(&self, pos: (u32, u32)) -> &T
         ensures { result.now ≡
             unwrap_or (find position_cmp pos (cells_of self.now)) (blank_of self.now) }
@@ -140,7 +140,7 @@ impl<T> Range<T> {
         Some(self.value_or_blank(pos))
     }
 
-    // The value at a row and a column, counted from the first ones of the area.
+    /// The value at a row and a column, counted from the first ones of the area.
     pub(crate) fn filled(&self, pos: (usize, usize)) -> &T
         requires row { pos.0 < height_of (bounds_of self.now) }
         requires column { pos.1 < width_of (bounds_of self.now) }
@@ -170,14 +170,14 @@ impl<T> Range<T> {
         &self.cells
     }
 
-    // How many cells the area has.
+    /// How many cells the area has.
     pub(crate) fn cell_count(&self) -> usize
         ensures { result ≡ box_count self.now }
     {
         self.height() * self.width()
     }
 
-    // The row and the column of the cell with this number, counted row by row.
+    /// The row and the column of the cell with this number, counted row by row.
     pub(crate) fn place_of(&self, cell: usize) -> (usize, usize)
         requires { cell < box_count self.now }
         ensures row { result.0 ≡ cell / width_of (bounds_of self.now) }

@@ -1,4 +1,4 @@
-// What a list of cells is as the cells of a range.
+//! What a list of cells is as the cells of a range.
 ghost use Rattle.std.specs.Prelude.{◌≡◌, true, IfOk};
 ghost use Rattle.std.specs.FinMap.{find};
 ghost use Rattle.std.specs.Option.{option_copied};
@@ -18,7 +18,7 @@ fn precedes(first: (u32, u32), second: (u32, u32)) -> bool
     first < second
 }
 
-// Whether each cell stands behind the one before it.
+/// Whether each cell stands behind the one before it.
 fn is_rising<T>(cells: &[Cell<T>]) -> bool
     ensures { result ≡ is_rising (placed_cells cells.now) }
 {
@@ -34,7 +34,7 @@ fn is_rising<T>(cells: &[Cell<T>]) -> bool
     true
 }
 
-// The last cell of each position, in the order of positions.
+/// The last cell of each position, in the order of positions.
 fn last_cells<T: Drop>(alloc: Global, cells: Vec<Cell<T>>) -> Result<Vec<Cell<T>>, AllocError>
     ensures { IfOk result
         (λ kept. placed_cells kept.items ≡ last_of_each (placed_cells cells.items)) }
@@ -50,7 +50,7 @@ fn last_cells<T: Drop>(alloc: Global, cells: Vec<Cell<T>>) -> Result<Vec<Cell<T>
     Ok(kept)
 }
 
-// The same. Cells that are in order already stay where they are.
+/// The same. Cells that are in order already stay where they are.
 pub fn in_order<T: Drop>(alloc: Global, cells: Vec<Cell<T>>) -> Result<Vec<Cell<T>>, AllocError>
     ensures { IfOk result
         (λ kept. placed_cells kept.items ≡ last_of_each (placed_cells cells.items)) }
@@ -77,7 +77,7 @@ fn area_with(pos: (u32, u32), area: Option<Dimensions>) -> Dimensions
     }
 }
 
-// The least area that has these cells.
+/// The least area that has these cells.
 pub fn least_area<T>(cells: &[Cell<T>]) -> Option<Dimensions>
     ensures { result ≡ least_area (placed_cells cells.now) }
 {
@@ -90,7 +90,7 @@ pub fn least_area<T>(cells: &[Cell<T>]) -> Option<Dimensions>
     area
 }
 
-// The value of the cell at a position.
+/// The value of the cell at a position.
 pub fn value_of<T>(cells: &[Cell<T>], pos: (u32, u32)) -> Option<&T>
     requires { is_rising (placed_cells cells.now) ≡ true }
     ensures { option_copied result ≡ find position_cmp pos (placed_cells cells.now) }

@@ -46,7 +46,7 @@ pub fn column_number_to_name(num: u32) -> Result<ColumnName, RefError>
     Ok(name_of(num))
 }
 
-// The capital at a place in the alphabet, counted from 0.
+/// The capital at a place in the alphabet, counted from 0.
 fn capital(place: u32) -> u8
     requires { place < 26 }
     ensures { result ≡ 65 + place }

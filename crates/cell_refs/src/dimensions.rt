@@ -47,14 +47,14 @@ impl Dimensions {
     }
 }
 
-// How many numbers there are from one to another.
+/// How many numbers there are from one to another.
 fn span(first: u32, last: u32) -> u64
     ensures { result ≡ last + 1 - first }
 {
     (u64::from(last) + 1).saturating_sub(u64::from(first))
 }
 
-// The first part before a colon and what stands behind that, where there is a colon.
+/// The first part before a colon and what stands behind that, where there is a colon.
 fn split_part(text: &str) -> Option<(&str, &str)>
     ensures whole { IfNone result (parts text.now ≡ text.now ∷ []) }
     ensures split { IfSome result (λ x. parts text.now ≡ x.0.now ∷ parts x.1.now) }
@@ -63,7 +63,7 @@ fn split_part(text: &str) -> Option<(&str, &str)>
     text.split_once(':')
 }
 
-// The number of parts between colons, where each is a reference.
+/// The number of parts between colons, where each is a reference.
 fn count_parts(dimension: &str) -> Result<usize, RefError>
     ensures count { result ≡ corner_count (corners (parts dimension.now)) }
     ensures bounds { IfOk result (λ count. (1 ≤ count) × (count ≤ length dimension.now + 1)) }

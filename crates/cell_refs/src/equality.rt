@@ -1,4 +1,4 @@
-// `==` of each type that promises it holds exactly where the two values are the same.
+//! `==` of each type that promises it holds exactly where the two values are the same.
 ghost use Rattle.std.specs.Prelude.{◌≡◌, ◌↔◌, IsTrue};
 
 use crate::{Dimensions, RefError};

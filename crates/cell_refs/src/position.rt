@@ -9,12 +9,12 @@ ghost use Rattle.cell_refs.specs.Scan.{scan_of};
 
 use crate::{MAX_COLUMNS, MAX_ROWS, RefError};
 
-// Numbers stop one past the last column or row, which is enough to refuse a text of any length.
+/// Numbers stop one past the last column or row, which is enough to refuse a text of any length.
 const PAST_COLUMNS: u32 = MAX_COLUMNS + 1;
 
 const PAST_ROWS: u32 = MAX_ROWS + 1;
 
-// What a text has: a column and a row, counted from 1, and how many letters.
+/// What a text has: a column and a row, counted from 1, and how many letters.
 #[derive(Drop)]
 struct Scan {
     column: u32,
@@ -22,14 +22,14 @@ struct Scan {
     row: u32,
 }
 
-// The number of a letter, A = 1.
+/// The number of a letter, A = 1.
 fn letter_value(letter: u8) -> u32
     ensures { result ≡ letter_value letter }
 {
     u32::from(letter.to_ascii_uppercase().saturating_sub(64))
 }
 
-// The column that the letters in front of a text write, counted from 1, and the number of letters.
+/// The column that the letters in front of a text write, counted from 1, and the number of letters.
 #[tactic(auto, using(crate::proofs::Scans::letter_steps))]
 fn leading_column(text: &[u8]) -> (u32, usize)
     ensures number { result.0 ≡ min (letters_value (letters_of text.now)) PAST_COLUMNS }
@@ -45,7 +45,7 @@ fn leading_column(text: &[u8]) -> (u32, usize)
     (number, text.len())
 }
 
-// The row that digits write, counted from 1.
+/// The row that digits write, counted from 1.
 #[tactic(auto, using(crate::proofs::Scans::digit_steps))]
 fn row_number(digits: &[u8]) -> Result<u32, RefError>
     ensures { result ≡ unless_stray (stray_byte digits.now)

@@ -186,7 +186,7 @@ impl StyleRange {
         }
     }
 
-    // The search, by a counter that nobody reads.
+    /// The search, by a counter that nobody reads.
     fn get_uncounted<L: Ledger>(&self, pos: (u32, u32), blank: Blank) -> Option<&Style>
         requires name { blank.name ≡ L.name }
         requires parts { blank.parts ≡ L.parts }

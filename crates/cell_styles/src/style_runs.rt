@@ -18,8 +18,8 @@ pub struct StyleRun {
 }
 
 impl StyleRun {
-    // Whether the place lies behind the run. It is the only comparison with a run's end, and a
-    // step.
+    /// Whether the place lies behind the run. It is the only comparison with a run's end, and a
+    /// step.
     fn ends_by<L: Ledger>(&self, place: usize, steps: &mut Steps<L>) -> bool
         ensures answer { IsTrue result ↔ (self.now.end ≤ place) }
         ensures step { steps.new ≡ steps.old + 1 }
@@ -116,7 +116,7 @@ impl StyleRuns {
     }
 }
 
-// The place behind the last run.
+/// The place behind the last run.
 fn end_of(runs: &[StyleRun]) -> usize
     ensures { result ≡ end_along 0 runs.now }
 {
@@ -126,7 +126,7 @@ fn end_of(runs: &[StyleRun]) -> usize
     }
 }
 
-// Whether there is a last run, and it has this id.
+/// Whether there is a last run, and it has this id.
 fn is_last(runs: &[StyleRun], id: usize) -> bool
     ensures { result ≡ last_is id runs.now }
 {
@@ -136,7 +136,7 @@ fn is_last(runs: &[StyleRun], id: usize) -> bool
     }
 }
 
-// The id of the first run that ends behind the place.
+/// The id of the first run that ends behind the place.
 fn found_id<L: Ledger>(runs: &[StyleRun], place: usize, steps: &mut Steps<L>) -> usize
     requires canonical { IsCanonical 0 runs.now }
     requires there { place < length (numbers_along 0 runs.now) }

@@ -64,7 +64,7 @@ impl<'a> Iterator for StyledCells<'a> {
     }
 }
 
-// The first place and the runs behind a run without style, where one comes first.
+/// The first place and the runs behind a run without style, where one comes first.
 fn behind_blank(runs: &[StyleRun], place: usize) -> (usize, &[StyleRun])
     requires { IsCanonical place runs.now }
     ensures { PassesBlank place runs.now result.0 result.1.now }

@@ -10,7 +10,7 @@ use crate::significand::Significand;
 use itoa::Buffer;
 use std::alloc::AllocError;
 
-// No text of a number is longer: a sign, the digits of 128 bits and twenty zeros.
+/// No text of a number is longer: a sign, the digits of 128 bits and twenty zeros.
 const LONGEST_TEXT: usize = 61;
 
 /// An exact decimal number: a whole number, times ten to a power.
@@ -25,7 +25,7 @@ pub struct Decimal {
     pub ghost trimmed: { IsTrimmed mantissa },
 }
 
-// The number with its sign, where it fits.
+/// The number with its sign, where it fits.
 fn signed(is_negative: bool, number: u128) -> Option<i128>
     ensures { SomeIff result (FitsSigned w128 (with_sign is_negative number))
         (with_sign is_negative number) }
@@ -42,7 +42,7 @@ impl Decimal {
     ghost use Rattle.decimals.specs.Decimals.{fitting, decimal_of, printed};
     ghost use Rattle.decimals.specs.Decimal.{number_of};
 
-    // The number times ten to the power, where both fit. It has no zeros at its end.
+    /// The number times ten to the power, where both fit. It has no zeros at its end.
     fn fitting(is_negative: bool, number: u128, power: i128) -> Option<Decimal>
         requires { number % 10 ≡ 0 → number ≡ 0 }
         ensures { option_map number_of result ≡ (if number == 0 then Some (pos 0, pos 0)

@@ -1,5 +1,5 @@
-// The pieces of a decimal's printed text. A call fails only where the text has no room for what it
-// appends, and then leaves it open how much of that was appended.
+//! The pieces of a decimal's printed text. A call fails only where the text has no room for what it
+//! appends, and then leaves it open how much of that was appended.
 ghost use Rattle.std.specs.Prelude.{◌≡◌, ◌+◌, ◌<◌, ◌≤◌, ◌++◌, length, replicate, OnOk, OnErr};
 ghost use Rattle.std.specs.Prelude.{string_bytes, string_len, string_capacity};
 ghost use Rattle.std.specs.Fmt.{sign_text};
@@ -35,7 +35,7 @@ fn push_zeros(out: &mut String, count: usize) -> Result<(), AllocError>
     Ok(())
 }
 
-// Appends the digits with a point before the last `places` of them.
+/// Appends the digits with a point before the last `places` of them.
 fn push_with_point(out: &mut String, digits: &str, places: usize) -> Result<(), AllocError>
     requires ascii { IsAscii digits.now }
     ensures ok { OnOk result
@@ -66,7 +66,7 @@ fn push_with_exponent(out: &mut String, digits: &str, power: i32) -> Result<(), 
     out.push_str(buffer.format(power))
 }
 
-// Appends the digits times ten to the power.
+/// Appends the digits times ten to the power.
 pub fn push_digits(out: &mut String, digits: &str, power: i32) -> Result<(), AllocError>
     requires ascii { IsAscii digits.now }
     ensures ok { OnOk result

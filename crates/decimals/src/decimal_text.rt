@@ -1,4 +1,4 @@
-// The pieces of a decimal's text, in the order in which they stand.
+//! The pieces of a decimal's text, in the order in which they stand.
 ghost use Rattle.std.specs.Prelude.{◌≡◌, ◌+◌, ◌-◌, ◌^◌, ◌≤◌, ◌≤ℤ◌, ◌+ℤ◌, ◌-ℤ◌, pos, negsuc, length};
 ghost use Rattle.std.specs.Prelude.{min, if◌then◌else◌, Some, None, IfSome, IfNone};
 ghost use Rattle.std.specs.Option.{option_map};
@@ -10,10 +10,10 @@ ghost use Rattle.decimals.specs.Significand.{digits_added};
 
 use crate::significand::Significand;
 
-// A power of ten that is too large for any number that can be held, however many digits it has.
+/// A power of ten that is too large for any number that can be held, however many digits it has.
 const PAST_POWERS: u128 = 1 << 100;
 
-// Whether a minus stands first, and what stands behind a sign or none.
+/// Whether a minus stands first, and what stands behind a sign or none.
 pub fn behind_sign(text: &[u8]) -> (bool, &[u8])
     ensures minus { result.0 ≡ starts_with_minus text.now }
     ensures rest { result.1.now ≡ without_leading_sign text.now }
@@ -28,7 +28,7 @@ pub fn behind_sign(text: &[u8]) -> (bool, &[u8])
     }
 }
 
-// A point and the digits behind it more, where a point stands first, and what stands behind them.
+/// A point and the digits behind it more, where a point stands first, and what stands behind them.
 pub fn read_fraction(digits: Significand, text: &[u8]) -> Option<(Significand, &[u8])>
     requires zeros { digits.zeros ≤ digits.count }
     requires room { digits.count + length text.now ≤ usize.MAX }
@@ -44,7 +44,7 @@ pub fn read_fraction(digits: Significand, text: &[u8]) -> Option<(Significand, &
     }
 }
 
-// The number that digits write, up to the limit of powers.
+/// The number that digits write, up to the limit of powers.
 #[tactic(auto, using(crate::proofs::PowerLemmas::power_steps))]
 fn power_number(digits: &[u8]) -> Option<u128>
     ensures { result ≡ (if all_ascii_digits digits.now
@@ -60,7 +60,7 @@ fn power_number(digits: &[u8]) -> Option<u128>
     Some(number)
 }
 
-// The power that an exponent writes, or that nothing writes, up to the limit of powers.
+/// The power that an exponent writes, or that nothing writes, up to the limit of powers.
 pub fn read_power(text: &[u8]) -> Option<i128>
     ensures power { result ≡ option_map near (power_of text.now) }
     ensures limit { IfSome result
@@ -80,8 +80,8 @@ pub fn read_power(text: &[u8]) -> Option<i128>
     Some(if is_negative { -power } else { power })
 }
 
-// The power of the whole number, where the digits had this power, so many zeros at their end and so
-// many places behind the point.
+/// The power of the whole number, where the digits had this power, so many zeros at their end and so
+/// many places behind the point.
 pub fn moved_power(power: i128, zeros: usize, places: usize) -> i128
     requires low { negsuc (2 ^ 100 - 1) ≤ℤ power }
     requires high { power ≤ℤ pos (2 ^ 100) }

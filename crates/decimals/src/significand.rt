@@ -3,8 +3,8 @@ ghost use Rattle.std.specs.Prelude.{SomeIff};
 ghost use Rattle.decimals.specs.Decimals.{digits_in_front, behind_digits};
 ghost use Rattle.decimals.specs.Significand.{digit_added, digits_added};
 
-// The digits of a number that were read so far: how many, how many zeros end them, and the number
-// that they write without those.
+/// The digits of a number that were read so far: how many, how many zeros end them, and the number
+/// that they write without those.
 #[derive(Clone, Copy)]
 pub struct Significand {
     pub number: u128,
@@ -12,7 +12,7 @@ pub struct Significand {
     pub count: usize,
 }
 
-// The number times ten to the power, where it fits.
+/// The number times ten to the power, where it fits.
 fn scaled(number: u128, power: usize) -> Option<u128>
     ensures { SomeIff result (number * 10 ^ power < 2 ^ 128) (number * 10 ^ power) }
 {
@@ -33,7 +33,7 @@ impl Significand {
         count: 0,
     };
 
-    // One digit more, where the number fits.
+    /// One digit more, where the number fits.
     fn with_digit(self, digit: u8) -> Option<Significand>
         requires digit { digit < 10 }
         requires zeros { self.zeros ≤ self.count }
@@ -57,8 +57,8 @@ impl Significand {
         })
     }
 
-    // The digits in front of the text more, and what stands behind them. There is no answer where
-    // the number does not fit.
+    /// The digits in front of the text more, and what stands behind them. There is no answer where
+    /// the number does not fit.
     pub fn read(self, text: &[u8]) -> Option<(Significand, &[u8])>
         requires zeros { self.zeros ≤ self.count }
         requires room { self.count + length text.now ≤ usize.MAX }

@@ -95,7 +95,7 @@ impl Corner {
         }
     }
 
-    // Appends the canonical spelling. On `Err` the buffer had no room for it, and may hold a part.
+    /// Appends the canonical spelling. On `Err` the buffer had no room for it, and may hold a part.
     pub(crate) fn push_to(self, out: &mut String) -> Result<(), AllocError>
         requires { IsCornerInside self }
         ensures ok { OnOk result
@@ -122,7 +122,7 @@ impl Corner {
         Ok(())
     }
 
-    // How many bytes the canonical spelling has.
+    /// How many bytes the canonical spelling has.
     pub(crate) fn spelled_len(self) -> usize
         requires { IsCornerInside self }
         ensures value { result ≡ length (corner_spelling self) }
@@ -141,7 +141,7 @@ impl Corner {
     }
 }
 
-// A place with a `$` stays, another one is added the offset; `None` where it leaves the limit.
+/// A place with a `$` stays, another one is added the offset; `None` where it leaves the limit.
 fn displaced_place(limit: u32, offset: i64, absolute: bool, place: u32) -> Option<u32>
     ensures { result ≡ displaced_place limit offset absolute place }
 {
@@ -155,7 +155,7 @@ fn displaced_place(limit: u32, offset: i64, absolute: bool, place: u32) -> Optio
     Some(moved as u32)
 }
 
-// The corner of letters and what stands behind them, where a `$` stands before them or not.
+/// The corner of letters and what stands behind them, where a `$` stands before them or not.
 fn corner_by(absolute: bool, letters: &[u8], behind: &[u8]) -> Option<Corner>
     requires { AllPass is_ascii_alphabetic letters.now }
     ensures { result ≡ corner_by absolute letters.now behind.now }
@@ -178,7 +178,7 @@ fn corner_by(absolute: bool, letters: &[u8], behind: &[u8]) -> Option<Corner>
     })
 }
 
-// Whether the text begins with a `$`, and the text without it.
+/// Whether the text begins with a `$`, and the text without it.
 fn cut_dollar(text: &[u8]) -> (bool, &[u8])
     ensures dollar { result.0 ≡ has_dollar text.now }
     ensures behind { result.1.now ≡ behind_dollar text.now }
@@ -189,7 +189,7 @@ fn cut_dollar(text: &[u8]) -> (bool, &[u8])
     }
 }
 
-// The letters that the text begins with, and what follows them.
+/// The letters that the text begins with, and what follows them.
 fn cut_letters(text: &[u8]) -> (&[u8], &[u8])
     ensures letters { result.0.now ≡ letters_of text.now }
     ensures behind { result.1.now ≡ behind_letters text.now }
@@ -204,7 +204,7 @@ fn letter_count(text: &[u8]) -> usize
     text.iter().take_while(|b| b.is_ascii_alphabetic()).count()
 }
 
-// The column that letters name, if any.
+/// The column that letters name, if any.
 fn column_of_letters(letters: &[u8]) -> Option<u32>
     requires { AllPass is_ascii_alphabetic letters.now }
     ensures { result ≡ column_of_letters letters.now }
@@ -219,7 +219,7 @@ fn column_of_letters(letters: &[u8]) -> Option<u32>
     number.checked_sub(1)
 }
 
-// The row that digits name, if any. Other bytes name none.
+/// The row that digits name, if any. Other bytes name none.
 fn row_of_digits(digits: &[u8]) -> Option<u32>
     ensures { result ≡ row_of_digits digits.now }
 {

@@ -64,7 +64,7 @@ pub fn expanded_len(formula: &str, start: (u32, u32), end: (u32, u32)) -> u128
     len
 }
 
-// The rows and the columns from one position to another.
+/// The rows and the columns from one position to another.
 fn offset_between(start: (u32, u32), end: (u32, u32)) -> (i64, i64)
     ensures { result ≡ offset_between start end }
 {
@@ -74,7 +74,7 @@ fn offset_between(start: (u32, u32), end: (u32, u32)) -> (i64, i64)
     )
 }
 
-// Appends the moved text of a formula. On `Err` the buffer had no room for it, and may hold a part.
+/// Appends the moved text of a formula. On `Err` the buffer had no room for it, and may hold a part.
 fn push_moved(out: &mut String, formula: &str, offset: (i64, i64)) -> Result<(), AllocError>
     ensures ok { OnOk result
         (string_bytes out.new ≡ string_bytes out.old ++ moved formula.now offset) }
@@ -89,8 +89,8 @@ fn push_moved(out: &mut String, formula: &str, offset: (i64, i64)) -> Result<(),
     Ok(())
 }
 
-// Appends a piece, moved where it is a reference that does not leave the worksheet. `rest` is what
-// stands behind it.
+/// Appends a piece, moved where it is a reference that does not leave the worksheet. `rest` is what
+/// stands behind it.
 fn push_piece(
     out: &mut String,
     piece: Piece<'_>,
@@ -112,7 +112,7 @@ fn push_piece(
     Ok(())
 }
 
-// How many bytes `push_piece` appends.
+/// How many bytes `push_piece` appends.
 fn moved_len(piece: Piece<'_>, rest: &str, offset: (i64, i64)) -> usize
     ensures { result ≡ length
         (moved_piece offset (piece_text piece.entry) (first_byte rest.now)).bytes }
@@ -123,7 +123,7 @@ fn moved_len(piece: Piece<'_>, rest: &str, offset: (i64, i64)) -> usize
     }
 }
 
-// The reference that a piece is, moved, where it is one and does not leave the worksheet.
+/// The reference that a piece is, moved, where it is one and does not leave the worksheet.
 #[tactic(auto, unfolding(crate::specs::Relocation::piece_reference))]
 fn moved_reference(piece: Piece<'_>, rest: &str, offset: (i64, i64)) -> Option<Reference>
     ensures value { result ≡ option_and_then (displaced offset)
@@ -136,7 +136,7 @@ fn moved_reference(piece: Piece<'_>, rest: &str, offset: (i64, i64)) -> Option<R
     }
 }
 
-// Whether a Word before this text is a function's name, or a sheet's.
+/// Whether a Word before this text is a function's name, or a sheet's.
 fn is_name_before(rest: &str) -> bool
     ensures { result ≡ is_name_before (first_byte rest.now) }
 {

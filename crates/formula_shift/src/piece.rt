@@ -80,7 +80,7 @@ impl<'a> Iterator for Pieces<'a> {
     }
 }
 
-// The piece of this text, whose first byte is given.
+/// The piece of this text, whose first byte is given.
 fn piece_of<'a>(first: u8, text: &'a str) -> Piece<'a>
     ensures { piece_text result ≡ record { kind = piece_kind first; bytes = text.now } }
 {
@@ -93,7 +93,7 @@ fn piece_of<'a>(first: u8, text: &'a str) -> Piece<'a>
     }
 }
 
-// How many of the bytes behind a piece's first byte belong to it.
+/// How many of the bytes behind a piece's first byte belong to it.
 fn length_behind(first: u8, behind: &[u8]) -> usize
     ensures { result ≡ length_behind (piece_kind first) behind.now }
 {
@@ -161,7 +161,7 @@ fn group_length(bytes: &[u8]) -> usize
     bytes.len()
 }
 
-// Whether the byte is an ASCII letter, a digit or one of `\ . _ $ :`.
+/// Whether the byte is an ASCII letter, a digit or one of `\ . _ $ :`.
 fn is_word_byte(b: u8) -> bool
     ensures { result ≡ is_word_byte b }
 {
@@ -174,7 +174,7 @@ fn word_length(bytes: &[u8]) -> usize
     bytes.iter().take_while(|b| is_word_byte(**b)).count()
 }
 
-// Whether the byte begins no other kind of piece.
+/// Whether the byte begins no other kind of piece.
 fn is_other_byte(b: u8) -> bool
     ensures { result ≡ is_other_byte b }
 {

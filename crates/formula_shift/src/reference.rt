@@ -63,7 +63,7 @@ impl Reference {
         Ok(())
     }
 
-    // Appends the canonical spelling. On `Err` the buffer had no room for it, and may hold a part.
+    /// Appends the canonical spelling. On `Err` the buffer had no room for it, and may hold a part.
     #[tactic(auto, unfolding(crate::specs::References::spelling))]
     fn push_parts(self, out: &mut String) -> Result<(), AllocError>
         requires { IsInWorksheet self }
@@ -82,7 +82,7 @@ impl Reference {
         Ok(())
     }
 
-    // How many bytes the canonical spelling has.
+    /// How many bytes the canonical spelling has.
     #[tactic(auto, unfolding(crate::specs::References::spelling))]
     pub(crate) fn spelled_len(self) -> usize
         requires { IsInWorksheet self }
@@ -102,7 +102,7 @@ fn first_colon(word: &[u8]) -> Option<usize>
     word.iter().position(|&b| b == b':')
 }
 
-// A corner alone is a reference where it is a cell.
+/// A corner alone is a reference where it is a cell.
 fn alone(corner: Corner) -> Option<Reference>
     ensures { result ≡ alone (Some corner) }
 {
@@ -115,7 +115,7 @@ fn alone(corner: Corner) -> Option<Reference>
     }
 }
 
-// Two corners are a reference where they are of one kind.
+/// Two corners are a reference where they are of one kind.
 fn range_of(first: Corner, second: Corner) -> Option<Reference>
     ensures { result ≡ range_of (Some first) (Some second) }
 {

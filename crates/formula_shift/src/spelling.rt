@@ -22,7 +22,7 @@ fn push_dollar(out: &mut String, absolute: bool) -> Result<(), AllocError>
     Ok(())
 }
 
-// Appends a row's number, with a `$` before it where it is absolute.
+/// Appends a row's number, with a `$` before it where it is absolute.
 pub(crate) fn push_row(out: &mut String, row: u32, absolute: bool) -> Result<(), AllocError>
     requires { row < row_limit }
     ensures ok { OnOk result
@@ -39,7 +39,7 @@ pub(crate) fn push_row(out: &mut String, row: u32, absolute: bool) -> Result<(),
     Ok(())
 }
 
-// Appends a column's name, with a `$` before it where it is absolute.
+/// Appends a column's name, with a `$` before it where it is absolute.
 pub(crate) fn push_column(out: &mut String, col: u32, absolute: bool) -> Result<(), AllocError>
     requires { col < column_limit }
     ensures ok { OnOk result
@@ -56,7 +56,7 @@ pub(crate) fn push_column(out: &mut String, col: u32, absolute: bool) -> Result<
     Ok(())
 }
 
-// How many bytes `push_row` appends.
+/// How many bytes `push_row` appends.
 #[tactic(auto, using(crate::proofs::Numbers::lengths))]
 pub(crate) fn row_len(row: u32, absolute: bool) -> usize
     requires { row < row_limit }
@@ -66,7 +66,7 @@ pub(crate) fn row_len(row: u32, absolute: bool) -> usize
     usize::from(absolute) + number_len(row + 1)
 }
 
-// How many bytes `push_column` appends.
+/// How many bytes `push_column` appends.
 #[tactic(auto, using(crate::proofs::Numbers::lengths))]
 pub(crate) fn column_len(col: u32, absolute: bool) -> usize
     requires { col < column_limit }

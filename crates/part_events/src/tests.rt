@@ -16,7 +16,7 @@ fn start(name: &str) -> PartEvent<'_> {
     })
 }
 
-// A package whose last part has the first events of a list.
+/// A package whose last part has the first events of a list.
 fn held_package(
     rt: &impl Abort,
     alloc: Global,
@@ -37,7 +37,7 @@ fn held_package(
     Ok(package)
 }
 
-// The events of a part, up to its end.
+/// The events of a part, up to its end.
 fn count_events<P: Package>(
     alloc: Global,
     package: &mut P,
@@ -50,7 +50,7 @@ fn count_events<P: Package>(
     Ok(Some(reader.at()))
 }
 
-// Skips the first element of a part.
+/// Skips the first element of a part.
 fn skip_first<P: Package>(alloc: Global, package: &mut P) -> Result<usize, StreamError> {
     let Some(mut reader) = XlReader::open(alloc, package, "part")? else {
         return Ok(9);
@@ -63,7 +63,7 @@ fn skip_first<P: Package>(alloc: Global, package: &mut P) -> Result<usize, Strea
     Ok(reader.depth())
 }
 
-// The text of the first element of a part.
+/// The text of the first element of a part.
 fn first_text<P: Package>(
     alloc: Global,
     package: &mut P,
@@ -81,8 +81,8 @@ fn first_text<P: Package>(
     Ok(false)
 }
 
-// How many elements of a name stand in the first section, how many children it has, and how it
-// ended.
+/// How many elements of a name stand in the first section, how many children it has, and how it
+/// ended.
 fn count_elements<P: Package>(
     alloc: Global,
     package: &mut P,
@@ -110,7 +110,7 @@ fn count_elements<P: Package>(
     }
 }
 
-// How many events stand in the first section of a name, and what came behind them.
+/// How many events stand in the first section of a name, and what came behind them.
 fn count_inside<P: Package>(
     alloc: Global,
     package: &mut P,

@@ -31,7 +31,7 @@ pub fn apply_tint(color: Color, tint: &Decimal) -> Color
     )
 }
 
-// The sum of the tinted color's largest and smallest channel, in parts of the unit.
+/// The sum of the tinted color's largest and smallest channel, in parts of the unit.
 fn tinted(tint: &Decimal, sum: u128) -> u128
     requires { sum ≤ 510 }
     ensures value { result ≡ tinted_sum (is_negative tint.now.mantissa) (tint_size tint.now) sum }
@@ -46,7 +46,7 @@ fn tinted(tint: &Decimal, sum: u128) -> u128
     }
 }
 
-// How large the tint is, in parts of the unit.
+/// How large the tint is, in parts of the unit.
 fn size_of(tint: &Decimal) -> u128
     ensures value { result ≡ tint_size tint.now }
     ensures bound { result ≤ unit }
@@ -62,7 +62,7 @@ fn size_of(tint: &Decimal) -> u128
     }
 }
 
-// The size of a number with at most 20 decimals.
+/// The size of a number with at most 20 decimals.
 fn few_places(size: u128, places: u32) -> u128
     requires { places ≤ 20 }
     ensures { result ≡ min (size * unit / 10 ^ places) unit }
@@ -74,7 +74,7 @@ fn few_places(size: u128, places: u32) -> u128
     }
 }
 
-// The size of a number with more than 20 decimals. Past 58 nothing is left of a number of 128 bits.
+/// The size of a number with more than 20 decimals. Past 58 nothing is left of a number of 128 bits.
 fn many_places(size: u128, places: u32) -> u128
     requires { 20 < places }
     ensures { result ≡ min (size * unit / 10 ^ places) unit }
@@ -85,7 +85,7 @@ fn many_places(size: u128, places: u32) -> u128
     (size / 10u128.pow(places - 20)).min(UNIT)
 }
 
-// A channel of the tinted color.
+/// A channel of the tinted color.
 fn channel(sum: u128, tinted: u128, channel: u8) -> u8
     requires sum { sum ≤ 510 }
     requires tinted { tinted ≤ 510 * unit }
@@ -102,7 +102,7 @@ fn channel(sum: u128, tinted: u128, channel: u8) -> u8
     nearest(above - swing * sum, 2 * UNIT * room)
 }
 
-// The whole number nearest to a fraction, halves upward.
+/// The whole number nearest to a fraction, halves upward.
 fn nearest(numerator: u128, divisor: u128) -> u8
     requires some { 0 < divisor }
     requires small { divisor < 2 ^ 80 }

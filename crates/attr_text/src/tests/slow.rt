@@ -1,5 +1,5 @@
-// A plain reader of attribute items, byte by byte, which keeps them all. Its contract is the
-// definition.
+//! A plain reader of attribute items, byte by byte, which keeps them all. Its contract is the
+//! definition.
 ghost use Rattle.std.specs.Prelude.{◌≡◌, ◌==◌, ◌≤◌, drop, length, map, IfOk};
 ghost use Rattle.std.specs.List.{position_or_len};
 ghost use Rattle.attr_text.specs.Attributes.{items, front_of, without_leading_space};
@@ -10,7 +10,7 @@ ghost use Rattle.attr_text.specs.FirstItem.{front_of_parts};
 use crate::fault::AttrFault;
 use std::alloc::{AllocError, Global};
 
-// The text from this place on.
+/// The text from this place on.
 fn text_from(text: &[u8], place: usize) -> &[u8]
     requires { place ≤ length text.now }
     ensures { result.now ≡ drop place text.now }
@@ -18,7 +18,7 @@ fn text_from(text: &[u8], place: usize) -> &[u8]
     &text[place..]
 }
 
-// The text without the white space in front.
+/// The text without the white space in front.
 fn back_part(text: &[u8]) -> &[u8]
     ensures { result.now ≡ without_leading_space text.now }
 {
@@ -29,7 +29,7 @@ fn back_part(text: &[u8]) -> &[u8]
     text_from(text, count)
 }
 
-// Where the byte stands first, or the length.
+/// Where the byte stands first, or the length.
 fn place_of(text: &[u8], byte: u8) -> usize
     ensures bound { result ≤ length text.now }
     ensures value { result ≡ position_or_len (λ b. b == byte) text.now }
@@ -41,7 +41,7 @@ fn place_of(text: &[u8], byte: u8) -> usize
     place
 }
 
-// The text without the white space at its end.
+/// The text without the white space at its end.
 fn front_part(text: &[u8]) -> &[u8]
     ensures { result.now ≡ without_trailing_space text.now }
 {
@@ -52,7 +52,7 @@ fn front_part(text: &[u8]) -> &[u8]
     &text[..end]
 }
 
-// The first item in the end `text` of a text of `size` bytes: its key, its value and what follows.
+/// The first item in the end `text` of a text of `size` bytes: its key, its value and what follows.
 fn first_parts(size: usize, text: &[u8]) -> Option<Result<(&[u8], &[u8], &[u8]), AttrFault>>
     requires { length text.now ≤ size }
     ensures { front_of_parts result ≡ front_of size text.now }
