@@ -1,7 +1,7 @@
 #!/usr/bin/env python3
-"""Runs `cells S` over the shipped package with its first allocation refused, then with its second,
-and so on, until none is left to refuse. Each of these runs must end with the status and the text of
-want of memory and print nothing, and the last one must print the stored lines."""
+"""Runs `cells Sales` over the shipped package with its first allocation refused, then with its
+second, and so on, until none is left to refuse. Each of these runs must end with the status and the
+text of want of memory and print nothing, and the last one must print the stored lines."""
 
 import argparse
 import os
