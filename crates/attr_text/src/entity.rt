@@ -74,7 +74,8 @@ pub fn entity_char(name: &str) -> Option<char>
     }
 }
 
-/// The text with each `&name;` replaced by its character.
+/// The text with each `&name;` replaced by its character. The first `&` that has no later `;`, or
+/// whose name has no character, is refused as `Entity` with its place in bytes.
 pub fn decode_attr(alloc: Global, text: &str) -> Result<String, TextFault>
     ensures ok { IfOk result (λ out. decoded text.now ≡ Ok (string_bytes out)) }
     ensures err { IfErr result (DecodeFails text.now) }
@@ -97,8 +98,9 @@ pub fn decode_attr(alloc: Global, text: &str) -> Result<String, TextFault>
     Ok(out)
 }
 
-/// Appends the character of an entity's name. Where the name has one, it is refused only where the
-/// capacity has no room for it. After a refusal `out` is as it was.
+/// Appends the character of an entity's name. A name without one is `Entity` with a place of 0.
+/// Where the name has one, it is refused only where the capacity has no room for it. After a
+/// refusal `out` is as it was.
 pub fn push_entity(out: &mut String, name: &str) -> Result<(), TextFault>
     ensures ok { OnOk result (IsSomeAnd (entity_character name.now)
         (λ c. string_bytes out.new ≡ string_bytes out.old ++ encode_utf8 c)) }

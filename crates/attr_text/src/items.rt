@@ -70,6 +70,7 @@ pub struct RawAttrIter<'a> {
 impl<'a> RawAttrIter<'a> {
     ghost use Rattle.attr_text.specs.AttrIter.{attrs_left};
 
+    /// The items of this attribute text, of which none was taken yet.
     pub fn new(raw: &'a str) -> RawAttrIter<'a>
         ensures gives { attrs_left result ≡ items raw.now }
         ensures bound { length (attrs_left result) ≤ length raw.now }

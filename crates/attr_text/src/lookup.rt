@@ -91,7 +91,8 @@ pub trait RawAttributes {
         find_value(self.attributes_raw(), Wanted::Key(name))
     }
 
-    /// The value of the first pair whose key has this local name, by [`local_name_matches`].
+    /// The value of the first pair whose key has this local name, by [`local_name_matches`]. It is
+    /// refused only where the items end in a fault and no pair has such a key.
     fn raw_attr_local(&self, local_name: &str) -> Result<Option<&str>, AttrFault>
         ensures { MatchResult result
             (λ value. value_of_local local_name.now (attributes self.now)

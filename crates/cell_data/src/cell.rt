@@ -9,6 +9,7 @@ pub struct Cell<T> {
 }
 
 impl<T> Cell<T> {
+    /// The cell at this position, its row and its column counted from 0.
     pub fn new(pos: (u32, u32), val: T) -> Cell<T>
         ensures { result ≡ record { pos = pos; val = val } }
     {

@@ -80,6 +80,7 @@ impl<T> Range<T> {
         self.bounds.map(|area| area.end)
     }
 
+    /// Whether the range has no area.
     pub fn is_empty(&self) -> bool
         ensures { result ≡ is_none (bounds_of self.now) }
     {

@@ -18,6 +18,7 @@ pub struct UsedCells<'a, T> {
 impl<'a, T> UsedCells<'a, T> {
     ghost use Rattle.cell_data.specs.RangeItems.{used_left, used_items};
 
+    /// The used cells of this range, of which none was taken yet.
     pub fn new(range: &'a Range<T>) -> UsedCells<'a, T>
         ensures { used_left result ≡ used_items range.now }
     {
@@ -58,6 +59,7 @@ pub struct Cells<'a, T> {
 impl<'a, T> Cells<'a, T> {
     ghost use Rattle.cell_data.specs.RangeItems.{cells_left, box_items};
 
+    /// The cells of this range's area, of which none was taken yet.
     pub fn new(range: &'a Range<T>) -> Cells<'a, T>
         ensures { cells_left result ≡ box_items range.now }
     {
@@ -124,6 +126,7 @@ pub struct Rows<'a, T> {
 impl<'a, T> Rows<'a, T> {
     ghost use Rattle.cell_data.specs.RangeItems.{rows_left, row_items};
 
+    /// The rows of this range's area, of which none was taken yet.
     pub fn new(range: &'a Range<T>) -> Rows<'a, T>
         ensures { rows_left result ≡ row_items range.now }
     {

@@ -23,6 +23,7 @@ impl Model for ColumnName {
 }
 
 impl ColumnName {
+    /// The letters of the name.
     pub fn as_str(&self) -> &str
         ensures value { result.now ≡ self.now }
         ensures capitals { All IsCapital result.now }

@@ -82,7 +82,7 @@ fn count_parts(dimension: &str) -> Result<usize, RefError>
 /// The area that a text such as `C2:D35` names. A single reference is both ends.
 ///
 /// Each part between colons is read in order, and the first that is no reference is the refusal;
-/// more than two parts are refused after that, with their number.
+/// more than two parts are refused after that as `DimensionCount`, with their number.
 #[tactic(auto, unfolding(crate::specs::A1::area))]
 pub fn get_dimension(dimension: &str) -> Result<Dimensions, RefError>
     ensures { result ≡ area dimension.now }

@@ -106,6 +106,9 @@ pub fn get_row_column(range: &str) -> Result<(u32, u32), RefError>
 }
 
 /// The row, counted from 0, that a text such as `107` or `C107` names, whatever its column.
+///
+/// The text is decimal digits, behind letters of either case or none. It is refused as
+/// `Alphanumeric`, `RangeWithoutRowComponent` or `RowNumberOverflow`; see `RefError`.
 #[tactic(auto, unfolding(crate::specs::A1::row_of), using(crate::proofs::Scans::whole_scan))]
 pub fn get_row(range: &str) -> Result<u32, RefError>
     ensures value { result ≡ row_of range.now }

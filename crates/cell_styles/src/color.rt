@@ -15,6 +15,7 @@ pub struct Color {
 impl Color {
     ghost use Rattle.cell_styles.specs.Color.{argb_of, color_of_argb};
 
+    /// The color of these channels.
     pub fn new(alpha: u8, red: u8, green: u8, blue: u8) -> Color
         ensures { result ≡ record { alpha = alpha; red = red; green = green; blue = blue } }
     {

@@ -68,12 +68,14 @@ impl Model for Font {
 }
 
 impl Font {
+    /// Whether the font is bold.
     pub fn is_bold(&self) -> bool
         ensures { IsTrue result ↔ (self.now.weight ≡ FontWeight.Bold) }
     {
         self.weight == FontWeight::Bold
     }
 
+    /// Whether the font is italic.
     pub fn is_italic(&self) -> bool
         ensures { IsTrue result ↔ (self.now.style ≡ FontStyle.Italic) }
     {

@@ -35,6 +35,8 @@ impl<'a> StyleRangeCells<'a> {
     ghost use Rattle.cell_styles.specs.StyleRuns.{numbers_along};
     ghost use Rattle.cell_styles.specs.StyleItems.{LieAhead, cells_along};
 
+    /// The positions of this area with their styles, of which none was taken yet. The runs give the
+    /// ids of the positions, in order. An id is a place in the palette, counted from 0.
     pub fn new(area: Dimensions, palette: &'a [Style], runs: &'a [StyleRun]) -> StyleRangeCells<'a>
         requires { LieAhead area (length palette.now) 0 runs.now }
         ensures { result ≡ cells_along area palette.now 0 (numbers_along 0 runs.now) }

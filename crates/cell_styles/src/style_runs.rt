@@ -48,6 +48,7 @@ impl Model for StyleRuns {
 }
 
 impl StyleRuns {
+    /// The ids of no cell.
     pub fn new(alloc: Global) -> StyleRuns
         ensures { result ≡ [] }
     {

@@ -35,6 +35,8 @@ impl<'a> StyledCells<'a> {
     ghost use Rattle.cell_styles.specs.StyleRuns.{numbers_along};
     ghost use Rattle.cell_styles.specs.StyleItems.{LieWithin, styled_along};
 
+    /// The positions of this area with an id above 0, of which none was taken yet. The runs give
+    /// the ids of the positions, in order.
     pub fn new(area: Dimensions, runs: &'a [StyleRun]) -> StyledCells<'a>
         requires { LieWithin area 0 runs.now }
         ensures { result ≡ styled_along area 0 (numbers_along 0 runs.now) }

@@ -9,6 +9,7 @@ ghost use Rattle.decimals.specs.Decimals.{with_point, with_exponent, printed_dig
 use itoa::Buffer;
 use std::alloc::AllocError;
 
+/// Appends `-` where the number is negative, and nothing elsewhere.
 pub fn push_sign(out: &mut String, is_negative: bool) -> Result<(), AllocError>
     ensures ok { OnOk result
         (string_bytes out.new ≡ string_bytes out.old ++ sign_text is_negative) }

@@ -27,6 +27,7 @@ fn scaled(number: u128, power: usize) -> Option<u128>
 }
 
 impl Significand {
+    /// No digits.
     pub const NONE: Significand = Significand {
         number: 0,
         zeros: 0,

@@ -45,6 +45,7 @@ pub struct Pieces<'a> {
 impl<'a> Pieces<'a> {
     ghost use Rattle.formula_shift.specs.Pieces.{pieces_left, text_left};
 
+    /// The pieces of this formula, of which none was taken yet.
     pub fn new(formula: &'a str) -> Pieces<'a>
         ensures text { text_left result ≡ formula.now }
         ensures pieces { pieces_left result ≡ pieces formula.now }

@@ -41,7 +41,8 @@ impl Cursor {
     }
 
     /// Takes the next event of the part. Answers false at the part's end. An end has to have the
-    /// whole name of the innermost open element.
+    /// whole name of the innermost open element, and is refused otherwise as `Xml(EndMismatch)`
+    /// with its number, counted from 0.
     pub fn next<P: Package>(&mut self, package: &mut P) -> Result<bool, StreamError>
         requires { IsReading (reading (P.state «package».old) self.old) }
         ensures reads { let old = reading (P.state «package».old) self.old in

@@ -47,6 +47,7 @@ impl FailingPackage {
         }
     }
 
+    /// The package that was given to `new`, as the calls left it.
     pub fn into_inner(self) -> MemoryPackage
         ensures { result ≡ self.inner }
     {

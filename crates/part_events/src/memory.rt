@@ -98,6 +98,7 @@ impl MemoryPackage {
         self.place = None;
     }
 
+    /// How many parts the package has.
     pub fn part_count(&self) -> usize
         ensures { result ≡ length self.now.parts }
     {

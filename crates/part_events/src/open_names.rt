@@ -25,6 +25,7 @@ impl Model for OpenNames {
 }
 
 impl OpenNames {
+    /// The names where no element is open.
     pub fn new(alloc: Global) -> OpenNames
         ensures { result ≡ [] }
     {
@@ -62,6 +63,7 @@ impl OpenNames {
         true
     }
 
+    /// How many names there are.
     pub fn len(&self) -> usize
         ensures { result ≡ length self.now }
     {

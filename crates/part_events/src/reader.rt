@@ -42,7 +42,7 @@ impl<P: Package, C: Drop> Drop for XlReader<'_, P, C> {
 impl<'a, P: Package> XlReader<'a, P> {
     ghost use Rattle.part_events.specs.Reader.{reading_by, held_package, SamePackage};
 
-    /// Opens the part of this name. Answers None where there is none.
+    /// Opens the part of this name. Answers None where there is none. Its only refusal is `Io`.
     ///
     /// A caller who has to know what became of the package without a reader calls
     /// `package.open(name)`, then `over`.
@@ -94,7 +94,8 @@ impl<'a, P: Package> XlReader<'a, P> {
     }
 
     /// Takes the next event of the part. Answers false at the part's end. An end has to have the
-    /// whole name of the innermost open element.
+    /// whole name of the innermost open element, and is refused otherwise as `Xml(EndMismatch)`
+    /// with its number, counted from 0.
     pub fn next(&mut self) -> Result<bool, StreamError>
         requires reading { IsReading (reading_by P.state self.old) }
         ensures same_package { SamePackage self.old self.new }
@@ -121,7 +122,9 @@ impl<'a, P: Package> XlReader<'a, P> {
         self.package.event()
     }
 
-    /// Reads to the end of the element at whose start the reader stands.
+    /// Reads to the end of the element at whose start the reader stands. A part that ends before is
+    /// refused as `Xml(Unclosed)` with the number of its events. An end that breaks the nesting is
+    /// refused as `Xml(EndMismatch)` with its number, counted from 0.
     pub fn skip_element(&mut self) -> Result<(), StreamError>
         requires reading { IsReading (reading_by P.state self.old) }
         requires element { IsAtElement (reading_by P.state self.old) }
@@ -145,6 +148,9 @@ impl<'a, P: Package> XlReader<'a, P> {
     /// where `char_data` says so, with their line ends as LF, and the character of each reference.
     /// Reads to the element's end, and answers false where the part ends before. After a refusal
     /// `out` has its old text and that of the events before.
+    ///
+    /// A reference without a character is refused as `Xml(Entity)`, and an end that breaks the
+    /// nesting as `Xml(EndMismatch)`, each with its number, counted from 0.
     pub fn read_text(&mut self, out: &mut String, char_data: bool) -> Result<bool, StreamError>
         requires reading { IsReading (reading_by P.state self.old) }
         requires element { IsAtElement (reading_by P.state self.old) }
@@ -172,6 +178,9 @@ impl<'a, P: Package> XlReader<'a, P> {
 
     /// Takes the next event of the section whose element is number `base` of the open ones, counted
     /// from 1. With a `base` of 0 the section is the whole part.
+    ///
+    /// A part that ends in the section is no refusal. An end that breaks the nesting is refused as
+    /// `Xml(EndMismatch)` with its number, counted from 0.
     pub fn next_inside(&mut self, base: usize) -> Result<Step, StreamError>
         requires reading { IsReading (reading_by P.state self.old) }
         requires within { base ≤ length (reading_by P.state self.old).names }
@@ -194,6 +203,9 @@ impl<'a, P: Package> XlReader<'a, P> {
     /// Reads on to the next start with one of these local names, at any depth of the section whose
     /// element is number `base` of the open ones, counted from 1. With a `base` of 0 the whole part
     /// is walked over.
+    ///
+    /// A part that ends in the section is no refusal. An end that breaks the nesting is refused as
+    /// `Xml(EndMismatch)` with its number, counted from 0.
     pub fn next_start(&mut self, base: usize, names: &[&str]) -> Result<Step, StreamError>
         requires reading { IsReading (reading_by P.state self.old) }
         requires within { base ≤ length (reading_by P.state self.old).names }
@@ -219,6 +231,9 @@ impl<'a, P: Package> XlReader<'a, P> {
     /// Reads on to the next element with one of these local names in such a section. Each element
     /// that is found has to be read to its end before the next one is asked for, so that those that
     /// lie in it are left aside.
+    ///
+    /// A part that ends in the section is no refusal. An end that breaks the nesting is refused as
+    /// `Xml(EndMismatch)` with its number, counted from 0.
     pub fn next_element(&mut self, base: usize, names: &[&str]) -> Result<Step, StreamError>
         requires reading { IsReading (reading_by P.state self.old) }
         requires within { base ≤ length (reading_by P.state self.old).names }
@@ -244,6 +259,9 @@ impl<'a, P: Package> XlReader<'a, P> {
 
     /// Reads on to the next child of the element that is number `base` of the open ones. Each child
     /// has to be read to its end before the next one is asked for.
+    ///
+    /// A part that ends in the element is no refusal. An end that breaks the nesting is refused as
+    /// `Xml(EndMismatch)` with its number, counted from 0.
     pub fn next_child(&mut self, base: usize) -> Result<Step, StreamError>
         requires reading { IsReading (reading_by P.state self.old) }
         requires within { base ≤ length (reading_by P.state self.old).names }

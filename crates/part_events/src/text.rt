@@ -16,7 +16,8 @@ use crate::walk::Step;
 use attr_text::{TextFault, push_entity, push_line_ends};
 
 /// Appends the text of an event: a Text, or a CharData where `char_data` says so, with its line
-/// ends as LF, or the character of a reference. After a refusal `out` is as it was.
+/// ends as LF, or the character of a reference. After a refusal `out` is as it was. A reference
+/// without a character is refused as `Entity`.
 pub fn push_text(out: &mut String, event: PartEvent<'_>, char_data: bool) -> Result<(), TextFault>
     ensures ok { let text = event_text char_data (event_of event.entry) in
         OnOk result (string_bytes out.new ≡ string_bytes out.old ++ text) }
@@ -55,6 +56,9 @@ impl Cursor {
     /// where `char_data` says so, with their line ends as LF, and the character of each reference.
     /// Reads to the element's end, and answers false where the part ends before. After a refusal
     /// `out` has its old text and that of the events before.
+    ///
+    /// A reference without a character is refused as `Xml(Entity)`, and an end that breaks the
+    /// nesting as `Xml(EndMismatch)`, each with its number, counted from 0.
     pub fn read_text<P: Package>(
         &mut self,
         package: &mut P,

@@ -58,6 +58,9 @@ impl Wanted<'_> {
 impl Cursor {
     /// Takes the next event of the section whose element is number `base` of the open ones, counted
     /// from 1. With a `base` of 0 the section is the whole part.
+    ///
+    /// A part that ends in the section is no refusal. An end that breaks the nesting is refused as
+    /// `Xml(EndMismatch)` with its number, counted from 0.
     pub fn next_inside<P: Package>(
         &mut self,
         package: &mut P,
@@ -132,6 +135,9 @@ impl Cursor {
     /// Reads on to the next start with one of these local names, at any depth of the section whose
     /// element is number `base` of the open ones, counted from 1. With a `base` of 0 the whole part
     /// is walked over.
+    ///
+    /// A part that ends in the section is no refusal. An end that breaks the nesting is refused as
+    /// `Xml(EndMismatch)` with its number, counted from 0.
     pub fn next_start<P: Package>(
         &mut self,
         package: &mut P,
@@ -162,6 +168,9 @@ impl Cursor {
     /// Reads on to the next element with one of these local names in such a section. Each element
     /// that is found has to be read to its end before the next one is asked for, so that those that
     /// lie in it are left aside.
+    ///
+    /// A part that ends in the section is no refusal. An end that breaks the nesting is refused as
+    /// `Xml(EndMismatch)` with its number, counted from 0.
     pub fn next_element<P: Package>(
         &mut self,
         package: &mut P,
@@ -192,6 +201,9 @@ impl Cursor {
 
     /// Reads on to the next child of the element that is number `base` of the open ones. Each child
     /// has to be read to its end before the next one is asked for.
+    ///
+    /// A part that ends in the element is no refusal. An end that breaks the nesting is refused as
+    /// `Xml(EndMismatch)` with its number, counted from 0.
     pub fn next_child<P: Package>(
         &mut self,
         package: &mut P,
@@ -216,7 +228,9 @@ impl Cursor {
         self.walk(package, base, Wanted::Any)
     }
 
-    /// Reads to the end of the element at whose start the package stands.
+    /// Reads to the end of the element at whose start the package stands. A part that ends before
+    /// is refused as `Xml(Unclosed)` with the number of its events. An end that breaks the nesting
+    /// is refused as `Xml(EndMismatch)` with its number, counted from 0.
     pub fn skip_element<P: Package>(&mut self, package: &mut P) -> Result<(), StreamError>
         requires reading { IsReading (reading (P.state «package».old) self.old) }
         requires element { IsAtElement (reading (P.state «package».old) self.old) }

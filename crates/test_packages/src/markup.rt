@@ -73,7 +73,8 @@ fn refuse_text(text: &str) -> Result<(), XlsxError> {
     Err(XlsxError::Unexpected("test markup with a text before its first tag"))
 }
 
-/// The events of this markup.
+/// The events of this markup. A text before the first tag that is no layout, and a tag that has no
+/// `>`, are refused as `Unexpected`.
 pub fn events_of(alloc: Global, markup: &str) -> Result<Vec<PartEvent<'_>>, XlsxError> {
     let mut events = Vec::new(alloc);
     let Some((before, pieces)) = markup.split_once('<') else {
@@ -87,7 +88,7 @@ pub fn events_of(alloc: Global, markup: &str) -> Result<Vec<PartEvent<'_>>, Xlsx
     Ok(events)
 }
 
-/// Adds a part with the first events of this markup.
+/// Adds a part with the first events of this markup. Markup that `events_of` refuses is refused.
 pub fn add_front(
     package: &mut MemoryPackage,
     alloc: Global,
@@ -103,7 +104,8 @@ pub fn add_front(
     Ok(())
 }
 
-/// A package of these parts. The first of a name is found.
+/// A package of these parts. The first of a name is found. Markup that `events_of` refuses is
+/// refused.
 pub fn package_of(alloc: Global, parts: &[Part<'_>]) -> Result<MemoryPackage, XlsxError> {
     let mut package = MemoryPackage::new(alloc);
     for part in parts {
@@ -112,7 +114,8 @@ pub fn package_of(alloc: Global, parts: &[Part<'_>]) -> Result<MemoryPackage, Xl
     Ok(package)
 }
 
-/// A package of one part, with the first events of its markup.
+/// A package of one part, with the first events of its markup. Markup that `events_of` refuses is
+/// refused.
 pub fn package_front(
     alloc: Global,
     part: Part<'_>,

@@ -66,6 +66,7 @@ pub struct Counters {
 }
 
 impl Counters {
+    /// The counters at the start of a sheet's data, at row 0 and column 0.
     pub fn new() -> Counters
         ensures { AreKept [] result }
     {

@@ -105,7 +105,8 @@ fn keep_id(
     Ok(())
 }
 
-/// Reads the rest of a sheet's data, of which nothing was taken yet, to their end.
+/// Reads the rest of a sheet's data, of which nothing was taken yet, to their end. Rows, cells and
+/// the end of the part are refused as by `SheetCursor::next`.
 pub fn collect<P: Package>(
     alloc: Global,
     package: &mut P,

@@ -44,6 +44,11 @@ impl<P: Package> Xlsx<P> {
     ///
     /// The shared strings are read first, then the theme and the styles (sections 18.4, 20.1.6 and
     /// 18.8), each of which may be absent. A faulty theme refuses nothing.
+    ///
+    /// Fails with `FileNotFound` where the package's relationships or the workbook's have no part.
+    /// Fails with `RelationshipNotFound` where no relationship leads to a workbook or to one of its
+    /// sheets, and with `Unrecognized` where the state or the type of a sheet is none. Else a part
+    /// that can't be read gives the refusal, which is `Xml`, `XmlAttr` or `XmlEof`.
     pub fn new(alloc: Global, package: P) -> Result<Xlsx<P>, OpenFailure<P>>
         ensures uses { MatchResult result
             (λ xlsx. OpensFrom (P.state «package») (P.state xlsx.package))

@@ -150,6 +150,11 @@ fn open_at<P: Package>(alloc: Global, package: &mut P, path: &str) -> Result<Ope
 ///
 /// The shared strings are read first, then the theme and the styles, each of which may be absent.
 /// They stand in the folder of the workbook. The default theme stands for a faulty one.
+///
+/// Fails with `FileNotFound` where the package's relationships or the workbook's have no part.
+/// Fails with `RelationshipNotFound` where no relationship leads to a workbook or to one of its
+/// sheets, and with `Unrecognized` where the state or the type of a sheet is none. Else a part that
+/// can't be read gives the refusal, which is `Xml`, `XmlAttr` or `XmlEof`.
 pub fn open<P: Package>(alloc: Global, package: &mut P) -> Result<Opened, XlsxError>
     ensures uses { let old = P.state «package».old in
         let new = P.state «package».new in

@@ -7,7 +7,8 @@ use std::alloc::Global;
 use xlsx_error::XlsxError;
 
 /// A text of the attributes of a start, which is event number `at` of its part, counted from 0,
-/// decoded.
+/// decoded. An `&` that has no later `;`, or whose name has no character, is `Xml(Entity)` with
+/// that number.
 pub fn decode_at(alloc: Global, text: &str, at: u64) -> Result<String, XlsxError>
     ensures ok { IfOk result (λ out. (behind : ℕ) → decoded_at behind text.now
         ≡ Ok (string_bytes out)) }

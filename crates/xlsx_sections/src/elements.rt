@@ -19,6 +19,9 @@ use xlsx_error::XlsxError;
 /// from 0, and None at the section's end.
 ///
 /// An element that is found has to be read to its end before the next one is asked for.
+///
+/// A part that ends in the section is `XmlEof(section)`, and an end that breaks the nesting is
+/// `Xml(EndMismatch)` with its number in the part, counted from 0.
 pub fn next_element_in<P: Package>(
     package: &mut P,
     cursor: &mut Cursor,
@@ -58,6 +61,9 @@ pub fn next_element_in<P: Package>(
 /// 1. Answers the number of its start in the part, counted from 0, and None at the element's end.
 ///
 /// A child that is found has to be read to its end before the next one is asked for.
+///
+/// A part that ends in the element is `XmlEof(section)`, and an end that breaks the nesting is
+/// `Xml(EndMismatch)` with its number in the part, counted from 0.
 pub fn next_child_in<P: Package>(
     package: &mut P,
     cursor: &mut Cursor,
@@ -93,6 +99,10 @@ pub fn next_child_in<P: Package>(
 /// CharData where `char_data` says so, with their line ends as LF, and the character of each
 /// reference. Reads to the element's end. After a refusal the texts of some of its first events are
 /// appended.
+///
+/// A part that ends in the element is `XmlEof(name)`. A reference without a character is
+/// `Xml(Entity)`, and an end that breaks the nesting is `Xml(EndMismatch)`, each with its number in
+/// the part, counted from 0.
 pub fn read_element_text<P: Package>(
     package: &mut P,
     cursor: &mut Cursor,
@@ -132,8 +142,9 @@ pub fn read_element_text<P: Package>(
 }
 
 /// Reads on to the end of the element that is number `base` of the open ones, counted from 1. Where
-/// the part ends before, the refusal tells this name, and without one the number of the part's
-/// events.
+/// the part ends before, the refusal is `XmlEof` with this name, and without one `Xml(Unclosed)`
+/// with the number of the part's events. An end that breaks the nesting is `Xml(EndMismatch)` with
+/// its number in the part, counted from 0.
 pub fn read_to_end<P: Package>(
     package: &mut P,
     cursor: &mut Cursor,
@@ -166,7 +177,9 @@ pub fn read_to_end<P: Package>(
 }
 
 /// Reads to the end of the element at whose start the package stands. Where the part ends before,
-/// the refusal tells this name, and without one the number of the part's events.
+/// the refusal is `XmlEof` with this name, and without one `Xml(Unclosed)` with the number of the
+/// part's events. An end that breaks the nesting is `Xml(EndMismatch)` with its number in the part,
+/// counted from 0.
 pub fn skip_element_in<P: Package>(
     package: &mut P,
     cursor: &mut Cursor,

@@ -28,6 +28,9 @@ pub fn start_tag<P: Package>(package: &P) -> StartTag<'_>
 }
 
 /// Reads on behind the first start of this local name in a part.
+///
+/// A part that ends before is `XmlEof(name)`, and an end that breaks the nesting is
+/// `Xml(EndMismatch)` with its number in the part, counted from 0.
 pub fn enter<P: Package>(
     package: &mut P,
     cursor: &mut Cursor,
@@ -57,6 +60,9 @@ pub fn enter<P: Package>(
 /// Reads on to the next start of one of these local names in a section, whose element is number
 /// `base` of the open ones, counted from 1. Answers the number of the start in its part, counted
 /// from 0, and None at the section's end.
+///
+/// A part that ends in the section is `XmlEof(section)`, and an end that breaks the nesting is
+/// `Xml(EndMismatch)` with its number in the part, counted from 0.
 pub fn next_start_among<P: Package>(
     package: &mut P,
     cursor: &mut Cursor,
@@ -93,6 +99,9 @@ pub fn next_start_among<P: Package>(
 /// Reads on to the next start of this local name in a section, whose element is number `base` of
 /// the open ones, counted from 1. Answers the number of the start in its part, counted from 0, and
 /// None at the section's end.
+///
+/// A part that ends in the section is `XmlEof(section)`, and an end that breaks the nesting is
+/// `Xml(EndMismatch)` with its number in the part, counted from 0.
 pub fn next_start_in<P: Package>(
     package: &mut P,
     cursor: &mut Cursor,
@@ -123,6 +132,9 @@ pub fn next_start_in<P: Package>(
 /// Takes the next event of a section, whose element is number `base` of the open ones, counted from
 /// 1. Answers the number of the event in its part, counted from 0, and None where that was the
 /// section's end.
+///
+/// A part that ends in the section is `XmlEof(section)`, and an end that breaks the nesting is
+/// `Xml(EndMismatch)` with its number in the part, counted from 0.
 pub fn next_event_in<P: Package>(
     package: &mut P,
     cursor: &mut Cursor,
@@ -154,6 +166,9 @@ pub fn next_event_in<P: Package>(
 
 /// Opens the part at this path, and reads on behind the start of its first section of this local
 /// name. Answers where reading stands then, and None where there is no such part.
+///
+/// A part that has no such section is `XmlEof(name)`, and one whose nesting breaks before is
+/// `Xml(EndMismatch)` with the number of the end that breaks it, counted from 0.
 pub fn enter_part<P: Package>(
     alloc: Global,
     package: &mut P,

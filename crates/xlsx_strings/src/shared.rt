@@ -60,6 +60,10 @@ fn strings_in<P: Package>(
 /// The shared strings in the part at this path, in order. A part that is absent has none. Each
 /// string takes the bytes of its text, and nothing is kept by the counts that the part tells.
 /// (ECMA-376 part 1, section 18.4.9.)
+///
+/// A part that has no section `sst`, or ends in it outside its strings, is `XmlEof("sst")`. One
+/// that ends in a string is refused as by `read_string`. A reference without a character in a text
+/// that is read is `Xml(Entity)` with its number in the part, counted from 0.
 pub fn read_shared_strings<P: Package>(
     alloc: Global,
     package: &mut P,

@@ -92,7 +92,8 @@ fn alignment_texts<'a>(e: &'a StartTag<'_>) -> Result<AlignmentTexts<'a>, AttrFa
 }
 
 /// The alignment that a start says by its attributes (ECMA-376 part 1, section 18.8.1). Texts that
-/// name nothing count as absent.
+/// name nothing count as absent. It is refused only where the attributes end in a fault and some
+/// key of an alignment has no pair.
 pub fn parse_alignment(e: &StartTag<'_>) -> Result<Alignment, AttrFault>
     ensures { alignment_of (tag_of e.now) ≡ result }
 {
@@ -108,7 +109,8 @@ pub fn parse_alignment(e: &StartTag<'_>) -> Result<Alignment, AttrFault>
 }
 
 /// The protection that a start says by its attributes (ECMA-376 part 1, section 18.8.33): what
-/// names nothing is locked and not hidden.
+/// names nothing is locked and not hidden. It is refused only where the attributes end in a fault
+/// and `locked` or `hidden` has no pair.
 pub fn parse_protection(e: &StartTag<'_>) -> Result<Protection, AttrFault>
     ensures { protection_of (tag_of e.now) ≡ result }
 {

@@ -131,6 +131,7 @@ fn color_texts<'a>(
 
 /// The color that a start names by its attributes `rgb`, `theme`, `indexed` and `tint`, and None
 /// where the text of the first key that is there is no color's (ECMA-376 part 1, section 18.8.3).
+/// It is refused only where the attributes end in a fault and one of these keys has no pair.
 pub fn parse_color(e: &StartTag<'_>, theme_colors: &[Color]) -> Result<Option<Color>, AttrFault>
     ensures { color_of theme_colors.now (tag_of e.now) ≡ result }
 {

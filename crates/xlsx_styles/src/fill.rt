@@ -98,6 +98,8 @@ fn change_fill(fill: &mut Fill, tag: StartTag<'_>, theme_colors: &[Color]) -> Re
 
 /// Reads the fill at whose start the package stands, to its end (ECMA-376 part 1, section
 /// 18.8.20). Colors are named by the colors of the theme.
+///
+/// A part that ends before is `XmlEof("fill")`.
 #[tactic(auto, using(crate::proofs::StepErrors::plain_step))]
 pub fn read_fill<P: Package>(
     package: &mut P,

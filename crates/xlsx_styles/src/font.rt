@@ -63,6 +63,9 @@ fn change_font(
 
 /// Reads the font at whose start the package stands, to its end (ECMA-376 part 1, section
 /// 18.8.22). Colors are named by the colors of the theme.
+///
+/// A part that ends before is `XmlEof("font")`, and a name with a reference without a character is
+/// `Xml(Entity)` with the number of its start, counted from 0.
 #[tactic(auto, using(crate::proofs::FontErrors::font_step))]
 pub fn read_font<P: Package>(
     alloc: Global,

@@ -34,8 +34,8 @@ fn read_piece<S: Source>(
     Ok(true)
 }
 
-/// Reads the source to its end; more bytes than the limit, and a failure of the source, are
-/// refused.
+/// Reads the source to its end. More bytes than the limit are refused as `InputTooLarge`, and a
+/// failure of the source as `ReadFault`.
 pub fn read_input<S: Source>(alloc: Global, source: &mut S) -> Result<Vec<u8>, ToolError>
     ensures ok { let old = S.state source.old in
         let new = S.state source.new in

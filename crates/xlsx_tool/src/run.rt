@@ -89,7 +89,7 @@ fn lines_from<S: Source>(alloc: Global, source: &mut S, name: &str) -> Result<St
     lines_of(alloc, package, name)
 }
 
-/// Writes the bytes, whole.
+/// Writes the bytes, whole. A failure of the sink is refused as `WriteFault`.
 pub fn send<K: Sink>(sink: &mut K, bytes: &[u8]) -> Result<(), ToolError>
     ensures ok { OnOk result (IsSent bytes.now (K.state sink.old) (K.state sink.new)) }
     ensures err { IfErr result (SendFails bytes.now (K.state sink.old) (K.state sink.new)) }

@@ -157,6 +157,7 @@ impl<W: Write> Model for StdSink<W> {
 }
 
 impl<W: Write> StdSink<W> {
+    /// The sink that writes to this writer.
     pub fn new(inner: W) -> StdSink<W>
         ensures { result ≡ record { written = W.contents inner; faults = 0 } }
     {

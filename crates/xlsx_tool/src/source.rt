@@ -139,6 +139,7 @@ impl<R: Read> Model for StdSource<R> {
 }
 
 impl<R: Read> StdSource<R> {
+    /// The source of what this reader gives.
     pub fn new(inner: R) -> StdSource<R>
         ensures { result ≡ record { left = R.remaining inner; faults = 0 } }
     {

@@ -97,6 +97,11 @@ fn relationships_in<P: Package>(
 }
 
 /// The path of the workbook, by the relationships in the part at this path.
+///
+/// Fails with `FileNotFound` where there is no such part, and with `RelationshipNotFound` where no
+/// relationship to an office document has a target. A part that has no section `Relationships`, or
+/// ends in it, is `XmlEof("Relationships")`. Such a target with a reference without a character is
+/// `Xml(Entity)` with the number of its start, counted from 0.
 #[tactic(auto, using(crate::proofs::WorkbookErrors::relationships_step))]
 pub fn read_path<P: Package>(
     alloc: Global,
@@ -128,6 +133,9 @@ pub fn read_path<P: Package>(
 }
 
 /// The relationships in the part at this path, by their Ids.
+///
+/// Fails with `FileNotFound` where there is no such part. A part that has no section
+/// `Relationships`, or ends in it, is `XmlEof("Relationships")`.
 #[tactic(auto, using(crate::proofs::WorkbookErrors::relationships_step))]
 pub fn read_relationships<P: Package>(
     alloc: Global,

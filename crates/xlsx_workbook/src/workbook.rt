@@ -288,6 +288,11 @@ fn contents_in<P: Package>(
 }
 
 /// What the workbook's part at this path holds. A part that is absent holds nothing.
+///
+/// Fails with `RelationshipNotFound` where a sheet is in no relationship, and with `Unrecognized`
+/// where the state or the type of a sheet is none. A part that has no section `workbook`, or ends
+/// in it, is `XmlEof("workbook")`. A reference without a character in a name, or in the text of a
+/// defined name, is `Xml(Entity)` with the number of its event, counted from 0.
 #[tactic(auto, using(crate::proofs::WorkbookErrors::workbook_step))]
 pub fn read_contents<P: Package>(
     alloc: Global,
