@@ -1,14 +1,15 @@
 -- How the text of an element is read, event by event.
 use Rattle.std.proofs.Common.{◌≡◌, ℕ, suc, ◌+◌, ◌-◌, List, [], ◌∷◌, ◌++◌, length, reverse, Bool}
 use Rattle.std.proofs.Common.{true, false, refl, sym, ◌∙◌, ap, arith, append_assoc, append-nil}
-use Rattle.std.proofs.Common.{Option, Some, None}
-use Rattle.std.specs.Prelude.{if◌then◌else◌, slice_get, IsSomeAnd}
+use Rattle.std.proofs.Common.{Some, None}
+use Rattle.std.specs.Prelude.{slice_get, IsSomeAnd}
 use Rattle.std.proofs.lemmas.List.{length-append, length-reverse}
 use Rattle.attr_text.specs.declared.fault.TextFault.{TextFault}
 use Rattle.attr_text.specs.declared.fault.TextFault.TheVariants as text_fault
-use Rattle.part_events.specs.Event.{Event, start, end, leaf}
+use Rattle.part_events.specs.Event.{Event}
 use Rattle.part_events.specs.JoinedText.{EventFails, text_error, event_text, joined_text}
 use Rattle.part_events.specs.JoinedText.{is_unknown, unknown_entity, TextFails, IsUnknownAt}
+use Rattle.part_events.specs.JoinedText.{IsFrontOf}
 use Rattle.part_events.specs.Reading.{Reading, IsTracked, ahead, events_of}
 use Rattle.part_events.specs.Section.{content, is_closed, behind}
 use Rattle.part_events.specs.Walk.{inside, TakesInside}
@@ -24,6 +25,15 @@ pub record HasRead (data_too : Bool) (base : ℕ) (old now : Reading) (texts : L
   pub known : unknown_entity front ≡ None
   pub closed : is_closed 0 (ahead old) ≡ is_closed (inside base now) (ahead now)
   pub behind : behind 0 (ahead old) ≡ behind (inside base now) (ahead now)
+
+-- more was put behind a text that begins with another
+pub front_further : (first next last : List ℕ) → IsFrontOf first next → IsFrontOf next last
+    → IsFrontOf first last
+front_further first next last before after = (
+  before.0 ++ after.0,
+  after.1 ∙ (ap (λ (text : List ℕ). text ++ after.0) before.1
+      ∙ append_assoc first before.0 after.0),
+)
 
 joined_text-push : (data_too : Bool) (front : List Event) (event : Event)
     → joined_text data_too (front ++ event ∷ [])

@@ -47,6 +47,10 @@ unknown_entity [] = None
 unknown_entity (event ∷ events) =
     if is_unknown event then Some (length events) else unknown_entity events
 
+-- a text begins with another, whatever stands behind it
+abbrev pub IsFrontOf : List ℕ → List ℕ → Type 0
+IsFrontOf front whole = (more : List ℕ) × (whole ≡ front ++ more)
+
 -- what became of the buffer, from its old text to its new one: the text of a front of the events
 -- was put behind it
 pub record PutsFront (data_too : Bool) (events : List Event) (texts : List ℕ

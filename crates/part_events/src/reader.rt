@@ -2,7 +2,7 @@ ghost use Rattle.std.specs.Prelude.{◌≡◌, ℕ, List, suc, [], ◌≤◌, le
 ghost use Rattle.std.specs.Prelude.{MatchOption, OnOk, OnErr, IfOk, IfErr, string_bytes, IfSome};
 ghost use Rattle.part_events.specs.declared.fault.StreamError.TheVariants.{Io};
 ghost use Rattle.part_events.specs.Event.{event_of};
-ghost use Rattle.part_events.specs.JoinedText.{PutsFront, ReadsText, TextFails};
+ghost use Rattle.part_events.specs.JoinedText.{IsFrontOf, PutsFront, ReadsText, TextFails};
 ghost use Rattle.part_events.specs.Package.{part_of};
 ghost use Rattle.part_events.specs.Reading.{ahead, events_of, OpensReader, IsReading, IsAtStart};
 ghost use Rattle.part_events.specs.Reading.{IsAtElement, Reads, Steps, StepsAhead, NextFails};
@@ -165,6 +165,7 @@ impl<'a, P: Package> XlReader<'a, P> {
             let texts : List ℕ × List ℕ = (string_bytes out.old, string_bytes out.new) in
             old.source.is_told ≡ true → IfOk result
             (λ closed. ReadsText char_data closed texts old new) }
+        ensures kept { IsFrontOf (string_bytes out.old) (string_bytes out.new) }
         ensures front { let old = reading_by P.state self.old in
             let texts : List ℕ × List ℕ = (string_bytes out.old, string_bytes out.new) in
             old.source.is_told ≡ true → OnErr result (PutsFront char_data (content 0

@@ -3,7 +3,7 @@ ghost use Rattle.std.specs.Prelude.{OnErr, IfOk, IfErr, string_bytes};
 ghost use Rattle.part_events.specs.declared.fault.StreamError.TheVariants.{Io};
 ghost use Rattle.part_events.specs.Event.{event_of};
 ghost use Rattle.part_events.specs.JoinedText.{text_error, event_text, is_unknown, EventFails};
-ghost use Rattle.part_events.specs.JoinedText.{PutsFront, ReadsText, TextFails};
+ghost use Rattle.part_events.specs.JoinedText.{IsFrontOf, PutsFront, ReadsText, TextFails};
 ghost use Rattle.part_events.specs.Reading.{reading, events_taken, open_elements, IsReading};
 ghost use Rattle.part_events.specs.Reading.{IsAtElement, Reads, ahead};
 ghost use Rattle.part_events.specs.Section.{content};
@@ -77,6 +77,7 @@ impl Cursor {
             let texts : List ℕ × List ℕ = (string_bytes out.old, string_bytes out.new) in
             old.source.is_told ≡ true → IfOk result
             (λ closed. ReadsText char_data closed texts old new) }
+        ensures kept { IsFrontOf (string_bytes out.old) (string_bytes out.new) }
         ensures front { let old = reading (P.state «package».old) self.old in
             let texts : List ℕ × List ℕ = (string_bytes out.old, string_bytes out.new) in
             old.source.is_told ≡ true → OnErr result (PutsFront char_data (content 0

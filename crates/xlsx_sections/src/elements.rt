@@ -1,6 +1,6 @@
 ghost use Rattle.std.specs.Prelude.{◌≡◌, ◌≤◌, ◌++◌, List, ℕ, suc, length, map, true, Ok, Option};
 ghost use Rattle.std.specs.Prelude.{option_map, string_bytes, IfOk, OnOk, IfErr, OnErr};
-ghost use Rattle.part_events.specs.JoinedText.{joined_text, PutsFront};
+ghost use Rattle.part_events.specs.JoinedText.{joined_text, IsFrontOf, PutsFront};
 ghost use Rattle.part_events.specs.Reading.{reading, open_elements, IsReading, IsAtElement};
 ghost use Rattle.part_events.specs.Reading.{ReadsPart, Skips, ahead};
 ghost use Rattle.part_events.specs.Section.{Element, content, is_any, is_named};
@@ -126,6 +126,7 @@ pub fn read_element_text<P: Package>(
         old.source.is_told ≡ true → OnOk result
         ((element_text char_data inside ≡ Ok text)
         × (string_bytes out.new ≡ string_bytes out.old ++ text)) }
+    ensures kept { IsFrontOf (string_bytes out.old) (string_bytes out.new) }
     ensures front { let old = reading (P.state «package».old) cursor.old in
         let texts : List ℕ × List ℕ = (string_bytes out.old, string_bytes out.new) in
         old.source.is_told ≡ true → OnErr result

@@ -18,7 +18,6 @@ use Rattle.xlsx_sections.specs.Refusal.{Refusal, in_element}
 use Rattle.xlsx_sections.proofs.ElementsRead.{own_inside}
 use Rattle.xlsx_sections.proofs.SectionsRead.{same_tag}
 use Rattle.xlsx_strings.specs.Strings.{is_text, text_within, piece_of, end_in_piece, all_joined}
-use Rattle.xlsx_strings.specs.Strings.{IsFrontOf}
 
 or_false : (b : Bool) → (b || false) ≡ b
 or_false true = refl
@@ -39,18 +38,6 @@ text_piece_fails tag old new error is fails =
     (λ (inside : List Event). if b then Some (codes "t") else Some [])
     (λ (inside : List Event). if b then text_within tag inside else Ok []) old new error)
     (sym is) fails
-
--- a text begins with itself, and with what its beginning begins with
-pub front_same : (text : List ℕ) → IsFrontOf text text
-front_same text = ([], sym (append-nil text))
-
-pub front_further : (first next last : List ℕ) → IsFrontOf first next → IsFrontOf next last
-    → IsFrontOf first last
-front_further first next last before after = (
-  before.0 ++ after.0,
-  after.1 ∙ (ap (λ (text : List ℕ). text ++ after.0) before.1
-      ∙ append_assoc first before.0 after.0),
-)
 
 pub if_err_map : {A E : Type 0} {P Q : E → Type 0} (result : Result A E)
     → ((error : E) → P error → Q error) → IfErr result P → IfErr result Q

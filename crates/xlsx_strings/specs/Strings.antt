@@ -108,10 +108,6 @@ HasStrings parts path strings =
     (λ _. IsSomeAnd (closed_section_of (codes "sst") path parts)
     (λ inside. strings_in inside ≡ Ok strings))
 
--- a text begins with another, whatever stands behind it
-abbrev pub IsFrontOf : List ℕ → List ℕ → Type 0
-IsFrontOf front text = (more : List ℕ) × (text ≡ front ++ more)
-
 -- the refusals that reading a string can have, whatever the package tells
 abbrev pub IsStringError : XlsxError → Type 0
 IsStringError Io = ⊤

@@ -3,6 +3,7 @@ ghost use Rattle.std.specs.Prelude.{string_bytes, IfOk, OnOk, OnErr, IfErr};
 ghost use Rattle.std.specs.List.{list_any};
 ghost use Rattle.attr_text.specs.Text.{unescaped};
 ghost use Rattle.part_events.specs.Event.{Tag, start, tag_of};
+ghost use Rattle.part_events.specs.JoinedText.{IsFrontOf};
 ghost use Rattle.part_events.specs.Reading.{reading, open_elements, IsReading, IsAtElement};
 ghost use Rattle.part_events.specs.Reading.{ReadsPart, Skips, ahead};
 ghost use Rattle.part_events.specs.Section.{content};
@@ -10,8 +11,7 @@ ghost use Rattle.xlsx_error.specs.declared.error.XlsxError.TheVariants.{Io};
 ghost use Rattle.xlsx_sections.specs.Elements.{ElementReadFails};
 ghost use Rattle.xlsx_sections.specs.PartSection.{always};
 ghost use Rattle.xlsx_strings.specs.Strings.{blanks_kept, spaced, text_within, piece_of, string_of};
-ghost use Rattle.xlsx_strings.specs.Strings.{end_in_piece, end_in_string, IsFrontOf};
-ghost use Rattle.xlsx_strings.specs.Strings.{IsStringError};
+ghost use Rattle.xlsx_strings.specs.Strings.{end_in_piece, end_in_string, IsStringError};
 
 use crate::trim::trimmed;
 use attr_text::{AttrFault, RawAttributes, unescape_hex};

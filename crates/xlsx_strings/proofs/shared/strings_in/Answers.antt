@@ -1,4 +1,4 @@
-use Rattle.std.proofs.Common.{[], ◌∷◌, ◌++◌, ℕ, List, Result, Ok, map, refl, sym, ◌∙◌, ap, subst}
+use Rattle.std.proofs.Common.{[], ◌++◌, ℕ, List, Result, Ok, map, refl, sym, ◌∙◌, ap, subst}
 use Rattle.std.proofs.Common.{codes, string_bytes}
 use Rattle.std.proofs.lemmas.Result.{err_from_is_err_and}
 use Rattle.part_events.specs.Reading.{reading}

@@ -1,6 +1,7 @@
 use Rattle.std.proofs.Common.{ℕ, [], refl, ◌∙◌, subst, string_bytes}
 use Rattle.std.proofs.lemmas.Result.{err_from_is_err_and}
 use Rattle.part_events.specs.Reading.{reading}
+use Rattle.part_events.proofs.Texts.{front_further}
 use Rattle.xlsx_sections.specs.Elements.{IsInsideRefused}
 use Rattle.xlsx_sections.specs.PartSection.{SectionFails}
 use Rattle.xlsx_sections.proofs.ElementsRead.{element_there, element_passed, element_refused}
@@ -8,7 +9,6 @@ use Rattle.xlsx_sections.proofs.ElementsRead.{step_refused}
 use Rattle.xlsx_strings.specs.Strings.{piece_of, string_of, end_in_piece, end_in_piece_element}
 use Rattle.xlsx_strings.specs.Strings.{end_in_string}
 use Rattle.xlsx_strings.proofs.StringsRead.{own_answer, own_text, piece_further, piece_refused}
-use Rattle.xlsx_strings.proofs.StringsRead.{front_further}
 use Rattle.xlsx_strings.proofs.string_element.read_string.Goals as goal
 
 pub returns-in_err-_at-clause-err : goal.returns-in_err-_at-clause-err

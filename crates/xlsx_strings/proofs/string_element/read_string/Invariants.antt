@@ -1,8 +1,9 @@
 use Rattle.std.proofs.Common.{◌≡◌, length, true, string_bytes}
+use Rattle.part_events.specs.JoinedText.{IsFrontOf}
 use Rattle.part_events.specs.Reading.{reading}
 use Rattle.part_events.specs.Walk.{section_ahead}
 use Rattle.xlsx_sections.specs.Elements.{KeepsElements}
-use Rattle.xlsx_strings.specs.Strings.{is_text_or_phonetic, string_of, IsFrontOf}
+use Rattle.xlsx_strings.specs.Strings.{is_text_or_phonetic, string_of}
 use Rattle.xlsx_strings.proofs.StringsRead.{onto}
 use Rattle.xlsx_strings.proofs.string_element.read_string.Given as goal
 

@@ -4,7 +4,7 @@ use Rattle.part_events.specs.JoinedText.{event_text, is_unknown}
 use Rattle.part_events.specs.Reading.{reading}
 use Rattle.part_events.specs.Walk.{StandsInside, TakesInside}
 use Rattle.part_events.specs.declared.walk.Step.TheVariants.{Found}
-use Rattle.part_events.proofs.Texts.{has_read_more, event_fails}
+use Rattle.part_events.proofs.Texts.{front_further, has_read_more, event_fails}
 use Rattle.part_events.proofs.cursor.Cursor.read_text.Goals as goal
 
 pub returns-in-Err-clause-err : goal.returns-in-Err-clause-err
@@ -35,6 +35,8 @@ events-preserved g c =
       reads = search rules;
       within = search rules;
       base = search rules;
+      front = front_further (string_bytes c.args.out.now) (string_bytes c.events.out) _
+          c.events.invariant.front (_, c.in-Ok.ensures.ok);
       read = λ told.
           let told_there : mid.source.is_told ≡ true = c.events.invariant.reads.moves.parts.is_told
           ∙ told in

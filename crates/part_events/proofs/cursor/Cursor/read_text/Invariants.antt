@@ -1,4 +1,5 @@
 use Rattle.std.proofs.Common.{◌≡◌, ◌≤◌, length, true, string_bytes}
+use Rattle.part_events.specs.JoinedText.{IsFrontOf}
 use Rattle.part_events.specs.Reading.{reading, ReadsOn}
 use Rattle.part_events.proofs.Texts.{HasRead}
 use Rattle.part_events.proofs.cursor.Cursor.read_text.Given as goal
@@ -11,6 +12,7 @@ invariant-events g l =
       reads : ReadsOn old now;
       within : l.base ≤ length l.self.names;
       base : l.base ≡ length l.fn.self.names;
+      front : IsFrontOf (string_bytes l.fn.out) (string_bytes l.out);
       read : old.source.is_told ≡ true
           → HasRead l.char_data l.base old now (string_bytes l.fn.out, string_bytes l.out);
     }
