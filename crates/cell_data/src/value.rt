@@ -5,7 +5,6 @@ use crate::Decimal;
 use std::alloc::{AllocError, Global};
 use std::fmt;
 use std::str::FromStr;
-use thiserror::Error;
 
 /// What the number of a date cell counts: days since the first day of its calendar, or days that
 /// have passed.
@@ -70,9 +69,20 @@ impl CellErrorType {
 }
 
 /// The text is that of no error that a cell of a worksheet holds.
-#[derive(Debug, Clone, Copy, PartialEq, Eq, Drop, Error)]
-#[error("unknown cell error")]
+#[derive(Debug, Clone, Copy, PartialEq, Eq, Drop)]
 pub struct UnknownCellError;
+
+impl fmt::Display for UnknownCellError {
+    ghost use Rattle.std.specs.Prelude.{codes};
+
+    ghost output = { λ _. Some (codes "unknown cell error") };
+
+    fn fmt<W: fmt::Write>(&self, f: &mut fmt::Formatter<W>) -> fmt::Result {
+        f.write_str("unknown cell error")
+    }
+}
+
+impl std::error::Error for UnknownCellError {}
 
 /// Reads the text of an error exactly: `#DIV/0!`, `#N/A`, `#NAME?`, `#NULL!`, `#NUM!`, `#REF!` or
 /// `#VALUE!`.

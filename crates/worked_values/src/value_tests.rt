@@ -1,6 +1,8 @@
 //! What cells hold.
 
-use cell_data::{CellErrorType, Data, DataRef, ExcelDateTime, ExcelDateTimeType, HeaderRow};
+use cell_data::{
+    CellErrorType, Data, DataRef, ExcelDateTime, ExcelDateTimeType, HeaderRow, UnknownCellError,
+};
 use decimals::Decimal;
 use std::alloc::{AllocError, Global};
 use std::test::Fail;
@@ -20,6 +22,14 @@ fn texts_name_errors(rt: HostRuntime) {
     ] {
         assert!(rt; text.parse::<CellErrorType>().ok() == want, "at {text}");
     }
+}
+
+#[test]
+fn a_text_of_no_error_is_unknown(rt: HostRuntime) -> Result<(), Fail> {
+    assert_eq!(rt; "#value!".parse::<CellErrorType>(), Err(UnknownCellError));
+    let shown = UnknownCellError.to_string(rt.alloc())?;
+    assert_eq!(rt; shown.as_str(), "unknown cell error");
+    Ok(())
 }
 
 fn has_equal_copy(alloc: Global, value: &Data) -> Result<bool, AllocError> {
