@@ -1,9 +1,11 @@
 -- Fractions of channels: none is below 0 or above 255.
 use Rattle.std.proofs.Common.{◌≡◌, ℕ, ◌+◌, ◌-◌, ◌*◌, ◌/◌, ◌^◌, ◌<◌, ◌≤◌, min, ap, subst, sym, ◌∙◌}
 use Rattle.std.proofs.Common.{arith}
-use Rattle.std.specs.Prelude.{ℤ, pos, negsuc, true}
+use Rattle.std.specs.Prelude.{ℤ, pos, negsuc, true, zero, suc, nat_abs}
 use Rattle.std.specs.Int.Signed.{le_z}
-use Rattle.xlsx_styles.specs.Tint.{unit, parts_of}
+use Rattle.decimals.specs.Decimal.{number_of}
+use Rattle.decimals.specs.declared.decimal.Decimal.{Decimal}
+use Rattle.xlsx_styles.specs.Tint.{unit, parts_of, number_size, tint_size, with_decimals}
 use Rattle.std.proofs.Math.Nat.{mul-le-mul_left, mul-add, add-mul, mul_comm, mul_assoc}
 use Rattle.std.proofs.Math.Nat.{mul-div_cancel, mul-le-mul_right, mul-le-mul, one-le-pow}
 use Rattle.std.proofs.Math.Nat.{pow-le-pow_right, div-eq_of_lt, div-div-eq-div-mul}
@@ -57,6 +59,33 @@ few_above size places few above =
     subst (λ n. n ≤ size * 10 ^ (20 - places)) (powers places few)
     (mul-le-mul_right (10 ^ (20 - places)) above) in
     rw (quotient size places few) (omega arith)
+
+-- a number of few places that is at most 1
+taken_exactly : (size places : ℕ) → places ≤ 20 → size ≤ 10 ^ places
+    → min (size * 10 ^ 20 / 10 ^ places) (10 ^ 20) * 10 ^ places ≡ size * 10 ^ 20
+taken_exactly size places few fits =
+    let most : size * 10 ^ (20 - places) ≤ 10 ^ 20 =
+    subst (λ n. size * 10 ^ (20 - places) ≤ n) (powers places few)
+    (mul-le-mul_right (10 ^ (20 - places)) fits) in
+    let whole : min (size * 10 ^ (20 - places)) (10 ^ 20) ≡ size * 10 ^ (20 - places) = omega arith
+    in
+    ap (λ n. min n (10 ^ 20) * 10 ^ places) (quotient size places few)
+    ∙ (ap (λ n. n * 10 ^ places) whole
+    ∙ (mul_assoc size (10 ^ (20 - places)) (10 ^ places)
+    ∙ ap (λ n. size * n) (mul_comm (10 ^ (20 - places)) (10 ^ places) ∙ powers places few)))
+
+pub short_exact : (tint : Decimal) (mantissa : ℤ) (places : ℕ)
+    → number_of tint ≡ with_decimals mantissa places → places ≤ 20 → nat_abs mantissa ≤ 10 ^ places
+    → tint_size tint * 10 ^ places ≡ nat_abs mantissa * 10 ^ 20
+short_exact tint mantissa zero is few fits =
+    ap (λ (number : ℤ × ℤ). number_size number * 10 ^ 0) is
+    ∙ (let at_most : nat_abs mantissa ≤ 1 = omega arith in omega arith)
+short_exact tint mantissa (suc places) is few fits =
+    let one : places + 1 ≡ suc places = omega arith in
+    ap (λ (number : ℤ × ℤ). number_size number * 10 ^ suc places) is
+    ∙ subst (λ n. number_size (mantissa, negsuc places) * 10 ^ n ≡ nat_abs mantissa * 10 ^ 20) one
+    (taken_exactly (nat_abs mantissa) (places + 1) (omega arith)
+    (subst (λ n. nat_abs mantissa ≤ 10 ^ n) (sym one) fits))
 
 -- a number of many places
 pub many : (size places : ℕ) → 20 < places → size * 10 ^ 20 / 10 ^ places

@@ -25,6 +25,11 @@ number_size number = min (parts_of (nat_abs number.0) number.1) unit
 abbrev pub tint_size : Decimal → ℕ
 tint_size tint = number_size (number_of tint)
 
+-- the number with this mantissa and so many decimals
+abbrev pub with_decimals : ℤ → ℕ → ℤ × ℤ
+with_decimals mantissa zero = (mantissa, pos 0)
+with_decimals mantissa (suc places) = (mantissa, negsuc places)
+
 -- the sum of the largest and the smallest channel
 abbrev pub channel_sum : Color → ℕ
 channel_sum color =

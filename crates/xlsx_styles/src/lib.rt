@@ -19,7 +19,7 @@ pub use border::read_border;
 pub use color_text::{hex_color, parse_color};
 pub use fill::read_fill;
 pub use font::read_font;
-pub use laws::{one_number_is_nearest, tints_keep_the_order};
+pub use laws::{one_number_is_nearest, short_tints_are_exact, tints_keep_the_order};
 pub use parsing::{parse_border, parse_fill, parse_font};
 pub use texts::truth_or;
 pub use theme::default_theme_colors;
