@@ -155,14 +155,6 @@ NoPackage spelled NotAPackage = spelled ≡ None
 NoPackage spelled OutOfMemory = Unit {0}
 NoPackage spelled _ = ⊥
 
--- these are the lines of the sheet of this name
-pub record ListsLines (parts : List Part) (name lines : List ℕ) : Type 0 where
-  pub values : List ((ℕ × ℕ) × CellValue)
-  pub formulas : List ((ℕ × ℕ) × List ℕ)
-  pub styles : StyleMap
-  pub reads : ReadsAs parts name values formulas styles
-  pub listed : lines ≡ listing values formulas styles
-
 abbrev pub LinesFail : List Part → List ℕ → ToolError → Type 0
 LinesFail parts name (Workbook error) = SheetCause parts name error
 LinesFail parts name OutOfMemory = Unit {0}
@@ -172,7 +164,7 @@ LinesFail parts name _ = ⊥
 pub record LinesRead (name lines : List ℕ) (old new : SourceState) : Type 0 where
   pub faults : new.faults ≡ old.faults
   pub parts : List Part
-  pub lists : ListsLines parts name lines
+  pub lists : AreLinesOf parts name lines
   pub whole : old.is_told ≡ true → Spells old.left parts × (new.left ≡ [])
 
 -- the bytes were written

@@ -1,7 +1,8 @@
-ghost use Rattle.std.specs.Prelude.{◌≡◌, true, None, option_map, IfErr, OnOk};
+ghost use Rattle.std.specs.Prelude.{◌≡◌, ◌≢◌, true, None, Err, option_map, IfErr, OnOk};
 ghost use Rattle.std.specs.Process.{exit_status};
 ghost use Rattle.xlsx_tool.specs.Program.{page_asked, Prints, CannotPrint, ending_status};
 ghost use Rattle.xlsx_tool.specs.Run.{texts, Streams, AnswersExactly};
+ghost use Rattle.xlsx_tool.specs.declared.error.ToolError.TheVariants.{Usage, WriteFault};
 
 use crate::error::ToolError;
 use crate::run::{run, send};
@@ -47,6 +48,8 @@ pub fn answer<S: Source, K: Sink>(
         let old : Streams = record { source = S.state source.old; sink = K.state sink.old } in
         let new : Streams = record { source = S.state source.new; sink = K.state sink.new } in
         IfErr result (CannotPrint (page_asked words) words old new) }
+    ensures unread { result ≡ Err Usage → S.state source.new ≡ S.state source.old }
+    ensures unwritten { IfErr result (λ e. e ≢ WriteFault → K.state sink.new ≡ K.state sink.old) }
     ensures exact { let old = S.state source.old in
         page_asked (texts words.now) ≡ None → old.is_told ≡ true
         → AnswersExactly (texts words.now) old result }
