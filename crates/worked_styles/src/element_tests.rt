@@ -196,6 +196,49 @@ fn fonts_are_read(rt: HostRuntime) -> Result<(), Fail> {
     Ok(())
 }
 
+const PLAIN_FONT: &str = r#"
+    <font>
+        <b/>
+        <i val="1"/>
+        <u/>
+        <strike/>
+        <sz val="12.5"/>
+        <name val="Arial"/>
+        <color rgb="FF00FF00"/>
+    </font>"#;
+
+#[test]
+fn elements_without_a_value_hold(rt: HostRuntime) -> Result<(), Fail> {
+    let Ok(Some(font)) = font_in(rt.alloc(), PLAIN_FONT) else {
+        return Err("no font")?;
+    };
+    assert!(rt; font.is_bold());
+    assert!(rt; font.is_italic());
+    assert!(rt; font.underline == UnderlineStyle::Single);
+    assert!(rt; font.strikethrough);
+    assert!(rt; font.size == Decimal::parse("12.5"));
+    assert!(rt; font.color == Some(Color::from_argb(0xFF00FF00)));
+    let Some(name) = font.name else {
+        return Err("no name")?;
+    };
+    assert_eq!(rt; name.as_str(), "Arial");
+    Ok(())
+}
+
+#[test]
+fn a_weight_is_bold_from_600_on(rt: HostRuntime) -> Result<(), Fail> {
+    for (markup, weight) in [
+        ("<font><b val=\"599\"/></font>", FontWeight::Normal),
+        ("<font><b val=\"600\"/></font>", FontWeight::Bold),
+    ] {
+        let Ok(Some(font)) = font_in(rt.alloc(), markup) else {
+            return Err("no font")?;
+        };
+        assert!(rt; font.weight == weight, "of {markup}");
+    }
+    Ok(())
+}
+
 const BORDERS: &str = r#"
     <border>
         <left style="thin">
@@ -231,5 +274,39 @@ fn a_part_that_ends_in_borders_tells_where(rt: HostRuntime) -> Result<(), Fail> 
         };
         assert_eq!(rt; name, wanted);
     }
+    Ok(())
+}
+
+const DIAGONAL: &str = r#"
+    <border>
+        <left style="thin">
+            <color rgb="FFFF0000"/>
+        </left>
+        <diagonal style="dashed"/>
+    </border>"#;
+
+#[test]
+fn a_diagonal_goes_up_alone(rt: HostRuntime) -> Result<(), Fail> {
+    let Ok(Some(borders)) = borders_in(rt.alloc(), DIAGONAL, false, true) else {
+        return Err("no borders")?;
+    };
+    assert!(rt; borders.left.style == BorderStyle::Thin);
+    assert!(rt; borders.left.color == Some(Color::from_argb(0xFFFF0000)));
+    assert!(rt; borders.diagonal_up.style == BorderStyle::Dashed);
+    assert!(rt; borders.diagonal_down.style == BorderStyle::None);
+    Ok(())
+}
+
+#[test]
+fn a_text_is_stacked_and_indented(rt: HostRuntime) -> Result<(), Fail> {
+    let tag = StartTag {
+        name: "alignment",
+        attributes: " textRotation=\"255\" indent=\"2\"",
+    };
+    let Ok(alignment) = parse_alignment(&tag) else {
+        return Err("refused")?;
+    };
+    assert!(rt; alignment.text_rotation == TextRotation::Stacked);
+    assert!(rt; alignment.indent == Some(2));
     Ok(())
 }
