@@ -52,9 +52,6 @@ unescaped-more text i within so_far none =
     ∙ sym (append_assoc (take i text) (b ∷ []) (unescaped rest))
     ∙ ap (λ (t : List ℕ). t ++ unescaped rest) (sym (take_more text i 0 within))
 
-pub unescaped-start : (text : List ℕ) → unescaped text ≡ take 0 text ++ unescaped (drop 0 text)
-unescaped-start text = refl
-
 pub unescaped-nil : unescaped [] ≡ []
 unfolding unescaped_within unescaped
 unescaped-nil = refl

@@ -105,14 +105,6 @@ list_all-copied [] = refl
 list_all-copied (None ∷ values) = refl
 list_all-copied (Some v ∷ values) = list_all-copied values
 
-pub length-noted : (key value : List ℕ) (keys : List (List ℕ)) (values : List (Option (List ℕ))) →
-    length keys ≡ length values → length (noted key value keys values) ≡ length values
-length-noted key value [] [] h = refl
-length-noted key value [] (v ∷ values) h = absurd (omega arith)
-length-noted key value (k ∷ keys) [] h = absurd (omega arith)
-length-noted key value (k ∷ keys) (v ∷ values) h =
-    ap suc (length-noted key value keys values (omega arith))
-
 -- the lookup, once its values are known
 lookup-is : (keys : List (List ℕ)) (text : List ℕ) (values : List (Option (List ℕ))) (all : Bool)
     (fault : Option AttrFault)

@@ -186,11 +186,6 @@ module _ {X : Type 0} where
       ap (λ t. t && below_all position_cmp e.0 es) precedes
       ∙ below_further e.0 f.0 es (less_from _ precedes) below)
 
-  pub rising_stops : (e f : (ℕ × ℕ) × X) (es : List ((ℕ × ℕ) × X)) →
-      is_lt (position_cmp e.0 f.0) ≡ false → is_rising (e ∷ f ∷ es) ≡ false
-  rising_stops e f es stops =
-      ap (λ t. (t && below_all position_cmp e.0 es) && is_rising (f ∷ es)) stops
-
 -- the first of two cells is passed over
 pub rising_left : {X : Type 0} (left rest : List (Cell X)) (first second : Cell X) →
     left ≡ first ∷ rest → Some second ≡ slice_get rest 0 →

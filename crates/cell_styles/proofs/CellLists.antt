@@ -129,15 +129,6 @@ all_ahead area count ids runs sound view canonical =
       below = ids_below count 0 runs canonical (subst (All (λ id. id < count)) (sym view) sound.2);
     }
 
--- no runs lie ahead
-pub none_ahead : LieAhead (record { start = (0, 0); end = (0, 0) }) 0 0 []
-none_ahead = record {
-  area_is = (omega arith, omega arith, omega arith, omega arith);
-  canonical = tt;
-  within = omega arith;
-  below = refl;
-}
-
 pub cells_of_area : (styles : StyleMap) (area : Dimensions) (palette : List Style) (ids : List ℕ)
     (runs : List StyleRun)
     → styles ≡ record { bounds = Some area; palette = palette; ids = ids }

@@ -5,14 +5,6 @@ use Rattle.std.specs.Str.Parse.{digits_value}
 use Rattle.decimals.specs.Decimals.{trailing_zeros, without_trailing_zeros}
 use Rattle.decimals.specs.declared.significand.Significand.{Significand}
 
--- what is kept of these digits
-unfoldable pub significand_of : List ℕ → Significand
-significand_of digits = record {
-  number = digits_value 10 (without_trailing_zeros digits);
-  zeros = trailing_zeros digits;
-  count = length digits;
-}
-
 -- one digit more, given by its value
 abbrev pub digit_added : Significand → ℕ → Significand
 digit_added before digit =

@@ -1,4 +1,4 @@
-ghost use Rattle.std.specs.Prelude.{◌≡◌, ◌+◌, ◌*◌, ◌^◌, ◌<◌, ◌≤◌, length, drop, IfSome, IfNone};
+ghost use Rattle.std.specs.Prelude.{◌≡◌, ◌+◌, ◌*◌, ◌^◌, ◌<◌, ◌≤◌, length, IfSome, IfNone};
 ghost use Rattle.std.specs.Prelude.{SomeIff};
 ghost use Rattle.decimals.specs.Decimals.{digits_in_front, behind_digits};
 ghost use Rattle.decimals.specs.Significand.{digit_added, digits_added};

@@ -23,13 +23,6 @@ place_numbered_past : (limit number : ℕ) → limit < number → place_numbered
 place_numbered_past limit zero past = absurd (omega arith)
 place_numbered_past limit (suc n) past = grind (arith, nat_tests)
 
-pub place_numbered_checked : (limit number : ℕ) (o : Option ℕ) → number ≤ limit →
-    SomeIff o (1 ≤ number) (number - 1) → o ≡ place_numbered limit number
-place_numbered_checked limit zero None within is = refl
-place_numbered_checked limit zero (Some n) within is = absurd (omega (arith, is.0))
-place_numbered_checked limit (suc n) None within is = absurd (is (omega arith))
-place_numbered_checked limit (suc n) (Some m) within is = grind (arith, nat_tests, is.1)
-
 -- what a number's digits write is at least what the first of them do
 more_digits : (base : ℕ) (xs ys : List ℕ) → 0 < base →
     number_from_digits base xs ≤ number_from_digits base (xs ++ ys)
@@ -79,10 +72,6 @@ row_named_past digits i past =
     by_test : (b : Bool) (o : Option ℕ) → o ≡ None → cond b o None ≡ None
     by_test true o e = e
     by_test false o e = refl
-
-pub row_named_other : (digits : List ℕ) (i : ℕ) → i < length digits →
-    is_ascii_digit (get_or digits i 0) ≡ false → row_of_digits digits ≡ None
-row_named_other digits i lt other = rw (list_all_at is_ascii_digit digits i 0 lt other) refl
 
 -- the bytes that a text begins with as long as they pass all pass
 pub all_letters : (text : List ℕ) →

@@ -1,18 +1,17 @@
 -- A text is a cell without `$` exactly where it is read as that position.
 use Rattle.std.proofs.Common.{◌≡◌, ℕ, zero, suc, ◌+◌, ◌<◌, Bool, true, false, cond, List, [], ◌∷◌}
-use Rattle.std.proofs.Common.{length, Option, None, Some, refl, sym, ap, ap₂, ◌∙◌, inl, inr, arith}
-use Rattle.std.specs.Prelude.{◌==◌, ◌↔◌, Ok, nat_lt, take_while, option_map}
+use Rattle.std.proofs.Common.{None, Some, refl, sym, ap, ap₂, ◌∙◌, inl, inr, arith}
+use Rattle.std.specs.Prelude.{◌==◌, ◌↔◌, Ok}
 use Rattle.std.specs.Char.{is_ascii_digit, is_ascii_alphabetic}
 use Rattle.std.specs.List.{list_all}
 use Rattle.std.specs.Str.Parse.{digits_value}
-use Rattle.std.proofs.lemmas.Bool.{cases_Bool, ltb-true}
+use Rattle.std.proofs.lemmas.Bool.{cases_Bool}
 use Rattle.std.proofs.lemmas.Bool.Decides.{nat_tests}
 use Rattle.std.proofs.lemmas.List.Sums.{take_while-cons}
-use Rattle.cell_refs.specs.A1.{row_limit, column_limit, letters_value, letters_of, behind_letters}
+use Rattle.cell_refs.specs.A1.{letters_value, letters_of, behind_letters}
 use Rattle.cell_refs.specs.A1.{corner}
 use Rattle.cell_refs.proofs.PositionParts.{WritesRow, WritesColumn, corner-ok, corner_from-written}
 use Rattle.cell_refs.proofs.ReadBack.{corner_from_parts}
-use Rattle.formula_shift.specs.declared.corner.Corner.{Corner}
 use Rattle.formula_shift.specs.declared.corner.Corner.TheVariants.{Cell, Row, Column}
 use Rattle.formula_shift.specs.References.{place_numbered, column_of_letters, row_of_digits}
 use Rattle.formula_shift.specs.References.{has_dollar}

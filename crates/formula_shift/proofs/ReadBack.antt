@@ -1,5 +1,5 @@
 -- The canonical spelling of a reference reads back as that reference.
-use Rattle.std.proofs.Common.{◌≡◌, ℕ, suc, ◌+◌, ◌%◌, ◌<◌, ◌^◌, ◌&&◌, Bool, true, false, cond, not}
+use Rattle.std.proofs.Common.{◌≡◌, ℕ, suc, ◌+◌, ◌<◌, ◌&&◌, Bool, true, false, cond, not}
 use Rattle.std.proofs.Common.{eqb, ltb, List, [], ◌∷◌, ◌++◌, length, take, drop, Option, None, Some}
 use Rattle.std.proofs.Common.{sym, refl, ap, ◌∙◌, arith, add-one, append_assoc, append-nil}
 use Rattle.std.proofs.Common.{length-append}

@@ -1,10 +1,10 @@
-ghost use Rattle.std.specs.Prelude.{◌≡◌, ◌<◌, ◌++◌, ◌∷◌, [], length, Some, None, IfOk, IfSome};
-ghost use Rattle.std.specs.Prelude.{option_map, option_and_then, OnErr, OnOk};
+ghost use Rattle.std.specs.Prelude.{◌≡◌, ◌<◌, ◌∷◌, [], Some, None, IfOk, IfSome};
+ghost use Rattle.std.specs.Prelude.{option_map};
 ghost use Rattle.serde_json.specs.View.{view, items_view, members_view};
 ghost use Rattle.serde_json.specs.Written.{has_float, items_have_float, members_have_float};
 ghost use Rattle.part_events.specs.Event.{event_of};
 ghost use Rattle.part_events.specs.Memory.{closed};
-ghost use Rattle.package_text.specs.PackageText.{texts_of, event_of_texts, event_in, events_in};
+ghost use Rattle.package_text.specs.PackageText.{event_of_texts, event_in, events_in};
 ghost use Rattle.package_text.specs.PackageText.{package_of, named_part, members_have_float_beside};
 ghost use Rattle.package_text.specs.PackageText.{has_float_beside, part_beside, package_beside};
 ghost use Rattle.package_text.specs.PackageText.{AppendsPart};

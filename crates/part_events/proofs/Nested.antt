@@ -17,12 +17,6 @@ reverse_on event past rest =
     ap (λ (front : List Event). front ++ rest) (reverse_onto past event [])
     ∙ append_assoc (reverse past) (event ∷ []) rest
 
-pub names_at_start : (tag : Tag) (past : List Event) (names : List (List ℕ))
-    → ((outside : ℕ) → open_name outside past ≡ slice_get names outside) → (outside : ℕ)
-    → open_name outside (start tag ∷ past) ≡ slice_get (tag.name ∷ names) outside
-names_at_start tag past names known zero = refl
-names_at_start tag past names known (suc outside) = known outside
-
 -- what was taken is whole, and what is ahead is what is left of the longest whole front
 pub whole_split : (past rest : List Event) → IsWhole past → whole (reverse past ++ rest)
     ≡ reverse past ++ whole_rest past rest

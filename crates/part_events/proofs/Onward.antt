@@ -2,7 +2,7 @@
 use Rattle.std.proofs.Common.{◌≡◌, List, [], true, refl, ◌∙◌, subst, arith}
 use Rattle.part_events.specs.Event.{Event}
 use Rattle.part_events.specs.Nesting.{whole}
-use Rattle.part_events.specs.Reading.{Reading, IsReading, IsAtEnd, MovesForward, StaysReadable}
+use Rattle.part_events.specs.Reading.{Reading, IsReading, IsAtEnd, MovesForward}
 use Rattle.part_events.specs.Reading.{ReadsOn, events_of}
 use Rattle.part_events.proofs.Nested.{whole_split}
 

@@ -120,13 +120,6 @@ map_kept old new events extends fits =
 pub extends_by : (old new more : List ℕ) → IsUtf8 more → new ≡ old ++ more → Extends old new
 extends_by old new more is_text joined = record { more = more; is_text = is_text; joined = joined }
 
--- the last span
-pub within_end : (old more : List ℕ)
-    → take (length (old ++ more) - length old) (drop (length old) (old ++ more)) ≡ more
-within_end old more =
-    rw drop_at (take_all (length (old ++ more) - length old) more
-    (omega (arith, length-append old more)))
-
 pub pushed : (old new : List ℕ) (events : List StoredEvent) (event : StoredEvent) → Extends old new
     → All (LiesWithin old) events → LiesWithin new event
     → All (LiesWithin new) (events ++ event ∷ [])

@@ -11,7 +11,7 @@ use Rattle.part_events.specs.OpenNames.{is_innermost}
 use Rattle.part_events.specs.Package.{SameParts, Advances, AdvanceCounts}
 use Rattle.part_events.specs.Reading.{Reading, IsReading, IsTracked, StaysReadable, BreaksNext}
 use Rattle.part_events.specs.Reading.{EndsOpen, ahead, events_of}
-use Rattle.part_events.proofs.Nested.{reverse_on, broken, names_at_start, whole_split}
+use Rattle.part_events.proofs.Nested.{reverse_on, broken, whole_split}
 
 -- an event was taken of the same part
 pub same_part : (old new : Reading) → Advances true old.source new.source → events_of new
@@ -20,38 +20,6 @@ same_part old new advances =
     ap (λ (past : List Event). reverse past ++ new.source.rest) advances.1
     ∙ reverse_on new.source.current old.source.past new.source.rest
     ∙ ap (λ (rest : List Event). reverse old.source.past ++ rest) (sym advances.0)
-
-pub stays_at_start : (old new : Reading) (tag : Tag) (more : Bool) → more ≡ true → IsReading old
-    → new.is_failed ≡ false → SameParts old.source new.source
-    → AdvanceCounts more old.source new.source
-    → (old.source.is_told ≡ true → Advances more old.source new.source) → start tag
-    ≡ new.source.current → new.names ≡ tag.name ∷ old.names → new.at ≡ old.at + 1
-    → StaysReadable old new
-stays_at_start old new tag more is was going parts counted advanced current names at =
-    let counts : AdvanceCounts true old.source new.source = rw is at counted in
-    let advances : old.source.is_told ≡ true → Advances true old.source new.source =
-    λ told. rw is at (advanced told) in
-    record {
-      reading = record {
-        going = going;
-        element = λ at_element. rw names (omega arith);
-        fits = omega (arith, was.fits, counts.left);
-        tracked = λ told.
-            let told_before : old.source.is_told ≡ true = sym parts.is_told ∙ told in
-            let before = was.tracked told_before in
-            let taken : new.source.past ≡ start tag ∷ old.source.past = (advances told_before).1
-            ∙ ap (λ (event : Event). event ∷ old.source.past) (sym current) in
-            record {
-              at = rw (at, taken) (omega (arith, before.at));
-              whole = rw taken before.whole;
-              names = rw (taken, names) (names_at_start tag old.source.past old.names before.names);
-              depth = rw (taken, names) (omega (arith, before.depth));
-            };
-      };
-      faults = counts.faults;
-      left = omega (arith, at, counts.left);
-      part = λ told. same_part old new (advances told);
-    }
 
 same_name : (name : List ℕ) (names : List (List ℕ))
     → option_map_or (bytes_eq name) (slice_get names 0) false ≡ is_innermost name names

@@ -112,7 +112,3 @@ unclosed wanted events = unclosed_from wanted 0 events
 -- the elements that lie in no other
 abbrev pub children : List Event → List Element
 children inside = outermost is_any inside
-
--- the element of the first start of this local name
-abbrev pub section : List ℕ → List Event → Option (List Event)
-section name events = option_map (content 0) (behind_start (is_named (name ∷ [])) events)

@@ -5,7 +5,7 @@ use Rattle.std.specs.Prelude.{true, false, if◌then◌else◌, Some, None, slic
 use Rattle.part_events.specs.Event.{Tag, Event, start, IsStartAnd}
 use Rattle.part_events.specs.Package.{HasCause}
 use Rattle.part_events.specs.Reading.{Reading, IsAtElement, TakesEvent, StaysAtEnd, StepsAhead}
-use Rattle.part_events.specs.Reading.{IsAtEnd, BreaksAt, BreaksNext, ahead, events_of}
+use Rattle.part_events.specs.Reading.{IsAtEnd, BreaksNext, ahead}
 use Rattle.part_events.specs.Section.{Element, content, is_closed, behind, starts_by, behind_start}
 use Rattle.part_events.specs.Section.{outermost, unclosed, is_any, is_named}
 use Rattle.part_events.specs.declared.fault.StreamError.{StreamError}

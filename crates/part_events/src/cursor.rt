@@ -1,5 +1,5 @@
-ghost use Rattle.std.specs.Prelude.{◌≡◌, ◌+◌, ◌<◌, ◌^◌, ℕ, [], length, true, false, is_err, IfOk};
-ghost use Rattle.std.specs.Prelude.{OnOk, IfErr};
+ghost use Rattle.std.specs.Prelude.{◌≡◌, ◌+◌, ◌<◌, [], length, true, false, IfOk};
+ghost use Rattle.std.specs.Prelude.{IfErr};
 ghost use Rattle.part_events.specs.declared.fault.StreamError.TheVariants.{Io, Xml};
 ghost use Rattle.part_events.specs.declared.fault.XmlFault.TheVariants.{Unclosed};
 ghost use Rattle.part_events.specs.Reading.{reading, events_taken, open_elements, has_failed};
@@ -10,7 +10,7 @@ use crate::event::PartEvent;
 use crate::fault::{StreamError, XmlFault};
 use crate::open_names::OpenNames;
 use crate::package::Package;
-use std::alloc::{AllocError, Global};
+use std::alloc::Global;
 
 /// Where reading stands in the open part of a package, and which elements are open there.
 #[derive(Debug, Drop)]

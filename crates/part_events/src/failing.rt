@@ -1,5 +1,4 @@
-ghost use Rattle.std.specs.Prelude.{◌≡◌, ◌≤◌, [], length, true, OnOk, OnErr, IfOk, is_err};
-ghost use Rattle.part_events.specs.Event.{event_of};
+ghost use Rattle.std.specs.Prelude.{◌≡◌, ◌≤◌, true, OnOk, OnErr, IfOk, is_err};
 ghost use Rattle.part_events.specs.Failing.{Planned, planned_state, CountsCall};
 ghost use Rattle.part_events.specs.Memory.{closed};
 ghost use Rattle.part_events.specs.Package.{SameParts, Fails, Opens, OpenCounts, Advances};

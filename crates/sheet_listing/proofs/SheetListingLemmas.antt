@@ -453,14 +453,6 @@ splits_first p cell cells behind whole at order =
       order = order_behind cell behind own;
     }
 
-pub splits_nothing : {X : Type 0} (p : ℕ × ℕ) (cells : List (Cell X)) → cells ≡ [] →
-    AreInOrder cells → Splits p cells None cells
-splits_nothing p cells none order = record {
-  whole = refl;
-  below = rw none refl;
-  order = order;
-}
-
 further_below : {X : Type 0} (p q : ℕ × ℕ) (es : List ((ℕ × ℕ) × X)) →
     position_cmp p q ≡ Less → below_all position_cmp q es ≡ true →
     below_all position_cmp p es ≡ true

@@ -1,3 +1,2 @@
-pub mod OpeningErrors
 pub mod Openings
 pub mod Sound

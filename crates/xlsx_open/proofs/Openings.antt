@@ -34,27 +34,6 @@ use Rattle.xlsx_open.specs.Opening.{epoch_or_1900, book_events}
 use Rattle.xlsx_open.specs.SharedParts.{SharedSaid, shared_said, HasShared, SharedFails}
 use Rattle.xlsx_open.specs.declared.shared_parts.SharedParts.{SharedParts}
 
--- a call that takes no more than another may take
-pub uses_more : {few most : ℕ} {old new : PackageState} → few ≤ most → UsesPackage few old new
-    → UsesPackage most old new
-uses_more less uses =
-    record {
-      parts = uses.parts;
-      faults = uses.faults;
-      taken =
-          λ told. omega (arith, less, uses.taken told);
-    }
-
-pub leaves_more : {E : Type 0} {fault error : E} {few most : ℕ} {old new : PackageState}
-    → few ≤ most → LeavesPackage few fault old new error → LeavesPackage most fault old new error
-leaves_more less leaves =
-    record {
-      parts = leaves.parts;
-      faults = leaves.faults;
-      taken =
-          λ told. omega (arith, less, leaves.taken told);
-    }
-
 -- one call behind another
 same_further : {old mid new : PackageState} → SameParts old mid → SameParts mid new
     → SameParts old new
@@ -79,18 +58,6 @@ leaves_then less first second = record {
   parts = same_further first.parts second.parts;
   faults = λ other. second.faults other ∙ first.faults;
   taken = λ told. omega (arith, less, first.taken told, second.taken (first.parts.is_told ∙ told));
-}
-
-pub leaves_behind : {E : Type 0} {most : ℕ} {old new : PackageState} (fault error : E)
-    → UsesPackage most old new → LeavesPackage most fault old new error
-leaves_behind fault error uses =
-    record { parts = uses.parts; faults = λ _. uses.faults; taken = uses.taken }
-
-pub uses_nothing : (most : ℕ) (state : PackageState) → UsesPackage most state state
-uses_nothing most state = record {
-  parts = record { is_told = refl; parts = refl; faults = omega arith };
-  faults = refl;
-  taken = λ told. omega arith;
 }
 
 -- the sheets of entries, and the paths of their parts
@@ -193,21 +160,6 @@ contents_fail old mid new path related error same faults has fails = λ told. in
       same.parts (fails (same.is_told ∙ told)),
 )
 
--- the shared strings are refused
-pub strings_fail : (old new : PackageState) (path : List ℕ) (error : XlsxError)
-    → OptionalPartFails (codes "sst") end_in_strings (IsInsideRefused strings_in)
-    (strings_part path) old new error → SharedFails path old new error
-strings_fail old new path Io fails = fails
-strings_fail old new path OutOfMemory fails = tt
-strings_fail old new path error fails = λ told. inl (fails told)
-
--- the theme is refused behind them
-pub theme_fails : (old mid new : PackageState) (path : List ℕ) (error : XlsxError)
-    → mid.faults ≡ old.faults → SoundFails mid new error → SharedFails path old new error
-theme_fails old mid new path Io faults fails = omega (arith, faults, fails)
-theme_fails old mid new path OutOfMemory faults fails = tt
-theme_fails old mid new path error faults fails = absurd fails
-
 -- the styles are refused behind the theme, by whose colors they name theirs
 pub styles_fail : (old mid new : PackageState) (path : List ℕ) (theme : List Color)
     (error : XlsxError) → SameParts old mid → mid.faults ≡ old.faults
@@ -224,36 +176,6 @@ styles_fail old mid new path theme error same faults is fails = λ told.
     (IsInsideRefused (cell_formats_in theme)) (part_of parts (styles_part path)) error) same.parts
     (fails (same.is_told ∙ told))))
 
--- what was read of the strings, the theme and the styles
-pub has_shared : (parts : List Part) (path : List ℕ) (theme : ThemeColors) (shared : SharedSaid)
-    → HasStrings parts (strings_part path) shared.strings → HasTheme parts (theme_part path) theme
-    → shared.theme_defaulted ≡ theme.defaulted
-    → HasStyles theme.colors.items parts (styles_part path) shared.formats shared.styles
-    → HasShared parts path shared
-has_shared parts path theme shared strings colors defaulted styles = record {
-  strings = strings;
-  theme = defaulted ∙ colors.defaulted;
-  styles = subst (λ (own : List Color). HasStyles own parts (styles_part path) shared.formats
-      shared.styles) colors.colors styles;
-}
-
--- what the sheets share is refused
-pub shared_fails : (old new : PackageState) (path : List ℕ) (error : XlsxError)
-    → SharedFails path old new error → BookFails path old new error
-shared_fails old new path Io fails = fails
-shared_fails old new path OutOfMemory fails = tt
-shared_fails old new path error fails = λ told. inl (fails told)
-
--- the workbook is refused behind that
-pub workbook_fails : (old mid new : PackageState) (path : List ℕ) (error : XlsxError)
-    → SameParts old mid → mid.faults ≡ old.faults → WorkbookFails path mid new error
-    → BookFails path old new error
-workbook_fails old mid new path Io same faults fails = omega (arith, faults, fails)
-workbook_fails old mid new path OutOfMemory same faults fails = tt
-workbook_fails old mid new path error same faults fails = λ told.
-    inr (subst (λ (parts : List Part). WorkbookCause parts path error) same.parts
-    (fails (same.is_told ∙ told)))
-
 -- what the package's relationships lead to is refused
 pub book_fails : (old mid new : PackageState) (path : List ℕ) (error : XlsxError)
     → SameParts old mid → mid.faults ≡ old.faults → (old.is_told ≡ true → HasPath old.parts path)
@@ -267,16 +189,6 @@ book_fails old mid new path error same faults found fails = λ told.
       subst (λ (parts : List Part). BookCause parts path error) same.parts
           (fails (same.is_told ∙ told)),
     )
-
--- the workbook was opened behind what its sheets share
-pub book_opens : (old mid : PackageState) (path : List ℕ) (shared : SharedSaid)
-    (opening : Opening) → SameParts old mid → HasShared old.parts path shared
-    → opening.shared ≡ shared → WorkbookOpens mid.parts path opening
-    → BookOpens old.parts path opening
-book_opens old mid path shared opening same has own opens = (
-  subst (HasShared old.parts path) (sym own) has,
-  subst (λ (parts : List Part). WorkbookOpens parts path opening) same.parts opens,
-)
 
 pub opens_as : (old mid : PackageState) (path : List ℕ) (opening : Opening) → SameParts old mid
     → HasPath old.parts path → BookOpens mid.parts path opening → OpensAs old.parts opening
@@ -292,24 +204,6 @@ opens_as old mid path opening same found opens =
       shared = here.0;
       workbook = workbook.2;
     }
-
--- a call behind another, whatever it answers
-pub uses_result : {A : Type 0} {few most : ℕ} {old mid : PackageState} (more : ℕ)
-    (new : PackageState) (result : Result A XlsxError) → few + more ≤ most
-    → UsesPackage few old mid → Uses more Io result mid new → Uses most Io result old new
-uses_result more new (Ok value) less first second = uses_then less first second
-uses_result more new (Err error) less first second = leaves_then less first second
-
--- what opening takes, where its first call was refused, and where it went on
-pub root_left : {error : XlsxError} {old new : PackageState}
-    → LeavesPackage (event_count old.parts (codes "_rels/.rels")) Io old new error
-    → FailsToOpen Io old new error
-root_left leaves = record {
-  parts = leaves.parts;
-  faults = leaves.faults;
-  taken =
-      λ told. inl (leaves.taken told);
-}
 
 pub opens_package : {A : Type 0} (result : Result A XlsxError) (old mid new : PackageState)
     (path : List ℕ) → UsesPackage (event_count old.parts (codes "_rels/.rels")) old mid

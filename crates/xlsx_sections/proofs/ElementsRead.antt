@@ -105,21 +105,6 @@ keeps_none wanted base first is within = record {
   behind = λ _. refl;
 }
 
--- the end of the element was taken at whose start a reader stood
-pub reaches_skips : {base : ℕ} {old new : Reading} → base ≡ length old.names
-    → ReachesEnd base old new → Skips old new
-reaches_skips {base = base} {old = old} whole_it reaches =
-    let none : inside base old ≡ 0 = omega (arith, whole_it) in
-    record {
-      closed = sym (ap (λ (n : ℕ). is_closed n (ahead old)) none) ∙ reaches.closed;
-      size = omega (
-        arith,
-        reaches.ends,
-        ap (λ (n : ℕ). length (content n (ahead old))) none,
-      );
-      ahead = sym reaches.behind ∙ ap (λ (n : ℕ). behind n (ahead old)) none;
-    }
-
 -- a wanted element of a section was found, whose start is event number `place` of its part
 pub record IsElementFound
     (wanted : Tag → Bool) (base : ℕ) (tag : Tag) (place : ℕ) (first old new : Reading) : Type 0
@@ -232,28 +217,6 @@ element_passed {base = base} {tag = tag} {first = first} {old = old} {new = new}
           (found.next told).elements
           ∙ ap (λ (events : List Event). element_at base tag new ∷ outermost wanted events)
           (sym (left (still told)));
-    }
-
--- the section's end was taken, and with it the element that the section is
-pub elements_closed : {base : ℕ} {first old new : Reading} {wanted : Tag → Bool} → IsReading first
-    → KeepsElements wanted base first old → ReadsOn old new → base ≡ length first.names
-    → first.source.is_told ≡ true → ClosesSection wanted base old new → Skips first new
-elements_closed {base = base} {first = first} {old = old} {new = new} is keeps reads whole_it told
-    closes =
-    let none : inside base first ≡ 0 = omega (arith, whole_it) in
-    record {
-      closed =
-          sym (ap (λ (n : ℕ). is_closed n (ahead first)) none)
-          ∙ sym (keeps.section.closed told) ∙ closes.closed;
-      size = omega (
-        arith,
-        closes.ends,
-        keeps.section.last told,
-        ap (λ (n : ℕ). length (content n (ahead first))) none,
-      );
-      ahead =
-          sym closes.behind ∙ keeps.behind told
-          ∙ ap (λ (n : ℕ). behind n (ahead first)) none;
     }
 
 -- a section is open where an element is that lies in it

@@ -59,21 +59,6 @@ list_element_refused {base = base} {tag = tag} {first = first} {new = new} {want
     (sym (ap (meaning tag) (own_inside new)) ∙ refuses)) (list.said told)))
     fails
 
--- the list's end was taken, before which nothing was kept
-pub list_closed : {A : Type 0} {base : ℕ} {first old new : Reading} {wanted : Tag → Bool}
-    {meaning : Tag → List Event → Result A Refusal} {kept : List A}
-    → KeepsList wanted meaning base [] kept first old → first.source.is_told ≡ true
-    → ClosesSection wanted base old new
-    → list_said wanted meaning (section_ahead base first) ≡ Ok kept
-list_closed {A = A} {base = base} {first = first} {wanted = wanted} {meaning = meaning} {kept =
-    kept} list told closes =
-    sym (prepended-nil (list_said wanted meaning (section_ahead base first)))
-    ∙ (sym (list.said told)
-    ∙ (ap (λ (elements : List Element).
-    prepended kept (all_answers (element_said meaning) elements)) closes.elements
-    ∙ ap (λ (all : List A). let answer : Result (List A) Refusal = Ok all in answer)
-    (append-nil kept)))
-
 -- where the list is all that stands in an element, that element is refused
 pub own_step_refused : {A : Type 0} {base : ℕ} {first mid : Reading} {wanted : Tag → Bool}
     {meaning : Tag → List Event → Result A Refusal} {before kept : List A} (name : List ℕ)

@@ -38,19 +38,6 @@ by_size (c ∷ cs) some digits = ap (λ (b : Bool). if b
     && nat_lt (digits_value 10 (c ∷ cs)) (2 ^ 64) then Some (digits_value 10 (c ∷ cs)) else None)
     digits
 
-if_less : (n most : ℕ) → n < most → (if nat_lt n most then Some n else None) ≡ Some n
-if_less n most less = rw (lt-ltb n most less) refl
-
-pub number_read : (text : List ℕ) (n : ℕ) → 0 < length text → all_ascii_digits text ≡ true
-    → digits_value 10 (without_leading_plus text) < 2 ^ 64
-    → n ≡ digits_value 10 (without_leading_plus text) → number_text text ≡ Some n
-number_read text n some digits fits is =
-    let plain = no_plus text some digits in
-    let value = ap (digits_value 10) plain in
-    by_size text some digits
-    ∙ if_less (digits_value 10 text) (2 ^ 64) (subst (λ (m : ℕ). m < 2 ^ 64) value fits)
-    ∙ ap Some (sym (is ∙ value))
-
 not_less : (n most : ℕ) → (n < most → ⊥) → nat_lt n most ≡ false
 not_less n most never = false_from_ne_true (nat_lt n most) (λ less. never (ltb-true n most less))
 
@@ -64,9 +51,3 @@ number_too_large text some digits never =
     let large : (digits_value 10 text < 2 ^ 64) → ⊥ =
     λ less. never (here, subst (λ (t : List ℕ). digits_value 10 t < 2 ^ 64) (sym plain) less) in
     by_size text some digits ∙ rw (not_less (digits_value 10 text) (2 ^ 64) large) refl
-
-pub no_number : (text : List ℕ) → all_ascii_digits text ≡ false → number_text text ≡ None
-no_number [] digits = refl
-no_number (c ∷ cs) digits = ap (λ (b : Bool). if b
-    && nat_lt (digits_value 10 (c ∷ cs)) (2 ^ 64) then Some (digits_value 10 (c ∷ cs)) else None)
-    digits

@@ -272,21 +272,6 @@ part_refused ending refused new OutOfMemory enters fails = tt
 part_refused ending refused new error enters fails = λ told.
     rw (enters.part told, enters.section told) (fails (enters.parts.is_told ∙ told))
 
-lacks_section : (name : List ℕ) (ending : List Event → Option (List ℕ)) (refused : PartSection
-    → Refusal → Type 0) (part : Option (List Event)) (error : XlsxError)
-    → LacksSection name part error → OptionalPartCause name ending refused part error
-lacks_section name ending refused None error lacks = lacks
-lacks_section name ending refused (Some events) error (absent, cause) = rw absent cause
-
--- the section isn't there
-pub enter_refused : (name path : List ℕ) (old new : PackageState) (ending : List Event
-    → Option (List ℕ)) (refused : PartSection → Refusal → Type 0) (error : XlsxError)
-    → EnterFails name path old new error → OptionalPartFails name ending refused path old new error
-enter_refused name path old new ending refused Io fails = fails
-enter_refused name path old new ending refused OutOfMemory fails = tt
-enter_refused name path old new ending refused error fails = λ told.
-    lacks_section name ending refused (part_of old.parts path) error (fails told)
-
 no_file : (name : List ℕ) (ending : List Event → Option (List ℕ)) (refused : PartSection → Refusal
     → Type 0) (events : List Event) (found : Option PartSection) (wanted : String Global)
     → MatchOption found (StartCause name events (FileNotFound wanted))

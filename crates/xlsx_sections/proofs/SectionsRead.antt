@@ -225,21 +225,3 @@ section_entered {name = name} {path = path} {old = old} {opened = opened} {enter
           (reads.stays.reading.tracked (reads.moves.parts.is_told ∙ told_there))
           (reads.stays.part told_there) (behind told_there);
     }
-
-closed_in : (name : List ℕ) (events : List Event) (found : Option (List Event)) (s : PartSection)
-    → option_map (section_from events) found ≡ Some s → has_end s ≡ true
-    → option_and_then if_closed found ≡ Some (inside_of s)
-closed_in name events None s is closed = absurd (cc)
-closed_in name events (Some ahead) s is closed =
-    let same : section_from events ahead ≡ s = cc in
-    let here : is_closed 0 ahead ≡ true = ap has_end same ∙ closed in
-    rw here (ap (λ (own : PartSection). Some (inside_of own)) same)
-
--- what stands in a section that was entered, and that is closed
-pub closed_entered : {name path : List ℕ} {old : PackageState} {mid : Reading}
-    → EntersSection name path old mid → old.is_told ≡ true → is_closed_ahead (length mid.names) mid
-    ≡ true → closed_section_of name path old.parts ≡ Some (section_ahead (length mid.names) mid)
-closed_entered {name = name} {mid = mid} enters told closed =
-    ap (option_and_then (closed_section name)) (enters.part told)
-    ∙ closed_in name (events_of mid) (behind_start (is_named (name ∷ [])) (whole (events_of mid)))
-    (section_left (length mid.names) mid) (enters.section told) closed

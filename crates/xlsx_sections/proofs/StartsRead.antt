@@ -42,27 +42,6 @@ behind_start_found {base = base} {tag = tag} {first = first} {old = old} {new =
           sym (next (before.section.reads.moves.parts.is_told ∙ told)).behind ∙ before.behind told;
     }
 
--- the end was taken of the element that the section is
-pub starts_closed : {base : ℕ} {first old new : Reading} {wanted : Tag → Bool} → IsReading first
-    → KeepsStarts base first old → ReadsOn old new → base ≡ length first.names
-    → first.source.is_told ≡ true → ClosesSection wanted base old new → Skips first new
-starts_closed {base = base} {first = first} is keeps reads whole_it told closes =
-    let none : inside base first ≡ 0 = omega (arith, whole_it) in
-    record {
-      closed =
-          sym (ap (λ (n : ℕ). is_closed n (ahead first)) none)
-          ∙ sym (keeps.section.closed told) ∙ closes.closed;
-      size = omega (
-        arith,
-        closes.ends,
-        keeps.section.last told,
-        ap (λ (n : ℕ). length (content n (ahead first))) none,
-      );
-      ahead =
-          sym closes.behind ∙ keeps.behind told
-          ∙ ap (λ (n : ℕ). behind n (ahead first)) none;
-    }
-
 -- the step to the next start is refused, and so is the section
 pub start_refused : {base : ℕ} {first mid : Reading} (name : List ℕ)
     (before : PartSection → Refusal → Type 0) (new : Reading) (error : XlsxError)

@@ -42,15 +42,3 @@ text_refused name data_too old new (stream.Xml (Entity at)) fails = λ told.
       found.1 ∙ ap (λ (events : List Event). old.at + length events) (sym (own_inside old)),
       ap (element_text data_too) (own_inside old) ∙ found.2,
     )
-
-pub text_kind : (name : List ℕ) (old new : Reading) (error : StreamError) → TextFails old new error
-    → IsTextError name (of_stream error)
-text_kind name old new stream.Io fails = tt
-text_kind name old new stream.OutOfMemory fails = tt
-text_kind name old new (stream.Xml (EndMismatch at)) fails = tt
-text_kind name old new (stream.Xml (Unclosed at)) fails = absurd fails
-text_kind name old new (stream.Xml (Entity at)) fails = tt
-
-pub text_known : (data_too : Bool) (inside : List Event) → unknown_entity inside ≡ None
-    → element_text data_too inside ≡ Ok (joined_text data_too inside)
-text_known data_too inside known = ap (known_text (joined_text data_too inside)) known

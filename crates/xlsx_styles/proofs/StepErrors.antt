@@ -1,5 +1,5 @@
 -- Which refusals are those of an element, by that of a step in it.
-use Rattle.std.proofs.Common.{◌≡◌, ℕ, List, codes, inl, inr}
+use Rattle.std.proofs.Common.{ℕ, List, codes, inl, inr}
 use Rattle.part_events.specs.declared.fault.XmlFault.TheVariants.{EndMismatch}
 use Rattle.xlsx_error.specs.declared.error.XlsxError.{XlsxError}
 use Rattle.xlsx_error.specs.declared.error.XlsxError.TheVariants.{OutOfMemory, Io, Xml, XmlAttr}

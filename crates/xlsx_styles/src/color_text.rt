@@ -6,8 +6,8 @@ ghost use Rattle.std.specs.Option.{option_copied};
 ghost use Rattle.std.specs.Str.Parse.{digits_value};
 ghost use Rattle.attr_text.specs.Text.{all_digits};
 ghost use Rattle.part_events.specs.Event.{tag_of};
-ghost use Rattle.xlsx_styles.specs.Colors.{hex_color, color_at, placed_color, indexed_colors};
-ghost use Rattle.xlsx_styles.specs.Colors.{indexed_color, theme_color, plain_color, tint_of};
+ghost use Rattle.xlsx_styles.specs.Colors.{hex_color, color_at, indexed_colors};
+ghost use Rattle.xlsx_styles.specs.Colors.{indexed_color, plain_color, tint_of};
 ghost use Rattle.xlsx_styles.specs.Colors.{tinted_if, color_keys, color_of};
 
 use crate::texts::byte_text;

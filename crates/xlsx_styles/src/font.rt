@@ -1,4 +1,4 @@
-ghost use Rattle.std.specs.Prelude.{◌≡◌, ◌≤◌, List, ℕ, suc, codes, length, true, Ok, Err, IfOk};
+ghost use Rattle.std.specs.Prelude.{◌≡◌, ℕ, suc, codes, length, true, Ok, IfOk};
 ghost use Rattle.std.specs.Prelude.{OnOk, IfErr};
 ghost use Rattle.attr_text.specs.Attributes.{value_of};
 ghost use Rattle.part_events.specs.Event.{tag_of};

@@ -1,11 +1,10 @@
-ghost use Rattle.std.specs.Prelude.{◌≡◌, List, ℕ, codes, Ok, Err, MatchResult};
+ghost use Rattle.std.specs.Prelude.{◌≡◌, Ok, Err, MatchResult};
 ghost use Rattle.std.specs.Option.{option_copied};
-ghost use Rattle.attr_text.specs.Attributes.{local_name_of};
 ghost use Rattle.part_events.specs.Event.{tag_of};
 ghost use Rattle.xlsx_sections.specs.Changes.{changed_with};
 ghost use Rattle.xlsx_styles.specs.Colors.{color_of};
-ghost use Rattle.xlsx_styles.specs.Fonts.{said_of, weight_by, weight_named, weight_of, style_named};
-ghost use Rattle.xlsx_styles.specs.Fonts.{style_of, underline_named, underline_of, with_size};
+ghost use Rattle.xlsx_styles.specs.Fonts.{said_of, weight_by, weight_named, style_named};
+ghost use Rattle.xlsx_styles.specs.Fonts.{underline_named, with_size};
 ghost use Rattle.xlsx_styles.specs.Fonts.{with_family, with_weight, with_style, with_underline};
 ghost use Rattle.xlsx_styles.specs.Fonts.{with_strike, with_color, with_value, value_changed};
 

@@ -93,16 +93,6 @@ lists_lengthened {theme = theme} {base = base} {tag = tag} {first = first} {new 
           }
     ]
 
--- the section's end was taken
-pub lists_closed : {theme : List Color} {base : ℕ} {first old new : Reading} {lists : StyleLists}
-    (kept : KeepsLists theme base lists first old) → first.source.is_told ≡ true
-    → ClosesSection is_style_list base old new
-    → lists_in theme (section_ahead base first) ≡ Ok (lists_said kept.formats lists)
-lists_closed {theme = theme} {lists = lists} kept told closes =
-    sym (kept.said told)
-    ∙ ap (λ (elements : List Element). all_changes (list_change theme) elements
-    (lists_said kept.formats lists)) closes.elements
-
 -- a list that is refused refuses the element that it is
 pub list_fails : {A : Type 0} {kind : StyleList} (theme : List Color) (said : ListsSaid)
     (place : List A → ListsSaid) (kept : List A) (meaning : List Event → Result (List A) Refusal)

@@ -15,7 +15,7 @@ use Rattle.xlsx_tool.specs.Input.{InputRead, InputFails}
 use Rattle.package_text.specs.PackageText.{package_in}
 use Rattle.xlsx_tool.specs.Run.{Streams, sheet_asked, Spells, Succeeds, HasPackageCause}
 use Rattle.xlsx_tool.specs.Run.{ReadingFails, Refuses}
-use Rattle.xlsx_tool.specs.Run.{AnswersExactly, NoPackage, ListsLines, LinesFail, LinesRead, IsSent}
+use Rattle.xlsx_tool.specs.Run.{AnswersExactly, NoPackage, AreLinesOf, LinesFail, LinesRead, IsSent}
 use Rattle.xlsx_tool.specs.Run.{SendFails}
 use Rattle.xlsx_tool.specs.Sink.{SinkState}
 use Rattle.xlsx_tool.specs.Source.{SourceState}
@@ -24,12 +24,6 @@ use Rattle.xlsx_tool.specs.declared.error.ToolError.{ToolError}
 use Rattle.xlsx_tool.specs.declared.error.ToolError.TheVariants.{Usage, ReadFault, InputTooLarge}
 use Rattle.xlsx_tool.specs.declared.error.ToolError.TheVariants.{NotAPackage, Workbook}
 use Rattle.xlsx_tool.specs.declared.error.ToolError.TheVariants.{WriteFault, OutOfMemory}
-
--- what holds of the answer that was given
-pub ok_at :
-    {A E : Type 0} (result : Result A E) (x : A) (P : A → Type 0)
-    → result ≡ Ok x → IfOk result P → P x
-ok_at {A = A} {E = E} result x P is holds = subst (λ (r : Result A E). IfOk r P) is holds
 
 pub err_at :
     {A E : Type 0} (result : Result A E) (e : E) (P : E → Type 0)
@@ -49,28 +43,6 @@ workbook_fails name old new (workbook.WorksheetNotFound asked) fails = fails ref
 workbook_fails name old new error fails = fails refl
 
 -- ---- the lines of a source
-
-pub from_input :
-    (name : List ℕ) (old new : SourceState) (error : ToolError)
-    → InputFails old new error → ReadingFails name old new error
-from_input name old new ReadFault fails = fails
-from_input name old new InputTooLarge fails = fails
-from_input name old new OutOfMemory fails = fails
-from_input name old new _ fails = absurd fails
-
-pub from_package :
-    (name bytes : List ℕ) (old new : SourceState) (error : ToolError)
-    → InputRead bytes old new → NoPackage (package_in bytes) error
-    → ReadingFails name old new error
-from_package name bytes old new NotAPackage input fails = (
-  input.faults,
-  λ told. (
-      let same = (input.whole told).0 in
-      record { fits = rw same input.fits; spelled = ap package_in same ∙ fails }
-      ),
-)
-from_package name bytes old new OutOfMemory input fails = input.faults
-from_package name bytes old new _ input fails = absurd fails
 
 -- the source spells the package that was read
 pub spelled_by :
@@ -96,17 +68,6 @@ from_lines name bytes parts old new (Workbook error) input spelled fails = (
 from_lines name bytes parts old new OutOfMemory input spelled fails = input.faults
 from_lines name bytes parts old new _ input spelled fails = absurd fails
 
-pub lines_read :
-    (name lines bytes : List ℕ) (parts : List Part) (old new : SourceState)
-    → InputRead bytes old new → package_in bytes ≡ Some parts
-    → ListsLines parts name lines → LinesRead name lines old new
-lines_read name lines bytes parts old new input spelled lists = record {
-  faults = input.faults;
-  parts = parts;
-  lists = lists;
-  whole = λ told. (spelled_by bytes parts old new input spelled told, (input.whole told).1);
-}
-
 -- ---- the sink
 
 -- a piece more was written
@@ -122,73 +83,6 @@ pub written_more :
     → now ≡ before ++ front → after ≡ now ++ piece → after ≡ before ++ (front ++ piece)
 written_more before now after front piece first second =
     second ∙ ap (λ (xs : List ℕ). xs ++ piece) first ∙ append_assoc before front piece
-
--- only a sink that fails is left changed by a refusal
-pub send_fails_by_sink :
-    (bytes : List ℕ) (old new : SinkState) (error : ToolError)
-    → SendFails bytes old new error → error ≢ WriteFault → ⊥
-send_fails_by_sink bytes old new WriteFault fails other = other refl
-send_fails_by_sink bytes old new _ fails other = absurd fails
-
--- ---- the run
-
-pub refused :
-    (words : List (List ℕ)) (name : List ℕ) (old new : SourceState) (sink : SinkState)
-    (error : ToolError)
-    → sheet_asked words ≡ Some name → ReadingFails name old new error
-    → (let before : Streams = record { source = old; sink = sink } in
-    let after : Streams = record { source = new; sink = sink } in
-    Refuses words before after error)
-refused words name old new sink Usage asked fails = absurd fails
-refused words name old new sink WriteFault asked fails = absurd fails
-refused words name old new sink error asked fails =
-    record { name = name; asked = asked; sink_faults = refl; cause = fails }
-
-pub not_written :
-    (words : List (List ℕ)) (name lines : List ℕ) (old new : Streams) (error : ToolError)
-    → sheet_asked words ≡ Some name → LinesRead name lines old.source new.source
-    → SendFails lines old.sink new.sink error → Refuses words old new error
-not_written words name lines old new WriteFault asked read fails = record {
-  name = name;
-  asked = asked;
-  source_faults = read.faults;
-  cause = fails.0;
-  front = λ told. record {
-    parts = read.parts;
-    values = read.lists.values;
-    formulas = read.lists.formulas;
-    styles = read.lists.styles;
-    spells = (read.whole told).0;
-    reads = read.lists.reads;
-    whole = (read.whole told).1;
-    front = fails.1.front;
-    behind = fails.1.behind;
-    lines = sym read.lists.listed ∙ fails.1.whole;
-    written = fails.1.written;
-  };
-}
-not_written words name lines old new _ asked read fails = absurd fails
-
-pub succeeded :
-    (words : List (List ℕ)) (name lines : List ℕ) (old new : Streams)
-    → sheet_asked words ≡ Some name → LinesRead name lines old.source new.source
-    → IsSent lines old.sink new.sink → Succeeds words old new
-succeeded words name lines old new asked read sent = record {
-  name = name;
-  asked = asked;
-  faults = record { source_faults = read.faults; sink_faults = sent.faults };
-  reads = λ told. record {
-    parts = read.parts;
-    values = read.lists.values;
-    formulas = read.lists.formulas;
-    styles = read.lists.styles;
-    spells = (read.whole told).0;
-    reads = read.lists.reads;
-    whole = (read.whole told).1;
-    written = λ sink_told. sent.written sink_told
-        ∙ ap (λ (xs : List ℕ). old.sink.written ++ xs) read.lists.listed;
-  };
-}
 
 -- ---- exactly when
 

@@ -1,4 +1,4 @@
-ghost use Rattle.std.specs.Prelude.{◌≡◌, ◌<◌, length, IfOk, IfErr};
+ghost use Rattle.std.specs.Prelude.{◌<◌, length, IfOk, IfErr};
 ghost use Rattle.xlsx_tool.specs.Input.{InputRead, InputFails, PieceRead, PieceFails};
 
 use crate::error::ToolError;

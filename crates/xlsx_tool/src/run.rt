@@ -1,7 +1,7 @@
 ghost use Rattle.std.specs.Prelude.{◌≡◌, ◌≢◌, true, string_bytes, option_map, IfOk, OnOk, IfErr};
 ghost use Rattle.std.specs.Prelude.{Err};
 ghost use Rattle.xlsx_tool.specs.Run.{texts, sheet_asked, Streams, Succeeds, Refuses};
-ghost use Rattle.xlsx_tool.specs.Run.{AnswersExactly, PackageRead, NoPackage, ListsLines};
+ghost use Rattle.xlsx_tool.specs.Run.{AnswersExactly, PackageRead, NoPackage, AreLinesOf};
 ghost use Rattle.xlsx_tool.specs.Run.{LinesRead, LinesFail, ReadingFails, IsSent, SendFails};
 ghost use Rattle.package_text.specs.PackageText.{package_in, package_of};
 ghost use Rattle.xlsx_tool.specs.declared.error.ToolError.TheVariants.{Usage, WriteFault};
@@ -67,7 +67,7 @@ fn package_from(alloc: Global, bytes: Vec<u8>) -> Result<MemoryPackage, ToolErro
 
 /// The lines of the sheet of this name.
 fn lines_of(alloc: Global, package: MemoryPackage, name: &str) -> Result<String, ToolError>
-    ensures ok { IfOk result (λ out. ListsLines «package».parts name.now (string_bytes out)) }
+    ensures ok { IfOk result (λ out. AreLinesOf «package».parts name.now (string_bytes out)) }
     ensures err { IfErr result (LinesFail «package».parts name.now) }
 {
     let SheetAnswer { result, package } = read_sheet(alloc, package, name);

@@ -4,7 +4,7 @@ ghost use Rattle.std.specs.Prelude.{◌<◌};
 use crate::error::ToolError;
 use crate::program::answer;
 use crate::run::send;
-use crate::sink::{Sink, SinkFailed, StdSink};
+use crate::sink::{Sink, StdSink};
 use crate::source::{Source, SourceFailed, StdSource};
 use crate::tests::{NUTS, NUTS_LINES, package_of};
 use std::alloc::Global;

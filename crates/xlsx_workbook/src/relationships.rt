@@ -3,7 +3,6 @@ ghost use Rattle.std.specs.Prelude.{if◌then◌else◌, IfOk, OnOk, IfErr};
 ghost use Rattle.std.specs.Option.{option_copied};
 ghost use Rattle.std.specs.Str.{bytes_eq};
 ghost use Rattle.part_events.specs.Event.{tag_of};
-ghost use Rattle.part_events.specs.Section.{PlacedTag};
 ghost use Rattle.xlsx_error.specs.declared.error.XlsxError.TheVariants.{OutOfMemory};
 ghost use Rattle.xlsx_sections.specs.Answers.{or_earlier};
 ghost use Rattle.xlsx_sections.specs.Refusal.{ElementFails, placed_at};

@@ -1,9 +1,9 @@
-use Rattle.std.proofs.Common.{◌≡◌, true, codes}
+use Rattle.std.proofs.Common.{codes}
 use Rattle.std.proofs.lemmas.Result.{err_from_is_err_and}
 use Rattle.part_events.specs.Reading.{reading}
 use Rattle.xlsx_sections.specs.Elements.{IsInsideRefused}
 use Rattle.xlsx_sections.proofs.ElementsRead.{element_there, step_refused}
-use Rattle.xlsx_stylesheet.specs.StyleSheet.{is_style_list, list_element_end, lists_in}
+use Rattle.xlsx_stylesheet.specs.StyleSheet.{list_element_end, lists_in}
 use Rattle.xlsx_stylesheet.proofs.StyleListsRead.{lists_refused, lists_lengthened}
 use Rattle.xlsx_stylesheet.proofs.style_lists.lists_in.Goals as goal
 

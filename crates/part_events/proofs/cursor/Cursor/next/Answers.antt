@@ -1,7 +1,6 @@
-use Rattle.std.proofs.Common.{sym, refl}
-use Rattle.part_events.specs.Event.{tag_of}
+use Rattle.std.proofs.Common.{sym}
 use Rattle.part_events.specs.Reading.{reading}
-use Rattle.part_events.proofs.Steps.{stays_at_start, breaks_at_end}
+use Rattle.part_events.proofs.Steps.{breaks_at_end}
 use Rattle.part_events.proofs.cursor.Cursor.next.Goals as goal
 
 pub returns-then-not-close-clause-err : goal.returns-then-not-close-clause-err
