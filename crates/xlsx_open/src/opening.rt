@@ -100,7 +100,6 @@ fn open_workbook<P: Package>(
         let new = P.state «package».new in
         Uses (workbook_events old.parts path.now) Io result old new }
     ensures opened { let old = P.state «package».old in
-        let new = P.state «package».new in
         old.is_told ≡ true → IfOk result (λ o. (opening : Opening)
         × HoldsOpening o.metadata o.paths.items o.shared o.is_1904 opening
         × (opening.shared ≡ shared_said shared)
@@ -160,7 +159,6 @@ pub fn open<P: Package>(alloc: Global, package: &mut P) -> Result<Opened, XlsxEr
         let new = P.state «package».new in
         OpensPackage Io result old new }
     ensures opens { let old = P.state «package».old in
-        let new = P.state «package».new in
         old.is_told ≡ true → IfOk result (λ o. (opening : Opening)
         × HoldsOpening o.metadata o.paths.items o.shared o.is_1904 opening
         × OpensAs old.parts opening) }

@@ -33,10 +33,8 @@ fn path_in<P: Package>(
         let new = reading (P.state «package».new) cursor.new in
         ReadsPart Io result old new }
     ensures closed { let old = reading (P.state «package».old) cursor.old in
-        let new = reading (P.state «package».new) cursor.new in
         old.source.is_told ≡ true → OnOk result (is_closed_ahead base old ≡ true) }
     ensures path { let old = reading (P.state «package».old) cursor.old in
-        let new = reading (P.state «package».new) cursor.new in
         old.source.is_told ≡ true →
         IfOk result (λ path. path_in (section_ahead base old) ≡ Ok (option_map string_bytes path)) }
     ensures err { let old = reading (P.state «package».old) cursor.old in
@@ -71,10 +69,8 @@ fn relationships_in<P: Package>(
         let new = reading (P.state «package».new) cursor.new in
         ReadsPart Io result old new }
     ensures closed { let old = reading (P.state «package».old) cursor.old in
-        let new = reading (P.state «package».new) cursor.new in
         old.source.is_told ≡ true → OnOk result (is_closed_ahead base old ≡ true) }
     ensures related { let old = reading (P.state «package».old) cursor.old in
-        let new = reading (P.state «package».new) cursor.new in
         old.source.is_told ≡ true → IfOk result (λ map. (id : List ℕ) →
         related_in (section_ahead base old) id ≡ Ok (related_by_id map id)) }
     ensures err { let old = reading (P.state «package».old) cursor.old in
@@ -112,7 +108,6 @@ pub fn read_path<P: Package>(
         let new = P.state «package».new in
         Uses (event_count old.parts part.now) Io result old new }
     ensures path { let old = P.state «package».old in
-        let new = P.state «package».new in
         let inside = closed_section_of (codes "Relationships") part.now old.parts in
         old.is_told ≡ true → IfOk result (λ path.
         IsSomeAnd inside (λ inside. path_in inside ≡ Ok (Some (string_bytes path)))) }
@@ -146,7 +141,6 @@ pub fn read_relationships<P: Package>(
         let new = P.state «package».new in
         Uses (event_count old.parts part.now) Io result old new }
     ensures related { let old = P.state «package».old in
-        let new = P.state «package».new in
         let inside = closed_section_of (codes "Relationships") part.now old.parts in
         old.is_told ≡ true → IfOk result (λ map. IsSomeAnd inside (λ inside. (id : List ℕ) →
         related_in inside id ≡ Ok (related_by_id map id))) }

@@ -255,10 +255,8 @@ fn contents_in<P: Package>(
         let new = reading (P.state «package».new) cursor.new in
         ReadsPart Io result old new }
     ensures closed { let old = reading (P.state «package».old) cursor.old in
-        let new = reading (P.state «package».new) cursor.new in
         old.source.is_told ≡ true → OnOk result (is_closed_ahead base old ≡ true) }
     ensures contents { let old = reading (P.state «package».old) cursor.old in
-        let new = reading (P.state «package».new) cursor.new in
         let folder = places.entry.folder.now in
         let related = related_by_id places.entry.relationships.now in
         old.source.is_told ≡ true →
@@ -304,7 +302,6 @@ pub fn read_contents<P: Package>(
         let new = P.state «package».new in
         Uses (event_count old.parts part.now) Io result old new }
     ensures contents { let old = P.state «package».old in
-        let new = P.state «package».new in
         let folder = places.entry.folder.now in
         let related = related_by_id places.entry.relationships.now in
         let inside = closed_section_of (codes "workbook") part.now old.parts in
