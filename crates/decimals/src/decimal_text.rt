@@ -80,8 +80,8 @@ pub fn read_power(text: &[u8]) -> Option<i128>
     Some(if is_negative { -power } else { power })
 }
 
-/// The power of the whole number, where the digits had this power, so many zeros at their end and so
-/// many places behind the point.
+/// The power of the whole number, where the digits had this power, so many zeros at their end and
+/// so many places behind the point.
 pub fn moved_power(power: i128, zeros: usize, places: usize) -> i128
     requires low { negsuc (2 ^ 100 - 1) ≤ℤ power }
     requires high { power ≤ℤ pos (2 ^ 100) }

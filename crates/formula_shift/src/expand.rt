@@ -74,7 +74,8 @@ fn offset_between(start: (u32, u32), end: (u32, u32)) -> (i64, i64)
     )
 }
 
-/// Appends the moved text of a formula. On `Err` the buffer had no room for it, and may hold a part.
+/// Appends the moved text of a formula. On `Err` the buffer had no room for it, and may hold a
+/// part.
 fn push_moved(out: &mut String, formula: &str, offset: (i64, i64)) -> Result<(), AllocError>
     ensures ok { OnOk result
         (string_bytes out.new ≡ string_bytes out.old ++ moved formula.now offset) }

@@ -15,7 +15,8 @@ use Rattle.serde_json.specs.Find.{get, get_member, as_array, as_str, as_number, 
 use Rattle.serde_json.specs.Written.{has_float, items_have_float, members_have_float}
 use Rattle.part_events.specs.Event.{Event}
 use Rattle.part_events.specs.Package.{Part}
-use Rattle.package_text.specs.PackageText.{texts_of, event_of_texts, event_in, events_in, named_part}
+use Rattle.package_text.specs.PackageText.{texts_of, event_of_texts, event_in, events_in}
+use Rattle.package_text.specs.PackageText.{named_part}
 use Rattle.package_text.specs.PackageText.{part_in, parts_in, is_version_1, package_of}
 use Rattle.package_text.specs.PackageText.{members_have_float_beside, has_float_beside, part_beside}
 use Rattle.package_text.specs.PackageText.{parts_beside, package_beside}

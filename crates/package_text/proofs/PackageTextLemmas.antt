@@ -14,7 +14,8 @@ use Rattle.serde_json.specs.declared.value.Value.{Value}
 use Rattle.part_events.specs.Event.{Event}
 use Rattle.part_events.specs.Package.{Part}
 use Rattle.part_events.specs.Memory.{with_event}
-use Rattle.package_text.specs.PackageText.{texts_of, event_of_texts, events_in, event_in, package_of}
+use Rattle.package_text.specs.PackageText.{texts_of, event_of_texts, events_in, event_in}
+use Rattle.package_text.specs.PackageText.{package_of}
 use Rattle.package_text.specs.PackageText.{package_in}
 
 -- what is in a text of UTF-8

@@ -13,7 +13,8 @@ ghost use Rattle.sheet_listing.specs.SheetListing.{kind_text, calendar_text, val
 ghost use Rattle.sheet_listing.specs.SheetListing.{formula_field};
 ghost use Rattle.sheet_listing.specs.SheetListing.{field, line, line_of, listing};
 ghost use Rattle.sheet_listing.specs.SheetListing.{cell_values, cell_formulas};
-ghost use Rattle.sheet_listing.specs.SheetListing.{value_given, formula_given, AreInOrder, IsFirstOf};
+ghost use Rattle.sheet_listing.specs.SheetListing.{value_given, formula_given, AreInOrder};
+ghost use Rattle.sheet_listing.specs.SheetListing.{IsFirstOf};
 ghost use Rattle.sheet_listing.specs.SheetListing.{StandsFirst, Splits, IsEarlier, first_place};
 ghost use Rattle.sheet_listing.specs.SheetListing.{shown_color, fill_shown, fill_field, id_given};
 ghost use Rattle.sheet_listing.specs.SheetListing.{lines_with, placed_ids};

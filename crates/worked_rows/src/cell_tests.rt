@@ -280,8 +280,8 @@ fn values_go_by_the_type_of_their_cell(rt: HostRuntime) -> Result<(), Fail> {
     Ok(())
 }
 
-/// What is read of a cell with an empty text, a text, a reference, character data and a comment first
-/// in its `v`.
+/// What is read of a cell with an empty text, a text, a reference, character data and a comment
+/// first in its `v`.
 type Answers = (
     &'static str,
     &'static str,

@@ -10,7 +10,8 @@ use test_packages::{
     package_of,
 };
 
-/// A sheet with a formula, a text, a number, a string in its cell, and values and dimensions beside.
+/// A sheet with a formula, a text, a number, a string in its cell, and values and dimensions
+/// beside.
 const LONG_SHEET: &str =
     r#"<worksheet><dimension ref="A1"></dimension><sheetData><row r="1"><c r="A1" t="str"><f>B1</f><v>nut</v></c><c r="B1"><v>1</v></c><c r="C1" t="inlineStr"><is><t>a</t></is></c></row></sheetData></worksheet>"#;
 

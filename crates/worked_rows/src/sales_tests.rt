@@ -39,9 +39,9 @@ const THEME: Part<'static> = (
     r#"<theme><clrScheme><dk1><sysClr val="windowText"/></dk1></clrScheme></theme>"#,
 );
 
-/// The calls of its reading: seven parts are looked for, and the events taken are 4 of the package's
-/// relationships, 17 of the strings, 7 of the theme, 12 of the styles, 4 of the workbook's
-/// relationships, 6 of the workbook and 49 of the sheet.
+/// The calls of its reading: seven parts are looked for, and the events taken are 4 of the
+/// package's relationships, 17 of the strings, 7 of the theme, 12 of the styles, 4 of the
+/// workbook's relationships, 6 of the workbook and 49 of the sheet.
 const CALLS: u64 = 7 + 4 + 17 + 7 + 12 + 4 + 6 + 49;
 
 /// The answer for the sheet of sales where this call of the package fails.

@@ -8,9 +8,11 @@ use Rattle.cell_refs.specs.declared.error.RefError.{RefError}
 use Rattle.cell_refs.specs.declared.error.RefError.TheVariants as ref
 use Rattle.xlsx_error.specs.declared.error.XlsxError.{XlsxError}
 use Rattle.xlsx_error.specs.declared.error.XlsxError.TheVariants.{OutOfMemory, Failed, Io}
-use Rattle.xlsx_error.specs.declared.error.XlsxError.TheVariants.{Xml, XmlAttr, ParseFloat, ParseInt}
+use Rattle.xlsx_error.specs.declared.error.XlsxError.TheVariants.{Xml, XmlAttr, ParseFloat}
+use Rattle.xlsx_error.specs.declared.error.XlsxError.TheVariants.{ParseInt}
 use Rattle.xlsx_error.specs.declared.error.XlsxError.TheVariants.{XmlEof, UnexpectedNode}
-use Rattle.xlsx_error.specs.declared.error.XlsxError.TheVariants.{FileNotFound, RelationshipNotFound}
+use Rattle.xlsx_error.specs.declared.error.XlsxError.TheVariants.{FileNotFound}
+use Rattle.xlsx_error.specs.declared.error.XlsxError.TheVariants.{RelationshipNotFound}
 use Rattle.xlsx_error.specs.declared.error.XlsxError.TheVariants.{Alphanumeric}
 use Rattle.xlsx_error.specs.declared.error.XlsxError.TheVariants.{RangeWithoutColumnComponent}
 use Rattle.xlsx_error.specs.declared.error.XlsxError.TheVariants.{RangeWithoutRowComponent}

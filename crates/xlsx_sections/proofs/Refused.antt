@@ -13,7 +13,8 @@ use Rattle.xlsx_error.specs.declared.error.XlsxError.{XlsxError}
 use Rattle.xlsx_error.specs.declared.error.XlsxError.TheVariants.{OutOfMemory, Io, Xml, XmlAttr}
 use Rattle.xlsx_error.specs.declared.error.XlsxError.TheVariants.{XmlEof}
 use Rattle.xlsx_error.specs.declared.error.XlsxError.TheVariants.{FileNotFound}
-use Rattle.xlsx_error.specs.declared.error.XlsxError.TheVariants.{RelationshipNotFound, Unrecognized}
+use Rattle.xlsx_error.specs.declared.error.XlsxError.TheVariants.{RelationshipNotFound}
+use Rattle.xlsx_error.specs.declared.error.XlsxError.TheVariants.{Unrecognized}
 use Rattle.xlsx_error.specs.declared.error.XlsxError.TheVariants.{Alphanumeric, DimensionCount}
 use Rattle.xlsx_error.specs.declared.error.XlsxError.TheVariants.{RangeWithoutRowComponent}
 use Rattle.xlsx_error.specs.declared.error.XlsxError.TheVariants.{RangeWithoutColumnComponent}

@@ -11,7 +11,8 @@ use Rattle.part_events.specs.Section.{PlacedTag, Element}
 use Rattle.part_events.specs.declared.fault.XmlFault.TheVariants.{Entity}
 use Rattle.xlsx_error.specs.declared.error.XlsxError.{XlsxError}
 use Rattle.xlsx_error.specs.declared.error.XlsxError.TheVariants.{OutOfMemory, Xml, XmlAttr}
-use Rattle.xlsx_error.specs.declared.error.XlsxError.TheVariants.{RelationshipNotFound, Unrecognized}
+use Rattle.xlsx_error.specs.declared.error.XlsxError.TheVariants.{RelationshipNotFound}
+use Rattle.xlsx_error.specs.declared.error.XlsxError.TheVariants.{Unrecognized}
 use Rattle.xlsx_error.specs.declared.error.XlsxError.TheVariants.{Alphanumeric, DimensionCount}
 use Rattle.xlsx_error.specs.declared.error.XlsxError.TheVariants.{RangeWithoutRowComponent}
 use Rattle.xlsx_error.specs.declared.error.XlsxError.TheVariants.{RangeWithoutColumnComponent}

@@ -74,7 +74,8 @@ fn few_places(size: u128, places: u32) -> u128
     }
 }
 
-/// The size of a number with more than 20 decimals. Past 58 nothing is left of a number of 128 bits.
+/// The size of a number with more than 20 decimals. Past 58 nothing is left of a number of 128
+/// bits.
 fn many_places(size: u128, places: u32) -> u128
     requires { 20 < places }
     ensures { result ≡ min (size * unit / 10 ^ places) unit }
