@@ -85,7 +85,7 @@ impl fmt::Display for UnknownCellError {
 impl std::error::Error for UnknownCellError {}
 
 /// Reads the text of an error exactly: `#DIV/0!`, `#N/A`, `#NAME?`, `#NULL!`, `#NUM!`, `#REF!` or
-/// `#VALUE!`.
+/// `#VALUE!`. Another text is `UnknownCellError`.
 impl FromStr for CellErrorType {
     ghost use Rattle.cell_data.specs.CellError.{cell_error};
 

@@ -34,6 +34,9 @@ pub fn page_of(words: &[String]) -> Option<&'static str>
 
 /// Writes the page that the words ask for, and reads nothing; runs them as a command where they ask
 /// for none (docs/FORMAT.md).
+///
+/// Where the words ask for a page, the only refusal is `WriteFault`. A command is refused as by
+/// `run`.
 pub fn answer<S: Source, K: Sink>(
     alloc: Global,
     words: &[String],
