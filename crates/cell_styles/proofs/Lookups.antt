@@ -3,8 +3,9 @@ use Rattle.std.proofs.Common.{◌≡◌, ℕ, ◌<◌, List, length, slice_get, 
 use Rattle.std.proofs.Common.{ap, subst, sym, arith}
 use Rattle.std.proofs.lemmas.Bool.Decides.{nat_tests}
 use Rattle.cell_refs.specs.Dimensions.{IsInArea}
+use Rattle.cell_refs.specs.Positions.{is_in_area}
 use Rattle.cell_refs.specs.declared.dimensions.Dimensions.{Dimensions}
-use Rattle.cell_styles.specs.StyleMap.{StyleMap, IsSound, place_in, is_inside, style_in, style_at}
+use Rattle.cell_styles.specs.StyleMap.{StyleMap, IsSound, place_in, style_in, style_at}
 use Rattle.cell_styles.proofs.Areas.{place_within}
 
 -- what is known where there is an area
@@ -26,7 +27,7 @@ pub id_below : (area : Dimensions) (count : ℕ) (ids : List ℕ) (place id : �
 id_below area count ids place id sound within is =
     subst (λ n. n < count) (sym is) (sound.2 place 0 within)
 
-inside_test : (area : Dimensions) (pos : ℕ × ℕ) → IsInArea area pos.0 pos.1 → is_inside area pos
+inside_test : (area : Dimensions) (pos : ℕ × ℕ) → IsInArea area pos.0 pos.1 → is_in_area area pos
     ≡ true
 inside_test area pos inside = grind (arith, nat_tests)
 

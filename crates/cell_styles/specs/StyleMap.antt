@@ -5,6 +5,7 @@ use Rattle.std.specs.Prelude.{nat_lt, nat_le, if◌then◌else◌, List, [], ◌
 use Rattle.std.specs.Prelude.{slice_get, slice_index, Bool, Option, Some, None, All}
 use Rattle.std.specs.List.{range_with_len}
 use Rattle.cell_refs.specs.Dimensions.{span, cell_count, IsInArea}
+use Rattle.cell_refs.specs.Positions.{is_in_area}
 use Rattle.cell_refs.specs.declared.TheConstants.{MAX_ROWS, MAX_COLUMNS}
 use Rattle.cell_refs.specs.declared.dimensions.Dimensions.{Dimensions}
 use Rattle.cell_styles.specs.declared.style.Style.{Style}
@@ -103,17 +104,11 @@ abbrev pub IsInBounds : Option Dimensions → ℕ × ℕ → Type 0
 IsInBounds None position = ⊥
 IsInBounds (Some area) position = IsInArea area position.0 position.1
 
--- the position lies in the area
-abbrev pub is_inside : Dimensions → ℕ × ℕ → Bool
-is_inside area position =
-    (nat_le area.start.0 position.0 && nat_le position.0 area.end.0)
-    && (nat_le area.start.1 position.1 && nat_le position.1 area.end.1)
-
 -- the style of a position of the area
 abbrev pub style_in : Option Dimensions → StyleMap → ℕ × ℕ → Option Style
 style_in None styles position = None
 style_in (Some area) styles position =
-    if is_inside area position
+    if is_in_area area position
     then slice_get styles.palette (slice_index styles.ids (place_in area position))
     else None
 

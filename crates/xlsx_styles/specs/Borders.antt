@@ -16,7 +16,7 @@ use Rattle.xlsx_sections.specs.Answers.{last_answer}
 use Rattle.xlsx_sections.specs.Elements.{end_among}
 use Rattle.xlsx_sections.specs.Refusal.{Refusal, lookup_fault, in_element}
 use Rattle.xlsx_sections.specs.Changes.{all_changes, or_fault}
-use Rattle.xlsx_styles.specs.Colors.{color_of}
+use Rattle.xlsx_styles.specs.Colors.{color_of, is_color}
 use Rattle.xlsx_styles.specs.Texts.{named}
 use Rattle.xlsx_styles.specs.declared.border.Side.{Side}
 use Rattle.xlsx_styles.specs.declared.border.Side.TheVariants.{Left, Right, Top, Bottom, Diagonal}
@@ -35,9 +35,6 @@ line_named text = named (
 abbrev pub border_line : Option (List ℕ) → BorderStyle
 border_line None = line.None
 border_line (Some text) = line_named text
-
-abbrev pub is_color : Tag → Bool
-is_color tag = is_named (codes "color" ∷ []) tag
 
 abbrev pub side_color : List Color → PlacedTag → Result (Option Color) Refusal
 side_color theme start = or_fault (color_of theme start.tag)

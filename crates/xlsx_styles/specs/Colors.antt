@@ -1,18 +1,23 @@
 -- The color that an element names by its attributes.
 use Rattle.std.specs.Prelude.{ℕ, ◌+◌, ◌*◌, ◌/◌, ◌==◌, nat_abs, List, [], ◌∷◌, map, length, get_or}
 use Rattle.std.specs.Prelude.{if◌then◌else◌, codes, Option, Some, None, option_map, Result, Ok, Err}
-use Rattle.std.specs.Prelude.{ℤ}
+use Rattle.std.specs.Prelude.{ℤ, Bool}
 use Rattle.std.specs.Option.{option_and_then}
 use Rattle.std.specs.Str.Parse.{digits_value}
 use Rattle.attr_text.specs.Attributes.{lookup}
 use Rattle.attr_text.specs.Text.{all_digits}
 use Rattle.attr_text.specs.declared.fault.AttrFault.{AttrFault}
 use Rattle.part_events.specs.Event.{Tag}
+use Rattle.part_events.specs.Section.{is_named}
 use Rattle.decimals.specs.Decimals.{decimal_of}
 use Rattle.cell_styles.specs.Color.{color_of_argb}
 use Rattle.cell_styles.specs.declared.color.Color.{Color}
 use Rattle.xlsx_styles.specs.Texts.{number_below}
 use Rattle.xlsx_styles.specs.Tint.{Fraction, number_fraction}
+
+-- a start that says a color
+abbrev pub is_color : Tag → Bool
+is_color tag = is_named (codes "color" ∷ []) tag
 
 abbrev pub black : Color
 black = color_of_argb 0xFF000000

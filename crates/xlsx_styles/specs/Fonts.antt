@@ -20,7 +20,7 @@ use Rattle.cell_styles.specs.declared.font.UnderlineStyle.{UnderlineStyle}
 use Rattle.cell_styles.specs.declared.font.UnderlineStyle.TheVariants as underline
 use Rattle.xlsx_sections.specs.Refusal.{Refusal, lookup_fault, decoded_at}
 use Rattle.xlsx_sections.specs.Changes.{all_changes, or_fault, changed_with}
-use Rattle.xlsx_styles.specs.Colors.{color_of}
+use Rattle.xlsx_styles.specs.Colors.{color_of, is_color}
 use Rattle.xlsx_styles.specs.Texts.{truth_or, number_below, named}
 
 -- a font, its size as a number, its mantissa and its power of ten
@@ -207,15 +207,12 @@ value_changed tag font =
 abbrev pub is_font_name : Tag → Bool
 is_font_name tag = is_named (codes "name" ∷ []) tag
 
-abbrev pub is_font_color : Tag → Bool
-is_font_color tag = is_named (codes "color" ∷ []) tag
-
 -- what a start in a font makes of it, by the colors of the theme
 abbrev pub font_change : List Color → PlacedTag → FontSaid → Result FontSaid Refusal
 font_change theme start font =
     if is_font_name start.tag
     then name_changed start.behind font (value_of (codes "val") start.tag.attributes)
-    else (if is_font_color start.tag
+    else (if is_color start.tag
     then or_fault (changed_with with_color font (color_of theme start.tag))
     else or_fault (value_changed start.tag font))
 

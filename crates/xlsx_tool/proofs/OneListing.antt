@@ -5,13 +5,14 @@ use mathlib.Core.Path.{fun_ext}
 use Rattle.std.specs.Prelude.{slice_get, slice_index, option_map, option_and_then}
 use Rattle.std.specs.List.{flat_map}
 use Rattle.std.proofs.lemmas.Option.{slice_get-map}
+use Rattle.cell_refs.specs.Positions.{is_in_area}
 use Rattle.cell_refs.specs.declared.dimensions.Dimensions.{Dimensions}
 use Rattle.part_events.specs.Package.{Part}
 use Rattle.cell_data.specs.CellValue.{CellValue}
 use Rattle.cell_styles.specs.Color.{color_text}
 use Rattle.cell_styles.specs.Fill.{fill_color}
 use Rattle.cell_styles.specs.StyleItems.{styled_in, styled_entry}
-use Rattle.cell_styles.specs.StyleMap.{StyleMap, is_inside, place_in, style_in, style_at}
+use Rattle.cell_styles.specs.StyleMap.{StyleMap, place_in, style_in, style_at}
 use Rattle.cell_styles.specs.declared.style.Style.{Style}
 use Rattle.xlsx_formats.specs.Formattings.{StyleSaid, style_said}
 use Rattle.xlsx_core.specs.SheetReading.{SayTheSame, ReadsAs}
@@ -53,7 +54,7 @@ inside_by_said : (area : Option Dimensions) (one two : StyleMap) (position : ℕ
 inside_by_said None one two position palette ids = refl
 inside_by_said (Some area) one two position palette ids =
     let place = place_in area position in
-    tested_by_said (is_inside area position)
+    tested_by_said (is_in_area area position)
     (slice_get one.palette (slice_index one.ids place))
     (slice_get two.palette (slice_index two.ids place))
     (style_by_said one.palette two.palette (slice_index one.ids place) palette

@@ -8,7 +8,8 @@ use Rattle.xlsx_sections.specs.PartSection.{SectionFails, always}
 use Rattle.xlsx_sections.proofs.Kept.{last_further, last_refused}
 use Rattle.xlsx_sections.proofs.SectionsRead.{start_found}
 use Rattle.xlsx_sections.proofs.StartsRead.{behind_start_found, start_refused}
-use Rattle.xlsx_styles.specs.Borders.{side_color, color_in, is_color}
+use Rattle.xlsx_styles.specs.Borders.{side_color, color_in}
+use Rattle.xlsx_styles.specs.Colors.{is_color}
 use Rattle.xlsx_styles.proofs.border.read_side_color.Goals as goal
 
 pub returns-in_err-_at-clause-err : goal.returns-in_err-_at-clause-err
