@@ -11,6 +11,7 @@ use Rattle.part_events.specs.Section.{PlacedTag, starts_by, is_named}
 use Rattle.xlsx_sections.specs.Answers.{some_answers, with_two}
 use Rattle.xlsx_sections.specs.Refusal.{Refusal, lookup_fault, decoded_at}
 use Rattle.xlsx_formats.specs.declared.format_codes.FormatCodes.{FormatCodes}
+use Rattle.xlsx_formats.specs.declared.kept_code.KeptCode.{KeptCode}
 
 -- a number format as a start writes it: its id, which is the text of the attribute, and its code,
 -- which is decoded
@@ -63,9 +64,12 @@ abbrev pub code_written : List ℕ → List WrittenFormat → Option (List ℕ)
 code_written id [] = None
 code_written id (format ∷ formats) = option_or (code_written id formats) (code_if id format)
 
+abbrev pub code_of : KeptCode → List ℕ
+code_of kept = string_bytes kept.code
+
 -- the code that is kept of this id
 abbrev pub code_kept : FormatCodes → List ℕ → Option (List ℕ)
-code_kept kept id = option_map string_bytes (get_by_text kept.by_id id)
+code_kept kept id = option_map code_of (get_by_text kept.by_id id)
 
 -- the codes that are kept are those of these formats, in the order in which they were written
 abbrev pub AreCodes : List WrittenFormat → FormatCodes → Type 0

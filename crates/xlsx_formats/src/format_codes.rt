@@ -1,14 +1,15 @@
 ghost use Rattle.std.specs.Prelude.{◌≡◌, [], ◌∷◌, ◌++◌, List, string_bytes, OnOk, OnErr};
 ghost use Rattle.std.specs.Option.{option_map};
-ghost use Rattle.xlsx_formats.specs.FormatCodes.{WrittenFormat, code_kept, AreCodes};
+ghost use Rattle.xlsx_formats.specs.FormatCodes.{WrittenFormat, code_of, code_kept, AreCodes};
 
+use crate::kept_code::KeptCode;
 use std::alloc::{AllocError, Global};
 use std::collections::BTreeMap;
 
 /// The codes of number formats, by their ids as they are written: of each id the last one.
 #[derive(Debug, Drop)]
 pub struct FormatCodes {
-    by_id: BTreeMap<String, String>,
+    by_id: BTreeMap<String, KeptCode>,
 }
 
 impl FormatCodes {
@@ -26,10 +27,17 @@ impl FormatCodes {
     pub fn code(&self, id: &str) -> Option<&str>
         ensures { option_map (λ code. code.now) result ≡ code_kept self.now id.now }
     {
-        match self.by_id.get(id) {
-            Some(code) => Some(code.as_str()),
+        match self.get(id) {
+            Some(kept) => Some(kept.code.as_str()),
             None => None,
         }
+    }
+
+    /// That code, with what it makes of a number.
+    pub(crate) fn get(&self, id: &str) -> Option<&KeptCode>
+        ensures { option_map (λ kept. code_of kept.now) result ≡ code_kept self.now id.now }
+    {
+        self.by_id.get(id)
     }
 
     /// Keeps the code of an id, in place of an earlier one. Where memory is wanting the codes stay
@@ -43,7 +51,7 @@ impl FormatCodes {
         ensures err { OnErr result ((earlier : List WrittenFormat) → AreCodes earlier self.old →
             AreCodes earlier self.new) }
     {
-        self.by_id.insert(id, code)?;
+        self.by_id.insert(id, KeptCode::new(code))?;
         Ok(())
     }
 }

@@ -23,9 +23,7 @@ ghost use Rattle.xlsx_formats.specs.Formattings.{named_said};
 use crate::format_codes::FormatCodes;
 use crate::settings::{Settings, read_settings};
 use attr_text::{AttrFault, AttrValue, RawAttributes, four_values};
-use cell_data::{
-    CellFormat, builtin_format_by_id, builtin_format_code_by_id, detect_custom_number_format,
-};
+use cell_data::{CellFormat, builtin_format_by_id, builtin_format_code_by_id};
 use cell_styles::{Borders, Fill, Font, NumberFormat, Style};
 use part_events::{Cursor, Package, StartTag};
 use std::alloc::{AllocError, Global};
@@ -95,8 +93,8 @@ fn format_named(kept: &FormatCodes, id: Option<&str>) -> CellFormat
     let Some(id) = id else {
         return CellFormat::Other;
     };
-    match kept.code(id) {
-        Some(code) => detect_custom_number_format(code),
+    match kept.get(id) {
+        Some(code) => code.format,
         None => builtin_format_by_id(id),
     }
 }

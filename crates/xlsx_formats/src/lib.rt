@@ -3,6 +3,7 @@
 
 mod format_codes;
 mod formatting;
+mod kept_code;
 mod number_formats;
 mod settings;
 

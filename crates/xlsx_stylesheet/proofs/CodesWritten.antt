@@ -11,16 +11,17 @@ use Rattle.std.specs.Str.{bytes_eq}
 use Rattle.std.proofs.lemmas.Bool.Decides.{same_from_decides}
 use Rattle.std.proofs.lemmas.Map.Text.{is_eq-slice_cmp}
 use Rattle.std.proofs.lemmas.Slice.Eq.{bytes_eq-Decides}
-use Rattle.xlsx_formats.specs.FormatCodes.{WrittenFormat, code_written, AreCodes}
+use Rattle.xlsx_formats.specs.FormatCodes.{WrittenFormat, code_of, code_written, AreCodes}
 use Rattle.xlsx_formats.specs.declared.format_codes.FormatCodes.{FormatCodes}
+use Rattle.xlsx_formats.specs.declared.kept_code.KeptCode.{KeptCode}
 use Rattle.xlsx_formats.proofs.CodesKept.{code_behind, code_chosen}
 
 -- the formats of a map's entries, the first one last
-abbrev formats_of : List (String Global × String Global) → List WrittenFormat
+abbrev formats_of : List (String Global × KeptCode) → List WrittenFormat
 formats_of [] = []
 formats_of (entry ∷ entries) =
     formats_of entries
-    ++ record { id = string_bytes entry.0; code = string_bytes entry.1 } ∷ []
+    ++ record { id = string_bytes entry.0; code = code_of entry.1 } ∷ []
 
 bytes_turned : (first second : List ℕ) → bytes_eq first second ≡ bytes_eq second first
 bytes_turned first second =
@@ -29,8 +30,8 @@ bytes_turned first second =
     (bytes_eq-Decides first second)
     (λ is. sym (turned.0 is), λ same. turned.1 (sym same))
 
-entries_written : (id : List ℕ) (entries : List (String Global × String Global))
-    → option_map string_bytes
+entries_written : (id : List ℕ) (entries : List (String Global × KeptCode))
+    → option_map code_of
     (lookup (is_at (λ (key : String Global). slice_cmp nat_cmp id (string_bytes key))) entries)
     ≡ code_written id (formats_of entries)
 entries_written id [] = refl
@@ -38,13 +39,13 @@ entries_written id (entry ∷ entries) =
     let key = string_bytes entry.0 in
     let others = lookup (is_at (λ (key : String Global). slice_cmp nat_cmp id (string_bytes key)))
     entries in
-    ap (λ (same : Bool). option_map string_bytes (cond same (Some entry.1) others))
+    ap (λ (same : Bool). option_map code_of (cond same (Some entry.1) others))
     (is_eq-slice_cmp id key ∙ bytes_turned id key)
-    ∙ code_chosen string_bytes (bytes_eq key id) entry.1 others
-    ∙ ap (option_or (if bytes_eq key id then Some (string_bytes entry.1) else None))
+    ∙ code_chosen code_of (bytes_eq key id) entry.1 others
+    ∙ ap (option_or (if bytes_eq key id then Some (code_of entry.1) else None))
     (entries_written id entries)
     ∙ sym (code_behind id (formats_of entries)
-    (record { id = key; code = string_bytes entry.1 }))
+    (record { id = key; code = code_of entry.1 }))
 
 pub codes_written : (kept : FormatCodes) → (formats : List WrittenFormat) × AreCodes formats kept
 codes_written kept =
