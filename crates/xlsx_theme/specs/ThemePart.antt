@@ -1,11 +1,13 @@
 -- The colors of a workbook's theme, by the events of its part.
-use Rattle.std.specs.Prelude.{◌≡◌, ◌≤◌, ⊤, ℕ, List, length, Bool, true, false, codes, Option, None}
-use Rattle.std.specs.Prelude.{Result, Ok, Err, unwrap_or, is_none, option_and_then, MatchOption}
-use Rattle.std.specs.Prelude.{IsOkAnd}
+use Rattle.std.specs.Prelude.{◌≡◌, ◌≤◌, ⊤, ℕ, List, [], ◌∷◌, length, Bool, true, false, codes}
+use Rattle.std.specs.Prelude.{Option, None, Result, Ok, Err, unwrap_or, is_none, option_and_then}
+use Rattle.std.specs.Prelude.{MatchOption, IsOkAnd}
+use Rattle.std.specs.Option.{option_map_or}
 use Rattle.part_events.specs.Event.{Event}
 use Rattle.part_events.specs.Nesting.{whole}
 use Rattle.part_events.specs.Package.{Part, HasCause, part_of}
 use Rattle.part_events.specs.Reading.{Reading, events_of}
+use Rattle.part_events.specs.Section.{behind, behind_start, is_named}
 use Rattle.xlsx_error.specs.declared.error.XlsxError.{XlsxError}
 use Rattle.xlsx_error.specs.declared.error.XlsxError.TheVariants.{OutOfMemory, Io}
 use Rattle.cell_styles.specs.declared.color.Color.{Color}
@@ -66,6 +68,11 @@ SaysTheme events theme =
     ((whole events ≡ events) × IsThemeOf None theme)
     (λ s. (has_end s ≡ true)
     × IsOkAnd (scheme_colors (inside_of s)) (λ own. IsThemeOf own theme))
+
+-- what stands behind the end of the first color scheme, and nothing where there is no scheme
+abbrev pub behind_scheme : List Event → List Event
+behind_scheme events =
+    option_map_or (behind 0) (behind_start (is_named (codes "clrScheme" ∷ [])) events) []
 
 -- why the colors of a theme can't be read
 abbrev pub ThemeCause : List Event → XlsxError → Type 0

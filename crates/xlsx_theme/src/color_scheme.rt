@@ -1,10 +1,10 @@
 ghost use Rattle.std.specs.Prelude.{◌≡◌, ◌≤◌, length, true, None, Ok, IfOk, OnOk, IfErr};
 ghost use Rattle.std.specs.Prelude.{option_map, IfSome};
 ghost use Rattle.part_events.specs.Reading.{reading, open_elements, IsReading, ReadsPart};
-ghost use Rattle.part_events.specs.Walk.{section_ahead, is_closed_ahead};
+ghost use Rattle.part_events.specs.Walk.{section_ahead};
 ghost use Rattle.xlsx_error.specs.declared.error.XlsxError.TheVariants.{Io};
-ghost use Rattle.xlsx_sections.specs.Elements.{IsInsideRefused, IsEndError, FindsElementIn};
-ghost use Rattle.xlsx_sections.specs.Elements.{named_end};
+ghost use Rattle.xlsx_sections.specs.Elements.{IsInsideRefused, IsEndError, ReachesEnd};
+ghost use Rattle.xlsx_sections.specs.Elements.{FindsElementIn, named_end};
 ghost use Rattle.xlsx_sections.specs.PartSection.{Never, SectionFails, StandsAtStart};
 ghost use Rattle.xlsx_theme.specs.ColorScheme.{is_slot, slot_colors, numbered_colors};
 ghost use Rattle.xlsx_theme.specs.ColorScheme.{IsSchemeError};
@@ -65,8 +65,9 @@ pub(crate) fn read_slots<P: Package>(
     ensures reads { let old = reading (P.state «package».old) cursor.old in
         let new = reading (P.state «package».new) cursor.new in
         ReadsPart Io result old new }
-    ensures closed { let old = reading (P.state «package».old) cursor.old in
-        old.source.is_told ≡ true → OnOk result (is_closed_ahead base old ≡ true) }
+    ensures reaches { let old = reading (P.state «package».old) cursor.old in
+        let new = reading (P.state «package».new) cursor.new in
+        old.source.is_told ≡ true → OnOk result (ReachesEnd base old new) }
     ensures colors { let old = reading (P.state «package».old) cursor.old in
         old.source.is_told ≡ true →
         IfOk result (λ colors. slot_colors (section_ahead base old) ≡ Ok colors.items) }

@@ -1,12 +1,12 @@
-ghost use Rattle.std.specs.Prelude.{◌≡◌, None, true, IfOk, IfErr};
+ghost use Rattle.std.specs.Prelude.{◌≡◌, None, true, IfOk, OnOk, IfErr};
 ghost use Rattle.part_events.specs.Package.{Uses, event_count};
 ghost use Rattle.part_events.specs.Reader.{reading_by, SamePackage};
-ghost use Rattle.part_events.specs.Reading.{reading, IsReading, ReadsPart, events_of};
+ghost use Rattle.part_events.specs.Reading.{reading, IsReading, ReadsPart, ahead, events_of};
 ghost use Rattle.xlsx_error.specs.declared.error.XlsxError.TheVariants.{Io};
 ghost use Rattle.xlsx_sections.specs.PartSection.{SoundFails};
 ghost use Rattle.xlsx_theme.specs.ColorScheme.{numbered_colors, IsSchemeError};
 ghost use Rattle.xlsx_theme.specs.ThemePart.{IsThemeOf, IsTheme, HasTheme, SaysTheme};
-ghost use Rattle.xlsx_theme.specs.ThemePart.{ReadThemeFails};
+ghost use Rattle.xlsx_theme.specs.ThemePart.{behind_scheme, ReadThemeFails};
 
 use crate::color_scheme::{numbered, read_slots};
 use cell_styles::Color;
@@ -58,6 +58,9 @@ fn read_scheme<P: Package>(
     ensures reads { let old = reading (P.state «package».old) cursor.old in
         let new = reading (P.state «package».new) cursor.new in
         ReadsPart Io result old new }
+    ensures behind { let old = reading (P.state «package».old) cursor.old in
+        let new = reading (P.state «package».new) cursor.new in
+        old.source.is_told ≡ true → OnOk result (ahead new ≡ behind_scheme (ahead old)) }
     ensures theme { let old = reading (P.state «package».old) cursor.old in
         old.source.is_told ≡ true → IfOk result (SaysTheme (events_of old)) }
     ensures form { IfOk result IsTheme }
@@ -80,7 +83,7 @@ fn read_scheme<P: Package>(
 /// The colors of the theme in the part of which the reader has taken nothing yet (ECMA-376 part 1,
 /// section 20.1.6.2). Of the part's first color scheme each outermost slot counts, in order; the
 /// first two are swapped, and the next two. The default theme stands where there is no scheme, or
-/// one of fewer than four slots.
+/// one of fewer than four slots. Reads to the end of the scheme, and of a part that has none.
 ///
 /// A part that ends in its scheme is `Xml(Unclosed)` with the number of the part's events.
 pub fn read_theme_colors<P: Package>(xml: &mut XlReader<'_, P>) -> Result<ThemeColors, XlsxError>
@@ -88,6 +91,9 @@ pub fn read_theme_colors<P: Package>(xml: &mut XlReader<'_, P>) -> Result<ThemeC
     requires first { (reading_by P.state xml.old).at ≡ 0 }
     ensures same_package { SamePackage xml.old xml.new }
     ensures reads { ReadsPart Io result (reading_by P.state xml.old) (reading_by P.state xml.new) }
+    ensures behind { let old = reading_by P.state xml.old in
+        let new = reading_by P.state xml.new in
+        old.source.is_told ≡ true → OnOk result (ahead new ≡ behind_scheme (ahead old)) }
     ensures theme { let old = reading_by P.state xml.old in
         old.source.is_told ≡ true → IfOk result (SaysTheme (events_of old)) }
     ensures form { IfOk result IsTheme }

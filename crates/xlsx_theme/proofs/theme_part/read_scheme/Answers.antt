@@ -19,7 +19,7 @@ returns-in_ok-theme_of-in-Found-clause-theme g c = λ told.
     let still = c.in_ok-next_start.ensures.reads.moves.parts.is_told ∙ told in
     scheme_says c.depth-base.result old mid c.depth-base.ensures
     (scheme_found old (Some (ahead mid)) c.requires.reading c.requires.first told next.2.first)
-    (c.in_ok-slots-in-Found.ensures.closed still)
+    (c.in_ok-slots-in-Found.ensures.reaches still).closed
     (c.in_ok-slots-in-Found.ensures.colors still) c.in_ok-theme_of-in-Found.ensures.theme
 
 pub returns-in_ok-default_theme-in-Ended-clause-theme :
