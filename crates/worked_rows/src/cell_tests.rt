@@ -350,7 +350,7 @@ fn a_first_event_that_is_no_text_gives_no_number(rt: HostRuntime) -> Result<(), 
 const MASTERS: &str =
     r#"<row r="1"><c r="A1"><f t="shared" si="0"/></c><c r="B1"><f t="shared" ref="B1:D1" si="0">Z1</f></c><c r="C1"><f t="shared" si="0">X9</f></c><c r="D1"><f t="shared" ref="D1" si="0">K1</f></c><c r="E1"><f t="shared" si="0"/></c><c r="F1"><f t="shared" ref="F1" si="0"/></c><c r="G1"><f t="shared" si="0"/></c></row>"#;
 
-const FORMULAS: [Case; 18] = [
+const FORMULAS: [Case; 19] = [
     (
         "a derived formula moves with its cell from the first corner of the area",
         r#"<row r="1"><c r="C1"><f t="shared" ref="B1:C3" si="7">A1</f></c></row><row r="2"><c r="C2"><f t="shared" si="7"/></c></row>"#,
@@ -390,6 +390,11 @@ const FORMULAS: [Case; 18] = [
         "the last formula of a cell counts, and a master that isn't the last is kept",
         r#"<c><f t="shared" si="0" ref="A1:A2">B1</f><f>C1</f></c><c r="A2"><f t="shared" si="0"/></c>"#,
         "(0,0 =C1)(1,0 =B2)",
+    ),
+    (
+        "a derived formula behind another, and an own one behind a derived one",
+        r#"<row><c r="A1"><f t="shared" si="0" ref="A1">B1</f></c><c><f t="shared" si="0"/><f t="shared" si="0"/></c><c><f t="shared" si="0"/><f>X9</f></c><c><f t="shared" si="0"/><f/></c></row>"#,
+        "(0,0 =B1)(0,1 =C1)(0,2 =X9)",
     ),
     (
         "the last formula of a cell, which says nothing",

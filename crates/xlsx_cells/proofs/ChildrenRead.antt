@@ -21,11 +21,14 @@ use Rattle.xlsx_values.specs.CellType.{CellKind}
 use Rattle.xlsx_values.specs.Value.{Grounds, value_element, inline_value, said_value, some_value}
 use Rattle.xlsx_values.specs.Value.{end_in_value}
 use Rattle.xlsx_formulas.specs.Formula.{FormulaText, formula_text, said_formula, some_formula}
-use Rattle.xlsx_formulas.specs.Formula.{child_formula, formulas_in}
+use Rattle.xlsx_formulas.specs.Formula.{child_formula, formulas_in, behind_formulas}
+use Rattle.xlsx_formulas.specs.Formula.{formula_of_last}
+use Rattle.xlsx_formulas.specs.Kept.{AreMasters}
 use Rattle.xlsx_formulas.proofs.Cells.{KeepsFormulas}
 use Rattle.xlsx_formulas.proofs.Cells.{child_kept, formula_kept, formulas_read}
-use Rattle.xlsx_cells.specs.Children.{IsNamedAs, IsChildRefused, ChildFails, FormulaStep}
-use Rattle.xlsx_cells.specs.Children.{StepsFormula, ReadsFormula, ReadsFormulaChildren}
+use Rattle.xlsx_cells.specs.Children.{IsNamedAs, IsChildRefused, ChildFails, LastStep}
+use Rattle.xlsx_cells.specs.Children.{FormulaStep, StepsFormula, ReadsFormula}
+use Rattle.xlsx_cells.specs.Children.{ReadsFormulaChildren}
 use Rattle.xlsx_cells.specs.Ends.{reads_children, end_in_child}
 use Rattle.xlsx_cells.specs.declared.children.ChildName.TheVariants.{Formula, Value, Inline, Stray}
 use Rattle.xlsx_cells.specs.declared.children.Wants.{Wants}
@@ -173,9 +176,8 @@ listed_by (Some own) lists same is = record {
 }
 
 pub listed_further : {all : Result (List FormulaText) Refusal} {left rest : List Element}
-    {child : Element} {position : ℕ × ℕ} {old new : FormulaStep} → ListsFormulas all left
-    → left ≡ child ∷ rest → ReadsFormula position child.tag child.inside old new
-    → ListsFormulas all rest
+    {child : Element} {old new : LastStep} → ListsFormulas all left → left ≡ child ∷ rest
+    → ReadsFormula child.tag child.inside old new → ListsFormulas all rest
 listed_further {child = child} lists same step =
     listed_by step.found lists same (ap (in_element child) step.said)
 
@@ -187,30 +189,32 @@ formulas_refused lists same refuses =
 
 kept_by : {earlier : List FormulaText} {position : ℕ × ℕ}
     {all : Result (List FormulaText) Refusal} {left rest : List Element} {child : Element}
-    (old new : FormulaStep) (found : Option FormulaText)
-    → KeepsFormulas earlier position all left old.masters old.text → left ≡ child ∷ rest
-    → child_formula child ≡ Ok found → StepsFormula position found old new
-    → KeepsFormulas earlier position all rest new.masters new.text
+    (old new : LastStep) (found : Option FormulaText)
+    → KeepsFormulas earlier position all left old.masters old.last → left ≡ child ∷ rest
+    → child_formula child ≡ Ok found → StepsFormula found old new
+    → KeepsFormulas earlier position all rest new.masters new.last
 kept_by old new None keeps same is steps = rw steps (child_kept keeps same is)
 kept_by old new (Some own) keeps same is steps =
-    formula_kept keeps same is steps.text steps.masters
+    rw steps.last (formula_kept keeps same is steps.masters)
 
 pub formulas_further : {earlier : List FormulaText} {position : ℕ × ℕ}
     {all : Result (List FormulaText) Refusal} {left rest : List Element} {child : Element}
-    (old new : FormulaStep) → KeepsFormulas earlier position all left old.masters old.text
-    → left ≡ child ∷ rest → ReadsFormula position child.tag child.inside old new
-    → KeepsFormulas earlier position all rest new.masters new.text
+    (old new : LastStep) → KeepsFormulas earlier position all left old.masters old.last
+    → left ≡ child ∷ rest → ReadsFormula child.tag child.inside old new
+    → KeepsFormulas earlier position all rest new.masters new.last
 formulas_further {child = child} old new keeps same step =
     kept_by old new step.found keeps same (ap (in_element child) step.said) step.steps
 
--- all children were read
+-- all children were read, and the last formula was given
 pub formulas_whole : {earlier : List FormulaText} {position : ℕ × ℕ} {inside : List Event}
-    {left : List Element} (new : FormulaStep)
-    → KeepsFormulas earlier position (formulas_in inside) left new.masters new.text → left ≡ []
+    {left : List Element} {last : Option FormulaText} (new : FormulaStep)
+    → KeepsFormulas earlier position (formulas_in inside) left new.masters last → left ≡ []
+    → ((before : List FormulaText) → AreMasters before new.masters
+    → new.text ≡ formula_of_last before position last)
     → ReadsFormulaChildren earlier position inside new
-formulas_whole new keeps none = record {
+formulas_whole {earlier = earlier} new keeps none text = record {
   kept = keeps.passed;
   listed = formulas_read keeps none;
-  text = keeps.text;
+  text = text (behind_formulas keeps.passed earlier) keeps.groups ∙ keeps.text;
   masters = keeps.groups;
 }

@@ -12,8 +12,8 @@ use Rattle.xlsx_sections.specs.PartSection.{PartSection, SectionFails, inside_of
 use Rattle.xlsx_sections.specs.Refusal.{Refusal}
 use Rattle.xlsx_values.specs.CellType.{CellKind}
 use Rattle.xlsx_values.specs.Value.{Grounds, said_value, value_in}
-use Rattle.xlsx_formulas.specs.Formula.{FormulaText, said_formula, formulas_in, formula_of}
-use Rattle.xlsx_formulas.specs.Formula.{cell_formula, behind_formulas}
+use Rattle.xlsx_formulas.specs.Formula.{FormulaText, said_formula, formulas_in, cell_formula}
+use Rattle.xlsx_formulas.specs.Formula.{behind_formulas}
 use Rattle.xlsx_formulas.specs.Kept.{AreMasters}
 use Rattle.xlsx_formulas.specs.declared.masters.Masters.{Masters}
 use Rattle.xlsx_cells.specs.Ends.{end_in_child}
@@ -66,35 +66,35 @@ AreChildrenRefused wants grounds format kind s refusal =
     ((wants.values ≡ true) × (value_in grounds format kind (inside_of s) ≡ Err refusal))
     ⊎ ((wants.formulas ≡ true) × (formulas_in (inside_of s) ≡ Err refusal))
 
--- the masters and the text of a formula, before and behind a child
-pub record FormulaStep : Type 0 where
+-- the masters and the last formula, before and behind a child
+pub record LastStep : Type 0 where
   pub masters : Masters
-  pub text : List ℕ
+  pub last : Option FormulaText
 
--- a formula was taken, in the cell at a position
-pub record TakesFormula
-    (position : ℕ × ℕ) (found : FormulaText) (old new : FormulaStep) : Type 0 where
-  pub text :
-      (earlier : List FormulaText) → AreMasters earlier old.masters →
-      new.text ≡ formula_of earlier position found
+-- a formula was kept
+pub record KeepsFormula (found : FormulaText) (old new : LastStep) : Type 0 where
+  pub last : new.last ≡ Some found
   pub masters :
       (earlier : List FormulaText) → AreMasters earlier old.masters →
       AreMasters (found ∷ earlier) new.masters
 
 -- what a child does to them, by the formula that it writes
-abbrev pub StepsFormula :
-    ℕ × ℕ → Option FormulaText → FormulaStep → FormulaStep → Type 0
-StepsFormula position None old new = new ≡ old
-StepsFormula position (Some found) old new = TakesFormula position found old new
+abbrev pub StepsFormula : Option FormulaText → LastStep → LastStep → Type 0
+StepsFormula None old new = new ≡ old
+StepsFormula (Some found) old new = KeepsFormula found old new
 
 -- what was read of a child
-pub record ReadsFormula
-    (position : ℕ × ℕ) (tag : Tag) (inside : List Event) (old new : FormulaStep) : Type 0 where
+pub record ReadsFormula (tag : Tag) (inside : List Event) (old new : LastStep) : Type 0 where
   pub found : Option FormulaText
   pub said : said_formula tag inside ≡ Ok found
-  pub steps : StepsFormula position found old new
+  pub steps : StepsFormula found old new
 
--- the formulas of a cell's children were taken: these are kept, and the text is the cell's
+-- the masters and the text of a cell's formula, behind the cell
+pub record FormulaStep : Type 0 where
+  pub masters : Masters
+  pub text : List ℕ
+
+-- the formulas of a cell's children were read: these are kept, and the text is the cell's
 pub record ReadsFormulaChildren
     (earlier : List FormulaText) (position : ℕ × ℕ) (inside : List Event)
     (new : FormulaStep) : Type 0 where

@@ -13,9 +13,9 @@ ghost use Rattle.xlsx_values.specs.CellType.{CellKind};
 ghost use Rattle.xlsx_values.specs.Value.{Grounds, value_in, said_value, or_nothing};
 ghost use Rattle.xlsx_sections.specs.Answers.{or_earlier};
 ghost use Rattle.xlsx_formulas.specs.Formula.{FormulaText};
-ghost use Rattle.xlsx_formulas.specs.Kept.{AreMasters};
+ghost use Rattle.xlsx_formulas.specs.Kept.{last_seen, AreMasters};
 ghost use Rattle.xlsx_cells.specs.Children.{StandsAtElement, value_kept, IsNamedAs, value_name};
-ghost use Rattle.xlsx_cells.specs.Children.{ChildFails, AreChildrenRefused, FormulaStep};
+ghost use Rattle.xlsx_cells.specs.Children.{ChildFails, AreChildrenRefused, LastStep};
 ghost use Rattle.xlsx_cells.specs.Children.{ReadsFormula, ReadsFormulaChildren};
 ghost use Rattle.xlsx_cells.specs.declared.children.ChildName.TheVariants.{Formula};
 ghost use Rattle.xlsx_cells.specs.CellErrors.{IsCellError};
@@ -57,6 +57,13 @@ pub struct CellContents {
     pub formula: String,
 }
 
+/// Of the children of a cell that were read: the last value that counts, and the last formula.
+#[derive(Debug, Drop)]
+struct Latest {
+    value: Option<DataRef>,
+    formula: Option<xlsx_formulas::Formula>,
+}
+
 /// What is asked for, and what the values rest on.
 #[derive(Clone, Copy)]
 pub struct Asked<'a> {
@@ -86,16 +93,15 @@ fn child_name(tag: StartTag<'_>) -> ChildName
     }
 }
 
-/// Reads the `f` at whose start the package stands, to its end, and takes its formula where it is
+/// Reads the `f` at whose start the package stands, to its end, and keeps its formula where it is
 /// wanted.
-fn take_formula<P: Package>(
+fn keep_formula<P: Package>(
     alloc: Global,
     package: &mut P,
     cursor: &mut Cursor,
     wants: Wants,
-    pos: (u32, u32),
     masters: &mut Masters,
-    text: &mut String,
+    last: &mut Option<xlsx_formulas::Formula>,
 ) -> Result<(), XlsxError>
     requires reading { IsReading (reading (P.state «package».old) cursor.old) }
     requires element { IsAtElement (reading (P.state «package».old) cursor.old) }
@@ -108,13 +114,11 @@ fn take_formula<P: Package>(
         let new = reading (P.state «package».new) cursor.new in
         old.source.is_told ≡ true → OnOk result (Skips old new) }
     ensures formula { let old = reading (P.state «package».old) cursor.old in
-        let before : FormulaStep =
-        record { masters = masters.old; text = string_bytes text.old } in
-        let after : FormulaStep =
-        record { masters = masters.new; text = string_bytes text.new } in
+        let before : LastStep = record { masters = masters.old; last = last_seen last.old } in
+        let after : LastStep = record { masters = masters.new; last = last_seen last.new } in
         old.source.is_told ≡ true → wants.formulas ≡ true → (element : Element) →
         StandsAtElement element old → IsNamedAs Formula element.tag →
-        OnOk result (ReadsFormula pos element.tag element.inside before after) }
+        OnOk result (ReadsFormula element.tag element.inside before after) }
     ensures same { wants.formulas ≡ false → OnOk result (masters.new ≡ masters.old) }
     ensures err { let old = reading (P.state «package».old) cursor.old in
         let new = reading (P.state «package».new) cursor.new in
@@ -127,7 +131,8 @@ fn take_formula<P: Package>(
         return skip_element_in(package, cursor, None);
     }
     let formula = read_formula(alloc, package, cursor)?;
-    *text = masters.take(alloc, formula, pos)?;
+    masters.keep(&formula)?;
+    *last = Some(formula);
     Ok(())
 }
 
@@ -190,7 +195,7 @@ fn read_child<P: Package>(
     asked: Asked<'_>,
     start: &CellStart,
     masters: &mut Masters,
-    contents: &mut CellContents,
+    latest: &mut Latest,
 ) -> Result<(), XlsxError>
     requires reading { IsReading (reading (P.state «package».old) cursor.old) }
     requires element { IsAtElement (reading (P.state «package».old) cursor.old) }
@@ -208,16 +213,16 @@ fn read_child<P: Package>(
         (kind_of start.now.typ) in
         old.source.is_told ≡ true → asked.entry.wants.values ≡ true → (element : Element) →
         StandsAtElement element old → OnOk result
-        (or_earlier (value_kept contents.old.value) (said element.tag element.inside)
-        ≡ Ok (value_kept contents.new.value)) }
+        (or_earlier (value_kept latest.old.value) (said element.tag element.inside)
+        ≡ Ok (value_kept latest.new.value)) }
     ensures formula { let old = reading (P.state «package».old) cursor.old in
-        let before : FormulaStep =
-        record { masters = masters.old; text = string_bytes contents.old.formula } in
-        let after : FormulaStep =
-        record { masters = masters.new; text = string_bytes contents.new.formula } in
+        let before : LastStep =
+        record { masters = masters.old; last = last_seen latest.old.formula } in
+        let after : LastStep =
+        record { masters = masters.new; last = last_seen latest.new.formula } in
         old.source.is_told ≡ true → asked.entry.wants.formulas ≡ true → (element : Element) →
         StandsAtElement element old →
-        OnOk result (ReadsFormula start.now.pos element.tag element.inside before after) }
+        OnOk result (ReadsFormula element.tag element.inside before after) }
     ensures same { asked.entry.wants.formulas ≡ false → OnOk result (masters.new ≡ masters.old) }
     ensures err { let old = reading (P.state «package».old) cursor.old in
         let new = reading (P.state «package».new) cursor.new in
@@ -228,21 +233,16 @@ fn read_child<P: Package>(
     ensures kind { IfErr result IsCellError }
 {
     match child_name(start_tag(package)) {
-        ChildName::Formula => take_formula(
-            alloc,
-            package,
-            cursor,
-            asked.wants,
-            start.pos,
-            masters,
-            &mut contents.formula,
-        ),
+        ChildName::Formula => {
+            let last = &mut latest.formula;
+            keep_formula(alloc, package, cursor, asked.wants, masters, last)
+        }
         ChildName::Value => {
-            let value = &mut contents.value;
+            let value = &mut latest.value;
             keep_value(alloc, package, cursor, asked, start, false, value)
         }
         ChildName::Inline => {
-            let value = &mut contents.value;
+            let value = &mut latest.value;
             keep_value(alloc, package, cursor, asked, start, true, value)
         }
         ChildName::Stray => Err(XlsxError::UnexpectedNode("v, f, or is")),
@@ -292,12 +292,14 @@ pub fn read_children<P: Package>(
     ensures kind { IfErr result IsCellError }
 {
     let base = cursor.depth();
-    let mut contents = CellContents {
+    let mut latest = Latest {
         value: None,
-        formula: String::new(alloc),
+        formula: None,
     };
     'children: while let Some(_) = next_child_in(package, cursor, base, "c")? {
-        read_child(alloc, package, cursor, asked, start, masters, &mut contents)?;
+        read_child(alloc, package, cursor, asked, start, masters, &mut latest)?;
     }
-    Ok(contents)
+    let Latest { value, formula } = latest;
+    let formula = masters.cell_formula(alloc, formula, start.pos)?;
+    Ok(CellContents { value, formula })
 }

@@ -135,3 +135,8 @@ cell_formula earlier position [] = []
 cell_formula earlier position (found ∷ []) = formula_of earlier position found
 cell_formula earlier position (found ∷ next ∷ others) =
     cell_formula (found ∷ earlier) position (next ∷ others)
+
+-- the same by its last `f` alone, if it has one, behind these
+abbrev pub formula_of_last : List FormulaText → ℕ × ℕ → Option FormulaText → List ℕ
+formula_of_last earlier position None = []
+formula_of_last earlier position (Some found) = formula_of earlier position found

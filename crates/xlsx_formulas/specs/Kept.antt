@@ -21,6 +21,10 @@ formula_seen formula = record {
   text = string_bytes formula.text;
 }
 
+-- that of a cell's last `f`, if it has one
+abbrev pub last_seen : Option Formula → Option FormulaText
+last_seen last = option_map formula_seen last
+
 abbrev pub group_seen : kept.Master → GroupFormula
 group_seen found = record { text = string_bytes found.text; corner = found.corner }
 

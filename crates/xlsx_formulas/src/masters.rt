@@ -1,6 +1,6 @@
 ghost use Rattle.std.specs.Prelude.{◌≡◌, [], ◌∷◌, List, string_bytes, IfOk, OnOk, OnErr};
-ghost use Rattle.xlsx_formulas.specs.Formula.{FormulaText, formula_of};
-ghost use Rattle.xlsx_formulas.specs.Kept.{formula_seen, AreMasters};
+ghost use Rattle.xlsx_formulas.specs.Formula.{FormulaText, formula_of_last};
+ghost use Rattle.xlsx_formulas.specs.Kept.{formula_seen, last_seen, AreMasters};
 
 use crate::formula::{Formula, Share};
 use formula_shift::expand_shared_formula;
@@ -31,41 +31,50 @@ impl Masters {
         }
     }
 
-    /// The text of a formula in the cell at `position`, a row and a column counted from 0. That of
-    /// a group is kept, also where it is empty, in place of an earlier one of its index. One that
-    /// is derived from it is moved by the way from the first written corner of the group's area to
-    /// the cell; where no such group is kept, it is empty.
+    /// Keeps the formula of a group, also where it is empty, in place of an earlier one of its index.
     ///
     /// Where memory is wanting the groups stay as they were.
-    pub fn take(
-        &mut self,
-        alloc: Global,
-        formula: Formula,
-        position: (u32, u32),
-    ) -> Result<String, AllocError>
-        ensures text { IfOk result (λ text. (earlier : List FormulaText) →
-            AreMasters earlier self.old →
-            string_bytes text ≡ formula_of earlier position (formula_seen formula)) }
+    pub fn keep(&mut self, formula: &Formula) -> Result<(), AllocError>
         ensures masters { OnOk result ((earlier : List FormulaText) →
             AreMasters earlier self.old →
-            AreMasters (formula_seen formula ∷ earlier) self.new) }
+            AreMasters (formula_seen formula.now ∷ earlier) self.new) }
         ensures err { OnErr result ((earlier : List FormulaText) → AreMasters earlier self.old →
             AreMasters earlier self.new) }
     {
-        match formula.share {
-            Share::Own => Ok(formula.text),
-            Share::Master { index, area } => {
-                let text = formula.text.clone()?;
-                let corner = area.start;
-                self.groups.insert(index, Master { text, corner })?;
-                Ok(formula.text)
+        let Share::Master { index, area } = formula.share else {
+            return Ok(());
+        };
+        let text = formula.text.clone()?;
+        let corner = area.start;
+        self.groups.insert(index, Master { text, corner })?;
+        Ok(())
+    }
+
+    /// The formula of the cell at `position`, a row and a column counted from 0, by its last `f`,
+    /// and empty without one. A formula that is derived from that of a group is moved by the way
+    /// from the first written corner of the group's area to the cell; where no such group is kept,
+    /// it is empty.
+    pub fn cell_formula(
+        &self,
+        alloc: Global,
+        last: Option<Formula>,
+        position: (u32, u32),
+    ) -> Result<String, AllocError>
+        ensures { IfOk result (λ text. (earlier : List FormulaText) →
+            AreMasters earlier self.now →
+            string_bytes text ≡ formula_of_last earlier position (last_seen last)) }
+    {
+        let Some(formula) = last else {
+            return Ok(String::new(alloc));
+        };
+        let Share::Derived { index } = formula.share else {
+            return Ok(formula.text);
+        };
+        match self.groups.get(&index) {
+            Some(master) => {
+                expand_shared_formula(alloc, master.text.as_str(), master.corner, position)
             }
-            Share::Derived { index } => match self.groups.get(&index) {
-                Some(master) => {
-                    expand_shared_formula(alloc, master.text.as_str(), master.corner, position)
-                }
-                None => Ok(String::new(alloc)),
-            },
+            None => Ok(String::new(alloc)),
         }
     }
 }

@@ -14,7 +14,8 @@ use Rattle.xlsx_sections.proofs.Kept.{last_further, last_refused}
 use Rattle.xlsx_sections.proofs.Refused.{refused_later}
 use Rattle.xlsx_values.specs.Book.{kind_of, grounds_of}
 use Rattle.xlsx_values.specs.Value.{child_value, said_value, or_nothing}
-use Rattle.xlsx_cells.specs.Children.{StandsAtElement, FormulaStep, ReadsFormulaChildren}
+use Rattle.xlsx_formulas.specs.Kept.{last_seen}
+use Rattle.xlsx_cells.specs.Children.{StandsAtElement, LastStep, FormulaStep, ReadsFormulaChildren}
 use Rattle.xlsx_cells.specs.Children.{value_kept}
 use Rattle.xlsx_cells.specs.Children.{IsChildRefused, AreChildrenRefused}
 use Rattle.xlsx_cells.specs.Ends.{end_in_child, end_in_child_element, end_in_children}
@@ -71,20 +72,20 @@ children-preserved g c =
     λ told. found.read.reads.moves.parts.is_told ∙ told in
     let element = element_at base tag at in
     let stand : StandsAtElement element at = record { tag = first.1; inside = refl } in
-    let before : FormulaStep =
-    record { masters = c.children.masters; text = string_bytes c.children.contents.formula } in
-    let behind : FormulaStep = record {
+    let before : LastStep =
+    record { masters = c.children.masters; last = last_seen c.children.latest.formula } in
+    let behind : LastStep = record {
       masters = c.read_child.new.masters;
-      text = string_bytes c.read_child.new.contents.formula;
+      last = last_seen c.read_child.new.latest.formula;
     } in
     record {
       base = now.base;
       keeps = passed.keeps;
       value = λ told wanted.
-          last_further (child_value grounds format kind) (value_kept c.children.contents.value)
+          last_further (child_value grounds format kind) (value_kept c.children.latest.value)
           (passed.elements told)
-          (or_earlier_in_element element (value_kept c.children.contents.value)
-          (value_kept c.read_child.new.contents.value)
+          (or_earlier_in_element element (value_kept c.children.latest.value)
+          (value_kept c.read_child.new.latest.value)
           (said_value grounds format kind tag element.inside)
           (c.in_ok-read_child.ensures.value (there told) wanted element stand))
           (now.value told wanted);
@@ -143,7 +144,7 @@ returns-in_err-read_child-clause-err g c =
       | inl own ↦ inl (
         own.0,
         ap or_nothing (last_refused (child_value grounds format kind)
-            (value_kept c.children.contents.value) (found.next told).elements
+            (value_kept c.children.latest.value) (found.next told).elements
             (ap (in_element element) (rw (own_inside at) at own.1)) (now.value told own.0)),
       )
       | inr own ↦ inr (
@@ -165,8 +166,9 @@ returns-clause-formula g c = λ told wanted earlier kept.
     rw c.in_default.is at
     (c.in_ok-next_child_in.ensures.found (now.keeps.section.reads.moves.parts.is_told ∙ told)) in
     let behind : FormulaStep =
-    record { masters = c.children.masters; text = string_bytes c.children.contents.formula } in
+    record { masters = c.children.masters; text = string_bytes c.in_ok-formula.formula } in
     let none : inside base old ≡ 0 = omega (arith, now.base) in
     subst (λ (n : ℕ). ReadsFormulaChildren earlier c.args.start.now.pos (content n
     (ahead old)) behind) none
-    (formulas_whole behind (now.formulas told wanted earlier kept) closes.elements)
+    (formulas_whole behind (now.formulas told wanted earlier kept) closes.elements
+    c.in_ok-formula.ensures)

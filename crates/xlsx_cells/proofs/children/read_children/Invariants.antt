@@ -1,4 +1,4 @@
-use Rattle.std.proofs.Common.{◌≡◌, List, true, false, length, string_bytes}
+use Rattle.std.proofs.Common.{◌≡◌, List, true, false, length}
 use Rattle.part_events.specs.Reading.{reading, open_elements}
 use Rattle.part_events.specs.Section.{children, is_any}
 use Rattle.part_events.specs.Walk.{section_ahead}
@@ -7,7 +7,7 @@ use Rattle.xlsx_sections.specs.Elements.{KeepsElements}
 use Rattle.xlsx_values.specs.Book.{kind_of, grounds_of}
 use Rattle.xlsx_values.specs.Value.{child_value}
 use Rattle.xlsx_formulas.specs.Formula.{FormulaText, formulas_in}
-use Rattle.xlsx_formulas.specs.Kept.{AreMasters}
+use Rattle.xlsx_formulas.specs.Kept.{last_seen, AreMasters}
 use Rattle.xlsx_formulas.proofs.Cells.{KeepsFormulas}
 use Rattle.xlsx_cells.specs.Children.{value_kept}
 use Rattle.xlsx_cells.proofs.ChildrenRead.{ListsFormulas}
@@ -23,7 +23,7 @@ invariant-children g l =
       base : l.base ≡ length (open_elements l.fn.cursor);
       keeps : KeepsElements is_any l.base old now;
       value : old.source.is_told ≡ true → l.asked.wants.values ≡ true →
-          or_earlier (value_kept l.contents.value)
+          or_earlier (value_kept l.latest.value)
           (last_answer (child_value grounds l.start.format kind)
           (children (section_ahead l.base now)))
           ≡ last_answer (child_value grounds l.start.format kind)
@@ -34,7 +34,7 @@ invariant-children g l =
       formulas : old.source.is_told ≡ true → l.asked.wants.formulas ≡ true →
           (earlier : List FormulaText) → AreMasters earlier l.fn.masters →
           KeepsFormulas earlier l.start.pos (formulas_in (section_ahead l.base old))
-          (children (section_ahead l.base now)) l.masters (string_bytes l.contents.formula);
+          (children (section_ahead l.base now)) l.masters (last_seen l.latest.formula);
       same : l.asked.wants.formulas ≡ false → l.masters ≡ l.fn.masters;
     }
 

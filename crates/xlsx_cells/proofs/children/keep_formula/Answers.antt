@@ -1,10 +1,10 @@
-use Rattle.std.proofs.Common.{◌≡◌, Some, Ok, ap}
+use Rattle.std.proofs.Common.{◌≡◌, Some, Ok, refl, ap}
 use Rattle.std.proofs.lemmas.Result.{err_from_is_err_and}
 use Rattle.part_events.specs.Reading.{reading}
 use Rattle.xlsx_formulas.specs.Formula.{some_formula, formula_text}
 use Rattle.xlsx_formulas.specs.Kept.{formula_seen}
 use Rattle.xlsx_cells.proofs.ChildrenRead.{formula_fails, is_wanted}
-use Rattle.xlsx_cells.proofs.children.take_formula.Goals as goal
+use Rattle.xlsx_cells.proofs.children.keep_formula.Goals as goal
 
 pub returns-in_err-formula-clause-err : goal.returns-in_err-formula-clause-err
 returns-in_err-formula-clause-err g c =
@@ -23,5 +23,5 @@ returns-clause-formula g c = λ told wanted element stands named.
     record {
       found = Some (formula_seen c.in_ok-formula.formula);
       said = rw named (ap some_formula read);
-      steps = record { text = c.in_ok-text.ensures.text; masters = c.in_ok-text.ensures.masters };
+      steps = record { last = refl; masters = c.in_ok-keep.ensures.masters };
     }
