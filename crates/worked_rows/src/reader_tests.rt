@@ -252,8 +252,8 @@ fn cells_are_asked_for_one_by_one(rt: HostRuntime) -> Result<(), Fail> {
     Ok(())
 }
 
-/// The first events of a sheet, what a reader of them is asked for first, and its answer.
-const FRONTS: [(&str, Call, &str); 13] = [
+/// The first events of a sheet, what a reader of them is asked for twice, and its answers.
+const FRONTS: [(&str, Call, &str); 18] = [
     (
         "<chartsheet/>",
         Call::Value,
@@ -265,35 +265,76 @@ const FRONTS: [(&str, Call, &str); 13] = [
         "XmlEof(\"worksheet\")",
     ),
     ("<dimension/>", Call::Value, "UnexpectedNode(\"dimension\")"),
-    (r#"<sheetData><c r="A1">"#, Call::Value, "XmlEof(\"c\");"),
-    (r#"<sheetData><c r="A1">"#, Call::Formula, "XmlEof(\"c\");"),
-    ("<sheetData><c><f>", Call::Value, "Xml(Unclosed { at: 3 });"),
-    ("<sheetData><c><f>", Call::Formula, "XmlEof(\"f\");"),
+    (
+        r#"<sheetData><c r="A1">"#,
+        Call::Value,
+        "XmlEof(\"c\");Failed;",
+    ),
+    (
+        r#"<sheetData><c r="A1">"#,
+        Call::Formula,
+        "XmlEof(\"c\");Failed;",
+    ),
+    (
+        "<sheetData><c><f>",
+        Call::Value,
+        "Xml(Unclosed { at: 3 });Failed;",
+    ),
+    ("<sheetData><c><f>", Call::Formula, "XmlEof(\"f\");Failed;"),
     (
         r#"<sheetData><c t="str"><v>"#,
         Call::Value,
-        "XmlEof(\"v\");",
+        "XmlEof(\"v\");Failed;",
     ),
     (
         r#"<sheetData><c t="str"><v>"#,
         Call::Formula,
-        "Xml(Unclosed { at: 3 });",
+        "Xml(Unclosed { at: 3 });Failed;",
     ),
     (
         "<sheetData><c><v>1",
         Call::Value,
-        "Xml(Unclosed { at: 4 });",
+        "Xml(Unclosed { at: 4 });Failed;",
     ),
     (
         "<sheetData><c><v>1",
         Call::Formula,
-        "Xml(Unclosed { at: 4 });",
+        "Xml(Unclosed { at: 4 });Failed;",
     ),
-    ("<sheetData><c><is><t>", Call::Value, "XmlEof(\"t\");"),
+    (
+        "<sheetData><c><is><t>",
+        Call::Value,
+        "XmlEof(\"t\");Failed;",
+    ),
     (
         "<sheetData><c><is><t>",
         Call::Formula,
-        "Xml(Unclosed { at: 4 });",
+        "Xml(Unclosed { at: 4 });Failed;",
+    ),
+    (
+        r#"<sheetData><c r="A1"><v>1</v></c>"#,
+        Call::Value,
+        "(0,0 n:1)XmlEof(\"sheetData\");",
+    ),
+    (
+        r#"<sheetData><c r="A1"><f>B1</f></c>"#,
+        Call::Formula,
+        "(0,0 =B1)XmlEof(\"sheetData\");",
+    ),
+    (
+        r#"<sheetData><c/><c s="1"/>"#,
+        Call::StyleId,
+        "(0,1 style 1)XmlEof(\"sheetData\");",
+    ),
+    (
+        r#"<sheetData><c r="A1"><v>1</v></c></row>"#,
+        Call::Value,
+        "(0,0 n:1)Xml(EndMismatch { at: 6 });",
+    ),
+    (
+        r#"<sheetData><c s="1"/></row>"#,
+        Call::StyleId,
+        "(0,0 style 1)Xml(EndMismatch { at: 3 });",
     ),
 ];
 
@@ -302,7 +343,7 @@ fn the_end_of_a_part_is_told_by_what_is_asked_for(rt: HostRuntime) -> Result<(),
     let alloc = rt.alloc();
     for (front, call, wanted) in FRONTS {
         let mut package = package_of(alloc, &[(SHEET_NAME, front)])?;
-        let found = told(alloc, &mut package, &[call])?;
+        let found = told(alloc, &mut package, &[call, call])?;
         assert_eq!(rt; found.as_str(), wanted, "{front}");
     }
     Ok(())

@@ -1,25 +1,27 @@
 -- How a cell is read, and why it is refused.
 use Rattle.std.proofs.Common.{◌≡◌, ℕ, List, [], ◌∷◌, ◌++◌, Bool, true, false, Option, Some, None}
 use Rattle.std.proofs.Common.{Result, Ok, Err, refl, sym, ◌∙◌, ap, subst, inl, inr, codes, length}
-use Rattle.std.proofs.Common.{◌⊎◌, string_bytes}
-use Rattle.std.specs.Prelude.{◌||◌}
+use Rattle.std.proofs.Common.{◌⊎◌, ◌-◌, string_bytes}
+use Rattle.std.specs.Prelude.{◌||◌, if◌then◌else◌}
 use Rattle.std.specs.Option.{unwrap_or}
 use Rattle.attr_text.specs.Attributes.{lookup, value_of}
 use Rattle.attr_text.proofs.LookupsByKey.{lookup-ok}
 use Rattle.part_events.specs.Event.{Tag, Event, start}
 use Rattle.part_events.specs.Reading.{Reading, ahead}
-use Rattle.part_events.specs.Section.{Element, content, unclosed, is_any}
-use Rattle.part_events.specs.Walk.{element_at, section_behind}
+use Rattle.part_events.specs.Section.{Element, content, is_closed, unclosed, is_any}
+use Rattle.part_events.specs.Walk.{IsNextElement, inside, element_at, section_ahead, section_behind}
 use Rattle.part_events.specs.declared.fault.XmlFault.TheVariants.{EndMismatch, Unclosed}
+use Rattle.part_events.proofs.Matches.{open_still}
 use Rattle.xlsx_error.specs.declared.error.XlsxError.{XlsxError}
 use Rattle.xlsx_error.specs.declared.error.XlsxError.TheVariants.{OutOfMemory, Io, Xml, XmlEof}
 use Rattle.cell_data.specs.CellValue.{value_of_data_ref}
 use Rattle.cell_data.specs.declared.format.CellFormat.{CellFormat}
 use Rattle.xlsx_sections.specs.Elements.{end_outside}
 use Rattle.xlsx_sections.specs.PartSection.{PartSection, SectionFails, inside_of, section_left}
-use Rattle.xlsx_sections.specs.PartSection.{last_of}
+use Rattle.xlsx_sections.specs.PartSection.{last_of, has_end}
 use Rattle.xlsx_sections.specs.Refusal.{Refusal, in_element, further, events_behind}
-use Rattle.xlsx_sections.proofs.ElementsRead.{IsElementPassed, own_inside}
+use Rattle.xlsx_sections.proofs.ElementsRead.{IsElementFound, IsElementPassed, own_inside}
+use Rattle.xlsx_sections.proofs.ElementsRead.{own_end}
 use Rattle.xlsx_sections.proofs.Refused.{refused_weaker, refused_by}
 use Rattle.xlsx_values.specs.CellType.{CellKind}
 use Rattle.xlsx_values.specs.Value.{Grounds, cell_value, value_in, style_number}
@@ -28,19 +30,20 @@ use Rattle.xlsx_formulas.specs.Kept.{AreMasters}
 use Rattle.xlsx_formulas.specs.declared.masters.Masters.{Masters}
 use Rattle.xlsx_sections.proofs.SectionsRead.{same_tag}
 use Rattle.xlsx_cells.specs.Children.{AreChildrenRefused, ReadsFormulaChildren}
-use Rattle.xlsx_cells.specs.Counting.{IsStartRefused, IsRefused}
+use Rattle.xlsx_cells.specs.Counting.{AreKept, IsStartRefused, IsRefused}
 use Rattle.xlsx_cells.specs.Ends.{reads_children, kind_of_cell, end_in_child_element}
 use Rattle.xlsx_cells.specs.Ends.{end_in_children, end_in_contents}
 use Rattle.xlsx_cells.specs.Finding.{FindsCell, IsTakenRefused, IsMisplaced, BehindRow, marks_left}
+use Rattle.xlsx_cells.specs.Finding.{LacksCell, IsCutOff, open_mark}
 use Rattle.xlsx_cells.specs.Marks.{Mark, row_start, row_end, cell, is_cell, marks, behind_marks}
-use Rattle.xlsx_cells.specs.Position.{row_named}
+use Rattle.xlsx_cells.specs.Position.{row_named, PassesRows}
 use Rattle.xlsx_cells.specs.Stream.{IsContentRefused, IsHeadRefused, IsCellRefused, CellFails}
 use Rattle.xlsx_cells.specs.Stream.{TakesCell, IsRead}
 use Rattle.xlsx_cells.specs.StyleIds.{id_named, id_looked_up}
 use Rattle.xlsx_cells.specs.declared.cell_read.CellRead.{CellRead}
 use Rattle.xlsx_cells.specs.declared.children.Wants.{Wants}
 use Rattle.xlsx_cells.specs.declared.counters.Counters.{Counters}
-use Rattle.xlsx_cells.proofs.Refusing.{taken_behind, is_refused_weaker}
+use Rattle.xlsx_cells.proofs.Refusing.{taken_behind, is_refused_weaker, cut_weaker, cut_open}
 
 -- the start of an element is refused, where memory may be wanting too
 pub started_refused : (base : ℕ) (first : Reading) (ending : List Event → Option (List ℕ))
@@ -210,6 +213,50 @@ found_cell_refused wants grounds before position base old new counters tag refus
     (sym marks_same)
     (taken_behind (IsCellRefused wants grounds) finds.passed before
     (cell element ∷ marks (section_behind base new)) after finds.rows here)
+
+-- the cell that was found is left open, and no other cell is left
+found_cell_open : (before : List Mark) (position : ℕ × ℕ) (base : ℕ) (old new : Reading)
+    (counters : Counters) (tag : Tag) → FindsCell before position base old new counters
+    → start tag ≡ new.source.current → IsNextElement is_cell base tag old new
+    → has_end (section_left (length new.names) new) ≡ false
+    → LacksCell PassesRows (section_ahead base old)
+found_cell_open before position base old new counters tag finds current next ends =
+    let same : finds.tag ≡ tag = same_tag (finds.current ∙ sym current) in
+    let element = element_at base tag new in
+    let is_open : is_closed 0 (ahead new) ≡ false = sym (own_end new) ∙ ends in
+    let open_one : unclosed is_cell (section_ahead base old) ≡ Some element =
+    next.unclosed
+    ∙ ap (λ (b : Bool). if b then unclosed is_cell (section_behind base new) else Some element)
+    is_open in
+    record {
+      passed = finds.passed;
+      fact = finds.rows;
+      marks = finds.marks
+          ∙ ap (λ (own : Tag). finds.passed ++ cell (element_at base own new)
+          ∷ marks (section_behind base new)) same
+          ∙ ap (λ (events : List Event). finds.passed ++ cell element
+          ∷ marks (content (inside base new - 1) events)) (open_still (ahead new) is_open).1
+          ∙ ap (λ (found : Option Element). finds.passed ++ open_mark found) (sym open_one);
+    }
+
+-- a step is cut off in the cell that was found
+pub found_cell_cut : (wants : Wants) (grounds : Grounds) (position : ℕ × ℕ) (base place : ℕ)
+    (old mid new : Reading) (first counters : Counters) (tag : Tag) (error : XlsxError)
+    → IsElementFound is_cell base tag place old old mid → start tag ≡ mid.source.current
+    → (old.source.is_told ≡ true → (before : List Mark) → AreKept before first
+    → FindsCell before position base old mid counters)
+    → CellFails wants grounds tag mid new error
+    → IsCutOff (λ before. PassesRows) first base old error
+found_cell_cut wants grounds position base place old mid new first counters tag error found current
+    finds fails =
+    cut_weaker (mid.source.is_told ≡ true → has_end (section_left (length mid.names) mid) ≡ false)
+    (old.source.is_told ≡ true → (before : List Mark) → AreKept before first
+    → LacksCell PassesRows (section_ahead base old)) error
+    (λ ends told before kept.
+    found_cell_open before position base old mid counters tag (finds told before kept) current
+    (found.next told) (ends (found.read.reads.moves.parts.is_told ∙ told)))
+    (cut_open (length mid.names) mid new (end_in_contents wants tag)
+    (IsContentRefused wants grounds tag) error fails)
 
 -- the formulas that are kept of a cell, where they are wanted
 record KeptOf

@@ -352,7 +352,7 @@ step_refused wants grounds old mid new error same keeps weaker fails =
     let refused = IsStepRefused (IsCellRefused wants grounds) mid.counters in
     let here : SectionFails (end_in_data wants) refused old.base mid.reading new.reading error =
     subst (λ (n : ℕ). SectionFails (end_in_data wants) refused n mid.reading new.reading error) same
-    fails in
+    fails.0 in
     refused_later old.base old.reading mid.reading (end_in_data wants) refused
     (AreDataRefused wants grounds) new.reading error keeps.section
     (λ told. ap (end_outside (codes "sheetData") (end_in_cell wants)) (keeps.unclosed told))

@@ -8,10 +8,11 @@ use Rattle.part_events.specs.declared.fault.XmlFault.TheVariants.{EndMismatch, U
 use Rattle.xlsx_error.specs.declared.error.XlsxError.{XlsxError}
 use Rattle.xlsx_error.specs.declared.error.XlsxError.TheVariants.{OutOfMemory, Io, Xml, XmlEof}
 use Rattle.xlsx_sections.specs.PartSection.{PartSection, SectionFails, section_left, last_of}
+use Rattle.xlsx_sections.specs.PartSection.{has_end}
 use Rattle.xlsx_sections.specs.Refusal.{Refusal}
 use Rattle.xlsx_sections.proofs.Refused.{refused_weaker}
 use Rattle.xlsx_cells.specs.Counting.{IsRefused, IsRowRefused}
-use Rattle.xlsx_cells.specs.Finding.{IsTakenRefused}
+use Rattle.xlsx_cells.specs.Finding.{IsTakenRefused, IfCutOff}
 use Rattle.xlsx_cells.specs.Marks.{Mark, row_start, row_end, cell, is_row, marks_of, behind_marks}
 use Rattle.xlsx_cells.specs.Position.{row_named, PassesRows}
 
@@ -37,6 +38,23 @@ start_refused base first ending own refused new error weaker is = λ told.
     let last = last_of (section_left base first) in
     refused_weaker last last (refused (section_left base first)) own error (weaker told) refl
     (is last)
+
+pub cut_weaker : (after before : Type 0) (error : XlsxError) → (after → before)
+    → IfCutOff after error → IfCutOff before error
+cut_weaker after before (Xml (EndMismatch at)) weaker is = weaker is
+cut_weaker after before (Xml (Unclosed at)) weaker is = weaker is
+cut_weaker after before (XmlEof element) weaker is = weaker is
+cut_weaker after before error weaker is = tt
+
+-- where a section is cut off, no end closes it
+pub cut_open : (base : ℕ) (old new : Reading) (ending : List Event → Option (List ℕ))
+    (refused : PartSection → Refusal → Type 0) (error : XlsxError)
+    → SectionFails ending refused base old new error
+    → IfCutOff (old.source.is_told ≡ true → has_end (section_left base old) ≡ false) error
+cut_open base old new ending refused (Xml (EndMismatch at)) fails = λ told. (fails told).1
+cut_open base old new ending refused (Xml (Unclosed at)) fails = λ told. (fails told).0.1
+cut_open base old new ending refused (XmlEof element) fails = λ told. (fails told).0.1
+cut_open base old new ending refused error fails = tt
 
 -- what is refused behind rows that were passed
 pub taken_behind : (refused : List Mark → Element → Refusal → Type 0)

@@ -4,7 +4,7 @@ use Rattle.std.proofs.Common.{false, Option, Some, None, Result, Ok, Err, refl, 
 use Rattle.std.proofs.Common.{inl, inr, ◌⊎◌, codes}
 use Rattle.std.specs.Prelude.{filter, if◌then◌else◌}
 use Rattle.std.proofs.lemmas.List.Elements.{filter-append}
-use Rattle.part_events.specs.Section.{Element}
+use Rattle.part_events.specs.Section.{Element, unclosed}
 use Rattle.part_events.specs.Walk.{is_closed_ahead}
 use Rattle.xlsx_error.specs.declared.error.XlsxError.{XlsxError}
 use Rattle.cell_styles.proofs.Meaning.{kept, dropped}
@@ -19,13 +19,16 @@ use Rattle.xlsx_values.specs.Value.{Grounds}
 use Rattle.xlsx_formulas.specs.Formula.{FormulaText, behind_formulas}
 use Rattle.xlsx_formulas.proofs.Groups.{formulas_kept}
 use Rattle.xlsx_cells.specs.CellsReader.{styles_alone}
+use Rattle.xlsx_cells.specs.Counting.{AreKept}
 use Rattle.xlsx_cells.specs.Ends.{end_in_cell, end_in_data}
-use Rattle.xlsx_cells.specs.Finding.{BehindRow, IsTakenRefused, IsStepRefused}
+use Rattle.xlsx_cells.specs.Finding.{BehindRow, IsTakenRefused, IsStepRefused, IsCutOff}
+use Rattle.xlsx_cells.specs.Finding.{LacksCell, open_mark}
 use Rattle.xlsx_cells.specs.Marks.{Mark, row_start, row_end, cell, is_cell, marks, behind_marks}
 use Rattle.xlsx_cells.specs.Position.{row_named, PassesRows}
 use Rattle.xlsx_cells.specs.Sheet.{answers_from}
 use Rattle.xlsx_cells.specs.Stream.{Stream, StandsBehind, IsCellRefused, IsRead, TakesCell}
 use Rattle.xlsx_cells.specs.Stream.{EndsData, NextCellFails, marks_ahead, are_closed_ahead}
+use Rattle.xlsx_cells.specs.Stream.{data_ahead}
 use Rattle.xlsx_cells.specs.StyleIds.{placed_id, IsIdRefused}
 use Rattle.xlsx_cells.specs.StyleSteps.{PassesUnstyled, TakesStyledCell, EndsUnstyled, IsUnstyled}
 use Rattle.xlsx_cells.specs.StyleSteps.{IsPassedRefused, IsStyledStepRefused, StyledStepFails}
@@ -33,6 +36,7 @@ use Rattle.xlsx_cells.specs.declared.cell_read.CellRead.{CellRead}
 use Rattle.xlsx_cells.proofs.CellsRead.{row_weaker}
 use Rattle.xlsx_cells.proofs.Collecting.{no_answers}
 use Rattle.xlsx_cells.proofs.MarksAhead.{behind_append}
+use Rattle.xlsx_cells.proofs.Refusing.{cut_weaker}
 use Rattle.xlsx_cells.proofs.SoundSheet.{row_sound}
 
 -- the answer of a cell is the first of those with which it is given
@@ -277,6 +281,40 @@ taken_refused count grounds before (row_end ∷ marks) refusal is =
 taken_refused count grounds before (cell element ∷ marks) refusal is =
     inl (id_refused grounds before element refusal is)
 
+-- no cell that counts is left behind them, but one that is left open
+open_behind : (count : ℕ) (before : List Mark) (earlier : List FormulaText) (old mid : Stream)
+    → HasSkipped count before earlier old mid
+    → unclosed is_cell (data_ahead mid) ≡ unclosed is_cell (data_ahead old)
+    → LacksCell PassesRows (data_ahead mid)
+    → LacksCell (PassesUnstyled count before) (data_ahead old)
+open_behind count before earlier old mid been same lacks = record {
+  passed = been.passed ++ lacks.passed;
+  fact = rows_behind count before been.passed lacks.passed been.unstyled lacks.fact;
+  marks = been.marks ∙ ap (λ (others : List Mark). been.passed ++ others) lacks.marks
+      ∙ sym (append_assoc been.passed lacks.passed (open_mark (unclosed is_cell (data_ahead mid))))
+      ∙ ap (λ (found : Option Element). (been.passed ++ lacks.passed) ++ open_mark found) same;
+}
+
+-- a step behind them is cut off
+styled_cut : (count : ℕ) (old mid : Stream) (error : XlsxError) → mid.base ≡ old.base
+    → KeepsElements is_cell old.base old.reading mid.reading
+    → (old.reading.source.is_told ≡ true → (before : List Mark) (earlier : List FormulaText)
+    → StandsBehind before earlier old → HasSkipped count before earlier old mid)
+    → IsCutOff (λ before. PassesRows) mid.counters mid.base mid.reading error
+    → IsCutOff (PassesUnstyled count) old.counters old.base old.reading error
+styled_cut count old mid error same keeps skipped cut =
+    cut_weaker (mid.reading.source.is_told ≡ true → (before : List Mark)
+    → AreKept before mid.counters → LacksCell PassesRows (data_ahead mid))
+    (old.reading.source.is_told ≡ true → (before : List Mark) → AreKept before old.counters
+    → LacksCell (PassesUnstyled count before) (data_ahead old)) error
+    (λ lacks told before kept.
+    let some = formulas_kept old.masters in
+    let been = skipped told before some.0 (record { counters = kept; masters = some.1 }) in
+    open_behind count before some.0 old mid been (rw same (keeps.unclosed told))
+    (lacks (keeps.section.reads.moves.parts.is_told ∙ told) (behind_marks been.passed before)
+    been.stands.counters))
+    cut
+
 -- a step behind them is refused
 pub styled_refused : (count : ℕ) (grounds : Grounds) (old mid new : Stream) (error : XlsxError)
     → mid.base ≡ old.base → KeepsElements is_cell old.base old.reading mid.reading
@@ -287,8 +325,8 @@ styled_refused count grounds old mid new error same keeps skipped fails =
     let refused = IsStepRefused (IsCellRefused styles_alone grounds) mid.counters in
     let here : SectionFails (end_in_data styles_alone) refused old.base mid.reading new.reading
     error = subst (λ (n : ℕ). SectionFails (end_in_data styles_alone) refused n mid.reading
-    new.reading error) same fails in
-    refused_later old.base old.reading mid.reading (end_in_data styles_alone) refused
+    new.reading error) same fails.0 in
+    let cause = refused_later old.base old.reading mid.reading (end_in_data styles_alone) refused
     (IsStyledStepRefused count old.counters) new.reading error keeps.section
     (λ told. ap (end_outside (codes "sheetData") (end_in_cell styles_alone))
     (keeps.unclosed told))
@@ -301,4 +339,5 @@ styled_refused count grounds old mid new error same keeps skipped fails =
     subst (λ (own : List Mark). IsPassedRefused count before own refusal) (sym been.marks)
     (refused_behind count been.passed before (marks_ahead mid) refusal been.unstyled.ids
     been.unstyled.answered been.unstyled.none step))
-    here
+    here in
+    (cause, styled_cut count old mid error same keeps skipped fails.1)

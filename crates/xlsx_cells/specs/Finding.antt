@@ -3,11 +3,13 @@ use Rattle.std.specs.Prelude.{◌≡◌, ⊤, ℕ, ◌-◌, ◌<◌, List, [], �
 use Rattle.std.specs.Prelude.{None}
 use Rattle.std.specs.Prelude.{Result, Ok, Err}
 use Rattle.cell_refs.specs.declared.TheConstants.{MAX_ROWS, MAX_COLUMNS}
-use Rattle.part_events.specs.Event.{Tag, start}
+use Rattle.part_events.specs.Event.{Tag, Event, start}
 use Rattle.part_events.specs.Reading.{Reading}
-use Rattle.part_events.specs.Section.{Element}
+use Rattle.part_events.specs.Section.{Element, unclosed}
 use Rattle.part_events.specs.Walk.{element_at, section_ahead, section_behind, is_closed_ahead}
+use Rattle.part_events.specs.declared.fault.XmlFault.TheVariants.{EndMismatch, Unclosed}
 use Rattle.xlsx_error.specs.declared.error.XlsxError.{XlsxError}
+use Rattle.xlsx_error.specs.declared.error.XlsxError.TheVariants.{Xml, XmlEof}
 use Rattle.xlsx_sections.specs.Elements.{FindsElementIn, end_among}
 use Rattle.xlsx_sections.specs.PartSection.{PartSection, SectionFails, StandsAtStart, inside_of}
 use Rattle.xlsx_sections.specs.Refusal.{Refusal}
@@ -83,6 +85,32 @@ IsStepRefused refused counters section refusal =
 
 abbrev pub IsMisplaced : List Mark → Element → Refusal → Type 0
 IsMisplaced before element refusal = cell_position before element.tag ≡ Err refusal
+
+-- the mark of the cell that no end closes
+abbrev pub open_mark : Option Element → List Mark
+open_mark None = []
+open_mark (Some element) = cell element ∷ []
+
+-- no cell is left behind marks of which a fact holds, but the one that no end closes
+pub record LacksCell (passes : List Mark → Type 0) (inside : List Event) : Type 0 where
+  pub passed : List Mark
+  pub fact : passes passed
+  pub marks : marks inside ≡ passed ++ open_mark (unclosed is_cell inside)
+
+-- where an error tells of the part's end, or of an end that breaks the nesting
+abbrev pub IfCutOff : Type 0 → XlsxError → Type 0
+IfCutOff lacks (Xml (EndMismatch at)) = lacks
+IfCutOff lacks (Xml (Unclosed at)) = lacks
+IfCutOff lacks (XmlEof element) = lacks
+IfCutOff lacks _ = ⊤
+
+-- A step tells of these only where no whole cell is left for it to take. Behind the marks before
+-- it, it passes those of which `passes` holds.
+abbrev pub IsCutOff :
+    (List Mark → List Mark → Type 0) → Counters → ℕ → Reading → XlsxError → Type 0
+IsCutOff passes counters base old error =
+    IfCutOff (old.source.is_told ≡ true → (before : List Mark) → AreKept before counters →
+    LacksCell (passes before) (section_ahead base old)) error
 
 -- when no cell is found; `inner` tells the end of the part in a cell
 abbrev pub FindFails :

@@ -20,7 +20,7 @@ use Rattle.xlsx_formulas.specs.Kept.{AreMasters}
 use Rattle.xlsx_formulas.specs.declared.masters.Masters.{Masters}
 use Rattle.xlsx_cells.specs.Counting.{AreKept}
 use Rattle.xlsx_cells.specs.Ends.{end_in_contents, end_in_data}
-use Rattle.xlsx_cells.specs.Finding.{IsStepRefused}
+use Rattle.xlsx_cells.specs.Finding.{IsStepRefused, IsCutOff}
 use Rattle.xlsx_cells.specs.Marks.{Mark, cell, is_cell, marks, behind_marks}
 use Rattle.xlsx_cells.specs.Position.{cell_position, PassesRows}
 use Rattle.xlsx_cells.specs.StyleIds.{id_named}
@@ -102,6 +102,7 @@ abbrev pub NextCellFails : Wants → Grounds → Stream → Stream → XlsxError
 NextCellFails wants grounds old new error =
     SectionFails (end_in_data wants) (IsStepRefused (IsCellRefused wants grounds) old.counters)
     old.base old.reading new.reading error
+    × IsCutOff (λ before. PassesRows) old.counters old.base old.reading error
 
 -- what is read of a cell, by the marks and the formulas before it: `kept` are its own formulas,
 -- where they are wanted

@@ -13,7 +13,7 @@ use Rattle.xlsx_cells.specs.CellsReader.{Flow, PassesCell, styles_alone}
 use Rattle.xlsx_cells.specs.Counting.{AreKept}
 use Rattle.xlsx_cells.specs.Ends.{end_in_data}
 use Rattle.xlsx_cells.specs.CellErrors.{IsStyledError}
-use Rattle.xlsx_cells.specs.Finding.{BehindRow}
+use Rattle.xlsx_cells.specs.Finding.{BehindRow, IsCutOff}
 use Rattle.xlsx_cells.specs.Marks.{Mark, row_start, row_end, cell, marks, behind_marks}
 use Rattle.xlsx_cells.specs.Position.{row_named}
 use Rattle.xlsx_cells.specs.Sheet.{answers_from}
@@ -85,6 +85,7 @@ abbrev pub StyledStepFails : ℕ → Stream → Stream → XlsxError → Type 0
 StyledStepFails count old new error =
     SectionFails (end_in_data styles_alone) (IsStyledStepRefused count old.counters) old.base
     old.reading new.reading error
+    × IsCutOff (PassesUnstyled count) old.counters old.base old.reading error
 
 -- ---- the same of a stream
 

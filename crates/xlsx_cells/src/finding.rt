@@ -7,6 +7,7 @@ ghost use Rattle.xlsx_error.specs.declared.error.XlsxError.TheVariants.{Io};
 ghost use Rattle.xlsx_cells.specs.Counting.{AreKept, IsRefused, IsRowRefused, IsPositionError};
 ghost use Rattle.xlsx_cells.specs.CellErrors.{IsFindError};
 ghost use Rattle.xlsx_cells.specs.Finding.{Finds, FindsCellElement, StandsAtCell, FindFails};
+ghost use Rattle.xlsx_cells.specs.Finding.{IsCutOff};
 ghost use Rattle.xlsx_cells.specs.Marks.{Mark, cell_start, marks_of, behind_marks};
 ghost use Rattle.xlsx_cells.specs.Position.{PassesRows};
 
@@ -78,6 +79,8 @@ pub fn find_cell<P: Package>(
         let new = reading (P.state «package».new) cursor.new in
         IfErr result (λ error. (inner : Element → Option (List ℕ)) →
         FindFails inner counters.old base old new error) }
+    ensures cut { let old = reading (P.state «package».old) cursor.old in
+        IfErr result (IsCutOff (λ before. PassesRows) counters.old base old) }
     ensures kind { IfErr result IsFindError }
 {
     'events: loop {

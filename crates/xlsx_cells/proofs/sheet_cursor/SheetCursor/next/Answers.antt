@@ -1,4 +1,4 @@
-use Rattle.std.proofs.Common.{◌≡◌, ◌-◌, Some, true, refl, ◌∙◌, arith, codes}
+use Rattle.std.proofs.Common.{◌≡◌, ◌-◌, List, Some, true, refl, ◌∙◌, arith, codes}
 use Rattle.std.proofs.lemmas.Result.{err_from_is_err_and}
 use Rattle.part_events.specs.Event.{Tag}
 use Rattle.part_events.specs.Reading.{reading}
@@ -9,12 +9,14 @@ use Rattle.xlsx_sections.proofs.ElementsRead.{element_found, element_passed, ele
 use Rattle.xlsx_sections.proofs.Refused.{refused_as}
 use Rattle.xlsx_values.specs.Book.{grounds_of}
 use Rattle.xlsx_cells.specs.Children.{StandsAtElement}
+use Rattle.xlsx_cells.specs.Counting.{AreKept}
 use Rattle.xlsx_cells.specs.Ends.{end_in_cell, end_in_contents, end_in_data}
 use Rattle.xlsx_cells.specs.Finding.{FindsCell, IsStepRefused, IsMisplaced, StandsAtCell}
 use Rattle.xlsx_cells.specs.Finding.{marks_left}
-use Rattle.xlsx_cells.specs.Marks.{is_cell}
+use Rattle.xlsx_cells.specs.Marks.{Mark, is_cell}
 use Rattle.xlsx_cells.specs.Stream.{IsContentRefused, IsCellRefused}
-use Rattle.xlsx_cells.proofs.CellsRead.{misplaced_cell, found_cell_refused, taken_cell}
+use Rattle.xlsx_cells.proofs.CellsRead.{misplaced_cell, found_cell_refused, found_cell_cut}
+use Rattle.xlsx_cells.proofs.CellsRead.{taken_cell}
 use Rattle.xlsx_cells.proofs.ChildrenRead.{start_there}
 use Rattle.xlsx_cells.proofs.sheet_cursor.SheetCursor.next.Goals as goal
 
@@ -26,12 +28,12 @@ returns-in_err-pos-clause-err g c =
     let wants = c.args.asked.wants in
     let grounds = grounds_of c.args.asked.book in
     let p = err_from_is_err_and c.from_residual.result c.from_residual.ensures.1 in
-    rw (p.1, p.2)
-    (refused_as own.base old (end_in_data wants) (IsStepRefused IsMisplaced own.counters)
+    let cause = refused_as own.base old (end_in_data wants) (IsStepRefused IsMisplaced own.counters)
     (IsStepRefused (IsCellRefused wants grounds) own.counters) new c.in_err-pos.field-0.0
     c.requires.reading c.requires.within
     (λ refusal is before kept. misplaced_cell wants grounds before (marks_left own.base old) refusal
-    (is before kept)) (c.in_err-pos.ensures.err (end_in_cell wants)))
+    (is before kept)) (c.in_err-pos.ensures.err (end_in_cell wants)) in
+    rw (p.1, p.2) (cause, c.in_err-pos.ensures.cut)
 
 pub returns-in_err-read_cell-clause-err : goal.returns-in_err-read_cell-clause-err
 returns-in_err-read_cell-clause-err g c =
@@ -57,17 +59,21 @@ returns-in_err-read_cell-clause-err g c =
     let stand : StandsAtElement element mid = record { tag = first.1; inside = refl } in
     let p = err_from_is_err_and c.from_residual-in_err-read_cell.result
     c.from_residual-in_err-read_cell.ensures.1 in
-    rw (p.1, p.2)
-    (element_refused (codes "sheetData") (end_in_cell wants) (end_in_contents wants tag)
+    let finds_it : old.source.is_told ≡ true → (before : List Mark) → AreKept before own.counters
+    → FindsCell before pos base old mid c.find_cell.new.counters =
+    λ told before kept. rw c.in-Some.is at (c.in_ok-pos.ensures.finds told before kept) in
+    let fails = c.in_err-read_cell.ensures.err element stand in
+    let cause = element_refused (codes "sheetData") (end_in_cell wants) (end_in_contents wants tag)
     (IsContentRefused wants grounds tag)
     (IsStepRefused (IsCellRefused wants grounds) own.counters) new
     c.in_err-read_cell.field-0.0 found (λ told. refl)
     (λ told refusal is before kept.
-    let there : FindsCell before pos base old mid c.find_cell.new.counters =
-    rw c.in-Some.is at (c.in_ok-pos.ensures.finds told before kept) in
     found_cell_refused wants grounds before pos base old mid c.find_cell.new.counters tag refusal
-    there first.1 is)
-    (c.in_err-read_cell.ensures.err element stand))
+    (finds_it told before kept) first.1 is)
+    fails in
+    let cut = found_cell_cut wants grounds pos base (mid.at - 1) old mid new own.counters
+    c.find_cell.new.counters tag c.in_err-read_cell.field-0.0 found first.1 finds_it fails in
+    rw (p.1, p.2) (cause, cut)
 
 pub returns-clause-takes : goal.returns-clause-takes
 returns-clause-takes g c = λ told before earlier behind.
