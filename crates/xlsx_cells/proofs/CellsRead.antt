@@ -1,12 +1,12 @@
 -- How a cell is read, and why it is refused.
 use Rattle.std.proofs.Common.{◌≡◌, ℕ, List, [], ◌∷◌, ◌++◌, Bool, true, false, Option, Some, None}
 use Rattle.std.proofs.Common.{Result, Ok, Err, refl, sym, ◌∙◌, ap, subst, inl, inr, codes, length}
-use Rattle.std.proofs.Common.{◌⊎◌, ◌-◌, string_bytes}
+use Rattle.std.proofs.Common.{◌⊎◌, ◌-◌, ◌<◌, string_bytes, arith}
 use Rattle.std.specs.Prelude.{◌||◌, if◌then◌else◌}
 use Rattle.std.specs.Option.{unwrap_or}
 use Rattle.attr_text.specs.Attributes.{lookup, value_of}
 use Rattle.attr_text.proofs.LookupsByKey.{lookup-ok}
-use Rattle.part_events.specs.Event.{Tag, Event, start}
+use Rattle.part_events.specs.Event.{Tag, Event, start, end}
 use Rattle.part_events.specs.Reading.{Reading, ahead}
 use Rattle.part_events.specs.Section.{Element, content, is_closed, unclosed, is_any}
 use Rattle.part_events.specs.Walk.{IsNextElement, inside, element_at, section_ahead, section_behind}
@@ -34,7 +34,7 @@ use Rattle.xlsx_cells.specs.Counting.{AreKept, IsStartRefused, IsRefused}
 use Rattle.xlsx_cells.specs.Ends.{reads_children, kind_of_cell, end_in_child_element}
 use Rattle.xlsx_cells.specs.Ends.{end_in_children, end_in_contents}
 use Rattle.xlsx_cells.specs.Finding.{FindsCell, IsTakenRefused, IsMisplaced, BehindRow, marks_left}
-use Rattle.xlsx_cells.specs.Finding.{LacksCell, IsCutOff, open_mark}
+use Rattle.xlsx_cells.specs.Finding.{LacksCell, IsCutOff, IsLeftBehind, open_mark}
 use Rattle.xlsx_cells.specs.Marks.{Mark, row_start, row_end, cell, is_cell, marks, behind_marks}
 use Rattle.xlsx_cells.specs.Position.{row_named, PassesRows}
 use Rattle.xlsx_cells.specs.Stream.{IsContentRefused, IsHeadRefused, IsCellRefused, CellFails}
@@ -43,6 +43,7 @@ use Rattle.xlsx_cells.specs.StyleIds.{id_named, id_looked_up}
 use Rattle.xlsx_cells.specs.declared.cell_read.CellRead.{CellRead}
 use Rattle.xlsx_cells.specs.declared.children.Wants.{Wants}
 use Rattle.xlsx_cells.specs.declared.counters.Counters.{Counters}
+use Rattle.xlsx_cells.proofs.MarksAhead.{content_parts}
 use Rattle.xlsx_cells.proofs.Refusing.{taken_behind, is_refused_weaker, cut_weaker, cut_open}
 
 -- the start of an element is refused, where memory may be wanting too
@@ -291,13 +292,36 @@ kept_of false wants earlier position inside old new text is behind reads same = 
   groups = subst (λ (own : Masters). AreMasters earlier own) (sym (same is)) behind;
 }
 
+-- what is left behind the cell that was found
+left_behind_cell : {before : List Mark} {position : ℕ × ℕ} {base : ℕ} {old mid : Reading}
+    {counters : Counters} (new : Reading)
+    → (finds : FindsCell before position base old mid counters)
+    → base < length mid.names → is_closed 0 (ahead mid) ≡ true
+    → section_ahead base new ≡ section_behind base mid
+    → IsLeftBehind (element_at base finds.tag mid) (section_ahead base old) (section_ahead base new)
+left_behind_cell {base = base} {mid = mid} new finds deep closed left =
+    let parts = content_parts 0 (inside base mid - 1) (inside base mid) (ahead mid)
+    (omega (arith, deep)) closed in
+    let name = parts.0 in
+    let all : section_ahead base mid
+    ≡ content 0 (ahead mid) ++ end name ∷ section_ahead base new =
+    parts.1 ∙ ap (λ (events : List Event). content 0 (ahead mid) ++ end name ∷ events) (sym left) in
+    record {
+      passed = finds.taken;
+      name = name;
+      parts = finds.events
+          ∙ ap (λ (events : List Event). finds.taken ++ start finds.tag ∷ events) all;
+      place = ap length all;
+    }
+
 -- the cell that was found was read
 pub taken_cell : (wants : Wants) (grounds : Grounds) (before : List Mark)
     (earlier : List FormulaText) (position : ℕ × ℕ) (base : ℕ) (old mid new : Reading)
     (counters : Counters) (masters after : Masters) (read : CellRead)
     → (finds : FindsCell before position base old mid counters)
-    → IsElementPassed is_cell base finds.tag old old mid new → old.source.is_told ≡ true
-    → AreMasters earlier masters → read.pos ≡ position
+    → IsElementPassed is_cell base finds.tag old old mid new → base < length mid.names
+    → is_closed 0 (ahead mid) ≡ true → old.source.is_told ≡ true → AreMasters earlier masters
+    → read.pos ≡ position
     → (wants.values ≡ true → cell_value grounds finds.tag (content 0 (ahead mid))
     ≡ Ok (value_of_data_ref read.value))
     → (wants.formulas ≡ true → ReadsFormulaChildren earlier position (content 0 (ahead mid))
@@ -310,7 +334,7 @@ pub taken_cell : (wants : Wants) (grounds : Grounds) (before : List Mark)
     (record { reading = new; base = base; counters = counters; masters = after })
     (IsRead wants grounds earlier read)
 taken_cell wants grounds before earlier position base old mid new counters masters after read finds
-    passed told behind placed valued reads same styled first =
+    passed deep closed told behind placed valued reads same styled first =
     let element = element_at base finds.tag mid in
     let all : KeptOf wants earlier position (content 0 (ahead mid)) after
     (string_bytes read.formula) =
@@ -323,6 +347,7 @@ taken_cell wants grounds before earlier position base old mid new counters maste
       kept = all.kept;
       marks = finds.marks ∙ ap (λ (events : List Event). finds.passed ++ cell element
           ∷ marks events) (sym (passed.left told));
+      left = left_behind_cell new finds deep closed (passed.left told);
       closed = sym (passed.keeps.section.closed told);
       fact = record {
         placed = finds.placed ∙ ap Ok (sym placed);

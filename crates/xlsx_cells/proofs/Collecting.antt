@@ -31,7 +31,7 @@ use Rattle.xlsx_cells.specs.Sheet.{is_empty, used_values, used_formulas}
 use Rattle.xlsx_cells.specs.SheetPart.{IsMarkRefused, AreDataRefused, DataFails, HoldsValues}
 use Rattle.xlsx_cells.specs.SheetPart.{HoldsFormulas}
 use Rattle.xlsx_cells.specs.Stream.{Stream, StandsBehind, IsCellRefused, IsRead, TakesCell}
-use Rattle.xlsx_cells.specs.Stream.{EndsData, NextCellFails, marks_ahead, data_ahead}
+use Rattle.xlsx_cells.specs.Stream.{NextCellFails, marks_ahead, data_ahead}
 use Rattle.xlsx_cells.specs.StyleIds.{placed_id, ids_in, HoldsIds}
 use Rattle.xlsx_cells.specs.declared.cell_read.CellRead.{CellRead}
 use Rattle.xlsx_cells.specs.declared.children.Wants.{Wants}
@@ -297,11 +297,12 @@ collected_further wants grounds count old mid new values formulas ids read been 
 pub values_whole : (wants : Wants) (grounds : Grounds) (count : ℕ) (old now : Stream)
     (values : List ((ℕ × ℕ) × CellValue)) (formulas : List ((ℕ × ℕ) × List ℕ))
     (ids : List StyledCell) → HasCollected wants grounds count old now values formulas ids
-    → EndsData now → wants.values ≡ true → HoldsValues grounds (data_ahead old) values
-values_whole wants grounds count old now values formulas ids been ends wanted =
+    → PassesRows (marks_ahead now) → wants.values ≡ true
+    → HoldsValues grounds (data_ahead old) values
+values_whole wants grounds count old now values formulas ids been rows wanted =
     let so_far = been.valued wanted in (
       so_far.passed,
-      answers_whole (placed_value grounds) so_far.passed been.before (marks_ahead now) _ ends.rows
+      answers_whole (placed_value grounds) so_far.passed been.before (marks_ahead now) _ rows
           so_far.all,
       so_far.used,
     )
@@ -309,11 +310,11 @@ values_whole wants grounds count old now values formulas ids been ends wanted =
 pub formulas_whole : (wants : Wants) (grounds : Grounds) (count : ℕ) (old now : Stream)
     (values : List ((ℕ × ℕ) × CellValue)) (formulas : List ((ℕ × ℕ) × List ℕ))
     (ids : List StyledCell) → HasCollected wants grounds count old now values formulas ids
-    → EndsData now → wants.formulas ≡ true → HoldsFormulas (data_ahead old) formulas
-formulas_whole wants grounds count old now values formulas ids been ends wanted =
+    → PassesRows (marks_ahead now) → wants.formulas ≡ true → HoldsFormulas (data_ahead old) formulas
+formulas_whole wants grounds count old now values formulas ids been rows wanted =
     let so_far = been.listed wanted in (
       so_far.passed,
-      answers_whole placed_formulas so_far.passed been.before (marks_ahead now) _ ends.rows
+      answers_whole placed_formulas so_far.passed been.before (marks_ahead now) _ rows
           so_far.all,
       so_far.used,
     )
@@ -321,11 +322,11 @@ formulas_whole wants grounds count old now values formulas ids been ends wanted 
 pub ids_whole : (wants : Wants) (grounds : Grounds) (count : ℕ) (old now : Stream)
     (values : List ((ℕ × ℕ) × CellValue)) (formulas : List ((ℕ × ℕ) × List ℕ))
     (ids : List StyledCell) → HasCollected wants grounds count old now values formulas ids
-    → EndsData now → wants.styles ≡ true → HoldsIds count (data_ahead old) ids
-ids_whole wants grounds count old now values formulas ids been ends wanted =
+    → PassesRows (marks_ahead now) → wants.styles ≡ true → HoldsIds count (data_ahead old) ids
+ids_whole wants grounds count old now values formulas ids been rows wanted =
     let so_far = been.styled wanted in (
       so_far.passed,
-      answers_whole placed_id so_far.passed been.before (marks_ahead now) _ ends.rows so_far.all,
+      answers_whole placed_id so_far.passed been.before (marks_ahead now) _ rows so_far.all,
       so_far.used,
     )
 

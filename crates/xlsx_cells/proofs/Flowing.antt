@@ -1,5 +1,5 @@
 -- How a stream of cells goes on, and how the data that it reads are entered.
-use Rattle.std.proofs.Common.{◌≡◌, ◌∙◌, List, [], ◌∷◌, length, true, false, Option, Some, None}
+use Rattle.std.proofs.Common.{◌≡◌, ◌∙◌, List, [], length, true, false, Option, Some, None}
 use Rattle.std.proofs.Common.{ℕ, Result, Ok, Err, refl, sym, subst, codes, arith}
 use Rattle.std.specs.Prelude.{IfOk}
 use Rattle.std.specs.Prelude.{String}
@@ -45,6 +45,7 @@ value_taken read own is takes = record {
   element = takes.element;
   kept = takes.kept;
   marks = takes.marks;
+  left = takes.left;
   closed = takes.closed;
   fact = record {
     placed = rw is takes.fact.placed;
@@ -65,6 +66,7 @@ formula_taken read own is takes = record {
   element = takes.element;
   kept = takes.kept;
   marks = takes.marks;
+  left = takes.left;
   closed = takes.closed;
   fact = record {
     placed = rw is takes.fact.placed;

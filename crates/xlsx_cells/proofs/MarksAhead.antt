@@ -3,7 +3,8 @@ use Rattle.std.proofs.Common.{◌≡◌, ℕ, zero, suc, ◌+◌, List, [], ◌�
 use Rattle.std.proofs.Common.{false, Some, None, refl, ◌∙◌, ap, arith}
 use Rattle.std.specs.Prelude.{if◌then◌else◌}
 use Rattle.part_events.specs.Event.{Tag, Event, start, end, leaf}
-use Rattle.part_events.specs.Section.{Element, element_of, content, behind, outermost_from}
+use Rattle.part_events.specs.Section.{Element, element_of, content, is_closed, behind}
+use Rattle.part_events.specs.Section.{outermost_from}
 use Rattle.part_events.specs.Section.{unclosed}
 use Rattle.part_events.proofs.Sections.{content-content}
 use Rattle.xlsx_cells.specs.Marks.{Mark, row_start, row_end, cell, cells, is_cell, is_row}
@@ -26,6 +27,27 @@ marks_behind (suc inner) outer (suc within) (end name ∷ events) is =
     marks_behind inner outer within events (omega arith)
 marks_behind inner outer within (leaf kind ∷ events) is =
     marks_behind inner outer within events is
+
+-- what stands in a section: what is in an element that lies in it, its end, and what is behind
+pub content_parts : (inner outer within : ℕ) (events : List Event) → within ≡ inner + suc outer
+    → is_closed inner events ≡ true
+    → (name : List ℕ) × (content within events
+    ≡ content inner events ++ end name ∷ content outer (behind inner events))
+content_parts inner outer within [] is closed = absurd (cc)
+content_parts inner outer within (start tag ∷ events) is closed =
+    let rest = content_parts (suc inner) outer (suc within) events (omega arith) closed in
+    (rest.0, ap (λ (more : List Event). start tag ∷ more) rest.1)
+content_parts zero outer zero (end name ∷ events) is closed = absurd (omega arith)
+content_parts (suc inner) outer zero (end name ∷ events) is closed = absurd (omega arith)
+content_parts zero outer (suc within) (end name ∷ events) is closed =
+    let same : within ≡ outer = omega arith in
+    (name, ap (λ (n : ℕ). end name ∷ content n events) same)
+content_parts (suc inner) outer (suc within) (end name ∷ events) is closed =
+    let rest = content_parts inner outer within events (omega arith) closed in
+    (rest.0, ap (λ (more : List Event). end name ∷ more) rest.1)
+content_parts inner outer within (leaf kind ∷ events) is closed =
+    let rest = content_parts inner outer within events is closed in
+    (rest.0, ap (λ (more : List Event). leaf kind ∷ more) rest.1)
 
 -- a cell is the next mark, and the others are those behind it
 pub marks_cell : (tag : Tag) (outer : ℕ) (events : List Event) → is_cell tag ≡ true

@@ -27,12 +27,21 @@ pub record HasPassed
   pub passed : List Mark
   pub rows : PassesRows passed
   pub marks : marks_left base old ≡ passed ++ marks_left base now
+  pub taken : List Event
+  pub events : section_ahead base old ≡ taken ++ section_ahead base now
   pub counts : AreKept (behind_marks passed before) counters
 
 pub passes_none : (before : List Mark) (base : ℕ) (first : Reading) (counters : Counters)
     → AreKept before counters → HasPassed before base first first counters
 passes_none before base first counters kept =
-    record { passed = []; rows = record {}; marks = refl; counts = kept }
+    record {
+      passed = [];
+      rows = record {};
+      marks = refl;
+      taken = [];
+      events = refl;
+      counts = kept;
+    }
 
 passes_both : (first second : List Mark) → PassesRows first → PassesRows second
     → PassesRows (first ++ second)
@@ -50,6 +59,9 @@ pub passed_further : {before : List Mark} {base : ℕ} {event : Event} {old mid 
     → AreKept (behind_marks (marks_of event) others) next) → HasPassed before base old new next
 passed_further {before = before} {base = base} {event = event} {new = new} {next = next} been none
     left rows counts = record {
+      taken = been.taken ++ event ∷ [];
+      events = been.events ∙ ap (λ (events : List Event). been.taken ++ events) left
+          ∙ sym (append_assoc been.taken (event ∷ []) (section_ahead base new));
       passed = been.passed ++ marks_of event;
       rows = passes_both been.passed (marks_of event) been.rows rows;
       marks = been.marks

@@ -1,11 +1,12 @@
 -- Cells without a style id that counts are passed.
 use Rattle.std.proofs.Common.{◌≡◌, ℕ, List, [], ◌∷◌, ◌++◌, append_assoc, append-nil, Bool, true}
-use Rattle.std.proofs.Common.{false, Option, Some, None, Result, Ok, Err, refl, sym, ◌∙◌, ap, subst}
-use Rattle.std.proofs.Common.{inl, inr, ◌⊎◌, codes}
-use Rattle.std.specs.Prelude.{filter, if◌then◌else◌}
+use Rattle.std.proofs.Common.{false, Option, Result, Ok, Err, refl, sym, ◌∙◌, ap, subst}
+use Rattle.std.proofs.Common.{inl, inr, codes}
+use Rattle.std.specs.Prelude.{filter}
 use Rattle.std.proofs.lemmas.List.Elements.{filter-append}
+use Rattle.part_events.specs.Event.{Event, start, end}
 use Rattle.part_events.specs.Section.{Element, unclosed}
-use Rattle.part_events.specs.Walk.{is_closed_ahead}
+use Rattle.part_events.specs.Walk.{behind_section}
 use Rattle.xlsx_error.specs.declared.error.XlsxError.{XlsxError}
 use Rattle.cell_styles.proofs.Meaning.{kept, dropped}
 use Rattle.cell_styles.specs.StyleMap.{StyledCell, is_explicit}
@@ -21,8 +22,8 @@ use Rattle.xlsx_formulas.proofs.Groups.{formulas_kept}
 use Rattle.xlsx_cells.specs.CellsReader.{styles_alone}
 use Rattle.xlsx_cells.specs.Counting.{AreKept}
 use Rattle.xlsx_cells.specs.Ends.{end_in_cell, end_in_data}
-use Rattle.xlsx_cells.specs.Finding.{BehindRow, IsTakenRefused, IsStepRefused, IsCutOff}
-use Rattle.xlsx_cells.specs.Finding.{LacksCell, open_mark}
+use Rattle.xlsx_cells.specs.Finding.{IsTakenRefused, IsStepRefused, IsCutOff}
+use Rattle.xlsx_cells.specs.Finding.{LacksCell, IsLeftBehind, open_mark}
 use Rattle.xlsx_cells.specs.Marks.{Mark, row_start, row_end, cell, is_cell, marks, behind_marks}
 use Rattle.xlsx_cells.specs.Position.{row_named, PassesRows}
 use Rattle.xlsx_cells.specs.Sheet.{answers_from}
@@ -30,7 +31,7 @@ use Rattle.xlsx_cells.specs.Stream.{Stream, StandsBehind, IsCellRefused, IsRead,
 use Rattle.xlsx_cells.specs.Stream.{EndsData, NextCellFails, marks_ahead, are_closed_ahead}
 use Rattle.xlsx_cells.specs.Stream.{data_ahead}
 use Rattle.xlsx_cells.specs.StyleIds.{placed_id, IsIdRefused}
-use Rattle.xlsx_cells.specs.StyleSteps.{PassesUnstyled, TakesStyledCell, EndsUnstyled, IsUnstyled}
+use Rattle.xlsx_cells.specs.StyleSteps.{PassesUnstyled, TakesStyledCell, EndsUnstyled}
 use Rattle.xlsx_cells.specs.StyleSteps.{IsPassedRefused, IsStyledStepRefused, StyledStepFails}
 use Rattle.xlsx_cells.specs.declared.cell_read.CellRead.{CellRead}
 use Rattle.xlsx_cells.proofs.CellsRead.{row_weaker}
@@ -107,6 +108,8 @@ pub record HasSkipped
   pub passed : List Mark
   pub unstyled : PassesUnstyled count before passed
   pub marks : marks_ahead old ≡ passed ++ marks_ahead now
+  pub taken : List Event
+  pub events : data_ahead old ≡ taken ++ data_ahead now
   pub closed : are_closed_ahead old ≡ are_closed_ahead now
   pub stands : StandsBehind (behind_marks passed before) earlier now
 
@@ -116,6 +119,8 @@ skipped_none count before earlier old stands = record {
   passed = [];
   unstyled = record { ids = []; answered = refl; none = refl };
   marks = refl;
+  taken = [];
+  events = refl;
   closed = refl;
   stands = stands;
 }
@@ -136,6 +141,30 @@ behind_cell passed before element earlier kept new none stands =
     subst (λ (own : List FormulaText). StandsBehind (cell element ∷ behind_marks passed before)
     (behind_formulas own earlier) new) none stands
 
+-- what stands behind an element stands behind more
+left_further : {element : Element} {mid new : List Event} (taken old : List Event)
+    → old ≡ taken ++ mid → IsLeftBehind element mid new → IsLeftBehind element old new
+left_further {element = element} {new = new} taken old events left = record {
+  passed = taken ++ left.passed;
+  name = left.name;
+  parts = events ∙ ap (λ (more : List Event). taken ++ more) left.parts
+      ∙ sym (append_assoc taken left.passed
+      (start element.tag ∷ (element.inside ++ end left.name ∷ new)));
+  place = left.place;
+}
+
+-- and what was taken before it
+taken_with : {element : Element} {old new : List Event} → IsLeftBehind element old new
+    → (taken : List Event) × (old ≡ taken ++ new)
+taken_with {element = element} {new = new} left =
+    let own = end left.name ∷ [] in (
+      left.passed ++ start element.tag ∷ (element.inside ++ own),
+      left.parts
+          ∙ ap (λ (events : List Event). left.passed ++ start element.tag ∷ events)
+          (sym (append_assoc element.inside own new))
+          ∙ sym (append_assoc left.passed (start element.tag ∷ (element.inside ++ own)) new),
+    )
+
 -- one cell more
 pub skipped_further : (count : ℕ) (before : List Mark) (earlier : List FormulaText)
     (grounds : Grounds) (old mid new : Stream) (read : CellRead)
@@ -155,6 +184,7 @@ skipped_further count before earlier grounds old mid new read been takes uncount
     ≡ cell element ∷ behind_marks takes.passed behind =
     behind_append been.passed step before
     ∙ behind_append takes.passed (cell element ∷ []) behind in
+    let all = taken_with (left_further been.taken (data_ahead old) been.events takes.left) in
     record {
       passed = been.passed ++ step;
       unstyled = record {
@@ -169,6 +199,8 @@ skipped_further count before earlier grounds old mid new read been takes uncount
       marks = been.marks ∙ ap (λ (others : List Mark). been.passed ++ others)
           (takes.marks ∙ sym (append_assoc takes.passed (cell element ∷ []) (marks_ahead new)))
           ∙ sym (append_assoc been.passed step (marks_ahead new));
+      taken = all.0;
+      events = all.1;
       closed = been.closed ∙ takes.closed;
       stands = subst (λ (own : List Mark). StandsBehind own earlier new) (sym same)
           (behind_cell takes.passed behind element earlier takes.kept new (takes.fact.none refl)
@@ -204,6 +236,7 @@ styled_taken count before earlier grounds old mid new read been takes =
       element = element;
       marks = been.marks ∙ ap (λ (others : List Mark). been.passed ++ others) takes.marks
           ∙ sym (append_assoc been.passed takes.passed (cell element ∷ marks_ahead new));
+      left = left_further been.taken (data_ahead old) been.events takes.left;
       closed = been.closed ∙ takes.closed;
       found = ap (λ (own : List Mark). placed_id own element) same
           ∙ read_id read (behind_marks takes.passed behind) element takes.kept takes.fact;
@@ -214,12 +247,14 @@ styled_taken count before earlier grounds old mid new read been takes =
     }
 
 pub unstyled_ends : (count : ℕ) (before : List Mark) (earlier : List FormulaText)
-    (old mid : Stream) → (been : HasSkipped count before earlier old mid) → EndsData mid
-    → EndsUnstyled count before old
-unstyled_ends count before earlier old mid been ends = record {
+    (old mid new : Stream) → (been : HasSkipped count before earlier old mid)
+    → behind_section mid.base mid.reading ≡ behind_section old.base old.reading
+    → EndsData mid new → EndsUnstyled count before old new
+unstyled_ends count before earlier old mid new been behind ends = record {
   unstyled = subst (PassesUnstyled count before) (sym been.marks)
       (rows_behind count before been.passed (marks_ahead mid) been.unstyled ends.rows);
   closed = been.closed ∙ ends.closed;
+  left = sym behind ∙ ends.left;
 }
 
 -- ---- what is refused

@@ -65,14 +65,14 @@ abbrev pub FlowsTo : Option CellRead → Flow → Flow → Type 0
 FlowsTo None old new = new.is_done ≡ true
 FlowsTo (Some read) old new = PassesCell read.pos old new
 
--- no cell is left, and the sheet's data are closed
-abbrev pub EndsFlow : Flow → Type 0
-EndsFlow old = old.is_done ≡ false → EndsData old.stream
+-- no cell is left, the sheet's data are closed, and their end was taken
+abbrev pub EndsFlow : Flow → Flow → Type 0
+EndsFlow old new = old.is_done ≡ false → EndsData old.stream new.stream
 
 -- what is taken by its answer
 abbrev pub TakesFrom :
     Wants → Grounds → List Mark → List FormulaText → Option CellRead → Flow → Flow → Type 0
-TakesFrom wants grounds before earlier None old new = EndsFlow old
+TakesFrom wants grounds before earlier None old new = EndsFlow old new
 TakesFrom wants grounds before earlier (Some read) old new =
     TakesCell before earlier old.stream new.stream (IsRead wants grounds earlier read)
 
@@ -165,7 +165,7 @@ pub record IsValued
 
 abbrev pub TakesCellValue :
     Grounds → List Mark → List FormulaText → Option (Cell DataRef) → Flow → Flow → Type 0
-TakesCellValue grounds before earlier None old new = EndsFlow old
+TakesCellValue grounds before earlier None old new = EndsFlow old new
 TakesCellValue grounds before earlier (Some own) old new =
     TakesCell before earlier old.stream new.stream (IsValued grounds own)
 
@@ -179,6 +179,6 @@ pub record IsFormula
 
 abbrev pub TakesCellFormula :
     List Mark → List FormulaText → Option (Cell (String Global)) → Flow → Flow → Type 0
-TakesCellFormula before earlier None old new = EndsFlow old
+TakesCellFormula before earlier None old new = EndsFlow old new
 TakesCellFormula before earlier (Some own) old new =
     TakesCell before earlier old.stream new.stream (IsFormula earlier own)

@@ -1,12 +1,12 @@
 -- How the next cell of a sheet's data is found.
 use Rattle.std.specs.Prelude.{◌≡◌, ⊤, ℕ, ◌-◌, ◌<◌, List, [], ◌∷◌, ◌++◌, codes, true, Option, Some}
-use Rattle.std.specs.Prelude.{None}
-use Rattle.std.specs.Prelude.{Result, Ok, Err}
+use Rattle.std.specs.Prelude.{None, Result, Ok, Err, length}
 use Rattle.cell_refs.specs.declared.TheConstants.{MAX_ROWS, MAX_COLUMNS}
-use Rattle.part_events.specs.Event.{Tag, Event, start}
-use Rattle.part_events.specs.Reading.{Reading}
+use Rattle.part_events.specs.Event.{Tag, Event, start, end}
+use Rattle.part_events.specs.Reading.{Reading, ahead}
 use Rattle.part_events.specs.Section.{Element, unclosed}
 use Rattle.part_events.specs.Walk.{element_at, section_ahead, section_behind, is_closed_ahead}
+use Rattle.part_events.specs.Walk.{behind_section}
 use Rattle.part_events.specs.declared.fault.XmlFault.TheVariants.{EndMismatch, Unclosed}
 use Rattle.xlsx_error.specs.declared.error.XlsxError.{XlsxError}
 use Rattle.xlsx_error.specs.declared.error.XlsxError.TheVariants.{Xml, XmlEof}
@@ -22,6 +22,13 @@ use Rattle.xlsx_cells.specs.declared.counters.Counters.{Counters}
 abbrev pub marks_left : ℕ → Reading → List Mark
 marks_left base r = marks (section_ahead base r)
 
+-- what stands behind the end of an element of `old`
+pub record IsLeftBehind (element : Element) (old new : List Event) : Type 0 where
+  pub passed : List Event
+  pub name : List ℕ
+  pub parts : old ≡ passed ++ start element.tag ∷ (element.inside ++ end name ∷ new)
+  pub place : element.behind ≡ length (element.inside ++ end name ∷ new)
+
 -- a cell was found, at whose start reading stands
 pub record FindsCell
     (before : List Mark) (position : ℕ × ℕ) (base : ℕ) (old new : Reading)
@@ -33,17 +40,20 @@ pub record FindsCell
   pub marks :
       marks_left base old
       ≡ passed ++ cell (element_at base tag new) ∷ marks (section_behind base new)
+  pub taken : List Event
+  pub events : section_ahead base old ≡ taken ++ start tag ∷ section_ahead base new
   pub placed : cell_position (behind_marks passed before) tag ≡ Ok position
   pub counts : AreKept (cell (element_at base tag new) ∷ behind_marks passed before) counters
 
 -- no cell is left, and the data are closed
-pub record FindsNone (base : ℕ) (old : Reading) : Type 0 where
+pub record FindsNone (base : ℕ) (old new : Reading) : Type 0 where
   pub rows : PassesRows (marks_left base old)
   pub closed : is_closed_ahead base old ≡ true
+  pub left : behind_section base old ≡ ahead new
 
 abbrev pub Finds :
     List Mark → Option (ℕ × ℕ) → ℕ → Reading → Reading → Counters → Type 0
-Finds before None base old new counters = FindsNone base old
+Finds before None base old new counters = FindsNone base old new
 Finds before (Some position) base old new counters =
     FindsCell before position base old new counters
 

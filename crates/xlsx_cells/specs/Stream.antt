@@ -5,9 +5,9 @@ use Rattle.std.specs.Prelude.{Option, Some, None, Ok, Err, string_bytes}
 use Rattle.cell_refs.specs.declared.TheConstants.{MAX_ROWS, MAX_COLUMNS}
 use Rattle.part_events.specs.Event.{Tag, Event}
 use Rattle.part_events.specs.Package.{PackageState}
-use Rattle.part_events.specs.Reading.{Reading, reading, IsReading}
+use Rattle.part_events.specs.Reading.{Reading, reading, IsReading, ahead}
 use Rattle.part_events.specs.Section.{Element}
-use Rattle.part_events.specs.Walk.{section_ahead, is_closed_ahead}
+use Rattle.part_events.specs.Walk.{section_ahead, is_closed_ahead, behind_section}
 use Rattle.cell_data.specs.CellValue.{value_of_data_ref}
 use Rattle.xlsx_error.specs.declared.error.XlsxError.{XlsxError}
 use Rattle.xlsx_sections.specs.Elements.{KeepsElements}
@@ -20,7 +20,7 @@ use Rattle.xlsx_formulas.specs.Kept.{AreMasters}
 use Rattle.xlsx_formulas.specs.declared.masters.Masters.{Masters}
 use Rattle.xlsx_cells.specs.Counting.{AreKept}
 use Rattle.xlsx_cells.specs.Ends.{end_in_contents, end_in_data}
-use Rattle.xlsx_cells.specs.Finding.{IsStepRefused, IsCutOff}
+use Rattle.xlsx_cells.specs.Finding.{IsStepRefused, IsCutOff, IsLeftBehind}
 use Rattle.xlsx_cells.specs.Marks.{Mark, cell, is_cell, marks, behind_marks}
 use Rattle.xlsx_cells.specs.Position.{cell_position, PassesRows}
 use Rattle.xlsx_cells.specs.StyleIds.{id_named}
@@ -128,20 +128,22 @@ pub record TakesCell
   pub element : Element
   pub kept : List FormulaText
   pub marks : marks_ahead old ≡ passed ++ cell element ∷ marks_ahead new
+  pub left : IsLeftBehind element (data_ahead old) (data_ahead new)
   pub closed : are_closed_ahead old ≡ are_closed_ahead new
   pub fact : holds (behind_marks passed before) element kept
   pub stands :
       StandsBehind (cell element ∷ behind_marks passed before) (behind_formulas kept earlier) new
 
--- no cell is left, and the sheet's data are closed
-pub record EndsData (old : Stream) : Type 0 where
+-- no cell is left, the sheet's data are closed, and their end was taken
+pub record EndsData (old new : Stream) : Type 0 where
   pub rows : PassesRows (marks_ahead old)
   pub closed : are_closed_ahead old ≡ true
+  pub left : behind_section old.base old.reading ≡ ahead new.reading
 
 -- what a step answers
 abbrev pub TakesNext :
     Wants → Grounds → List Mark → List FormulaText → Option CellRead → Stream → Stream → Type 0
-TakesNext wants grounds before earlier None old new = EndsData old
+TakesNext wants grounds before earlier None old new = EndsData old new
 TakesNext wants grounds before earlier (Some read) old new =
     TakesCell before earlier old new (IsRead wants grounds earlier read)
 

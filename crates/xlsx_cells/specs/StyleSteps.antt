@@ -1,8 +1,10 @@
 -- How the next cell with a style id that counts is taken: one above 0 and below the number of
 -- styles. Cells without one are passed.
 use Rattle.std.specs.Prelude.{◌≡◌, ◌⊎◌, ⊤, ℕ, List, [], ◌∷◌, ◌++◌, filter, true, false, Option}
-use Rattle.std.specs.Prelude.{Some, None, Ok, Err}
+use Rattle.std.specs.Prelude.{Some, None, Ok}
+use Rattle.part_events.specs.Reading.{ahead}
 use Rattle.part_events.specs.Section.{Element}
+use Rattle.part_events.specs.Walk.{behind_section}
 use Rattle.xlsx_error.specs.declared.error.XlsxError.{XlsxError}
 use Rattle.xlsx_error.specs.declared.error.XlsxError.TheVariants.{Failed}
 use Rattle.cell_styles.specs.StyleMap.{StyledCell, is_explicit}
@@ -13,12 +15,12 @@ use Rattle.xlsx_cells.specs.CellsReader.{Flow, PassesCell, styles_alone}
 use Rattle.xlsx_cells.specs.Counting.{AreKept}
 use Rattle.xlsx_cells.specs.Ends.{end_in_data}
 use Rattle.xlsx_cells.specs.CellErrors.{IsStyledError}
-use Rattle.xlsx_cells.specs.Finding.{BehindRow, IsCutOff}
+use Rattle.xlsx_cells.specs.Finding.{BehindRow, IsCutOff, IsLeftBehind}
 use Rattle.xlsx_cells.specs.Marks.{Mark, row_start, row_end, cell, marks, behind_marks}
 use Rattle.xlsx_cells.specs.Position.{row_named}
 use Rattle.xlsx_cells.specs.Sheet.{answers_from}
 use Rattle.xlsx_cells.specs.Stream.{Stream, StandsBehind, StandsBehindCell, marks_ahead}
-use Rattle.xlsx_cells.specs.Stream.{are_closed_ahead}
+use Rattle.xlsx_cells.specs.Stream.{data_ahead, are_closed_ahead}
 use Rattle.xlsx_cells.specs.StyleIds.{placed_id, IsIdRefused}
 use Rattle.xlsx_cells.specs.declared.counters.Counters.{Counters}
 
@@ -36,19 +38,21 @@ pub record TakesStyledCell
   pub unstyled : PassesUnstyled count before passed
   pub element : Element
   pub marks : marks_ahead old ≡ passed ++ cell element ∷ marks_ahead new
+  pub left : IsLeftBehind element (data_ahead old) (data_ahead new)
   pub closed : are_closed_ahead old ≡ are_closed_ahead new
   pub found : placed_id (behind_marks passed before) element ≡ Ok own
   pub stands : StandsBehind (cell element ∷ behind_marks passed before) earlier new
 
--- no such cell is left, and the sheet's data are closed
-pub record EndsUnstyled (count : ℕ) (before : List Mark) (old : Stream) : Type 0 where
+-- no such cell is left, the sheet's data are closed, and their end was taken
+pub record EndsUnstyled (count : ℕ) (before : List Mark) (old new : Stream) : Type 0 where
   pub unstyled : PassesUnstyled count before (marks_ahead old)
   pub closed : are_closed_ahead old ≡ true
+  pub left : behind_section old.base old.reading ≡ ahead new.reading
 
 -- what a step to the next such cell answers
 abbrev pub TakesStyled :
     ℕ → List Mark → List FormulaText → Option StyledCell → Stream → Stream → Type 0
-TakesStyled count before earlier None old new = EndsUnstyled count before old
+TakesStyled count before earlier None old new = EndsUnstyled count before old new
 TakesStyled count before earlier (Some own) old new =
     TakesStyledCell count before earlier own old new
 
@@ -96,7 +100,7 @@ StyledTo (Some own) old new = PassesCell (own.0, own.1) old new
 abbrev pub TakesStyleId :
     ℕ → List Mark → List FormulaText → Option StyledCell → Flow → Flow → Type 0
 TakesStyleId count before earlier None old new =
-    old.is_done ≡ false → EndsUnstyled count before old.stream
+    old.is_done ≡ false → EndsUnstyled count before old.stream new.stream
 TakesStyleId count before earlier (Some own) old new =
     TakesStyledCell count before earlier own old.stream new.stream
 

@@ -11,15 +11,27 @@ use Rattle.part_events.proofs.Onward.{whole_at_end, reads_further}
 use Rattle.part_events.proofs.Walking.{next_element, element_later}
 use Rattle.xlsx_sections.specs.Elements.{end_among, end_outside}
 use Rattle.xlsx_sections.specs.Refusal.{Refusal}
+use Rattle.xlsx_sections.proofs.ElementsRead.{keeps_none}
 use Rattle.xlsx_cells.specs.Counting.{AreKept, IsRowRefused}
 use Rattle.xlsx_cells.specs.Finding.{IsTakenRefused, IsMisplaced, IsStepRefused, marks_left}
 use Rattle.xlsx_cells.specs.Marks.{Mark, cell_start, is_cell, marks, marks_of, behind_marks}
 use Rattle.xlsx_cells.specs.Position.{cell_position}
 use Rattle.xlsx_cells.proofs.MarksAhead.{marks_event}
 use Rattle.xlsx_cells.proofs.Passing.{section_on, same_further, passed_further, cell_event}
+use Rattle.xlsx_cells.proofs.Passing.{same_none, passes_none}
 use Rattle.xlsx_cells.proofs.Passing.{cell_left, cell_next, start_is_deep}
 use Rattle.xlsx_cells.proofs.Refusing.{start_refused, taken_behind, row_refused}
 use Rattle.xlsx_cells.proofs.finding.find_cell.Goals as goal
+
+pub events-init : goal.events-init
+events-init g c =
+    let old = reading (g.P.Package.state c.args.«package».now) c.args.cursor.now in
+    let base = c.args.base in
+    record {
+      section = (keeps_none is_cell base old c.requires.reading c.requires.within).section;
+      same = λ told. same_none base old;
+      passed = λ told before kept. passes_none before base old c.args.counters.now kept;
+    }
 
 pub returns-in-Ended-clause-err : goal.returns-in-Ended-clause-err
 returns-in-Ended-clause-err g c = λ inner told.
@@ -179,6 +191,9 @@ returns-in-Some-clause-finds g c = λ told before kept.
       marks = been.marks ∙ ap (λ (others : List Mark). been.passed ++ others)
           (cell_next base tag mid new first.1 (cell_left base tag mid new current steps)
           (start_is_deep base tag mid new current stands now.section.within));
+      taken = been.taken;
+      events = been.events ∙ ap (λ (events : List Event). been.taken ++ events)
+          (cell_left base tag mid new current steps);
       placed = c.in_ok-place.ensures.position (behind_marks been.passed before) been.counts;
       counts = c.in_ok-place.ensures.counts (behind_marks been.passed before)
           (element_at base tag new) been.counts refl;

@@ -71,7 +71,8 @@ returns-clause-closed g c = λ told.
     let mid = stream (g.P.Package.state c.cells.package) c.cells.sheet in
     let now = c.cells.invariant in
     let been = now.collected told in
-    let ends : EndsData mid = rw c.in_default.is at (c.in_ok-read.ensures.takes
+    let new = stream (g.P.Package.state c.next.new.package) c.next.new.self in
+    let ends : EndsData mid new = rw c.in_default.is at (c.in_ok-read.ensures.takes
     (now.keeps.section.reads.moves.parts.is_told ∙ told) been.before been.earlier been.stands) in
     sym (now.keeps.section.closed told)
     ∙ subst (λ (n : ℕ). is_closed_ahead n mid.reading ≡ true) now.base ends.closed
@@ -84,11 +85,12 @@ returns-clause-values g c = λ told wanted.
     let grounds = grounds_of c.args.asked.book in
     let now = c.cells.invariant in
     let been = now.collected told in
-    let ends : EndsData mid = rw c.in_default.is at (c.in_ok-read.ensures.takes
+    let new = stream (g.P.Package.state c.next.new.package) c.next.new.self in
+    let ends : EndsData mid new = rw c.in_default.is at (c.in_ok-read.ensures.takes
     (now.keeps.section.reads.moves.parts.is_told ∙ told) been.before been.earlier been.stands) in
     values_whole wants grounds c.args.asked.style_count old mid
     (value_entries c.cells.cells.values.items) (formula_entries c.cells.cells.formulas.items)
-    c.cells.cells.style_ids.items been ends wanted
+    c.cells.cells.style_ids.items been ends.rows wanted
 
 pub returns-clause-formulas : goal.returns-clause-formulas
 returns-clause-formulas g c = λ told wanted.
@@ -98,11 +100,12 @@ returns-clause-formulas g c = λ told wanted.
     let grounds = grounds_of c.args.asked.book in
     let now = c.cells.invariant in
     let been = now.collected told in
-    let ends : EndsData mid = rw c.in_default.is at (c.in_ok-read.ensures.takes
+    let new = stream (g.P.Package.state c.next.new.package) c.next.new.self in
+    let ends : EndsData mid new = rw c.in_default.is at (c.in_ok-read.ensures.takes
     (now.keeps.section.reads.moves.parts.is_told ∙ told) been.before been.earlier been.stands) in
     formulas_whole wants grounds c.args.asked.style_count old mid
     (value_entries c.cells.cells.values.items) (formula_entries c.cells.cells.formulas.items)
-    c.cells.cells.style_ids.items been ends wanted
+    c.cells.cells.style_ids.items been ends.rows wanted
 
 pub returns-clause-styles : goal.returns-clause-styles
 returns-clause-styles g c = λ told wanted.
@@ -112,8 +115,9 @@ returns-clause-styles g c = λ told wanted.
     let grounds = grounds_of c.args.asked.book in
     let now = c.cells.invariant in
     let been = now.collected told in
-    let ends : EndsData mid = rw c.in_default.is at (c.in_ok-read.ensures.takes
+    let new = stream (g.P.Package.state c.next.new.package) c.next.new.self in
+    let ends : EndsData mid new = rw c.in_default.is at (c.in_ok-read.ensures.takes
     (now.keeps.section.reads.moves.parts.is_told ∙ told) been.before been.earlier been.stands) in
     ids_whole wants grounds c.args.asked.style_count old mid
     (value_entries c.cells.cells.values.items) (formula_entries c.cells.cells.formulas.items)
-    c.cells.cells.style_ids.items been ends wanted
+    c.cells.cells.style_ids.items been ends.rows wanted

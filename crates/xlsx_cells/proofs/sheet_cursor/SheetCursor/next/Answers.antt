@@ -104,7 +104,8 @@ returns-clause-takes g c = λ told before earlier behind.
     let told_mid = found.read.reads.moves.parts.is_told ∙ told in
     taken_cell wants (grounds_of c.args.asked.book) before earlier pos base old mid new
     c.find_cell.new.counters own.masters c.read_cell.new.masters c.in_ok-read_cell.field-0
-    there passed told behind.masters c.in_ok-read_cell.ensures.pos
+    there passed found.deep (c.in_ok-read_cell.ensures.skips told_mid).closed told behind.masters
+    c.in_ok-read_cell.ensures.pos
     (λ wanted. c.in_ok-read_cell.ensures.value told_mid wanted element stand)
     (λ wanted. c.in_ok-read_cell.ensures.formula told_mid wanted element stand earlier
     behind.masters)

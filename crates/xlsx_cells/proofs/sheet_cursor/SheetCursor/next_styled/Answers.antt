@@ -1,17 +1,30 @@
-use Rattle.std.proofs.Common.{◌≡◌, ℕ, [], Some, true, false, ◌∙◌, subst, arith}
+use Rattle.std.proofs.Common.{◌≡◌, ℕ, [], Some, false, refl, ◌∙◌, subst, arith}
 use Rattle.std.proofs.lemmas.Bool.Decides.{nat_tests}
 use Rattle.std.proofs.lemmas.Result.{err_from_is_err_and}
 use Rattle.cell_styles.specs.StyleMap.{is_explicit}
 use Rattle.xlsx_sections.specs.Elements.{KeepsElements}
+use Rattle.xlsx_sections.proofs.ElementsRead.{keeps_none}
 use Rattle.xlsx_values.specs.Value.{Grounds}
 use Rattle.xlsx_cells.specs.Marks.{is_cell, behind_marks}
 use Rattle.xlsx_cells.specs.Stream.{stream, StandsAfter}
 use Rattle.xlsx_cells.proofs.Collecting.{keeps_on}
 use Rattle.xlsx_cells.proofs.Unstyled.{skipped_further, styled_taken, unstyled_ends}
-use Rattle.xlsx_cells.proofs.Unstyled.{styled_refused}
+use Rattle.xlsx_cells.proofs.Unstyled.{skipped_none, styled_refused}
 use Rattle.xlsx_cells.proofs.sheet_cursor.SheetCursor.next_styled.Goals as goal
 use Rattle.xlsx_cells.proofs.sheet_cursor.SheetCursor.next_styled.Goals.{else-style_id-gt0-via-then-style_id-gt0+else-style_id-style_count}
 use Rattle.xlsx_cells.proofs.sheet_cursor.SheetCursor.next_styled.Goals.{else-style_id-gt0-via-else-style_id-gt0}
+
+pub cells-init : goal.cells-init
+cells-init g c =
+    let old = stream (g.P.Package.state c.args.package.now) c.args.self.now in
+    record {
+      base = refl;
+      further = omega arith;
+      keeps = keeps_none is_cell old.base old.reading c.requires.reading c.requires.within;
+      streaming = c.requires;
+      skipped = λ told before earlier kept.
+          skipped_none c.args.style_count before earlier old kept;
+    }
 
 pub returns-in_err-read-clause-err : goal.returns-in_err-read-clause-err
 returns-in_err-read-clause-err g c =
@@ -71,8 +84,10 @@ pub returns-clause-takes : goal.returns-clause-takes
 returns-clause-takes g c = λ told before earlier kept.
     let old = stream (g.P.Package.state c.args.package.now) c.args.self.now in
     let mid = stream (g.P.Package.state c.cells.package) c.cells.self in
+    let new = stream (g.P.Package.state c.next.new.package) c.next.new.self in
     let now = c.cells.invariant in
     let been = now.skipped told before earlier kept in
-    unstyled_ends c.args.style_count before earlier old mid been
+    unstyled_ends c.args.style_count before earlier old mid new been
+    (rw now.base (now.keeps.behind told))
     (rw c.in_default.is at (c.in_ok-read.ensures.takes (now.keeps.section.reads.moves.parts.is_told
     ∙ told) (behind_marks been.passed before) earlier been.stands))
