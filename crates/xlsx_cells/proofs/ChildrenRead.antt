@@ -55,41 +55,6 @@ value_fails wants grounds format kind tag old new error named wanted fails =
     (λ told. rw (named.0, named.1, wanted) refl)
     (λ told refusal is. inl (wanted, rw (named.0, named.1) is)) fails
 
-pub inline_fails : (wants : Wants) (grounds : Grounds) (format : CellFormat) (kind : CellKind)
-    (tag : Tag) (old new : Reading) (error : XlsxError) → IsNamedAs Inline tag
-    → wants.values ≡ true → ElementReadFails end_in_string inline_value old new error
-    → ChildFails wants grounds format kind tag old new error
-inline_fails wants grounds format kind tag old new error named wanted fails =
-    refused_by (length old.names) old end_in_string (end_in_child wants kind tag)
-    (IsInsideRefused inline_value) (IsChildRefused wants grounds format kind tag) new error
-    (λ told. rw (named.0, named.1, named.2, wanted) refl)
-    (λ told refusal is. inl (wanted, rw (named.0, named.1, named.2) (ap some_value is))) fails
-
--- a child that isn't wanted is skipped
-pub skipped_fails : (wants : Wants) (grounds : Grounds) (format : CellFormat) (kind : CellKind)
-    (tag : Tag) (old new : Reading) (error : XlsxError)
-    → ((inside : List Event) → end_in_child wants kind tag inside ≡ None)
-    → SectionFails (named_end None) Never (length old.names) old new error
-    → ChildFails wants grounds format kind tag old new error
-skipped_fails wants grounds format kind tag old new error ends fails =
-    refused_by (length old.names) old (named_end None) (end_in_child wants kind tag) Never
-    (IsChildRefused wants grounds format kind tag) new error
-    (λ told. ends (inside_of (section_left (length old.names) old)))
-    (λ told refusal never. absurd never) fails
-
-pub skips_formula : (wants : Wants) (kind : CellKind) (tag : Tag) (inside : List Event)
-    → IsNamedAs Formula tag → wants.formulas ≡ false → end_in_child wants kind tag inside ≡ None
-skips_formula wants kind tag inside named unwanted = rw (named, unwanted) refl
-
-pub skips_value : (wants : Wants) (kind : CellKind) (tag : Tag) (inside : List Event)
-    → IsNamedAs Value tag → wants.values ≡ false → end_in_child wants kind tag inside ≡ None
-skips_value wants kind tag inside named unwanted = rw (named.0, named.1, unwanted) refl
-
-pub skips_inline : (wants : Wants) (kind : CellKind) (tag : Tag) (inside : List Event)
-    → IsNamedAs Inline tag → wants.values ≡ false → end_in_child wants kind tag inside ≡ None
-skips_inline wants kind tag inside named unwanted =
-    rw (named.0, named.1, named.2, unwanted) refl
-
 pub is_wanted : (b : Bool) → not b ≡ false → b ≡ true
 is_wanted true is = refl
 is_wanted false is = absurd (cc)
@@ -108,27 +73,6 @@ stray_refused wants grounds format kind tag s named some =
     (said_value grounds format kind tag (inside_of s) ≡ Err stray_child)
     (said_formula tag (inside_of s) ≡ Err stray_child) some
     (rw (named.0, named.1, named.2) refl) (rw (named.0, named.1, named.2) refl)
-
--- a value that was read is kept in place of an earlier one
-pub value_said : (grounds : Grounds) (format : CellFormat) (kind : CellKind) (element : Element)
-    (earlier found : Option CellValue) → IsNamedAs Value element.tag
-    → value_element grounds format kind element.inside ≡ Ok found
-    → or_earlier earlier (said_value grounds format kind element.tag element.inside)
-    ≡ or_earlier earlier (Ok found)
-value_said grounds format kind element earlier found named is =
-    let said : said_value grounds format kind element.tag element.inside ≡ Ok found =
-    rw (named.0, named.1) is in
-    ap (or_earlier earlier) said
-
-pub inline_said : (grounds : Grounds) (format : CellFormat) (kind : CellKind) (element : Element)
-    (earlier : Option CellValue) (found : CellValue) → IsNamedAs Inline element.tag
-    → inline_value element.inside ≡ Ok found
-    → or_earlier earlier (said_value grounds format kind element.tag element.inside)
-    ≡ Ok (Some found)
-inline_said grounds format kind element earlier found named is =
-    let said : said_value grounds format kind element.tag element.inside ≡ Ok (Some found) =
-    rw (named.0, named.1, named.2) (ap some_value is) in
-    ap (or_earlier earlier) said
 
 -- the start at which a reader stands
 pub start_there : (event : Event) (P : Tag → Type 0) → IsStartAnd event P
@@ -156,12 +100,6 @@ pub record ListsFormulas (all : Result (List FormulaText) Refusal) (left : List 
   where
     pub passed : List FormulaText
     pub formulas : prepended passed (some_answers child_formula left) ≡ all
-
-pub lists_all : (left : List Element) → ListsFormulas (some_answers child_formula left) left
-lists_all left = record {
-  passed = [];
-  formulas = prepended-nil (some_answers child_formula left);
-}
 
 listed_by : {all : Result (List FormulaText) Refusal} {left rest : List Element} {child : Element}
     (found : Option FormulaText) → ListsFormulas all left → left ≡ child ∷ rest

@@ -206,18 +206,6 @@ pub record HasCollected
       IsMarkRefused (IsCellRefused wants grounds) before (marks_ahead now) refusal →
       IsMarkRefused (IsCellRefused wants grounds) [] (marks_ahead old) refusal
 
-pub collected_none : (wants : Wants) (grounds : Grounds) (count : ℕ) (old : Stream)
-    → StandsBehind [] [] old → HasCollected wants grounds count old old [] [] []
-collected_none wants grounds count old fresh = record {
-  before = [];
-  earlier = [];
-  stands = fresh;
-  valued = λ wanted. record { passed = []; all = prepended-nil _; used = refl };
-  listed = λ wanted. record { passed = []; all = prepended-nil _; behind = refl; used = refl };
-  styled = λ wanted. record { passed = []; all = prepended-nil _; used = refl };
-  refused = λ refusal is. is;
-}
-
 -- one cell more
 pub collected_further : (wants : Wants) (grounds : Grounds) (count : ℕ) (old mid new : Stream)
     (values : List ((ℕ × ℕ) × CellValue)) (formulas : List ((ℕ × ℕ) × List ℕ))

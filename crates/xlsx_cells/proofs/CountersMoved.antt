@@ -44,29 +44,6 @@ column_counter_more since (cell element ∷ before) = or_further_column_more sin
     (position_named element.tag) (column_counter (suc since) before) (column_counter (suc
     (suc since)) before) (column_counter_more (suc since) before)
 
--- behind the end of a row, the counter of rows that stops at the limit
-pub row_counter_end : (row : ℕ) (before : List Mark) → row ≡ min (row_counter 0 before) MAX_ROWS
-    → min (row + 1) MAX_ROWS ≡ min (row_counter 0 (row_end ∷ before)) MAX_ROWS
-row_counter_end row before is = omega (arith, is, row_counter_more 0 before)
-
--- behind a start that names a row
-pub row_counter_named : (row : ℕ) (tag : Tag) (before : List Mark) → row_named tag
-    ≡ Ok (Some row) → row_counter 0 (row_start tag ∷ before) ≡ row
-row_counter_named row tag before is = ap (λ (named : Result
-    (Option ℕ) Refusal). or_further_row 0 named (row_counter 0 before)) is ∙ omega arith
-
-pub row_counter_unnamed : (tag : Tag) (before : List Mark) → row_named tag ≡ Ok None
-    → row_counter 0 (row_start tag ∷ before) ≡ row_counter 0 before
-row_counter_unnamed tag before is = ap (λ (named : Result
-    (Option ℕ) Refusal). or_further_row 0 named (row_counter 0 before)) is
-
--- behind a cell that names its position, and behind one that doesn't
-pub column_counter_named : (position : ℕ × ℕ) (element : Element) (before : List Mark)
-    → position_named element.tag ≡ Ok (Some position) → column_counter 0 (cell element ∷ before)
-    ≡ position.1 + 1
-column_counter_named position element before is = ap (λ (named : Result (Option (ℕ
-    × ℕ)) Refusal). or_further_column 0 named (column_counter 1 before)) is ∙ omega arith
-
 pub column_counter_unnamed : (element : Element) (before : List Mark)
     → position_named element.tag ≡ Ok None → column_counter 0 (cell element ∷ before)
     ≡ column_counter 0 before + 1

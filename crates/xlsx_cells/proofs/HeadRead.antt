@@ -35,21 +35,7 @@ pub record KeepsHead (all : List Event) (head : Head) (left : List Event) : Type
   pub dimensions : or_earlier head.dimensions (dimensions_in left) ≡ dimensions_in all
   pub other : option_or (other_name head) (other_in left) ≡ other_in all
 
-pub keeps_nothing : (all : List Event) (head : Head) → head.dimensions ≡ None
-    → other_name head ≡ None → KeepsHead all head all
-keeps_nothing all head no_dimensions no_other = record {
-  found = refl;
-  dimensions = rw no_dimensions (or_earlier-None (dimensions_in all));
-  other = rw no_other refl;
-}
-
 -- ---- one event more
-
-found_event : (event : Event) (events : List Event) → starts_data event ≡ false
-    → behind_start is_sheet_data (event ∷ events) ≡ behind_start is_sheet_data events
-found_event (start tag) events none = rw none refl
-found_event (end name) events none = refl
-found_event (leaf kind) events none = refl
 
 dimensions_event : (event : Event) (events : List Event) → starts_data event ≡ false
     → dimensions_in (event ∷ events) ≡ or_later (dimensions_at event) (dimensions_in events)
@@ -57,76 +43,11 @@ dimensions_event (start tag) events none = rw none refl
 dimensions_event (end name) events none = sym (or_earlier-None (dimensions_in events))
 dimensions_event (leaf kind) events none = sym (or_earlier-None (dimensions_in events))
 
-other_if : (b : Bool) (tag : Tag) (others : Option Tag)
-    → option_map (λ (t : Tag). local_name_of t.name) (if b then others else Some tag)
-    ≡ option_or (if b then None else Some (local_name_of tag.name))
-    (option_map (λ (t : Tag). local_name_of t.name) others)
-other_if true tag others = refl
-other_if false tag others = refl
-
-other_event : (event : Event) (events : List Event) → starts_data event ≡ false
-    → other_in (event ∷ events) ≡ option_or (other_at event) (other_in events)
-other_event (start tag) events none = rw none
-    (other_if (is_dimension tag) tag (first_other (head_starts events)))
-other_event (end name) events none = refl
-other_event (leaf kind) events none = refl
-
-option_or_assoc : {A : Type 0} (a b c : Option A) → option_or (option_or a b) c
-    ≡ option_or a (option_or b c)
-option_or_assoc None b c = refl
-option_or_assoc (Some x) b c = refl
-
 option_or_None : {A : Type 0} (a : Option A) → option_or a None ≡ a
 option_or_None None = refl
 option_or_None (Some x) = refl
 
-pub head_further : {all left events : List Event} {event : Event} {head next : Head}
-    → KeepsHead all head left → left ≡ event ∷ events → starts_data event ≡ false
-    → or_earlier head.dimensions (dimensions_at event) ≡ Ok next.dimensions
-    → other_name next ≡ option_or (other_name head) (other_at event) → KeepsHead all next events
-head_further {events = events} {event = event} {head = head} {next = next} keeps same none
-    dimensions other = record {
-      found = sym (found_event event events none)
-          ∙ ap (behind_start is_sheet_data) (sym same)
-          ∙ keeps.found;
-      dimensions = or_earlier-or_later head.dimensions next.dimensions (dimensions_at event)
-          (dimensions_in events) dimensions
-          ∙ ap (or_earlier head.dimensions)
-          (sym (ap dimensions_in same ∙ dimensions_event event events none))
-          ∙ keeps.dimensions;
-      other = ap (λ (name : Option (List ℕ)). option_or name (other_in events)) other
-          ∙ option_or_assoc (other_name head) (other_at event) (other_in events)
-          ∙ ap (option_or (other_name head))
-          (sym (ap other_in same ∙ other_event event events none))
-          ∙ keeps.other;
-    }
-
 -- ---- the start of the data
-
-found_there : (event : Event) (events : List Event) → starts_data event ≡ true
-    → behind_start is_sheet_data (event ∷ events) ≡ Some events
-found_there (start tag) events is = rw is refl
-found_there (end name) events is = absurd (cc)
-found_there (leaf kind) events is = absurd (cc)
-
-dimensions_there : (event : Event) (events : List Event) → starts_data event ≡ true
-    → dimensions_in (event ∷ events) ≡ Ok None
-dimensions_there (start tag) events is = rw is refl
-dimensions_there (end name) events is = absurd (cc)
-dimensions_there (leaf kind) events is = absurd (cc)
-
-pub data_found : {all left events : List Event} {event : Event} {head : Head}
-    → KeepsHead all head left → left ≡ event ∷ events → starts_data event ≡ true
-    → behind_start is_sheet_data all ≡ Some events
-data_found {events = events} {event = event} keeps same is =
-    sym keeps.found ∙ ap (behind_start is_sheet_data) same ∙ found_there event events is
-
-pub dimensions_found : {all left events : List Event} {event : Event} {head : Head}
-    → KeepsHead all head left → left ≡ event ∷ events → starts_data event ≡ true
-    → dimensions_in all ≡ Ok head.dimensions
-dimensions_found {events = events} {event = event} {head = head} keeps same is =
-    sym keeps.dimensions
-    ∙ ap (or_earlier head.dimensions) (ap dimensions_in same ∙ dimensions_there event events is)
 
 -- ---- refusals
 
@@ -184,12 +105,6 @@ head_ends old new other (NotAWorksheet name) lacks ended = λ told.
     (is.0, is.1, subst (λ (own : Option (List ℕ)). LacksData own (NotAWorksheet name)) is.2 lacks)
 head_ends old new other _ lacks ended = absurd lacks
 
-pub lacks_kind : (other : Option (List ℕ)) (error : XlsxError) → LacksData other error
-    → IsHeadError error
-lacks_kind other (XmlEof element) lacks = lacks.0
-lacks_kind other (NotAWorksheet name) lacks = tt
-lacks_kind other _ lacks = absurd lacks
-
 -- nothing is ahead of what was kept
 pub no_data : {all left : List Event} {head : Head} → KeepsHead all head left → left ≡ []
     → HasNoData all
@@ -201,30 +116,6 @@ other_kept {head = head} keeps same =
     sym (option_or_None (other_name head))
     ∙ ap (λ (events : List Event). option_or (other_name head) (other_in events)) (sym same)
     ∙ keeps.other
-
--- the next event can't be taken
-pub next_refused : (old mid new : Reading) (head : Head) (error : StreamError) → ReadsOn old mid
-    → (old.source.is_told ≡ true → KeepsHead (ahead old) head (ahead mid))
-    → NextFails mid new error → HeadFails old new (of_stream error)
-next_refused old mid new head stream.Io reads keeps fails =
-    omega (arith, reads.stays.faults, fails)
-next_refused old mid new head stream.OutOfMemory reads keeps fails = tt
-next_refused old mid new head (stream.Xml (EndMismatch at)) reads keeps fails = λ told.
-    let cause = fails (reads.moves.parts.is_told ∙ told) in (
-      subst (λ (events : List Event). BreaksAt events at)
-          (cause.0.0 ∙ reads.stays.part told) cause.0.1,
-      no_data (keeps told) cause.1,
-    )
-next_refused old mid new head (stream.Xml (Unclosed at)) reads keeps fails = absurd fails
-next_refused old mid new head (stream.Xml (Entity at)) reads keeps fails = absurd fails
-
-pub next_kind : (old new : Reading) (error : StreamError) → NextFails old new error
-    → IsHeadError (of_stream error)
-next_kind old new stream.Io fails = tt
-next_kind old new stream.OutOfMemory fails = tt
-next_kind old new (stream.Xml (EndMismatch at)) fails = tt
-next_kind old new (stream.Xml (Unclosed at)) fails = absurd fails
-next_kind old new (stream.Xml (Entity at)) fails = absurd fails
 
 -- ---- for the reader of a whole part
 

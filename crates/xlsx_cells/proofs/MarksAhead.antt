@@ -7,7 +7,7 @@ use Rattle.part_events.specs.Section.{Element, element_of, content, is_closed, b
 use Rattle.part_events.specs.Section.{outermost_from}
 use Rattle.part_events.specs.Section.{unclosed}
 use Rattle.part_events.proofs.Sections.{content-content}
-use Rattle.xlsx_cells.specs.Marks.{Mark, row_start, row_end, cell, cells, is_cell, is_row}
+use Rattle.xlsx_cells.specs.Marks.{Mark, row_start, row_end, cell, is_cell, is_row}
 use Rattle.xlsx_cells.specs.Marks.{is_row_name, marks_from, marks, cell_start, marks_of}
 use Rattle.xlsx_cells.specs.Marks.{behind_marks}
 
@@ -102,33 +102,3 @@ pub behind_append : (first second before : List Mark) → behind_marks (first ++
     ≡ behind_marks second (behind_marks first before)
 behind_append [] second before = refl
 behind_append (mark ∷ first) second before = behind_append first second (mark ∷ before)
-
-cells_if : (is_it is_other : Bool) (tag : Tag) (events : List Event)
-    → cells (marks_from 1 events) ≡ outermost_from is_cell 1 events
-    → cells (marks_from 0 events) ≡ outermost_from is_cell 0 events
-    → cells (if is_it then cell (element_of tag events) ∷ marks_from 1 events
-    else (if is_other then row_start tag ∷ marks_from 0 events else marks_from 0 events))
-    ≡ (if is_it then element_of tag events ∷ outermost_from is_cell 1 events
-    else outermost_from is_cell 0 events)
-cells_if true is_other tag events inner outer =
-    ap (λ (others : List Element). element_of tag events ∷ others) inner
-cells_if false true tag events inner outer = outer
-cells_if false false tag events inner outer = outer
-
-row_end_if : (b : Bool) (others : List Mark) → cells (if b then row_end ∷ others else others)
-    ≡ cells others
-row_end_if true others = refl
-row_end_if false others = refl
-
--- the cells among the marks are the outermost ones
-pub cells_outermost : (within : ℕ) (events : List Event)
-    → cells (marks_from within events) ≡ outermost_from is_cell within events
-cells_outermost within [] = refl
-cells_outermost zero (start tag ∷ events) =
-    cells_if (is_cell tag) (is_row tag) tag events (cells_outermost 1 events)
-    (cells_outermost 0 events)
-cells_outermost (suc within) (start tag ∷ events) = cells_outermost (suc (suc within)) events
-cells_outermost zero (end name ∷ events) =
-    row_end_if (is_row_name name) (marks_from 0 events) ∙ cells_outermost 0 events
-cells_outermost (suc within) (end name ∷ events) = cells_outermost within events
-cells_outermost within (leaf kind ∷ events) = cells_outermost within events

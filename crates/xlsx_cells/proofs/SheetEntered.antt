@@ -36,22 +36,3 @@ data_entered {area = area} opened new enters base kept groups fresh same dimensi
       dimensions = λ told. subst (λ (events : List Event). AreDimensions events area)
           (ahead_at_first opened (fresh told) ∙ ap whole (sym (same told))) (dimensions told);
     }
-
-head_refused : (part : Option (List Event)) (events left : List Event) (error : XlsxError)
-    → part ≡ Some events → left ≡ whole events → HeadCause events left error
-    → OptionalHeadCause part error
-head_refused None events left error is same cause = absurd (cc)
-head_refused (Some own) events left error is same cause =
-    let there : own ≡ events = cc in
-    rw there (rw same at cause)
-
-pub open_refused : (path : List ℕ) (old : PackageState) (opened new : Reading) (error : XlsxError)
-    → (old.is_told ≡ true → opened.source.is_told ≡ true)
-    → (old.is_told ≡ true → part_of old.parts path ≡ Some (events_of opened))
-    → (old.is_told ≡ true → opened.source.past ≡ []) → opened.source.faults ≡ old.faults
-    → HeadFails opened new error → OpenDataFails path old new.source error
-open_refused path old opened new Io still part fresh faults fails = omega (arith, faults, fails)
-open_refused path old opened new OutOfMemory still part fresh faults fails = tt
-open_refused path old opened new error still part fresh faults fails = λ told.
-    head_refused (part_of old.parts path) (events_of opened) (ahead opened) error (part told)
-    (ahead_at_first opened (fresh told)) (fails (still told))

@@ -37,13 +37,6 @@ marks_from within (leaf kind ∷ events) = marks_from within events
 abbrev pub marks : List Event → List Mark
 marks inside = marks_from 0 inside
 
--- the cells among marks; of the marks of a sheet's data they are its outermost cells
-abbrev pub cells : List Mark → List Element
-cells [] = []
-cells (row_start tag ∷ marks) = cells marks
-cells (row_end ∷ marks) = cells marks
-cells (cell element ∷ marks) = element ∷ cells marks
-
 -- marks that were passed, put before those that stood before them, the latest first
 abbrev pub behind_marks : List Mark → List Mark → List Mark
 behind_marks [] before = before

@@ -107,16 +107,6 @@ pub codes_refused : {x : PlacedTag} {all left rest : List PlacedTag} {old now : 
 codes_refused keeps same refuses =
     some_refused written_format keeps.passed same refuses (formats_of_all keeps)
 
--- none is left
-pub codes_read : {all left : List PlacedTag} {old now : FormatCodes}
-    → KeepsCodes all left old now → left ≡ [] → IsOkAnd (some_answers written_format all)
-    (λ formats. (earlier : List WrittenFormat) → AreCodes earlier old
-    → AreCodes (earlier ++ formats) now)
-codes_read {old = old} {now = now} keeps same =
-    subst (λ (answer : Result (List WrittenFormat) Refusal). IsOkAnd answer (λ formats.
-    (earlier : List WrittenFormat) → AreCodes earlier old → AreCodes (earlier ++ formats) now))
-    (sym (all_taken written_format keeps.passed same (formats_of_all keeps))) keeps.kept
-
 -- what is kept where reading stops before one of those that are left
 codes_front : {all left : List PlacedTag} {old now : FormatCodes} → KeepsCodes all left old now
     → KeepsFront all old now

@@ -27,17 +27,6 @@ use Rattle.xlsx_formats.proofs.CodesRead.{ok_found}
 use Rattle.xlsx_formats.specs.declared.formatting.NamedLists.{NamedLists}
 use Rattle.xlsx_formats.specs.declared.settings.Settings.{Settings}
 
-found_said : {A B : Type 0} (view : A → B) (list : List A) (place : Option ℕ)
-    → option_map view (option_and_then (slice_get list) place)
-    ≡ option_and_then (slice_get (map view list)) place
-found_said view list None = refl
-found_said view list (Some place) = sym (slice_get-map view list place)
-
--- what stands at a number, seen in another way
-pub numbered_said : {A B : Type 0} (view : A → B) (list : List A) (text : Option (List ℕ))
-    → option_map view (numbered list text) ≡ numbered (map view list) text
-numbered_said view list text = found_said view list (option_and_then number_text text)
-
 format_same : (first second : List ℕ → Option (List ℕ))
     → ((id : List ℕ) → first id ≡ second id) → (id : Option (List ℕ))
     → format_named first id ≡ format_named second id

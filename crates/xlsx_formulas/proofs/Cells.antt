@@ -49,16 +49,6 @@ pub record KeepsFormulas
       formula_of_last (behind_formulas passed earlier) position last
       ≡ cell_formula earlier position passed
 
-pub keeps_no_formula : (earlier : List FormulaText) (position : ℕ × ℕ) (left : List Element)
-    (masters : Masters) → AreMasters earlier masters
-    → KeepsFormulas earlier position (some_answers child_formula left) left masters None
-keeps_no_formula earlier position left masters groups = record {
-  passed = [];
-  formulas = prepended-nil (some_answers child_formula left);
-  groups = groups;
-  text = refl;
-}
-
 -- a child that writes a formula was read, and the formula kept
 pub formula_kept : {earlier : List FormulaText} {position : ℕ × ℕ}
     {all : Result (List FormulaText) Refusal} {left rest : List Element} {old new : Masters}
