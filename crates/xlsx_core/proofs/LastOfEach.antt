@@ -12,7 +12,7 @@ use Rattle.cell_refs.specs.Positions.{position_cmp, last_of_each}
 use Rattle.cell_data.specs.declared.cell.Cell.{Cell}
 use Rattle.xlsx_core.specs.SheetReading.{with_meaning}
 
-none_placed : {X : Type 0} → entries (empty {X = X} {R = position_cmp}) ≡ []
+pub none_placed : {X : Type 0} → entries (empty {X = X} {R = position_cmp}) ≡ []
 unfolding last_of_each
 none_placed {X} = nothing_last {X = X}
 

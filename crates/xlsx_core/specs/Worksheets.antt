@@ -32,6 +32,7 @@ use Rattle.xlsx_core.specs.Opened.{path_listed}
 use Rattle.xlsx_core.specs.SheetReading.{grounds_with, events_at, value_pairs, formula_pairs}
 use Rattle.xlsx_core.specs.SheetReading.{IsPlacedError}
 use Rattle.xlsx_core.specs.SheetReading.{PlacedSheetFails, PlacedHeadFails}
+use Rattle.xlsx_core.specs.declared.sheet_reading.SheetReading.{SheetReading}
 use Rattle.xlsx_core.specs.declared.xlsx.Xlsx.{Xlsx}
 
 -- where the part of the first sheet of a name is, in an open workbook
@@ -157,6 +158,12 @@ pub record IsFormulaRange
   pub cells : formula_pairs range ≡ last_of_each formulas
   pub bounds : bounds_of range ≡ least_area formulas
   pub blank : string_bytes (blank_of range) ≡ []
+
+-- the ranges of a sheet have the least areas that have their own cells, and nothing elsewhere
+abbrev pub HasLeastRanges : SheetReading → Type 0
+HasLeastRanges found =
+    IsValueRange FirstNonEmptyRow (value_pairs found.values) found.values
+    × IsFormulaRange (formula_pairs found.formulas) found.formulas
 
 -- the values of the sheet whose part is at a path
 abbrev pub ReadsValues :

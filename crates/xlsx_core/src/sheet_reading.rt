@@ -3,6 +3,7 @@ ghost use Rattle.part_events.specs.Package.{SameParts, KeepsFaults};
 ghost use Rattle.xlsx_error.specs.declared.error.XlsxError.TheVariants.{Io};
 ghost use Rattle.xlsx_core.specs.SheetReading.{ReadsAs, SheetFails, IsSheetError};
 ghost use Rattle.xlsx_core.specs.SheetReading.{value_pairs, formula_pairs};
+ghost use Rattle.xlsx_core.specs.Worksheets.{HasLeastRanges};
 
 use crate::xlsx::{OpenFailure, Xlsx};
 use cell_data::{Data, Range};
@@ -14,9 +15,10 @@ use xlsx_error::XlsxError;
 /// What the cells of a sheet hold, each at its row and column, counted from 0.
 #[derive(Drop)]
 pub struct SheetReading {
-    /// The values, with `Data::Empty` where a cell has none.
+    /// The values, in the least area that has them, with `Data::Empty` where a cell has none.
     pub values: Range<Data>,
-    /// The formulas, without `=`, and empty texts where a cell has none.
+    /// The formulas, without `=`, in the least area that has them, and empty texts where a cell
+    /// has none.
     pub formulas: Range<String>,
     /// The styles, over those of the workbook.
     pub styles: StyleRange,
@@ -40,6 +42,7 @@ pub fn read_sheet<P: Package>(alloc: Global, package: P, name: &str) -> SheetAns
     ensures keeps { SameParts (P.state «package») (P.state result.package) }
     ensures faults { OnOk result.result
         ((P.state result.package).faults ≡ (P.state «package»).faults) }
+    ensures ranges { IfOk result.result HasLeastRanges }
     ensures reading { (P.state «package»).is_told ≡ true → IfOk result.result (λ found.
         ReadsAs (P.state «package»).parts name.now (value_pairs found.values)
         (formula_pairs found.formulas) found.styles) }

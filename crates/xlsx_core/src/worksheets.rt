@@ -10,7 +10,7 @@ ghost use Rattle.xlsx_core.specs.SheetReading.{IsPlacedHeadError, IsPlacedError,
 ghost use Rattle.xlsx_core.specs.Worksheets.{path_of, grounds_of_book, KeepsWorkbook, HoldsWanted};
 ghost use Rattle.xlsx_core.specs.Worksheets.{AnswersCells, ReadsValues, ReadsFormulas, RangeFails};
 ghost use Rattle.xlsx_core.specs.Worksheets.{IsRangeError, EntersSheet, ReaderFails, ReadsStyles};
-ghost use Rattle.xlsx_core.specs.Worksheets.{IsStyleRangeError, palette_of_book};
+ghost use Rattle.xlsx_core.specs.Worksheets.{IsStyleRangeError, palette_of_book, HasLeastRanges};
 
 use crate::placed_sheet::{open_placed, path_named, read_placed};
 use crate::ranges::{formula_range, ranges_of, style_range, value_range};
@@ -62,11 +62,13 @@ impl<P: Package> Xlsx<P> {
     }
 
     /// The values, the formulas and the styles of the first sheet of this name.
+    #[tactic(auto, using(crate::proofs::LeastAreas::least_ranges))]
     pub(crate) fn sheet(&mut self, name: &str) -> Result<SheetReading, XlsxError>
         ensures keeps { SameParts (P.state self.old.package) (P.state self.new.package) }
         ensures rest { KeepsWorkbook self.old self.new }
         ensures faults { OnOk result
             ((P.state self.new.package).faults ≡ (P.state self.old.package).faults) }
+        ensures ranges { IfOk result HasLeastRanges }
         ensures reads { let old = P.state self.old.package in
             old.is_told ≡ true → IfOk result
             (ReadsPlaced (grounds_of_book self.old) (palette_of_book self.old)
