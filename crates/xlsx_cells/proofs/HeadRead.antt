@@ -26,7 +26,7 @@ use Rattle.xlsx_cells.specs.Head.{is_sheet_data, is_dimension, starts_data, head
 use Rattle.xlsx_cells.specs.Head.{dimension_area}
 use Rattle.xlsx_cells.specs.Head.{dimensions_by, dimensions_in, dimensions_at, first_other}
 use Rattle.xlsx_cells.specs.Head.{other_in, other_at, other_name, IsHeadStartRefused, LacksData}
-use Rattle.xlsx_cells.specs.Head.{HasNoData, HeadCause, HeadFails, IsHeadError}
+use Rattle.xlsx_cells.specs.Head.{HasNoData, HasSoundDimensions, HeadCause, HeadFails, IsHeadError}
 use Rattle.xlsx_cells.specs.declared.head.Head.{Head}
 
 -- what is kept of the events before `left`, with what these say, is what all of them say
@@ -96,19 +96,36 @@ head_refused old new answer error refuses all = λ told.
 pub head_ends : (old new : Reading) (other : Option (List ℕ)) (error : XlsxError)
     → LacksData other error
     → (old.source.is_told ≡ true → (whole (events_of old) ≡ events_of old)
-    × HasNoData (ahead old) × (other ≡ other_in (ahead old))) → HeadFails old new error
+    × HasNoData (ahead old) × HasSoundDimensions (ahead old)
+    × (other ≡ other_in (ahead old))) → HeadFails old new error
 head_ends old new other (XmlEof element) lacks ended = λ told.
-    let is = ended told in
-    (is.0, is.1, subst (λ (name : Option (List ℕ)). LacksData name (XmlEof element)) is.2 lacks)
+    let (nested, none, sound, is) = ended told in (
+      nested,
+      none,
+      sound,
+      subst (λ (own : Option (List ℕ)). LacksData own (XmlEof element)) is lacks,
+    )
 head_ends old new other (NotAWorksheet name) lacks ended = λ told.
-    let is = ended told in
-    (is.0, is.1, subst (λ (own : Option (List ℕ)). LacksData own (NotAWorksheet name)) is.2 lacks)
+    let (nested, none, sound, is) = ended told in (
+      nested,
+      none,
+      sound,
+      subst (λ (own : Option (List ℕ)). LacksData own (NotAWorksheet name)) is lacks,
+    )
 head_ends old new other _ lacks ended = absurd lacks
 
 -- nothing is ahead of what was kept
 pub no_data : {all left : List Event} {head : Head} → KeepsHead all head left → left ≡ []
     → HasNoData all
 no_data keeps same = sym keeps.found ∙ ap (behind_start is_sheet_data) same
+
+pub sound_kept : {all left : List Event} {head : Head} → KeepsHead all head left → left ≡ []
+    → HasSoundDimensions all
+sound_kept {head = head} keeps same = (
+  head.dimensions,
+  sym keeps.dimensions
+      ∙ ap (λ (events : List Event). or_earlier head.dimensions (dimensions_in events)) same,
+)
 
 pub other_kept : {all left : List Event} {head : Head} → KeepsHead all head left → left ≡ []
     → other_name head ≡ other_in all

@@ -114,14 +114,22 @@ LacksData other _ = ⊥
 abbrev pub HasNoData : List Event → Type 0
 HasNoData ahead = behind_start is_sheet_data ahead ≡ None
 
+-- none of the dimensions before the sheet's data are refused
+abbrev pub HasSoundDimensions : List Event → Type 0
+HasSoundDimensions ahead = (area : Option Dimensions) × (dimensions_in ahead ≡ Ok area)
+
 -- Why the head of a sheet's part can't be read, by all events of the part and by those ahead of the
--- reader: the nesting breaks or the part ends before the sheet's data, or dimensions are refused.
+-- reader: dimensions are refused, or else the nesting breaks or the part ends before the sheet's
+-- data.
 abbrev pub HeadCause : List Event → List Event → XlsxError → Type 0
-HeadCause events ahead (Xml (EndMismatch at)) = BreaksAt events at × HasNoData ahead
+HeadCause events ahead (Xml (EndMismatch at)) =
+    BreaksAt events at × HasNoData ahead × HasSoundDimensions ahead
 HeadCause events ahead (XmlEof element) =
-    (whole events ≡ events) × HasNoData ahead × LacksData (other_in ahead) (XmlEof element)
+    (whole events ≡ events) × HasNoData ahead × HasSoundDimensions ahead
+    × LacksData (other_in ahead) (XmlEof element)
 HeadCause events ahead (NotAWorksheet name) =
-    (whole events ≡ events) × HasNoData ahead × LacksData (other_in ahead) (NotAWorksheet name)
+    (whole events ≡ events) × HasNoData ahead × HasSoundDimensions ahead
+    × LacksData (other_in ahead) (NotAWorksheet name)
 HeadCause events ahead error =
     RefusedAs 0 (λ refusal. dimensions_in ahead ≡ Err refusal) error
 

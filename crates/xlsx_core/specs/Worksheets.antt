@@ -24,7 +24,8 @@ use Rattle.xlsx_sections.specs.PartSection.{PartSection, section_in, inside_of, 
 use Rattle.xlsx_values.specs.Value.{Grounds}
 use Rattle.xlsx_cells.specs.CellsReader.{Flow, IsFlowing}
 use Rattle.xlsx_cells.specs.CellErrors.{IsStyledError}
-use Rattle.xlsx_cells.specs.Head.{dimensions_in, HasNoData, other_in, IsHeadError}
+use Rattle.xlsx_cells.specs.Head.{dimensions_in, HasNoData, HasSoundDimensions, other_in}
+use Rattle.xlsx_cells.specs.Head.{IsHeadError}
 use Rattle.xlsx_cells.specs.SheetPart.{EntersData, HoldsValues, HoldsFormulas}
 use Rattle.xlsx_cells.specs.StyleIds.{ids_in, HoldsIds}
 use Rattle.xlsx_cells.specs.declared.children.Wants.{Wants}
@@ -104,10 +105,12 @@ HasStyledCells palette events styles =
     × (ids : List StyledCell) × (ids_in (inside_of section) ≡ Ok ids)
     × (styles ≡ styles_of palette ids)
 
--- a part that is no worksheet: it ends before a sheet's data, and has a start that is no dimension
+-- a part that is no worksheet: it ends before a sheet's data, and has a start that is no dimension,
+-- and none of its dimensions are refused
 pub record IsNoWorksheet (events : List Event) : Type 0 where
   pub nested : whole events ≡ events
   pub none : HasNoData (whole events)
+  pub dimensions : HasSoundDimensions (whole events)
   pub other : IsSome (other_in (whole events))
 
 -- what is read of a part, which may be no worksheet and has no cells then

@@ -5,7 +5,7 @@ use Rattle.part_events.specs.Reading.{reading, StepsAhead, ahead}
 use Rattle.part_events.proofs.Onward.{whole_at_end, reads_further}
 use Rattle.xlsx_cells.specs.Head.{dimensions_at, starts_data, other_name}
 use Rattle.xlsx_cells.proofs.HeadRead.{head_refused, head_ends, dimensions_refused, no_data}
-use Rattle.xlsx_cells.proofs.HeadRead.{other_kept}
+use Rattle.xlsx_cells.proofs.HeadRead.{sound_kept, other_kept}
 use Rattle.xlsx_cells.proofs.head.enter_data.Goals as goal
 
 pub returns-in_err-take-clause-err : goal.returns-in_err-take-clause-err
@@ -39,5 +39,6 @@ returns-clause-err g c =
     let keeps = now.keeps told in (
       whole_at_end {new = new} (reads_further now.reads c.in_ok-next.ensures.reads) steps.1 told,
       no_data keeps steps.0,
+      sound_kept keeps steps.0,
       other_kept keeps steps.0,
     ))
