@@ -48,14 +48,31 @@ pub fn formula_range(alloc: Global, cells: Vec<Cell<String>>) -> Result<Range<St
 pub fn style_range(
     alloc: Global,
     ids: Vec<(u32, u32, usize)>,
+    palette: Vec<Style>,
+) -> Result<StyleRange, AllocError>
+    requires { All IsOnSheet ids.items }
+    ensures { (all : List StyledCell) →
+        ids.items ≡ filter (is_explicit (length palette.items)) all →
+        IfOk result (λ range. range ≡ styles_of palette.items all) }
+{
+    StyleRange::from_style_ids(alloc, ids, palette)
+}
+
+/// The same over a copy of these styles, which is made only where there is an entry.
+pub fn copied_style_range(
+    alloc: Global,
+    ids: Vec<(u32, u32, usize)>,
     styles: &[Style],
 ) -> Result<StyleRange, AllocError>
     requires { All IsOnSheet ids.items }
     ensures { (all : List StyledCell) → ids.items ≡ filter (is_explicit (length styles.now)) all →
         IfOk result (λ range. range ≡ styles_of styles.now all) }
 {
+    if ids.is_empty() {
+        return Ok(StyleRange::empty(alloc));
+    }
     let palette = copied_palette(alloc, styles)?;
-    StyleRange::from_style_ids(alloc, ids, palette)
+    style_range(alloc, ids, palette)
 }
 
 /// The cells of a sheet as ranges: the last value and the last formula of each position, and its
@@ -63,7 +80,7 @@ pub fn style_range(
 pub fn ranges_of(
     alloc: Global,
     cells: SheetCells,
-    styles: &[Style],
+    styles: Vec<Style>,
 ) -> Result<SheetReading, AllocError>
     requires { LieInSheet cells.values.items cells.formulas.items cells.style_ids.items }
     ensures values { IfOk result (λ found.
@@ -71,8 +88,8 @@ pub fn ranges_of(
     ensures formulas { IfOk result (λ found.
         IsFormulaRange (formula_entries cells.formulas.items) found.formulas) }
     ensures styles { (all : List StyledCell) →
-        cells.style_ids.items ≡ filter (is_explicit (length styles.now)) all →
-        IfOk result (λ found. found.styles ≡ styles_of styles.now all) }
+        cells.style_ids.items ≡ filter (is_explicit (length styles.items)) all →
+        IfOk result (λ found. found.styles ≡ styles_of styles.items all) }
 {
     Ok(SheetReading {
         values: value_range(alloc, cells.values, HeaderRow::FirstNonEmptyRow)?,

@@ -53,14 +53,7 @@ pub fn read_sheet<P: Package>(alloc: Global, package: P, name: &str) -> SheetAns
     ensures kind { IfErr result.result (IsSheetError name.now) }
 {
     match Xlsx::new(alloc, package) {
-        Ok(xlsx) => {
-            let mut xlsx = xlsx;
-            let result = xlsx.sheet(name);
-            SheetAnswer {
-                result,
-                package: xlsx.into_package(),
-            }
-        }
+        Ok(xlsx) => xlsx.into_sheet(name),
         Err(OpenFailure { error, package }) => SheetAnswer {
             result: Err(error),
             package,

@@ -13,8 +13,8 @@ ghost use Rattle.xlsx_core.specs.Worksheets.{IsRangeError, EntersSheet, ReaderFa
 ghost use Rattle.xlsx_core.specs.Worksheets.{IsStyleRangeError, palette_of_book, HasLeastRanges};
 
 use crate::placed_sheet::{open_placed, path_named, read_placed};
-use crate::ranges::{formula_range, ranges_of, style_range, value_range};
-use crate::sheet_reading::SheetReading;
+use crate::ranges::{copied_style_range, formula_range, ranges_of, value_range};
+use crate::sheet_reading::SheetAnswer;
 use crate::xlsx::Xlsx;
 use cell_data::{Data, Range};
 use cell_styles::StyleRange;
@@ -61,32 +61,56 @@ impl<P: Package> Xlsx<P> {
         read_placed(self.alloc, &mut self.package, path, name, asked)
     }
 
-    /// The values, the formulas and the styles of the first sheet of this name.
+    /// The values, the formulas and the styles of the first sheet of this name, and the package.
+    /// The workbook is given up, and its styles go with the sheet.
     #[tactic(auto, using(crate::proofs::LeastAreas::least_ranges))]
-    pub(crate) fn sheet(&mut self, name: &str) -> Result<SheetReading, XlsxError>
-        ensures keeps { SameParts (P.state self.old.package) (P.state self.new.package) }
-        ensures rest { KeepsWorkbook self.old self.new }
-        ensures faults { OnOk result
-            ((P.state self.new.package).faults ≡ (P.state self.old.package).faults) }
-        ensures ranges { IfOk result HasLeastRanges }
-        ensures reads { let old = P.state self.old.package in
-            old.is_told ≡ true → IfOk result
-            (ReadsPlaced (grounds_of_book self.old) (palette_of_book self.old)
-            (path_of self.old name.now) old.parts) }
-        ensures err { IfErr result (PlacedSheetFails name.now all_wanted
-            (grounds_of_book self.old) (path_of self.old name.now) (P.state self.old.package)
-            (P.state self.new.package)) }
-        ensures counts { IfErr result
-            (KeepsFaults Io (P.state self.old.package) (P.state self.new.package)) }
-        ensures kind { IfErr result (IsPlacedError name.now) }
+    pub(crate) fn into_sheet(self, name: &str) -> SheetAnswer<P>
+        ensures keeps { SameParts (P.state self.package) (P.state result.package) }
+        ensures faults { OnOk result.result
+            ((P.state result.package).faults ≡ (P.state self.package).faults) }
+        ensures ranges { IfOk result.result HasLeastRanges }
+        ensures reads { let old = P.state self.package in
+            old.is_told ≡ true → IfOk result.result
+            (ReadsPlaced (grounds_of_book self) (palette_of_book self) (path_of self name.now)
+            old.parts) }
+        ensures err { IfErr result.result (PlacedSheetFails name.now all_wanted
+            (grounds_of_book self) (path_of self name.now) (P.state self.package)
+            (P.state result.package)) }
+        ensures counts { IfErr result.result
+            (KeepsFaults Io (P.state self.package) (P.state result.package)) }
+        ensures kind { IfErr result.result (IsPlacedError name.now) }
     {
         let wants = Wants {
             values: true,
             formulas: true,
             styles: true,
         };
-        let cells = self.placed_cells(name, wants)?;
-        Ok(ranges_of(self.alloc, cells, &self.shared.style_sheet.styles)?)
+        let mut xlsx = self;
+        let found = xlsx.placed_cells(name, wants);
+        let Xlsx {
+            package,
+            shared,
+            alloc,
+            ..
+        } = xlsx;
+        let style_sheet = shared.style_sheet;
+        let cells = match found {
+            Ok(cells) => cells,
+            Err(error) => return SheetAnswer {
+                result: Err(error),
+                package,
+            },
+        };
+        match ranges_of(alloc, cells, style_sheet.styles) {
+            Ok(ranges) => SheetAnswer {
+                result: Ok(ranges),
+                package,
+            },
+            Err(error) => SheetAnswer {
+                result: Err(XlsxError::from(error)),
+                package,
+            },
+        }
     }
 
     /// What is wanted of the first sheet of this name, and nothing where its part is no worksheet.
@@ -211,7 +235,7 @@ impl<P: Package> Xlsx<P> {
         };
         let found = self.placed_cells(name, wants)?;
         let styles = &self.shared.style_sheet.styles;
-        Ok(style_range(self.alloc, found.style_ids, styles)?)
+        Ok(copied_style_range(self.alloc, found.style_ids, styles)?)
     }
 
     /// A reader of the cells of the first sheet of this name, which stands behind the start of its

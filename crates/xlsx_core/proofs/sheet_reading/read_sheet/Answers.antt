@@ -1,4 +1,4 @@
-use Rattle.std.proofs.Common.{sym, subst, ◌∙◌, map, string_bytes}
+use Rattle.std.proofs.Common.{◌∙◌, map, string_bytes}
 use Rattle.std.proofs.lemmas.Result.{IfOk-weaker, IfErr-weaker}
 use Rattle.xlsx_core.specs.Opened.{path_listed}
 use Rattle.xlsx_core.specs.SheetReading.{all_wanted, grounds_with, value_pairs, formula_pairs}
@@ -19,33 +19,30 @@ returns-in-Ok-clause-reading g c = λ told.
     let palette = xlsx.shared.style_sheet.styles.items in
     let opened = c.in-Ok.ensures.opens told in
     let same = c.in-Ok.ensures.uses.parts in
-    IfOk-weaker c.sheet-result.result (ReadsPlaced grounds palette path mid.parts)
+    IfOk-weaker c.into_sheet.result.result (ReadsPlaced grounds palette path mid.parts)
     (λ found. ReadsAs old.parts name (value_pairs found.values) (formula_pairs found.formulas)
     found.styles)
     (λ found has. reads_as name path grounds palette old mid (value_pairs found.values)
     (formula_pairs found.formulas) found.styles same
     (opens_placed name opened.0 opened.1 opened.2) has)
-    (c.sheet-result.ensures.reads (same.is_told ∙ told))
+    (c.into_sheet.ensures.reads (same.is_told ∙ told))
 
 pub returns-in-Ok-clause-err : goal.returns-in-Ok-clause-err
 returns-in-Ok-clause-err g c =
     let xlsx = c.in-Ok.xlsx in
     let old = g.P.Package.state c.args.package in
     let mid = g.P.Package.state xlsx.package in
-    let new = g.P.Package.state c.into_package.result in
+    let new = g.P.Package.state c.into_sheet.result.package in
     let name = c.args.name.now in
     let path = path_listed name xlsx.metadata.sheets.items xlsx.paths.items in
     let grounds = grounds_with (map string_bytes xlsx.shared.strings.items)
     xlsx.shared.style_sheet.formats.items xlsx.is_1904 in
     let palette = xlsx.shared.style_sheet.styles.items in
-    IfErr-weaker c.sheet-result.result
-    (PlacedSheetFails name all_wanted grounds path mid
-    (g.P.Package.state c.sheet-result.new.self.package))
+    IfErr-weaker c.into_sheet.result.result
+    (PlacedSheetFails name all_wanted grounds path mid new)
     (SheetFails name old new)
     (λ e fails. sheet_fails name path grounds palette old mid new e c.in-Ok.ensures.uses.parts
     c.in-Ok.ensures.uses.faults
     (λ told. let opened = c.in-Ok.ensures.opens told in
-    opens_placed name opened.0 opened.1 opened.2)
-    (subst (λ there. PlacedSheetFails name all_wanted grounds path mid (g.P.Package.state there) e)
-    (sym c.into_package.ensures) fails))
-    c.sheet-result.ensures.err
+    opens_placed name opened.0 opened.1 opened.2) fails)
+    c.into_sheet.ensures.err
