@@ -7,7 +7,8 @@ use Rattle.cell_refs.specs.declared.dimensions.Dimensions.{Dimensions}
 use Rattle.part_events.specs.Event.{Event}
 use Rattle.part_events.specs.Package.{Part, part_of}
 use Rattle.cell_data.specs.CellValue.{CellValue}
-use Rattle.cell_refs.specs.Positions.{last_of_each}
+use Rattle.cell_refs.specs.Positions.{last_of_each, least_area}
+use Rattle.cell_data.specs.Range.{bounds_of}
 use Rattle.xlsx_error.specs.declared.error.XlsxError.{XlsxError}
 use Rattle.xlsx_error.specs.declared.error.XlsxError.TheVariants.{WorksheetNotFound}
 use Rattle.cell_data.specs.declared.format.CellFormat.{CellFormat}
@@ -37,7 +38,9 @@ use Rattle.xlsx_open.specs.SharedParts.{SharedSaid, HasShared}
 use Rattle.xlsx_open.proofs.Sound.{both_at, same_path, same_related, no_cause}
 use Rattle.xlsx_core.specs.SheetReading.{events_named, grounds_with, opened_grounds, all_wanted}
 use Rattle.xlsx_core.specs.SheetReading.{SayTheSame, ReadsAs, LacksSheet, HasPartCause}
-use Rattle.xlsx_core.specs.SheetReading.{SheetCause}
+use Rattle.xlsx_core.specs.SheetReading.{SheetCause, value_pairs, formula_pairs}
+use Rattle.xlsx_core.specs.Worksheets.{HasLeastRanges}
+use Rattle.xlsx_core.specs.declared.sheet_reading.SheetReading.{SheetReading}
 
 -- ---- one opening
 
@@ -242,6 +245,19 @@ one_reading parts name values others formulas more styles again first second =
           (subst (SayTheSame (styles_of first.palette one.ids)) (sym two.styled)
           (subst (λ (ids : List StyledCell). SayTheSame (styles_of first.palette one.ids)
           (styles_of second.palette ids)) both.2 styles)),
+    )
+
+pub same_areas : (parts : List Part) (name : List ℕ) (one two : SheetReading)
+    → ReadsAs parts name (value_pairs one.values) (formula_pairs one.formulas) one.styles
+    → ReadsAs parts name (value_pairs two.values) (formula_pairs two.formulas) two.styles
+    → HasLeastRanges one → HasLeastRanges two → (bounds_of one.values ≡ bounds_of two.values)
+    × (bounds_of one.formulas ≡ bounds_of two.formulas)
+same_areas parts name one two first second least other =
+    let (values, formulas, styles) = one_reading parts name (value_pairs one.values)
+    (value_pairs two.values) (formula_pairs one.formulas) (formula_pairs two.formulas) one.styles
+    two.styles first second in (
+      least.0.bounds ∙ ap least_area values ∙ sym other.0.bounds,
+      least.1.bounds ∙ ap least_area formulas ∙ sym other.1.bounds,
     )
 
 -- ---- what is read isn't refused

@@ -1,10 +1,14 @@
 ghost use Rattle.std.specs.Prelude.{◌≡◌, ℕ, List};
 ghost use Rattle.part_events.specs.Package.{Part};
 ghost use Rattle.cell_data.specs.CellValue.{CellValue};
+ghost use Rattle.cell_data.specs.Range.{bounds_of};
 ghost use Rattle.xlsx_error.specs.declared.error.XlsxError.{XlsxError};
 ghost use Rattle.cell_styles.specs.StyleMap.{StyleMap};
 ghost use Rattle.xlsx_core.specs.Agreement.{HaveSameSheet};
 ghost use Rattle.xlsx_core.specs.SheetReading.{SayTheSame, ReadsAs, IsReadable, SheetCause};
+ghost use Rattle.xlsx_core.specs.SheetReading.{value_pairs, formula_pairs};
+ghost use Rattle.xlsx_core.specs.Worksheets.{HasLeastRanges};
+ghost use Rattle.xlsx_core.specs.declared.sheet_reading.SheetReading.{SheetReading};
 
 /// A sheet that can be read has no cause to be refused.
 pub fn readable_sheets_are_not_refused()
@@ -14,13 +18,19 @@ pub fn readable_sheets_are_not_refused()
         SheetCause parts name error → ⊥ }
 {}
 
-/// A sheet is read in one way: as the same values and formulas, and styles that say the same.
+/// A sheet is read in one way: as the same values and formulas, in the same areas, and styles that
+/// say the same.
 pub fn sheets_are_read_alike()
     ensures alike { (parts : List Part) (name : List ℕ)
         (values others : List ((ℕ × ℕ) × CellValue))
         (formulas more : List ((ℕ × ℕ) × List ℕ)) (styles again : StyleMap) →
         ReadsAs parts name values formulas styles → ReadsAs parts name others more again →
         (values ≡ others) × (formulas ≡ more) × SayTheSame styles again }
+    ensures areas { (parts : List Part) (name : List ℕ) (one two : SheetReading) →
+        ReadsAs parts name (value_pairs one.values) (formula_pairs one.formulas) one.styles →
+        ReadsAs parts name (value_pairs two.values) (formula_pairs two.formulas) two.styles →
+        HasLeastRanges one → HasLeastRanges two → (bounds_of one.values ≡ bounds_of two.values)
+        × (bounds_of one.formulas ≡ bounds_of two.formulas) }
 {}
 
 /// Two packages that have the same parts where a sheet is read from are read alike: the sheet of
