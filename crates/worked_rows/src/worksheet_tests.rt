@@ -107,9 +107,14 @@ fn ranges_begin_with_the_header_row(rt: HostRuntime) -> Result<(), Fail> {
 }
 
 /// The rows of a sheet, its values, and its formulas.
-const SHEETS: [(&str, &str, &str); 6] = [
+const SHEETS: [(&str, &str, &str); 7] = [
     ("<worksheet><sheetData/></worksheet>", "", ""),
     ("<chartsheet/>", "", ""),
+    (
+        "<chartsheet><dimension/></chartsheet>",
+        "UnexpectedNode(\"dimension\")",
+        "UnexpectedNode(\"dimension\")",
+    ),
     ("", "XmlEof(\"worksheet\")", "XmlEof(\"worksheet\")"),
     (
         r#"<worksheet><sheetData><c r="B3"><f t="shared" si="x">1</f><v>5</v></c></sheetData></worksheet>"#,
