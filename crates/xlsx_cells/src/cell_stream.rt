@@ -26,6 +26,7 @@ pub struct CellStream {
 }
 
 impl CellStream {
+    /// The stream of the cells that are left to `sheet`. No call was refused yet.
     pub fn new(sheet: SheetCursor) -> CellStream
         ensures sheet { result.sheet ≡ sheet }
         ensures done { result.done ≡ false }
@@ -39,7 +40,7 @@ impl CellStream {
     }
 
     /// Takes the next cell, with what is asked for. Answers None at the end of the data and from
-    /// then on, and `Failed` after a refusal.
+    /// then on, and `Failed` after a refusal. Else it is refused as `SheetCursor::next` is.
     pub fn next<P: Package>(
         &mut self,
         package: &mut P,
@@ -85,7 +86,7 @@ impl CellStream {
     }
     /// Takes the next cell whose style id is above 0 and below the number of styles, and answers
     /// its row, its column and this id. Answers None at the end of the data and from then on, and
-    /// `Failed` after a refusal.
+    /// `Failed` after a refusal. Else it is refused as `SheetCursor::next_styled` is.
     pub fn next_styled<P: Package>(
         &mut self,
         package: &mut P,

@@ -112,9 +112,11 @@ impl Head {
 /// sheet's dimensions: the area of the last `dimension` (18.3.1.35) before the data, and without
 /// one both ends at row 0 and column 0.
 ///
-/// A `dimension` without `ref` is refused as UnexpectedNode, one whose `ref` names no area by the
-/// fault of that text. Where the part ends before the data, the refusal is NotAWorksheet with the
-/// local name of the part's first start that is no `dimension`, and XmlEof where there is none.
+/// A `dimension` without `ref` is refused as `UnexpectedNode`, one whose `ref` names no area by the
+/// fault of that text, and one whose attributes end in a fault and have no `ref` as `XmlAttr`.
+/// Where the part ends before the data, the refusal is `NotAWorksheet` with the local name of the
+/// part's first start that is no `dimension`, and `XmlEof` where there is none. Where the nesting
+/// breaks before, it is `Xml(EndMismatch)` with the number of the end, counted from 0.
 pub fn enter_data<P: Package>(
     alloc: Global,
     package: &mut P,

@@ -57,6 +57,16 @@ impl SheetCursor {
 
     /// Takes the next cell of the sheet's data, with what is asked for. Answers None at the end of
     /// the data.
+    ///
+    /// An `r` that names nothing is refused by the fault of its text. A cell without one past the
+    /// last row or column is `RowNumberOverflow` or `ColumnNumberOverflow`. Attributes that end in
+    /// a fault before what is looked up in them are `XmlAttr`. Where values or formulas are asked
+    /// for, a child other than `v`, `f` and `is` is `UnexpectedNode`. A value that is asked for is
+    /// refused as by `read_value` and `read_inline`, and a formula as by `read_formula`.
+    ///
+    /// Where the part ends before the data do, the refusal is `XmlEof` with the name of an open
+    /// element or the empty text, or `Xml(Unclosed)` in an element that is skipped. An end that
+    /// breaks the nesting is `Xml(EndMismatch)`. Neither is told where a whole cell is left.
     pub fn next<P: Package>(
         &mut self,
         package: &mut P,
@@ -93,6 +103,12 @@ impl SheetCursor {
 
     /// Takes the next cell of the sheet's data whose style id is above 0 and below the number of
     /// styles, and answers its row, its column and this id. Answers None at the end of the data.
+    ///
+    /// Rows and positions are refused as by `next`, and attributes that end in a fault and have no
+    /// `s` as `XmlAttr`. What stands in cells is not read. A part that ends in a cell is
+    /// `XmlEof("c")`, and one that ends elsewhere in the data `XmlEof("sheetData")`. An end that
+    /// breaks the nesting is `Xml(EndMismatch)`, in a cell too. None of these is told where a whole
+    /// cell is left whose id counts.
     pub fn next_styled<P: Package>(
         &mut self,
         package: &mut P,
@@ -141,7 +157,8 @@ impl SheetCursor {
 }
 
 /// Opens the part of a sheet at this path, and reads on behind the start of its data. Answers where
-/// reading stands then, and the sheet's dimensions; None where there is no such part.
+/// reading stands then, and the sheet's dimensions; None where there is no such part. The head of
+/// the part is refused as by `enter_data`.
 pub fn open_data<P: Package>(
     alloc: Global,
     package: &mut P,

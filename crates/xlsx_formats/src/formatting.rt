@@ -176,7 +176,7 @@ fn formatting_named(
 /// its id as written, else that of the built-in format, else `General`. Of the alignments and the
 /// protections that start in it, at any depth, the last counts.
 ///
-/// A part that ends before is `XmlEof("xf")`.
+/// A part that ends before is `XmlEof("xf")`. A lookup in a start that is refused is `XmlAttr`.
 pub fn read_format<P: Package>(
     alloc: Global,
     package: &mut P,

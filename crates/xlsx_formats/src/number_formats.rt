@@ -52,8 +52,8 @@ fn keep_format(
 /// code, at any depth, in place of an earlier one of its id. What was kept before stays.
 ///
 /// A part that ends before is `XmlEof("numFmts")`, and a code with a reference without a character
-/// is `Xml(Entity)` with the number of its start, counted from 0. After a refusal the codes are
-/// kept of some of the first starts.
+/// is `Xml(Entity)` with the number of its start, counted from 0. A lookup in a `numFmt` that is
+/// refused is `XmlAttr`. After a refusal the codes are kept of some of the first starts.
 pub fn read_number_formats<P: Package>(
     alloc: Global,
     package: &mut P,

@@ -85,7 +85,9 @@ fn read_scheme<P: Package>(
 /// first two are swapped, and the next two. The default theme stands where there is no scheme, or
 /// one of fewer than four slots. Reads to the end of the scheme, and of a part that has none.
 ///
-/// A part that ends in its scheme is `Xml(Unclosed)` with the number of the part's events.
+/// A part that ends in its scheme is `Xml(Unclosed)` with the number of the part's events. An end
+/// that breaks the nesting before the scheme's end is `Xml(EndMismatch)` with its number, counted
+/// from 0. A lookup in a slot that is refused is `XmlAttr`.
 pub fn read_theme_colors<P: Package>(xml: &mut XlReader<'_, P>) -> Result<ThemeColors, XlsxError>
     requires reading { IsReading (reading_by P.state xml.old) }
     requires first { (reading_by P.state xml.old).at ≡ 0 }
