@@ -31,7 +31,8 @@ impl Masters {
         }
     }
 
-    /// Keeps the formula of a group, also where it is empty, in place of an earlier one of its index.
+    /// Keeps the formula that a group is written by, also where it is empty, in place of an earlier
+    /// one of its index. Of another formula nothing is kept.
     ///
     /// Where memory is wanting the groups stay as they were.
     pub fn keep(&mut self, formula: &Formula) -> Result<(), AllocError>
