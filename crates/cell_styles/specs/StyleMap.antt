@@ -1,7 +1,7 @@
 -- Which style each position has: the area that the styled positions span, and an id for each of its
 -- positions, row by row.
 use Rattle.std.specs.Prelude.{◌≡◌, ℕ, ◌+◌, ◌-◌, ◌*◌, ◌/◌, ◌%◌, ◌<◌, ◌≤◌, min, max, ◌==◌, ◌&&◌}
-use Rattle.std.specs.Prelude.{nat_lt, nat_le, if◌then◌else◌, List, [], ◌∷◌, map, filter, length}
+use Rattle.std.specs.Prelude.{nat_lt, if◌then◌else◌, List, [], ◌∷◌, map, filter, length}
 use Rattle.std.specs.Prelude.{slice_get, slice_index, Bool, Option, Some, None, All}
 use Rattle.std.specs.List.{range_with_len}
 use Rattle.cell_refs.specs.Dimensions.{span, cell_count, IsInArea}

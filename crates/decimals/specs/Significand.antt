@@ -1,8 +1,6 @@
 -- What is kept of digits while they are read.
-use Rattle.std.specs.Prelude.{ℕ, ◌+◌, ◌-◌, ◌*◌, ◌^◌, ◌==◌, if◌then◌else◌, List, length}
+use Rattle.std.specs.Prelude.{ℕ, ◌+◌, ◌-◌, ◌*◌, ◌^◌, ◌==◌, if◌then◌else◌, List}
 use Rattle.std.specs.List.{fold}
-use Rattle.std.specs.Str.Parse.{digits_value}
-use Rattle.decimals.specs.Decimals.{trailing_zeros, without_trailing_zeros}
 use Rattle.decimals.specs.declared.significand.Significand.{Significand}
 
 -- one digit more, given by its value

@@ -1,9 +1,7 @@
 -- Comparing names byte by byte.
-use Rattle.std.proofs.Common.{◌≡◌, ℕ, ◌<◌, ◌+◌, List, ◌∷◌, length, drop, get_or, ◌∙◌, ap, Bool}
-use Rattle.std.proofs.Common.{◌&&◌, eq-eqb}
-use Rattle.std.proofs.lemmas.List.{drop_more}
+use Rattle.std.proofs.Common.{ℕ, List, drop, Bool}
 use Rattle.std.specs.Str.{bytes_eq}
-use Rattle.part_events.specs.Package.{folded_byte, folded}
+use Rattle.part_events.specs.Package.{folded}
 
 -- whether what is left of two names is the same
 abbrev pub same_from : ℕ → List ℕ → List ℕ → Bool

@@ -1,12 +1,12 @@
 -- Wholeness, and the names of the open elements, from one event to the next.
-use Rattle.std.proofs.Common.{◌≡◌, ℕ, zero, suc, List, [], ◌∷◌, ◌++◌, length, reverse, Bool, true}
+use Rattle.std.proofs.Common.{◌≡◌, ℕ, List, [], ◌∷◌, ◌++◌, length, reverse, Bool, true}
 use Rattle.std.proofs.Common.{false, refl, sym, ◌∙◌, ap, arith, append_assoc, append-nil, inl, inr}
 use Rattle.std.proofs.Common.{◌⊎◌}
-use Rattle.std.specs.Prelude.{slice_get, if◌then◌else◌}
+use Rattle.std.specs.Prelude.{if◌then◌else◌}
 use Rattle.std.proofs.lemmas.Grind.{reverse_onto}
 use Rattle.std.proofs.lemmas.List.{length-append, length-reverse}
-use Rattle.part_events.specs.Event.{Tag, Event, start, end, leaf}
-use Rattle.part_events.specs.Nesting.{open_name, closes, IsWhole, whole_rest, whole}
+use Rattle.part_events.specs.Event.{Event, start, end, leaf}
+use Rattle.part_events.specs.Nesting.{closes, IsWhole, whole_rest, whole}
 use Rattle.part_events.specs.NestingLaws.{WholeIsLongest}
 use Rattle.part_events.specs.Reading.{BreaksAt}
 

@@ -1,15 +1,15 @@
 -- A reader's step to the next event.
-use Rattle.std.proofs.Common.{◌≡◌, ℕ, ◌+◌, ◌<◌, append-nil, List, [], ◌∷◌, ◌++◌, length, reverse}
+use Rattle.std.proofs.Common.{◌≡◌, ℕ, ◌<◌, append-nil, List, [], ◌∷◌, ◌++◌, length, reverse}
 use Rattle.std.proofs.Common.{Bool, true, false, refl, sym, ◌∙◌, ap, arith}
 use Rattle.std.specs.Prelude.{slice_get, Option, if◌then◌else◌}
 use Rattle.std.specs.Option.{option_map_or}
 use Rattle.std.specs.Str.{bytes_eq}
 use Rattle.std.proofs.lemmas.List.{length-reverse, reverse-reverse}
-use Rattle.part_events.specs.Event.{Tag, Event, start, end}
+use Rattle.part_events.specs.Event.{Event, end}
 use Rattle.part_events.specs.Nesting.{closes, whole_rest}
 use Rattle.part_events.specs.OpenNames.{is_innermost}
-use Rattle.part_events.specs.Package.{SameParts, Advances, AdvanceCounts}
-use Rattle.part_events.specs.Reading.{Reading, IsReading, IsTracked, StaysReadable, BreaksNext}
+use Rattle.part_events.specs.Package.{Advances}
+use Rattle.part_events.specs.Reading.{Reading, IsReading, IsTracked, BreaksNext}
 use Rattle.part_events.specs.Reading.{EndsOpen, ahead, events_of}
 use Rattle.part_events.proofs.Nested.{reverse_on, broken, whole_split}
 

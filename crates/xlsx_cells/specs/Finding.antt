@@ -45,7 +45,7 @@ pub record FindsCell
   pub placed : cell_position (behind_marks passed before) tag ≡ Ok position
   pub counts : AreKept (cell (element_at base tag new) ∷ behind_marks passed before) counters
 
--- no cell is left, and the data are closed
+-- no cell is left, the data are closed, and their end was taken
 pub record FindsNone (base : ℕ) (old new : Reading) : Type 0 where
   pub rows : PassesRows (marks_left base old)
   pub closed : is_closed_ahead base old ≡ true
