@@ -11,14 +11,13 @@ use Rattle.part_events.specs.Reading.{events_of}
 use Rattle.part_events.specs.Section.{Element, content, is_closed, behind, outermost, unclosed}
 use Rattle.part_events.specs.Walk.{inside, element_at, section_ahead, section_behind}
 use Rattle.part_events.specs.Walk.{is_closed_ahead, behind_section, IsNextElement}
-use Rattle.part_events.specs.Walk.{ClosesSection}
 use Rattle.part_events.specs.declared.fault.XmlFault.TheVariants.{EndMismatch, Unclosed}
 use Rattle.part_events.proofs.Nested.{whole_split}
 use Rattle.part_events.proofs.Onward.{reads_nothing}
 use Rattle.part_events.proofs.Sections.{GoesOnBehind, goes_on_behind}
 use Rattle.xlsx_error.specs.declared.error.XlsxError.{XlsxError}
 use Rattle.xlsx_error.specs.declared.error.XlsxError.TheVariants.{OutOfMemory, Io, Xml, XmlEof}
-use Rattle.xlsx_sections.specs.Elements.{KeepsElements, ReachesEnd, FindsElementIn, end_outside}
+use Rattle.xlsx_sections.specs.Elements.{KeepsElements, FindsElementIn, end_outside}
 use Rattle.xlsx_sections.specs.Elements.{end_among}
 use Rattle.xlsx_sections.specs.PartSection.{PartSection, KeepsSection, SectionFails, StandsAtStart}
 use Rattle.xlsx_sections.specs.PartSection.{Never, section_left, last_of, has_end, inside_of}

@@ -1,12 +1,12 @@
 -- How a list is read element by element.
 use Rattle.std.proofs.Common.{◌≡◌, ℕ, suc, List, [], ◌∷◌, ◌++◌, length, true, Bool, Option, Result}
-use Rattle.std.proofs.Common.{Ok, sym, ◌∙◌, ap, subst, append-nil}
+use Rattle.std.proofs.Common.{Ok, sym, ◌∙◌, ap, subst}
 use Rattle.part_events.specs.Event.{Tag, Event}
 use Rattle.part_events.specs.Reading.{Reading, ReadsOn, Skips, ahead}
 use Rattle.part_events.specs.Section.{Element, content}
-use Rattle.part_events.specs.Walk.{section_ahead, element_at, ClosesSection}
+use Rattle.part_events.specs.Walk.{section_ahead, element_at}
 use Rattle.xlsx_error.specs.declared.error.XlsxError.{XlsxError}
-use Rattle.xlsx_sections.specs.Answers.{all_answers, prepended}
+use Rattle.xlsx_sections.specs.Answers.{prepended}
 use Rattle.xlsx_sections.specs.ElementLists.{element_said, list_said}
 use Rattle.xlsx_sections.specs.Elements.{KeepsElements, ElementReadFails, IsInsideRefused}
 use Rattle.xlsx_sections.specs.Elements.{end_among}
@@ -14,7 +14,7 @@ use Rattle.xlsx_sections.specs.PartSection.{SectionFails, Never}
 use Rattle.xlsx_sections.specs.Refusal.{Refusal, in_element}
 use Rattle.xlsx_sections.proofs.ElementsRead.{IsElementFound, element_passed, element_refused}
 use Rattle.xlsx_sections.proofs.ElementsRead.{step_refused, own_inside}
-use Rattle.xlsx_sections.proofs.Kept.{all_further, all_refused, behind_refused, prepended-nil}
+use Rattle.xlsx_sections.proofs.Kept.{all_further, all_refused, behind_refused}
 
 -- the elements of a list were read up to here, and what they say was put behind what was kept
 -- before

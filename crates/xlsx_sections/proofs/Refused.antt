@@ -26,7 +26,7 @@ use Rattle.xlsx_sections.specs.PartSection.{PartSection, KeepsSection, inside_of
 use Rattle.xlsx_sections.specs.PartSection.{section_left, section_in, SectionCause}
 use Rattle.xlsx_sections.specs.PartSection.{SectionFails, StartCause, EntersSection}
 use Rattle.xlsx_sections.specs.PartSection.{OptionalPartCause, OptionalPartFails, PartFails}
-use Rattle.xlsx_sections.specs.PartSection.{EnterFails, LacksSection, always, Never}
+use Rattle.xlsx_sections.specs.PartSection.{always, Never}
 use Rattle.xlsx_sections.specs.Refusal.{Refusal, RefusedAs, RefusedAt, further, lookup_fault}
 use Rattle.xlsx_sections.specs.Refusal.{no_character, unknown_state, unrelated, unknown_type}
 use Rattle.xlsx_sections.specs.Refusal.{misplaced, lacks_area, stray_child, lacks_index}

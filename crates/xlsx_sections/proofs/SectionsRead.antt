@@ -1,16 +1,16 @@
 -- How a section is read on.
 use Rattle.std.proofs.Common.{◌≡◌, ℕ, suc, ◌+◌, ◌-◌, ◌≤◌, List, [], ◌∷◌, length, Bool, true, Some}
-use Rattle.std.proofs.Common.{None, Option, refl, sym, ◌∙◌, ap, subst, arith}
+use Rattle.std.proofs.Common.{Option, refl, sym, ◌∙◌, ap, subst, arith}
 use Rattle.std.specs.Option.{option_map_or}
 use Rattle.std.proofs.lemmas.List.{length-append, length-reverse}
-use Rattle.std.specs.Prelude.{option_map, option_and_then, reverse, ◌++◌}
+use Rattle.std.specs.Prelude.{option_map, reverse, ◌++◌}
 use Rattle.part_events.specs.Event.{Tag, Event, start, end, leaf, IsStartAnd}
 use Rattle.part_events.specs.Nesting.{whole, whole_rest}
 use Rattle.part_events.specs.Package.{PackageState, SameParts, OpenCounts, Opens, part_of}
 use Rattle.part_events.specs.Package.{event_count}
 use Rattle.part_events.specs.Reading.{Reading, IsReading, ReadsOn, IsTracked, IsAtElement}
 use Rattle.part_events.specs.Reading.{TakesEvent, StepsAhead, ahead, events_of}
-use Rattle.part_events.specs.Section.{is_closed, behind, starts_by}
+use Rattle.part_events.specs.Section.{behind, starts_by}
 use Rattle.part_events.specs.Section.{behind_start, is_named}
 use Rattle.part_events.specs.Walk.{inside, section_ahead, is_closed_ahead, behind_section}
 use Rattle.part_events.specs.Walk.{section_end, TakesInside, IsNextStart}
@@ -18,8 +18,7 @@ use Rattle.part_events.proofs.Nested.{whole_split}
 use Rattle.part_events.proofs.Onward.{reads_further}
 use Rattle.part_events.proofs.Walking.{takes_inside}
 use Rattle.xlsx_sections.specs.PartSection.{PartSection, KeepsSection, EntersSection, section_left}
-use Rattle.xlsx_sections.specs.PartSection.{section_from, section_in, last_of, has_end, inside_of}
-use Rattle.xlsx_sections.specs.PartSection.{if_closed, closed_section, closed_section_of}
+use Rattle.xlsx_sections.specs.PartSection.{section_from, section_in, last_of}
 use Rattle.xlsx_sections.specs.PartSection.{StandsAtEvent, FindsEvent, StandsAtStart, FindsStartIn}
 
 -- an event is the start of one tag

@@ -1,10 +1,9 @@
 -- How an element is read start by start, to its end.
-use Rattle.std.proofs.Common.{◌≡◌, ℕ, ◌≤◌, List, length, Bool, true, Some, refl, sym, ◌∙◌, ap}
-use Rattle.std.proofs.Common.{subst, arith}
+use Rattle.std.proofs.Common.{◌≡◌, ℕ, ◌≤◌, List, length, Bool, true, Some, refl, sym, ◌∙◌}
+use Rattle.std.proofs.Common.{subst}
 use Rattle.part_events.specs.Event.{Tag, Event, start, IsStartAnd}
-use Rattle.part_events.specs.Reading.{Reading, IsReading, ReadsOn, Skips, ahead}
-use Rattle.part_events.specs.Section.{content, is_closed, behind}
-use Rattle.part_events.specs.Walk.{inside, IsNextStart, ClosesSection}
+use Rattle.part_events.specs.Reading.{Reading, IsReading}
+use Rattle.part_events.specs.Walk.{IsNextStart}
 use Rattle.part_events.proofs.Onward.{reads_nothing}
 use Rattle.xlsx_error.specs.declared.error.XlsxError.{XlsxError}
 use Rattle.xlsx_sections.specs.Elements.{KeepsStarts}

@@ -1,7 +1,7 @@
 -- How a text that can't be read makes its element refused.
 use Rattle.std.proofs.Common.{◌≡◌, ℕ, suc, ◌+◌, List, length, Bool, Some, None, Option, sym}
 use Rattle.std.proofs.Common.{◌∙◌, ap, subst, refl}
-use Rattle.std.specs.Prelude.{Ok, Err, IsSomeAnd}
+use Rattle.std.specs.Prelude.{Err, IsSomeAnd}
 use Rattle.part_events.specs.Event.{Event}
 use Rattle.part_events.specs.JoinedText.{TextFails, joined_text, unknown_entity}
 use Rattle.part_events.specs.Reading.{Reading, BreaksAt, ahead}
@@ -10,7 +10,7 @@ use Rattle.part_events.specs.declared.fault.StreamError.{StreamError}
 use Rattle.part_events.specs.declared.fault.StreamError.TheVariants as stream
 use Rattle.part_events.specs.declared.fault.XmlFault.TheVariants.{EndMismatch, Unclosed, Entity}
 use Rattle.xlsx_error.specs.XlsxError.{of_stream}
-use Rattle.xlsx_sections.specs.Elements.{ElementReadFails, IsTextError}
+use Rattle.xlsx_sections.specs.Elements.{ElementReadFails}
 use Rattle.xlsx_sections.specs.ElementText.{element_text, known_text}
 use Rattle.xlsx_sections.specs.PartSection.{always}
 use Rattle.xlsx_sections.specs.Refusal.{no_character}
