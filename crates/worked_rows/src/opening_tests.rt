@@ -1,7 +1,7 @@
 //! Workbooks as they are opened: their sheets, their defined names, their shared strings, and how
 //! their dates count.
 
-use part_events::{Package};
+use part_events::Package;
 use std::alloc::{AllocError, Global};
 use std::test::Fail;
 use test_packages::{
