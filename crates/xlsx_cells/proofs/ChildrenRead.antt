@@ -8,17 +8,14 @@ use Rattle.part_events.specs.Section.{Element}
 use Rattle.part_events.proofs.Onward.{moves_further}
 use Rattle.xlsx_error.specs.declared.error.XlsxError.{XlsxError}
 use Rattle.cell_data.specs.declared.format.CellFormat.{CellFormat}
-use Rattle.cell_data.specs.CellValue.{CellValue}
 use Rattle.xlsx_sections.specs.Answers.{or_earlier, some_answers, prepended}
-use Rattle.xlsx_sections.specs.Elements.{ElementReadFails, IsInsideRefused, named_end}
-use Rattle.xlsx_sections.specs.PartSection.{PartSection, SectionFails, Never, always, inside_of}
-use Rattle.xlsx_sections.specs.PartSection.{section_left}
+use Rattle.xlsx_sections.specs.Elements.{ElementReadFails, IsInsideRefused}
+use Rattle.xlsx_sections.specs.PartSection.{PartSection, always, inside_of}
 use Rattle.xlsx_sections.specs.Refusal.{Refusal, stray_child, in_element}
-use Rattle.xlsx_sections.proofs.Kept.{prepended-nil, some_passed, some_taken, some_refused}
+use Rattle.xlsx_sections.proofs.Kept.{some_passed, some_taken, some_refused}
 use Rattle.xlsx_sections.proofs.Refused.{refused_by}
-use Rattle.xlsx_strings.specs.Strings.{end_in_string}
 use Rattle.xlsx_values.specs.CellType.{CellKind}
-use Rattle.xlsx_values.specs.Value.{Grounds, value_element, inline_value, said_value, some_value}
+use Rattle.xlsx_values.specs.Value.{Grounds, value_element, said_value}
 use Rattle.xlsx_values.specs.Value.{end_in_value}
 use Rattle.xlsx_formulas.specs.Formula.{FormulaText, formula_text, said_formula, some_formula}
 use Rattle.xlsx_formulas.specs.Formula.{child_formula, formulas_in, behind_formulas}
@@ -30,7 +27,7 @@ use Rattle.xlsx_cells.specs.Children.{IsNamedAs, IsChildRefused, ChildFails, Las
 use Rattle.xlsx_cells.specs.Children.{FormulaStep, StepsFormula, ReadsFormula}
 use Rattle.xlsx_cells.specs.Children.{ReadsFormulaChildren}
 use Rattle.xlsx_cells.specs.Ends.{reads_children, end_in_child}
-use Rattle.xlsx_cells.specs.declared.children.ChildName.TheVariants.{Formula, Value, Inline, Stray}
+use Rattle.xlsx_cells.specs.declared.children.ChildName.TheVariants.{Formula, Value, Stray}
 use Rattle.xlsx_cells.specs.declared.children.Wants.{Wants}
 
 pub formula_fails : (wants : Wants) (grounds : Grounds) (format : CellFormat) (kind : CellKind)

@@ -15,7 +15,7 @@ use Rattle.xlsx_sections.specs.Answers.{prepended}
 use Rattle.xlsx_sections.specs.Elements.{KeepsElements, end_outside}
 use Rattle.xlsx_sections.specs.PartSection.{SectionFails}
 use Rattle.xlsx_sections.specs.Refusal.{Refusal}
-use Rattle.xlsx_sections.proofs.Kept.{prepended-and_others, prepended-nil}
+use Rattle.xlsx_sections.proofs.Kept.{prepended-and_others}
 use Rattle.xlsx_sections.proofs.Refused.{refused_later}
 use Rattle.xlsx_sections.proofs.SectionsRead.{keeps_further}
 use Rattle.xlsx_values.specs.Value.{Grounds}

@@ -5,7 +5,6 @@ use Rattle.std.proofs.lemmas.Bool.Decides.{nat_tests}
 use Rattle.std.specs.Prelude.{min, nat_le, Bool, true, false, if◌then◌else◌}
 use Rattle.cell_refs.specs.declared.TheConstants.{MAX_ROWS, MAX_COLUMNS}
 use Rattle.cell_refs.specs.declared.error.RefError.TheVariants as ref
-use Rattle.part_events.specs.Event.{Tag}
 use Rattle.part_events.specs.Section.{Element}
 use Rattle.xlsx_cells.specs.Marks.{Mark, row_start, row_end, cell}
 use Rattle.xlsx_cells.specs.Position.{row_named, position_named, row_counter, column_counter}

@@ -1,32 +1,29 @@
 -- How the head of a sheet's part is read.
 use Rattle.std.proofs.Common.{◌≡◌, ℕ, List, [], ◌∷◌, Bool, true, false, Option, Some, None, Result}
-use Rattle.std.proofs.Common.{Ok, Err, refl, sym, ◌∙◌, ap, subst, arith, codes}
-use Rattle.std.specs.Prelude.{if◌then◌else◌, option_map, ◌||◌}
+use Rattle.std.proofs.Common.{Ok, Err, refl, sym, ◌∙◌, ap, subst, codes}
+use Rattle.std.specs.Prelude.{if◌then◌else◌, ◌||◌}
 use Rattle.std.specs.Option.{option_or}
 use Rattle.std.specs.Str.{bytes_eq}
 use Rattle.attr_text.specs.Attributes.{local_name_of}
 use Rattle.cell_refs.specs.declared.dimensions.Dimensions.{Dimensions}
 use Rattle.part_events.specs.Event.{Tag, Event, start, end, leaf}
 use Rattle.part_events.specs.Nesting.{whole}
-use Rattle.part_events.specs.Reading.{Reading, ReadsOn, NextFails, BreaksAt, ahead, events_of}
+use Rattle.part_events.specs.Reading.{Reading, ahead, events_of}
 use Rattle.part_events.specs.Section.{behind_start}
-use Rattle.part_events.specs.declared.fault.StreamError.{StreamError}
-use Rattle.part_events.specs.declared.fault.StreamError.TheVariants as stream
-use Rattle.part_events.specs.declared.fault.XmlFault.TheVariants.{EndMismatch, Unclosed, Entity}
-use Rattle.xlsx_error.specs.XlsxError.{of_stream}
+use Rattle.part_events.specs.declared.fault.XmlFault.TheVariants.{EndMismatch}
 use Rattle.xlsx_error.specs.declared.error.XlsxError.{XlsxError}
 use Rattle.xlsx_error.specs.declared.error.XlsxError.TheVariants.{OutOfMemory, Io, Xml, XmlEof}
 use Rattle.xlsx_error.specs.declared.error.XlsxError.TheVariants.{NotAWorksheet}
 use Rattle.xlsx_sections.specs.Answers.{or_earlier, or_later}
 use Rattle.xlsx_sections.specs.Refusal.{Refusal}
-use Rattle.xlsx_sections.proofs.Kept.{or_earlier-or_later, or_earlier-None}
+use Rattle.xlsx_sections.proofs.Kept.{or_earlier-None}
 use Rattle.xlsx_sections.proofs.Refused.{refused_weaker, never_refused}
 use Rattle.xlsx_cells.specs.Counting.{IsRefused}
-use Rattle.xlsx_cells.specs.Head.{is_sheet_data, is_dimension, starts_data, head_starts}
+use Rattle.xlsx_cells.specs.Head.{is_sheet_data, starts_data}
 use Rattle.xlsx_cells.specs.Head.{dimension_area}
-use Rattle.xlsx_cells.specs.Head.{dimensions_by, dimensions_in, dimensions_at, first_other}
-use Rattle.xlsx_cells.specs.Head.{other_in, other_at, other_name, IsHeadStartRefused, LacksData}
-use Rattle.xlsx_cells.specs.Head.{HasNoData, HasSoundDimensions, HeadCause, HeadFails, IsHeadError}
+use Rattle.xlsx_cells.specs.Head.{dimensions_by, dimensions_in, dimensions_at}
+use Rattle.xlsx_cells.specs.Head.{other_in, other_name, IsHeadStartRefused, LacksData}
+use Rattle.xlsx_cells.specs.Head.{HasNoData, HasSoundDimensions, HeadCause, HeadFails}
 use Rattle.xlsx_cells.specs.declared.head.Head.{Head}
 
 -- what is kept of the events before `left`, with what these say, is what all of them say

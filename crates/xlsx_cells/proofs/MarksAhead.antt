@@ -4,7 +4,6 @@ use Rattle.std.proofs.Common.{false, Some, None, refl, ◌∙◌, ap, arith}
 use Rattle.std.specs.Prelude.{if◌then◌else◌}
 use Rattle.part_events.specs.Event.{Tag, Event, start, end, leaf}
 use Rattle.part_events.specs.Section.{Element, element_of, content, is_closed, behind}
-use Rattle.part_events.specs.Section.{outermost_from}
 use Rattle.part_events.specs.Section.{unclosed}
 use Rattle.part_events.proofs.Sections.{content-content}
 use Rattle.xlsx_cells.specs.Marks.{Mark, row_start, row_end, cell, is_cell, is_row}

@@ -1,18 +1,16 @@
 -- How the data of a sheet are entered, and why they can't be.
-use Rattle.std.proofs.Common.{◌≡◌, ℕ, List, [], length, true, Some, None, Option, sym, ◌∙◌, ap}
+use Rattle.std.proofs.Common.{◌≡◌, ℕ, List, [], length, true, Some, sym, ◌∙◌, ap}
 use Rattle.std.proofs.Common.{subst, codes, arith}
 use Rattle.cell_refs.specs.declared.dimensions.Dimensions.{Dimensions}
 use Rattle.part_events.specs.Event.{Event}
 use Rattle.part_events.specs.Nesting.{whole}
-use Rattle.part_events.specs.Package.{PackageState, part_of}
+use Rattle.part_events.specs.Package.{PackageState}
 use Rattle.part_events.specs.Reading.{Reading, ahead, events_of}
-use Rattle.xlsx_error.specs.declared.error.XlsxError.{XlsxError}
-use Rattle.xlsx_error.specs.declared.error.XlsxError.TheVariants.{OutOfMemory, Io}
 use Rattle.xlsx_sections.specs.PartSection.{EntersSection, section_left, section_in}
 use Rattle.xlsx_formulas.specs.Kept.{AreMasters}
 use Rattle.xlsx_cells.specs.Counting.{AreKept}
-use Rattle.xlsx_cells.specs.Head.{AreDimensions, HeadCause, HeadFails}
-use Rattle.xlsx_cells.specs.SheetPart.{EntersData, OptionalHeadCause, OpenDataFails}
+use Rattle.xlsx_cells.specs.Head.{AreDimensions}
+use Rattle.xlsx_cells.specs.SheetPart.{EntersData}
 use Rattle.xlsx_cells.specs.Stream.{Stream}
 use Rattle.xlsx_sections.proofs.SectionsRead.{ahead_at_first}
 

@@ -9,7 +9,7 @@ use Rattle.cell_data.specs.CellValue.{CellValue}
 use Rattle.xlsx_error.specs.declared.error.XlsxError.{XlsxError}
 use Rattle.xlsx_error.specs.declared.error.XlsxError.TheVariants.{OutOfMemory, Io}
 use Rattle.xlsx_error.specs.declared.error.XlsxError.TheVariants.{WorksheetNotFound}
-use Rattle.cell_styles.specs.StyleMap.{StyleMap, styles_of}
+use Rattle.cell_styles.specs.StyleMap.{StyleMap}
 use Rattle.cell_styles.specs.declared.style.Style.{Style}
 use Rattle.xlsx_values.specs.Value.{Grounds}
 use Rattle.xlsx_cells.specs.SheetPart.{SheetPartCause}

@@ -1,5 +1,5 @@
 -- Packages that have the same parts where a sheet is read from.
-use Rattle.std.specs.Prelude.{◌≡◌, ℕ, List, codes, Option, Some}
+use Rattle.std.specs.Prelude.{◌≡◌, ℕ, List, codes, Some}
 use Rattle.part_events.specs.Package.{Part, part_of}
 use Rattle.xlsx_workbook.specs.Paths.{workbook_part, relationships_part, strings_part, theme_part}
 use Rattle.xlsx_workbook.specs.Paths.{styles_part}

@@ -9,7 +9,7 @@ use Rattle.xlsx_error.specs.declared.error.XlsxError.{XlsxError}
 use Rattle.xlsx_sections.specs.Answers.{some_answers, and_others_if, prepended}
 use Rattle.xlsx_sections.specs.Refusal.{Refusal, ElementFails}
 use Rattle.xlsx_sections.proofs.Refused.{refused_at_weaker}
-use Rattle.xlsx_sections.proofs.Kept.{some_and_more, some_refused, all_taken}
+use Rattle.xlsx_sections.proofs.Kept.{some_and_more, some_refused}
 use Rattle.xlsx_formats.specs.FormatCodes.{WrittenFormat, with_code, written_format, with_written}
 use Rattle.xlsx_formats.specs.FormatCodes.{is_number_format, AreCodes, KeepsFront}
 use Rattle.xlsx_formats.specs.declared.format_codes.FormatCodes.{FormatCodes}

@@ -1,9 +1,7 @@
 -- How a cell format is made of its start and of what is set in it.
 use Rattle.std.proofs.Common.{◌≡◌, ℕ, List, Option, Some, None, Result, Ok, refl, sym, ◌∙◌, ap}
-use Rattle.std.proofs.Common.{subst, codes, map, option_map, length, get_or, arith}
-use Rattle.std.specs.Prelude.{IsOkAnd, slice_get}
-use Rattle.std.specs.Option.{option_and_then}
-use Rattle.std.proofs.lemmas.Option.{slice_get-map}
+use Rattle.std.proofs.Common.{subst, codes, length, get_or, arith}
+use Rattle.std.specs.Prelude.{IsOkAnd}
 use Rattle.attr_text.specs.Attributes.{lookup}
 use Rattle.part_events.specs.Event.{Tag, Event}
 use Rattle.part_events.specs.Reading.{Reading, IsReading}
@@ -12,13 +10,12 @@ use Rattle.xlsx_error.specs.declared.error.XlsxError.{XlsxError}
 use Rattle.xlsx_error.specs.declared.error.XlsxError.TheVariants.{OutOfMemory, Io, Xml, XmlAttr}
 use Rattle.xlsx_error.specs.declared.error.XlsxError.TheVariants.{XmlEof}
 use Rattle.xlsx_sections.specs.Elements.{ElementReadFails, IsInsideRefused}
-use Rattle.xlsx_sections.specs.NumberText.{number_text}
 use Rattle.xlsx_sections.specs.PartSection.{always, inside_of, section_left}
 use Rattle.xlsx_sections.specs.Refusal.{Refusal, ElementFails}
 use Rattle.xlsx_sections.proofs.Refused.{refused_as}
 use Rattle.xlsx_styles.specs.Errors.{IsPlainError}
 use Rattle.xlsx_formats.specs.FormatCodes.{WrittenFormat, code_kept, AreCodes}
-use Rattle.xlsx_formats.specs.Formattings.{NamedSaid, FormattingSaid, numbered, format_named}
+use Rattle.xlsx_formats.specs.Formattings.{NamedSaid, FormattingSaid, format_named}
 use Rattle.xlsx_formats.specs.Formattings.{number_format_named}
 use Rattle.xlsx_formats.specs.Formattings.{formatting_keys, formatting_named, no_settings}
 use Rattle.xlsx_formats.specs.Formattings.{settings_of, code_said}

@@ -4,7 +4,7 @@ use Rattle.std.proofs.Common.{Result, Ok, Err, refl, sym, ◌∙◌, ap, subst}
 use Rattle.part_events.specs.Section.{Element}
 use Rattle.xlsx_sections.specs.Answers.{some_answers, prepended}
 use Rattle.xlsx_sections.specs.Refusal.{Refusal}
-use Rattle.xlsx_sections.proofs.Kept.{prepended-nil, some_taken, some_passed, some_refused}
+use Rattle.xlsx_sections.proofs.Kept.{some_taken, some_passed, some_refused}
 use Rattle.xlsx_sections.proofs.Kept.{all_taken}
 use Rattle.xlsx_formulas.specs.Formula.{FormulaText, Sharing, own, master, derived, child_formula}
 use Rattle.xlsx_formulas.specs.Formula.{formula_by, formula_of, behind_formulas, cell_formula}

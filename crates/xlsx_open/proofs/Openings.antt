@@ -1,6 +1,6 @@
 -- How the readings of a package's parts make an opening.
 use Rattle.std.proofs.Common.{◌≡◌, ◌+◌, ◌≤◌, ℕ, List, [], ◌∷◌, Bool, true, false, Option, Some}
-use Rattle.std.proofs.Common.{None, Result, Ok, Err, map, refl, sym, ◌∙◌, ap, subst, inl, inr}
+use Rattle.std.proofs.Common.{None, Result, Ok, Err, map, refl, ◌∙◌, ap, subst, inl, inr}
 use Rattle.std.proofs.Common.{arith, codes, string_bytes, String, Global}
 use Rattle.std.specs.Prelude.{option_and_then, unwrap_or, IsSomeAnd, MatchOption}
 use Rattle.part_events.specs.Package.{Part, PackageState, SameParts, UsesPackage, LeavesPackage}
@@ -10,14 +10,12 @@ use Rattle.xlsx_error.specs.declared.error.XlsxError.TheVariants.{OutOfMemory, I
 use Rattle.cell_styles.specs.declared.color.Color.{Color}
 use Rattle.xlsx_sections.specs.Elements.{IsInsideRefused}
 use Rattle.xlsx_sections.specs.PartSection.{always, OptionalPartCause, OptionalPartFails}
-use Rattle.xlsx_sections.specs.PartSection.{PartFails, SoundFails, closed_section}
+use Rattle.xlsx_sections.specs.PartSection.{PartFails, closed_section}
 use Rattle.xlsx_sections.specs.PartSection.{closed_section_of}
-use Rattle.xlsx_theme.specs.ThemePart.{theme_colors, HasTheme}
-use Rattle.xlsx_theme.specs.declared.theme_part.ThemeColors.{ThemeColors}
-use Rattle.xlsx_stylesheet.specs.StyleSheet.{cell_formats_in, end_in_styles, HasStyles}
-use Rattle.xlsx_strings.specs.Strings.{strings_in, end_in_strings, HasStrings}
+use Rattle.xlsx_theme.specs.ThemePart.{theme_colors}
+use Rattle.xlsx_stylesheet.specs.StyleSheet.{cell_formats_in, end_in_styles}
 use Rattle.xlsx_workbook.specs.KeptContents.{pair_of, sheet_of_entry}
-use Rattle.xlsx_workbook.specs.Paths.{folder_of, workbook_part, strings_part, theme_part}
+use Rattle.xlsx_workbook.specs.Paths.{folder_of, workbook_part, theme_part}
 use Rattle.xlsx_workbook.specs.Paths.{styles_part}
 use Rattle.xlsx_workbook.specs.Relationships.{Related, IsPathRefused}
 use Rattle.xlsx_workbook.specs.Sheets.{PlacedSheet}
@@ -28,10 +26,10 @@ use Rattle.xlsx_workbook.specs.declared.workbook.WorkbookContents.{WorkbookConte
 use Rattle.xlsx_open.specs.Opening.{Opening, HoldsOpening, ListedSheet, listed_sheet, without_path}
 use Rattle.xlsx_open.specs.Opening.{HasPath, HasRelationships, HasWorkbook, HasNothing, IsOpening}
 use Rattle.xlsx_open.specs.Opening.{OpensAs}
-use Rattle.xlsx_open.specs.Opening.{OpeningFails, WorkbookCause, WorkbookOpens, WorkbookFails}
-use Rattle.xlsx_open.specs.Opening.{OpensPackage, FailsToOpen, BookCause, BookOpens, BookFails}
+use Rattle.xlsx_open.specs.Opening.{OpeningFails, WorkbookOpens, WorkbookFails}
+use Rattle.xlsx_open.specs.Opening.{OpensPackage, BookCause, BookOpens, BookFails}
 use Rattle.xlsx_open.specs.Opening.{epoch_or_1900, book_events}
-use Rattle.xlsx_open.specs.SharedParts.{SharedSaid, shared_said, HasShared, SharedFails}
+use Rattle.xlsx_open.specs.SharedParts.{SharedSaid, shared_said, SharedFails}
 use Rattle.xlsx_open.specs.declared.shared_parts.SharedParts.{SharedParts}
 
 -- one call behind another

@@ -1,6 +1,6 @@
 -- How the elements of a string, and the strings of their section, are read one by one.
 use Rattle.std.proofs.Common.{◌≡◌, ℕ, List, [], ◌∷◌, ◌++◌, Bool, true, false, Some, Result, Ok, Err}
-use Rattle.std.proofs.Common.{refl, sym, ◌∙◌, ap, subst, codes, append_assoc, append-nil, length}
+use Rattle.std.proofs.Common.{refl, sym, ◌∙◌, ap, subst, codes, append_assoc, length}
 use Rattle.std.specs.Prelude.{◌||◌, if◌then◌else◌, IfErr}
 use Rattle.std.specs.List.{flat_map}
 use Rattle.std.specs.Str.{bytes_eq}

@@ -1,5 +1,5 @@
 -- The text of a string element, and the shared strings of a workbook.
-use Rattle.std.specs.Prelude.{◌≡◌, ℕ, ◌-◌, List, [], ◌∷◌, ◌++◌, take, drop, length, Bool, true}
+use Rattle.std.specs.Prelude.{◌≡◌, ℕ, ◌-◌, List, [], ◌∷◌, take, drop, length, Bool, true}
 use Rattle.std.specs.Prelude.{false, ◌==◌, ◌||◌, if◌then◌else◌, codes, Option, Some, None, Result}
 use Rattle.std.specs.Prelude.{Ok, Err, IsSomeAnd, MatchOption, ◌⊎◌, ⊤}
 use Rattle.std.specs.List.{prefix_len, suffix_len, flat_map}

@@ -6,8 +6,8 @@ use Rattle.std.proofs.lemmas.Bool.{cases_Bool}
 use Rattle.std.proofs.lemmas.Result.{MatchResult-weaker}
 use Rattle.part_events.specs.Event.{Tag, Event, start}
 use Rattle.part_events.specs.Reading.{Reading, IsReading, ReadsOn, Skips, ahead}
-use Rattle.part_events.specs.Section.{Element, content, outermost}
-use Rattle.part_events.specs.Walk.{section_ahead, element_at, ClosesSection}
+use Rattle.part_events.specs.Section.{content, outermost}
+use Rattle.part_events.specs.Walk.{section_ahead, element_at}
 use Rattle.xlsx_error.specs.declared.error.XlsxError.{XlsxError}
 use Rattle.cell_styles.specs.declared.color.Color.{Color}
 use Rattle.xlsx_sections.specs.Answers.{prepended}

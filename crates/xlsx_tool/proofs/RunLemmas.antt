@@ -2,7 +2,7 @@
 use Rattle.std.proofs.Common.{◌≡◌, ℕ, List, ◌++◌, length, take, drop, refl, sym, ◌∙◌, ap}
 use Rattle.std.proofs.Common.{subst, append_assoc}
 use Rattle.std.proofs.Common.{true≢false, true, arith, Option, Some, None}
-use Rattle.std.specs.Prelude.{◌≢◌, Result, Ok, Err, IfOk, IfErr, OnOk}
+use Rattle.std.specs.Prelude.{◌≢◌, Result, Ok, Err, IfErr, OnOk}
 use Rattle.std.proofs.lemmas.List.{take-append-drop, length-append}
 use Rattle.part_events.specs.Memory.{Contents, state_of}
 use Rattle.part_events.specs.Package.{Part}
@@ -11,13 +11,11 @@ use Rattle.cell_data.specs.CellValue.{CellValue}
 use Rattle.cell_styles.specs.StyleMap.{StyleMap}
 use Rattle.xlsx_error.specs.declared.error.XlsxError.{XlsxError}
 use Rattle.xlsx_error.specs.declared.error.XlsxError.TheVariants as workbook
-use Rattle.xlsx_tool.specs.Input.{InputRead, InputFails}
+use Rattle.xlsx_tool.specs.Input.{InputRead}
 use Rattle.package_text.specs.PackageText.{package_in}
 use Rattle.xlsx_tool.specs.Run.{Streams, sheet_asked, Spells, Succeeds, HasPackageCause}
 use Rattle.xlsx_tool.specs.Run.{ReadingFails, Refuses}
-use Rattle.xlsx_tool.specs.Run.{AnswersExactly, NoPackage, AreLinesOf, LinesFail, LinesRead, IsSent}
-use Rattle.xlsx_tool.specs.Run.{SendFails}
-use Rattle.xlsx_tool.specs.Sink.{SinkState}
+use Rattle.xlsx_tool.specs.Run.{AnswersExactly, LinesFail}
 use Rattle.xlsx_tool.specs.Source.{SourceState}
 use Rattle.xlsx_tool.specs.Status.{of_workbook}
 use Rattle.xlsx_tool.specs.declared.error.ToolError.{ToolError}
