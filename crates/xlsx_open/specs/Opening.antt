@@ -4,7 +4,7 @@ use Rattle.std.specs.Prelude.{Some, map, unwrap_or, Result, Ok, Err, IsSomeAnd}
 use Rattle.std.specs.Prelude.{MatchOption, MatchResult, string_bytes, String}
 use Rattle.std.specs.declared.alloc.Global.{Global}
 use Rattle.part_events.specs.Event.{Event}
-use Rattle.part_events.specs.Package.{Part, PackageState, HasCause, KeepsFaults, SameParts, part_of}
+use Rattle.part_events.specs.Package.{Part, PackageState, KeepsFaults, SameParts, part_of}
 use Rattle.part_events.specs.Package.{event_count}
 use Rattle.part_events.specs.declared.fault.XmlFault.TheVariants.{EndMismatch, Entity}
 use Rattle.xlsx_error.specs.declared.error.XlsxError.{XlsxError}
@@ -12,6 +12,7 @@ use Rattle.xlsx_error.specs.declared.error.XlsxError.TheVariants.{OutOfMemory, I
 use Rattle.xlsx_error.specs.declared.error.XlsxError.TheVariants.{XmlAttr, XmlEof, FileNotFound}
 use Rattle.xlsx_error.specs.declared.error.XlsxError.TheVariants.{RelationshipNotFound}
 use Rattle.xlsx_error.specs.declared.error.XlsxError.TheVariants.{Unrecognized}
+use Rattle.xlsx_sections.specs.Failing.{FailsBy}
 use Rattle.xlsx_sections.specs.PartSection.{always, closed_section_of, PartCause, OptionalPartCause}
 use Rattle.xlsx_sections.specs.Refusal.{Refusal}
 use Rattle.xlsx_stylesheet.specs.StylesErrors.{IsStylesEnd}
@@ -166,9 +167,7 @@ IsOpeningError _ = ⊥
 
 -- when opening is refused
 abbrev pub OpeningFails : PackageState → PackageState → XlsxError → Type 0
-OpeningFails old new Io = HasCause old new
-OpeningFails old new OutOfMemory = ⊤
-OpeningFails old new error = old.is_told ≡ true → OpeningCause old.parts error
+OpeningFails old new error = FailsBy (OpeningCause old.parts) old new error
 
 -- how many events the parts have that lead to a workbook at this path, and its own
 abbrev pub workbook_events : List Part → List ℕ → ℕ
@@ -210,9 +209,7 @@ WorkbookOpens parts path opening =
     × HasRelationships parts path related × HasWorkbook parts path related opening
 
 abbrev pub WorkbookFails : List ℕ → PackageState → PackageState → XlsxError → Type 0
-WorkbookFails path old new Io = HasCause old new
-WorkbookFails path old new OutOfMemory = ⊤
-WorkbookFails path old new error = old.is_told ≡ true → WorkbookCause old.parts path error
+WorkbookFails path old new error = FailsBy (WorkbookCause old.parts path) old new error
 
 -- the workbook at this path opens, with what its sheets share
 abbrev pub BookOpens : List Part → List ℕ → Opening → Type 0
@@ -220,6 +217,4 @@ BookOpens parts path opening =
     HasShared parts path opening.shared × WorkbookOpens parts path opening
 
 abbrev pub BookFails : List ℕ → PackageState → PackageState → XlsxError → Type 0
-BookFails path old new Io = HasCause old new
-BookFails path old new OutOfMemory = ⊤
-BookFails path old new error = old.is_told ≡ true → BookCause old.parts path error
+BookFails path old new error = FailsBy (BookCause old.parts path) old new error

@@ -1,10 +1,10 @@
 -- What the sheets of a workbook share: its strings, its theme and its styles.
-use Rattle.std.specs.Prelude.{◌≡◌, ◌⊎◌, ⊤, ℕ, ◌+◌, List, map, Bool, true, codes, string_bytes}
-use Rattle.part_events.specs.Package.{Part, PackageState, HasCause, part_of, event_count}
+use Rattle.std.specs.Prelude.{◌≡◌, ◌⊎◌, ℕ, ◌+◌, List, map, Bool, true, codes, string_bytes}
+use Rattle.part_events.specs.Package.{Part, PackageState, part_of, event_count}
 use Rattle.xlsx_error.specs.declared.error.XlsxError.{XlsxError}
-use Rattle.xlsx_error.specs.declared.error.XlsxError.TheVariants.{OutOfMemory, Io}
 use Rattle.cell_data.specs.declared.format.CellFormat.{CellFormat}
 use Rattle.xlsx_sections.specs.Elements.{IsInsideRefused}
+use Rattle.xlsx_sections.specs.Failing.{FailsBy}
 use Rattle.xlsx_sections.specs.PartSection.{OptionalPartCause}
 use Rattle.xlsx_formats.specs.Formattings.{StyleSaid, style_said}
 use Rattle.xlsx_theme.specs.ThemePart.{theme_colors, is_theme_default}
@@ -57,9 +57,7 @@ SharedCause parts path error = StringsCause parts path error ⊎ StylesCause par
 
 -- when its reading is refused
 abbrev pub SharedFails : List ℕ → PackageState → PackageState → XlsxError → Type 0
-SharedFails path old new Io = HasCause old new
-SharedFails path old new OutOfMemory = ⊤
-SharedFails path old new error = old.is_told ≡ true → SharedCause old.parts path error
+SharedFails path old new error = FailsBy (SharedCause old.parts path) old new error
 
 -- how many events its parts have
 abbrev pub shared_events : List Part → List ℕ → ℕ

@@ -2,7 +2,8 @@ ghost use Rattle.std.specs.Prelude.{◌≡◌, codes, map, string_bytes, true, I
 ghost use Rattle.part_events.specs.Package.{Uses, event_count};
 ghost use Rattle.xlsx_error.specs.declared.error.XlsxError.TheVariants.{Io};
 ghost use Rattle.xlsx_sections.specs.Elements.{IsInsideRefused};
-ghost use Rattle.xlsx_sections.specs.PartSection.{OptionalPartFails, SoundFails};
+ghost use Rattle.xlsx_sections.specs.Failing.{SoundFails};
+ghost use Rattle.xlsx_sections.specs.PartSection.{OptionalPartFails};
 ghost use Rattle.xlsx_formats.specs.Formattings.{style_said};
 ghost use Rattle.xlsx_theme.specs.ThemePart.{HasTheme};
 ghost use Rattle.xlsx_stylesheet.specs.StyleSheet.{cell_formats_in, end_in_styles, HasStyles};

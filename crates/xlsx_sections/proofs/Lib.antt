@@ -1,4 +1,5 @@
 pub mod ElementsRead
+pub mod Failing
 pub mod Kept
 pub mod ListsRead
 pub mod NumbersRead

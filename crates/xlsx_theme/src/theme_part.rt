@@ -3,10 +3,10 @@ ghost use Rattle.part_events.specs.Package.{Uses, event_count};
 ghost use Rattle.part_events.specs.Reader.{reading_by, SamePackage};
 ghost use Rattle.part_events.specs.Reading.{reading, IsReading, ReadsPart, ahead, events_of};
 ghost use Rattle.xlsx_error.specs.declared.error.XlsxError.TheVariants.{Io};
-ghost use Rattle.xlsx_sections.specs.PartSection.{SoundFails};
 ghost use Rattle.xlsx_theme.specs.ColorScheme.{numbered_colors, IsSchemeError};
 ghost use Rattle.xlsx_theme.specs.ThemePart.{IsThemeOf, IsTheme, HasTheme, SaysTheme};
 ghost use Rattle.xlsx_theme.specs.ThemePart.{behind_scheme, ReadThemeFails};
+ghost use Rattle.xlsx_sections.specs.Failing.{SoundFails};
 
 use crate::color_scheme::{numbered, read_slots};
 use cell_styles::Color;

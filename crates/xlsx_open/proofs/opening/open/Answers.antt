@@ -52,6 +52,6 @@ returns-clause-err g c =
     let path = string_bytes c.in_ok-path.path in
     let uses = c.in_ok-path.ensures.uses in
     IfErr-weaker c.open_at.result (BookFails c.as_str.result.now mid new) (OpeningFails old new)
-    (λ e fails. book_fails old mid new path e uses.parts uses.faults c.in_ok-path.ensures.path
+    (λ e fails. book_fails old mid new path e uses.parts c.in_ok-path.ensures.path
     (subst (λ (own : List ℕ). BookFails own mid new e) c.as_str.ensures.value fails))
     c.open_at.ensures.err

@@ -4,7 +4,8 @@ use Rattle.part_events.specs.Reading.{reading}
 use Rattle.part_events.specs.Walk.{section_ahead, is_closed_ahead}
 use Rattle.xlsx_error.specs.declared.error.XlsxError.TheVariants.{RelationshipNotFound}
 use Rattle.xlsx_sections.specs.PartSection.{always, SectionFails}
-use Rattle.xlsx_sections.proofs.Refused.{part_refused, required_part_refused, refused_as}
+use Rattle.xlsx_sections.proofs.Failing.{part_refused, required_part_refused}
+use Rattle.xlsx_sections.proofs.Refused.{refused_as}
 use Rattle.xlsx_workbook.specs.Relationships.{path_in, IsTargetRefused, IsPathRefused}
 use Rattle.xlsx_workbook.proofs.relationship_parts.read_path.Goals as goal
 
@@ -25,7 +26,7 @@ returns-in_err-path-clause-err g c =
     (required_part_refused name c.args.part.now old new.source (always name) IsPathRefused e
     (part_refused (always name) IsPathRefused new e enters
     (refused_as (length mid.names) mid (always name) IsTargetRefused IsPathRefused new e
-    enters.reading (omega arith) (λ refusal refuses. inl refuses) here)))
+    (λ refusal refuses. inl refuses) here)))
 
 pub returns-clause-err : goal.returns-clause-err
 unfolding IsPathRefused

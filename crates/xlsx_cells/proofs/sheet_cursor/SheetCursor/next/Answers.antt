@@ -30,7 +30,6 @@ returns-in_err-pos-clause-err g c =
     let p = err_from_is_err_and c.from_residual.result c.from_residual.ensures.1 in
     let cause = refused_as own.base old (end_in_data wants) (IsStepRefused IsMisplaced own.counters)
     (IsStepRefused (IsCellRefused wants grounds) own.counters) new c.in_err-pos.field-0.0
-    c.requires.reading c.requires.within
     (λ refusal is before kept. misplaced_cell wants grounds before (marks_left own.base old) refusal
     (is before kept)) (c.in_err-pos.ensures.err (end_in_cell wants)) in
     rw (p.1, p.2) (cause, c.in_err-pos.ensures.cut)
