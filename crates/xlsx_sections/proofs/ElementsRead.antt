@@ -10,7 +10,8 @@ use Rattle.part_events.specs.Reading.{Reading, IsReading, ReadsOn, Skips, IsAtEn
 use Rattle.part_events.specs.Reading.{events_of}
 use Rattle.part_events.specs.Section.{Element, content, is_closed, behind, outermost, unclosed}
 use Rattle.part_events.specs.Walk.{inside, element_at, section_ahead, section_behind}
-use Rattle.part_events.specs.Walk.{is_closed_ahead, behind_section, IsNextElement}
+use Rattle.part_events.specs.Walk.{is_closed_ahead, behind_section, IsNextElement, StandsAt, FindsElement}
+use Rattle.part_events.specs.declared.walk.Step.TheVariants.{Found}
 use Rattle.part_events.proofs.Nested.{whole_split}
 use Rattle.part_events.proofs.Onward.{reads_nothing}
 use Rattle.part_events.proofs.Sections.{GoesOnBehind, goes_on_behind}
@@ -20,6 +21,8 @@ use Rattle.xlsx_sections.specs.Elements.{end_among}
 use Rattle.xlsx_sections.specs.PartSection.{Ending, Refusing, KeepsSection, SectionFails, StandsAtStart}
 use Rattle.xlsx_sections.specs.PartSection.{Never, section_left, last_of, has_end, inside_of}
 use Rattle.xlsx_sections.specs.Refusal.{Refusal, further, events_behind}
+pub use Rattle.xlsx_sections.specs.Steps.{IsElementFound}
+use Rattle.xlsx_sections.specs.Steps.{StepsToElement}
 use Rattle.xlsx_sections.proofs.Refused.{refused_in, refused_later}
 use Rattle.xlsx_sections.proofs.SectionsRead.{section_further, start_there}
 
@@ -102,18 +105,6 @@ keeps_none wanted base first is within = record {
   behind = λ _. refl;
 }
 
--- a wanted element of a section was found, whose start is event number `place` of its part
-pub record IsElementFound
-    (wanted : Tag → Bool) (base : ℕ) (tag : Tag) (place : ℕ) (first old new : Reading) : Type 0
-  where
-    pub before : KeepsElements wanted base first old
-    pub read : KeepsSection base first new
-    pub next : first.source.is_told ≡ true → IsNextElement wanted base tag old new
-    pub deep : base < length new.names
-    pub there :
-        first.source.is_told ≡ true →
-        place + suc (length (section_ahead base new)) ≡ last_of (section_left base first)
-
 -- how the section goes on behind the element at whose start a reader stands
 goes_on : (base : ℕ) (new : Reading) → base < length new.names
     → GoesOnBehind 0 (inside base new - 1) (inside base new) (ahead new)
@@ -144,6 +135,19 @@ element_found {base = base} {place = place} {tag = tag} {first = first} {old = o
       deep = stands.1;
       there = λ told. omega (arith, stands.3, here.last told);
     }
+
+-- a step to the next wanted element found one
+pub element_step_found : {base at : ℕ} {old new : Reading} (wanted : Tag → Bool) → suc at ≡ new.at
+    → ReadsOn old new → StandsAt wanted base Found old new
+    → (old.source.is_told ≡ true → FindsElement wanted base Found old new) → (first : Reading)
+    → KeepsElements wanted base first old → StepsToElement wanted base (Some at) first old new
+element_step_found {base = base} {at = at} {old = old} {new =
+    new} wanted place reads stands finds first before =
+    let own = start_there new.source.current (λ (tag : Tag). wanted tag ≡ true) stands.2 in
+    subst (λ (event : Event). IsStartAnd event
+    (λ tag. IsElementFound wanted base tag at first old new)) own.1
+    (element_found wanted own.1 before reads
+    (stands.0, stands.1, stands.2, place, omega (arith, stands.3, place)) finds)
 
 -- the wanted element at whose start a step stands
 pub element_there : {base place : ℕ} {first old new : Reading} {wanted : Tag → Bool}

@@ -20,6 +20,7 @@ use Rattle.part_events.proofs.Walking.{takes_inside}
 use Rattle.xlsx_sections.specs.PartSection.{PartSection, KeepsSection, EntersSection, section_left}
 use Rattle.xlsx_sections.specs.PartSection.{section_from, section_in, last_of}
 use Rattle.xlsx_sections.specs.PartSection.{StandsAtEvent, FindsEvent, StandsAtStart, FindsStartIn}
+use Rattle.xlsx_sections.specs.Steps.{IsEventInside}
 
 -- an event is the start of one tag
 pub same_tag : {first second : Tag} → start first ≡ start second → first ≡ second
@@ -58,21 +59,7 @@ section_taken {base = base} {old = old} {new = new} before reads takes is steps 
     (λ told. let taken = takes_inside base old new takes (steps told) before.within is in
     (sym taken.closed, sym taken.ends))
 
--- an event of a section was taken, which is number `place` of its part
-pub record IsEventInside (base : ℕ) (event : Event) (place : ℕ) (first old new : Reading) : Type 0
-  where
-    pub read : KeepsSection base first new
-    pub current : event ≡ new.source.current
-    pub was : base ≤ length old.names
-    pub takes : TakesEvent old new
-    pub steps : first.source.is_told ≡ true → StepsAhead true old new
-    pub left : first.source.is_told ≡ true → section_ahead base old ≡ event ∷ section_ahead base new
-    pub behind : first.source.is_told ≡ true → behind_section base old ≡ behind_section base new
-    pub ends : first.source.is_told ≡ true → section_end base old ≡ section_end base new
-    pub there :
-        first.source.is_told ≡ true →
-        place + suc (length (section_ahead base new)) ≡ last_of (section_left base first)
-
+-- an event of a section was taken
 pub event_inside : {base place : ℕ} {event : Event} {first old new : Reading} → event
     ≡ new.source.current → KeepsSection base first old → ReadsOn old new
     → StandsAtEvent base (Some place) old new
@@ -103,7 +90,7 @@ event_inside {base = base} {place = place} {event = event} {first = first} {old 
     }
 
 -- a wanted start of a section was found, which is event number `place` of its part
-pub record IsStartFound (wanted : Tag
+pub record IsStartRead (wanted : Tag
     → Bool) (base : ℕ) (tag : Tag) (place : ℕ) (first old new : Reading) : Type 0 where
   pub read : KeepsSection base first new
   pub starts :
@@ -119,7 +106,7 @@ pub start_found : {base place : ℕ} {tag : Tag} {first old new : Reading} (want
     → start tag ≡ new.source.current → KeepsSection base first old → ReadsOn old new
     → StandsAtStart wanted base (Some place) old new
     → (old.source.is_told ≡ true → FindsStartIn wanted base (Some place) old new)
-    → IsStartFound wanted base tag place first old new
+    → IsStartRead wanted base tag place first old new
 start_found {base = base} {place = place} {tag = tag} {first = first} {old = old} {new =
     new} wanted current before reads stands finds =
     let next : old.source.is_told ≡ true → IsNextStart wanted base tag old new = λ told.

@@ -7,3 +7,4 @@ pub mod Failing
 pub mod NumberText
 pub mod PartSection
 pub mod Refusal
+pub mod Steps
