@@ -7,4 +7,5 @@ pub mod Refused
 pub mod SectionsRead
 pub mod Sound
 pub mod StartsRead
+pub mod StartsSaid
 pub mod TextsRead
