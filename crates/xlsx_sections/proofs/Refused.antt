@@ -15,7 +15,8 @@ use Rattle.xlsx_sections.specs.Refusal.{Refusal, PlainRefusal, RefusedAs, Refuse
 use Rattle.xlsx_sections.specs.Refusal.{no_character, plain, plain_told}
 use Rattle.xlsx_sections.proofs.Failing.{fails_by_weaker, same_parts}
 
-told_weaker : {before after : PlainRefusal → Type 0} (told : Option PlainRefusal)
+-- a plain refusal of which an error tells
+pub told_weaker : {before after : PlainRefusal → Type 0} (told : Option PlainRefusal)
     → ((own : PlainRefusal) → after own → before own) → IsSomeAnd told after → IsSomeAnd told before
 told_weaker None weaker refuses = refuses
 told_weaker (Some own) weaker refuses = weaker own refuses

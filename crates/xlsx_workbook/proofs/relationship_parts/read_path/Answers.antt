@@ -19,7 +19,8 @@ returns-in_err-path-clause-err g c =
     let e = c.in_err-path.field-0.0 in
     let enters = rw c.in-Some.is at c.in_ok-cursor.ensures.enters in
     let here : SectionFails (always name) IsTargetRefused (length mid.names) mid new e =
-    rw (← c.depth-base.ensures) c.in_err-path.ensures.err in
+    subst (λ (n : ℕ). SectionFails (always name) IsTargetRefused n mid new e) c.depth-base.ensures
+    c.in_err-path.ensures.err in
     let p = err_from_is_err_and c.from_residual-in_err-path.result
     c.from_residual-in_err-path.ensures.1 in
     rw (p.1, p.2)

@@ -8,7 +8,7 @@ use Rattle.part_events.specs.Section.{content}
 use Rattle.part_events.specs.Walk.{inside, section_ahead, TakesLastEnd}
 use Rattle.part_events.proofs.Sections.{goes_on_behind}
 use Rattle.part_events.proofs.Walking.{takes_inside, no_start}
-use Rattle.xlsx_sections.specs.PartSection.{always, Never, StandsAtEvent}
+use Rattle.xlsx_sections.specs.PartSection.{always, Never, StandsAtEvent, section_left}
 use Rattle.xlsx_sections.specs.Refusal.{Refusal}
 use Rattle.xlsx_sections.proofs.Refused.{event_refused, refused_in}
 use Rattle.xlsx_sections.proofs.SectionsRead.{event_inside, section_taken}
