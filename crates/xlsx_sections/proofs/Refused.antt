@@ -57,17 +57,26 @@ refused_at_weaker at behind before after OutOfMemory weaker refuses = tt
 refused_at_weaker at behind before after error weaker refuses =
     refused_weaker (at + suc behind) (at + suc behind) before after error weaker refl refuses
 
--- where no element is refused, no error tells of one
-none_told : {refused : PlainRefusal → Type 0} (told : Option PlainRefusal)
-    → ((own : PlainRefusal) → refused own → ⊥) → IsSomeAnd told refused → ⊥
-none_told None never cause = cause
-none_told (Some own) never cause = never own cause
+plain_refusal : {refused : PlainRefusal → Type 0} (told : Option PlainRefusal)
+    → IsSomeAnd told refused → (own : PlainRefusal) × refused own
+plain_refusal None cause = absurd cause
+plain_refusal (Some own) cause = (own, cause)
+
+-- an error tells of some refusal, and of none where there is none
+pub some_refusal : (last : ℕ) (refused : Refusal → Type 0) (error : XlsxError)
+    → RefusedAs last refused error → (refusal : Refusal) × refused refusal
+some_refusal last refused (Xml (Entity at)) (behind, place, refuses) =
+    (no_character behind, refuses)
+some_refusal last refused error cause =
+    let own = plain_refusal {refused = λ plain_one. refused (plain plain_one)} (plain_told error) cause
+    in
+    (plain own.0, own.1)
 
 pub never_refused : (last : ℕ) (refused : Refusal → Type 0) (error : XlsxError)
     → ((refusal : Refusal) → refused refusal → ⊥) → RefusedAs last refused error → ⊥
-never_refused last refused (Xml (Entity at)) never cause = never _ cause.2
 never_refused last refused error never cause =
-    none_told (plain_told error) (λ own. never (plain own)) cause
+    let some = some_refusal last refused error cause in
+    never some.0 some.1
 
 -- a section, or what is left of one, lies in another, `more` events of which stand behind it, and
 -- is refused only where that one is

@@ -172,6 +172,15 @@ first_section_left name opened entered fresh tracked same found =
     ∙ ap (option_map (section_from (events_of entered))) found
     ∙ ap (λ (s : PartSection). Some s) there
 
+-- the part that was opened
+pub part_opened : {path : List ℕ} {found : Bool} {old : PackageState} → found ≡ true
+    → (opened : Reading) → Opens path found old opened.source
+    → part_of old.parts path ≡ Some (events_of opened)
+part_opened is opened opens =
+    let here = rw is at opens in
+    here.part ∙ ap (λ (past : List Event). Some (reverse past ++ opened.source.rest))
+    (sym here.past)
+
 -- the part was opened, and read on behind the start of its first section of this name
 pub section_entered : {name path : List ℕ} {found : Bool} {old : PackageState}
     {opened entered : Reading} → found ≡ true → SameParts old opened.source
@@ -185,8 +194,7 @@ section_entered {name = name} {path = path} {old = old} {opened = opened} {enter
     let opening : old.is_told ≡ true → Opens path true old opened.source =
     λ told. rw is at (opens told) in
     let there : old.is_told ≡ true → part_of old.parts path ≡ Some (events_of opened) = λ told.
-    (opening told).part ∙ ap (λ (past : List Event). Some (reverse past ++ opened.source.rest))
-    (sym (opening told).past)
+    part_opened is opened (opens told)
     in
     record {
       reading = reads.stays.reading;
