@@ -102,12 +102,13 @@ class Documents(unittest.TestCase):
         clauses = self.clauses()
         for cells in rows_of(TOP / "docs" / "PROMISES.md"):
             cell = cells[1] if len(cells) > 1 else ""
-            names = QUOTED.findall(re.sub(r"\([^()]*\)", "", cell))
+            spoken = re.sub(r"\([^()]*\)|ghost fields? (?:`\w+`(?:, | and )?)+", "", cell)
+            names = QUOTED.findall(spoken)
             calls = [name.split("::")[-1].rstrip("!") for name in names]
             of_calls = {label for call in calls for label in clauses.get(call, ())}
             labels = {name for name in names if name not in clauses} & set().union(*clauses.values())
             # A cell that names a type alone speaks of all its calls.
-            if of_calls and not re.search("the calls of|every call", cell):
+            if of_calls and not re.search("the calls of|every call|^these", cell):
                 self.assertEqual(labels - of_calls, set(), cell)
 
     def exported(self, crate):
