@@ -7,20 +7,22 @@ use Rattle.xlsx_theme.proofs.theme_part.read_theme.Goals as goal
 
 pub returns-in-Err-Xml-clause-theme : goal.returns-in-Err-Xml-clause-theme
 returns-in-Err-Xml-clause-theme g c = λ told.
+    let fails = rw c.in-Err-Xml.field-0-is at c.in-Err-Xml.ensures.err in
     let old = g.P.Package.state c.args.package.now in
     let opened = reading (g.P.Package.state c.open.new.self) c.new-cursor.result in
     faulty_theme old.parts c.args.path.now (events_of opened) (Xml c.in-Err-Xml.field-0-0)
     c.in_ok-default_theme-in-Err-Xml.field-0
     (part_opened c.if-not-branch.false opened (c.in_ok-open.ensures.opens told))
-    (c.in-Err-Xml.ensures.err (c.open.ensures.keeps.is_told ∙ told))
+    (fails (c.open.ensures.keeps.is_told ∙ told))
     c.in_ok-default_theme-in-Err-Xml.ensures.theme
 
 pub returns-in-Err-XmlAttr-clause-theme : goal.returns-in-Err-XmlAttr-clause-theme
 returns-in-Err-XmlAttr-clause-theme g c = λ told.
+    let fails = rw c.in-Err-XmlAttr.field-0-is at c.in-Err-XmlAttr.ensures.err in
     let old = g.P.Package.state c.args.package.now in
     let opened = reading (g.P.Package.state c.open.new.self) c.new-cursor.result in
     faulty_theme old.parts c.args.path.now (events_of opened) (XmlAttr c.in-Err-XmlAttr.field-0-0)
     c.in_ok-default_theme-in-Err-XmlAttr.field-0
     (part_opened c.if-not-branch.false opened (c.in_ok-open.ensures.opens told))
-    (c.in-Err-XmlAttr.ensures.err (c.open.ensures.keeps.is_told ∙ told))
+    (fails (c.open.ensures.keeps.is_told ∙ told))
     c.in_ok-default_theme-in-Err-XmlAttr.ensures.theme
