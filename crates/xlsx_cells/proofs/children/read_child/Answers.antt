@@ -1,4 +1,4 @@
-use Rattle.std.proofs.Common.{◌≡◌, length, refl, inr, sym, subst, ◌∙◌}
+use Rattle.std.proofs.Common.{◌≡◌, length, sym, subst, ◌∙◌}
 use Rattle.part_events.specs.Event.{Tag, tag_of}
 use Rattle.part_events.specs.Reading.{reading}
 use Rattle.xlsx_sections.specs.PartSection.{section_left}
@@ -16,9 +16,6 @@ returns-in-Stray-clause-err g c = λ element stands told.
     same_tag (c.start_tag.ensures ∙ sym stands.tag) in
     let named : IsNamedAs Stray element.tag =
     subst (λ (tag : Tag). IsNamedAs Stray tag) same (rw c.in-Stray.is at c.child_name.ensures) in
-    inr (
-      refl,
-      stray_refused c.args.asked.wants (grounds_of c.args.asked.book)
-          c.args.start.now.format (kind_of c.args.start.now.typ) element.tag
-          (section_left (length old.names) old) named c.requires.wanted,
-    )
+    stray_refused c.args.asked.wants (grounds_of c.args.asked.book) c.args.start.now.format
+    (kind_of c.args.start.now.typ) element.tag (section_left (length old.names) old) named
+    c.requires.wanted
