@@ -102,26 +102,25 @@ pub changed_further : {A : Type 0} {wanted : Tag → Bool} {meaning : List Event
     (change : PlacedTag → A → Result A Refusal)
     → KeepsSaid wanted (changes_behind change) meaning base kept first old
     → IsStartFound wanted base tag place first old new
-    → change (placed_at tag (length (section_ahead base new))) kept ≡ Ok next
+    → ((behind : ℕ) → change (placed_at tag behind) kept ≡ Ok next)
     → KeepsSaid wanted (changes_behind change) meaning base next first new
 changed_further change list found is =
     said_further (changes_behind change) list found
-    (λ rest. sym (ap (changed_by (all_changes change rest)) is))
+    (λ rest. sym (ap (changed_by (all_changes change rest)) (is _)))
 
 pub changed_refused : {A : Type 0} {wanted : Tag → Bool} {meaning : List Event → Result A Refusal}
     {base place : ℕ} {kept : A} {tag : Tag} {first old new : Reading} (ending : Ending)
     (change : PlacedTag → A → Result A Refusal) (last : PackageState) (error : XlsxError)
     → KeepsSaid wanted (changes_behind change) meaning base kept first old
     → IsStartFound wanted base tag place first old new
-    → ElementFails (change (placed_at tag (length (section_ahead base new))) kept) place
-    (length (section_ahead base new)) error
+    → ((behind : ℕ) → ElementFails (change (placed_at tag behind) kept) place behind error)
     → FailsFrom ending (IsInsideRefused meaning) base first last error
 changed_refused {base = base} {kept = kept} {tag = tag} {new = new} ending change last error list
     found fails =
-    said_refused ending
-    (λ (refusal : Refusal). change (placed_at tag (length (section_ahead base new))) kept
-    ≡ Err refusal) (changes_behind change) last error list found
-    (λ rest refusal is. ap (changed_by (all_changes change rest)) is) fails
+    let behind = length (section_ahead base new) in
+    said_refused ending (λ (refusal : Refusal). change (placed_at tag behind) kept ≡ Err refusal)
+    (changes_behind change) last error list found
+    (λ rest refusal is. ap (changed_by (all_changes change rest)) is) (fails behind)
 
 -- what the last of some starts gives that gives something, or else one before them
 abbrev pub last_behind : {A : Type 0} → (PlacedTag → Result (Option A) Refusal) → Option A

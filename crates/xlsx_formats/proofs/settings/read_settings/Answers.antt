@@ -26,7 +26,7 @@ starts-preserved g c =
     (rw c.in-Some.is at (c.in_ok-_at.ensures.step old c.starts.invariant.said.keeps)) in
     record {
       said = changed_further setting_change c.starts.invariant.said found
-          (c.in_ok-change_setting.ensures _);
+          c.in_ok-change_setting.ensures;
       own = c.starts.invariant.own;
     }
 
@@ -43,4 +43,4 @@ returns-in_err-change_setting-clause-err g c =
     (own_refused old (always (codes "xf")) (IsInsideRefused settings_of) new error
     c.starts.invariant.own
     (changed_refused (always (codes "xf")) setting_change new error c.starts.invariant.said found
-    (c.in_err-change_setting.ensures _)))
+    c.in_err-change_setting.ensures))

@@ -27,7 +27,7 @@ starts-preserved g c =
     (rw c.in-Some.is at (c.in_ok-_at.ensures.step old c.starts.invariant.said.keeps)) in
     record {
       said = changed_further (fill_change c.args.theme_colors.now) c.starts.invariant.said found
-          (ap or_fault c.in_ok-change_fill.ensures);
+          (λ _. ap or_fault c.in_ok-change_fill.ensures);
       own = c.starts.invariant.own;
     }
 
@@ -44,4 +44,4 @@ returns-in_err-change_fill-clause-err g c =
     (own_refused old (always (codes "fill")) (IsInsideRefused (fill_of c.args.theme_colors.now)) new
     error c.starts.invariant.own
     (changed_refused (always (codes "fill")) (fill_change c.args.theme_colors.now) new error
-    c.starts.invariant.said found (ap or_fault c.in_err-change_fill.ensures)))
+    c.starts.invariant.said found (λ _. ap or_fault c.in_err-change_fill.ensures)))

@@ -25,7 +25,7 @@ starts-preserved g c =
     (rw c.in-Some.is at (c.in_ok-at.ensures.step old c.starts.invariant.said.keeps)) in
     record {
       said = changed_further (font_change c.args.theme_colors.now) c.starts.invariant.said found
-          (c.in_ok-change_font.ensures.ok _);
+          c.in_ok-change_font.ensures.ok;
       own = c.starts.invariant.own;
     }
 
@@ -42,4 +42,4 @@ returns-in_err-change_font-clause-err g c =
     (own_refused old (always (codes "font")) (IsInsideRefused (font_of c.args.theme_colors.now)) new
     error c.starts.invariant.own
     (changed_refused (always (codes "font")) (font_change c.args.theme_colors.now) new error
-    c.starts.invariant.said found (c.in_err-change_font.ensures.err _)))
+    c.starts.invariant.said found c.in_err-change_font.ensures.err))
