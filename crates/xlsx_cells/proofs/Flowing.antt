@@ -1,7 +1,7 @@
 -- How a stream of cells goes on, and how the data that it reads are entered.
 use Rattle.std.proofs.Common.{◌≡◌, ◌∙◌, List, [], length, true, false, Option, Some, None}
 use Rattle.std.proofs.Common.{ℕ, Result, Ok, Err, refl, sym, subst, codes, arith}
-use Rattle.std.specs.Prelude.{IfOk}
+use Rattle.std.specs.Prelude.{IfOk, IfErr}
 use Rattle.std.specs.Prelude.{String}
 use Rattle.std.specs.declared.alloc.Global.{Global}
 use Rattle.cell_refs.specs.declared.dimensions.Dimensions.{Dimensions}
@@ -10,20 +10,48 @@ use Rattle.part_events.specs.Reading.{Reading, IsReading, ReadsOn, ahead, events
 use Rattle.part_events.specs.Section.{behind_start}
 use Rattle.cell_data.specs.declared.cell.Cell.{Cell}
 use Rattle.xlsx_error.specs.declared.error.XlsxError.{XlsxError}
+use Rattle.xlsx_error.specs.declared.error.XlsxError.TheVariants.{Failed}
 use Rattle.cell_data.specs.declared.value.DataRef.{DataRef}
 use Rattle.xlsx_sections.specs.PartSection.{section_left, section_in}
 use Rattle.xlsx_sections.proofs.SectionsRead.{ahead_at_first, first_section_left, nothing_past}
 use Rattle.xlsx_values.specs.Value.{Grounds}
 use Rattle.xlsx_formulas.specs.Formula.{FormulaText}
 use Rattle.xlsx_formulas.specs.Kept.{AreMasters}
-use Rattle.xlsx_cells.specs.CellsReader.{Flow, TakesFrom, EntersCells, IsValued}
+use Rattle.xlsx_cells.specs.CellErrors.{IsCellError, IsStyledError}
+use Rattle.xlsx_cells.specs.CellsReader.{Flow, FlowFails, TakesFrom, EntersCells, IsValued}
 use Rattle.xlsx_cells.specs.CellsReader.{IsFormula, values_alone, formulas_alone}
 use Rattle.xlsx_cells.specs.Counting.{AreKept}
 use Rattle.xlsx_cells.specs.Head.{is_sheet_data, AreDimensions}
 use Rattle.xlsx_cells.specs.Marks.{Mark}
-use Rattle.xlsx_cells.specs.Stream.{Stream, TakesNext, TakesCell, IsRead}
+use Rattle.xlsx_cells.specs.Stream.{Stream, TakesNext, TakesCell, IsRead, NextCellFails}
+use Rattle.xlsx_cells.specs.StyleSteps.{StyledStepFails, StyleIdFails}
 use Rattle.xlsx_cells.specs.declared.cell_read.CellRead.{CellRead}
 use Rattle.xlsx_cells.specs.declared.children.Wants.{Wants}
+
+abbrev stopped : Stream → Flow
+stopped stream = record { stream = stream; is_done = false; is_failed = true }
+
+-- a step of the cursor that is refused refuses the stream
+flow_refused : (wants : Wants) (grounds : Grounds) (old : Flow) (new : Stream) (error : XlsxError)
+    → old.is_failed ≡ false → old.is_done ≡ false → IsCellError error
+    → NextCellFails wants grounds old.stream new error
+    → FlowFails wants grounds old (stopped new) error
+flow_refused wants grounds old new Failed going left is fails = absurd is
+flow_refused wants grounds old new error going left is fails = (going, left, fails)
+
+pub flow_fails : {A : Type 0} (wants : Wants) (grounds : Grounds) (old : Flow) (new : Stream)
+    (result : Result A XlsxError) → old.is_failed ≡ false → old.is_done ≡ false
+    → IfErr result (NextCellFails wants grounds old.stream new)
+    → IfErr result IsCellError → IfErr result (FlowFails wants grounds old (stopped new))
+flow_fails wants grounds old new (Ok value) going left fails is = tt
+flow_fails wants grounds old new (Err error) going left fails is =
+    flow_refused wants grounds old new error going left is fails
+
+pub styled_fails : (count : ℕ) (old : Flow) (new : Stream) (error : XlsxError) → old.is_failed ≡ false
+    → old.is_done ≡ false → IsStyledError error
+    → StyledStepFails count old.stream new error → StyleIdFails count old (stopped new) error
+styled_fails count old new Failed going left is fails = absurd is
+styled_fails count old new error going left is fails = (going, left, fails)
 
 -- what a step of the cursor takes, the stream takes
 pub taken_from : (wants : Wants) (grounds : Grounds) (before : List Mark)
