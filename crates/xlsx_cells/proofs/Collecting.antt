@@ -1,7 +1,7 @@
 -- How the cells of a sheet's data are collected.
 use Rattle.std.proofs.Common.{◌≡◌, ℕ, List, [], ◌∷◌, ◌++◌, append-nil, Bool, true, false, Option}
 use Rattle.std.proofs.Common.{Result, Ok, Err, refl, sym, ◌∙◌, ap, subst, inl, inr, ◌⊎◌}
-use Rattle.std.proofs.Common.{string_bytes, codes}
+use Rattle.std.proofs.Common.{string_bytes, codes, map, String, Global}
 use Rattle.std.specs.Prelude.{if◌then◌else◌, filter}
 use Rattle.std.proofs.lemmas.List.Elements.{filter-append}
 use Rattle.part_events.specs.Event.{Tag}
@@ -10,6 +10,8 @@ use Rattle.part_events.specs.Section.{Element}
 use Rattle.part_events.specs.Walk.{section_ahead}
 use Rattle.xlsx_error.specs.declared.error.XlsxError.{XlsxError}
 use Rattle.cell_data.specs.CellValue.{CellValue, value_of_data_ref}
+use Rattle.cell_data.specs.declared.cell.Cell.{Cell}
+use Rattle.cell_data.specs.declared.value.Data.{Data}
 use Rattle.cell_styles.specs.StyleMap.{StyledCell, is_explicit}
 use Rattle.xlsx_sections.specs.Answers.{prepended}
 use Rattle.xlsx_sections.specs.Elements.{KeepsElements, end_outside}
@@ -29,12 +31,14 @@ use Rattle.xlsx_cells.specs.Sheet.{behind_row, answers_from, placed_value, place
 use Rattle.xlsx_cells.specs.Sheet.{values_in, formulas_written, formulas_along, is_nothing}
 use Rattle.xlsx_cells.specs.Sheet.{is_empty, used_values, used_formulas}
 use Rattle.xlsx_cells.specs.SheetPart.{IsMarkRefused, AreDataRefused, DataFails, HoldsValues}
-use Rattle.xlsx_cells.specs.SheetPart.{HoldsFormulas}
+use Rattle.xlsx_cells.specs.SheetPart.{HoldsFormulas, LackUnwanted, value_entry, value_entries}
+use Rattle.xlsx_cells.specs.SheetPart.{formula_entry, formula_entries}
 use Rattle.xlsx_cells.specs.Stream.{Stream, StandsBehind, IsCellRefused, IsRead, TakesCell}
-use Rattle.xlsx_cells.specs.Stream.{NextCellFails, marks_ahead, data_ahead}
+use Rattle.xlsx_cells.specs.Stream.{NextCellFails, marks_ahead, data_ahead, LacksUnwanted}
 use Rattle.xlsx_cells.specs.StyleIds.{placed_id, ids_in, HoldsIds}
 use Rattle.xlsx_cells.specs.declared.cell_read.CellRead.{CellRead}
 use Rattle.xlsx_cells.specs.declared.children.Wants.{Wants}
+use Rattle.xlsx_cells.proofs.CellsRead.{row_weaker}
 
 -- rows that were passed have no answer
 answers_passed : {A : Type 0} (answer : List Mark → Element → Result A Refusal)
@@ -138,16 +142,11 @@ mark_refused_behind : (refused : List Mark → Element → Refusal → Type 0)
     → IsMarkRefused refused before (passed ++ marks) refusal
 mark_refused_behind refused [] before marks refusal rows is = is
 mark_refused_behind refused (row_start tag ∷ passed) before marks refusal rows is =
-    inr (mark_refused_behind refused passed (row_start tag ∷ before) marks refusal rows.1 is)
+    rw rows.0.1
+    (mark_refused_behind refused passed (row_start tag ∷ before) marks refusal rows.1 is)
 mark_refused_behind refused (row_end ∷ passed) before marks refusal rows is =
     mark_refused_behind refused passed (row_end ∷ before) marks refusal rows is
 mark_refused_behind refused (cell element ∷ passed) before marks refusal rows is = absurd rows
-
-by_row : {P Q : Type 0} (tag : Tag) (row : Result (Option ℕ) Refusal) (refusal : Refusal)
-    → row_named tag ≡ row → (P → Q) → BehindRow row refusal P
-    → (row_named tag ≡ Err refusal) ⊎ Q
-by_row tag (Ok row) refusal same further is = inr (further is)
-by_row tag (Err own) refusal same further is = inl (same ∙ ap Err is)
 
 -- a mark that a step takes is one of the marks
 pub taken_is_mark : (refused : List Mark → Element → Refusal → Type 0) (before marks : List Mark)
@@ -155,7 +154,7 @@ pub taken_is_mark : (refused : List Mark → Element → Refusal → Type 0) (be
     → IsMarkRefused refused before marks refusal
 taken_is_mark refused before [] refusal is = absurd is
 taken_is_mark refused before (row_start tag ∷ marks) refusal is =
-    by_row tag (row_named tag) refusal refl
+    row_weaker (row_named tag) refusal
     (taken_is_mark refused (row_start tag ∷ before) marks refusal) is
 taken_is_mark refused before (row_end ∷ marks) refusal is =
     taken_is_mark refused (row_end ∷ before) marks refusal is
@@ -279,7 +278,33 @@ collected_further wants grounds count old mid new values formulas ids read been 
           (subst (λ (all : List Mark). IsMarkRefused (IsCellRefused wants grounds) been.before all
           refusal) (sym takes.marks)
           (mark_refused_behind (IsCellRefused wants grounds) takes.passed been.before
-          (cell element ∷ marks_ahead new) refusal takes.rows (inr is)));
+          (cell element ∷ marks_ahead new) refusal takes.rows
+          (inr ((read.pos, takes.fact.placed), is))));
+    }
+
+no_entries : {A B : Type 0} (entry : A → B) (cells : List A) → map entry cells ≡ [] → cells ≡ []
+no_entries entry [] is = refl
+no_entries entry (own ∷ cells) is = absurd (cc)
+
+-- what isn't wanted of one cell more leaves nothing
+pub unwanted_further : (wants : Wants) (strings : List (List ℕ)) (count : ℕ)
+    (values more_values : List (Cell Data)) (formulas more_formulas : List (Cell (String Global)))
+    (ids more_ids : List StyledCell) (read : CellRead) → LackUnwanted wants values formulas ids
+    → LacksUnwanted wants read
+    → value_entries more_values
+    ≡ value_entries values ++ used_values strings ((read.pos, value_of_data_ref read.value) ∷ [])
+    → formula_entries more_formulas
+    ≡ formula_entries formulas ++ used_formulas ((read.pos, string_bytes read.formula) ∷ [])
+    → more_ids
+    ≡ ids ++ filter (is_explicit count) ((read.pos.0, read.pos.1, read.style_id) ∷ [])
+    → LackUnwanted wants more_values more_formulas more_ids
+unwanted_further wants strings count values more_values formulas more_formulas ids more_ids read
+    been lacks valued listed styled = record {
+      values = λ unwanted. no_entries value_entry more_values
+          (valued ∙ rw (been.values unwanted, lacks.value unwanted) refl);
+      formulas = λ unwanted. no_entries formula_entry more_formulas
+          (listed ∙ rw (been.formulas unwanted, lacks.formula unwanted) refl);
+      ids = λ unwanted. styled ∙ rw (been.ids unwanted, lacks.style unwanted) refl;
     }
 
 pub values_whole : (wants : Wants) (grounds : Grounds) (count : ℕ) (old now : Stream)

@@ -124,14 +124,11 @@ marks_never : (wants : Wants) (grounds : Grounds) (before marks : List Mark)
     → IsMarkRefused (IsCellRefused wants grounds) before marks refusal → ⊥
 marks_never wants grounds before [] values written ids refusal are is = is
 marks_never wants grounds before (row_start tag ∷ marks) values written ids refusal are
-    (inl misplaced) =
+    is =
     let sound = row_sound (row_named tag)
     (answers_from (placed_value grounds) (row_start tag ∷ before) marks) values are.valued in
-    never_both (row_named tag) sound.0.0 refusal sound.0.1 misplaced
-marks_never wants grounds before (row_start tag ∷ marks) values written ids refusal are
-    (inr is) =
     marks_never wants grounds (row_start tag ∷ before) marks values written ids refusal
-    (rows_sound grounds before marks tag values written ids are) is
+    (rows_sound grounds before marks tag values written ids are) (rw sound.0.1 at is)
 marks_never wants grounds before (row_end ∷ marks) values written ids refusal are is =
     marks_never wants grounds (row_end ∷ before) marks values written ids refusal
     (record { valued = are.valued; listed = are.listed; styled = are.styled }) is
@@ -147,7 +144,7 @@ marks_never wants grounds before (cell element ∷ marks) values written ids ref
           refusal first.0.1 second.0.1 third.0.1 refused
       | inr others ↦ marks_never wants grounds (cell element ∷ before) marks first.1.0 second.1.0
           third.1.0 refusal
-          (record { valued = first.1.1; listed = second.1.1; styled = third.1.1 }) others
+          (record { valued = first.1.1; listed = second.1.1; styled = third.1.1 }) others.1
     ]
 
 -- ---- the part of a sheet

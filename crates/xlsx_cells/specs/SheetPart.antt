@@ -1,6 +1,6 @@
 -- The part of a sheet: what its data say, and why they can't be read.
 use Rattle.std.specs.Prelude.{◌≡◌, ◌⊎◌, ⊤, ℕ, ◌+◌, ◌≤◌, List, [], ◌∷◌, length, true, codes, Option}
-use Rattle.std.specs.Prelude.{Some, None, Ok, Err, map, string_bytes, IsSomeAnd, All, String}
+use Rattle.std.specs.Prelude.{Some, None, Ok, map, string_bytes, IsSomeAnd, All, String, false}
 use Rattle.std.specs.declared.alloc.Global.{Global}
 use Rattle.cell_refs.specs.declared.dimensions.Dimensions.{Dimensions}
 use Rattle.part_events.specs.Event.{Event}
@@ -21,25 +21,31 @@ use Rattle.xlsx_sections.specs.Refusal.{Refusal}
 use Rattle.xlsx_values.specs.Value.{Grounds}
 use Rattle.xlsx_formulas.specs.Formula.{FormulaText}
 use Rattle.xlsx_cells.specs.Ends.{end_in_data}
+use Rattle.xlsx_cells.specs.Finding.{BehindRow}
 use Rattle.xlsx_cells.specs.Head.{dimensions_in, dimensions_or, HeadCause}
 use Rattle.xlsx_cells.specs.Marks.{Mark, row_start, row_end, cell, marks}
-use Rattle.xlsx_cells.specs.Position.{row_named}
+use Rattle.xlsx_cells.specs.Position.{row_named, cell_position}
 use Rattle.xlsx_cells.specs.Sheet.{values_in, formulas_written, used_values, used_formulas}
 use Rattle.xlsx_cells.specs.Sheet.{formulas_along}
 use Rattle.xlsx_cells.specs.Stream.{Stream, IsStreaming, StandsBehind, IsCellRefused}
 use Rattle.xlsx_cells.specs.StyleIds.{ids_in}
 use Rattle.xlsx_cells.specs.declared.children.Wants.{Wants}
 
--- a mark of a sheet's data is refused, by the marks before it
+abbrev pub IsPlaced : List Mark → Element → Type 0
+IsPlaced before element = (position : ℕ × ℕ) × (cell_position before element.tag ≡ Ok position)
+
+-- A mark of a sheet's data is refused, by the marks before it. Behind a row that is refused, and
+-- behind a cell that has no position, nothing is asked.
 abbrev pub IsMarkRefused :
     (List Mark → Element → Refusal → Type 0) → List Mark → List Mark → Refusal → Type 0
 IsMarkRefused refused before [] refusal = ⊥
 IsMarkRefused refused before (row_start tag ∷ marks) refusal =
-    (row_named tag ≡ Err refusal) ⊎ IsMarkRefused refused (row_start tag ∷ before) marks refusal
+    BehindRow (row_named tag) refusal (IsMarkRefused refused (row_start tag ∷ before) marks refusal)
 IsMarkRefused refused before (row_end ∷ marks) refusal =
     IsMarkRefused refused (row_end ∷ before) marks refusal
 IsMarkRefused refused before (cell element ∷ marks) refusal =
-    refused before element refusal ⊎ IsMarkRefused refused (cell element ∷ before) marks refusal
+    refused before element refusal
+    ⊎ (IsPlaced before element × IsMarkRefused refused (cell element ∷ before) marks refusal)
 
 -- why the data of a sheet are refused
 abbrev pub AreDataRefused : Wants → Grounds → PartSection → Refusal → Type 0
@@ -125,6 +131,14 @@ formula_entries cells = map formula_entry cells
 abbrev pub LieInSheet : List (Cell Data) → List (Cell (String Global)) → List StyledCell → Type 0
 LieInSheet values formulas styled =
     All IsInSheet values × All IsInSheet formulas × All IsOnSheet styled
+
+-- what wasn't wanted of a sheet is empty
+pub record LackUnwanted
+    (wants : Wants) (values : List (Cell Data)) (formulas : List (Cell (String Global)))
+    (ids : List StyledCell) : Type 0 where
+  pub values : wants.values ≡ false → values ≡ []
+  pub formulas : wants.formulas ≡ false → formulas ≡ []
+  pub ids : wants.styles ≡ false → ids ≡ []
 
 -- the values that count among those of a sheet's data, with the texts of shared strings
 abbrev pub HoldsValues :

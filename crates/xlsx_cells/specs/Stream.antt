@@ -9,6 +9,7 @@ use Rattle.part_events.specs.Reading.{Reading, reading, IsReading, ahead}
 use Rattle.part_events.specs.Section.{Element}
 use Rattle.part_events.specs.Walk.{section_ahead, is_closed_ahead, behind_section}
 use Rattle.cell_data.specs.CellValue.{value_of_data_ref}
+use Rattle.cell_data.specs.declared.value.DataRef.TheVariants.{Empty}
 use Rattle.xlsx_error.specs.declared.error.XlsxError.{XlsxError}
 use Rattle.xlsx_sections.specs.Elements.{KeepsElements}
 use Rattle.xlsx_sections.specs.PartSection.{PartSection, SectionFails, inside_of}
@@ -118,6 +119,12 @@ pub record IsRead
       wants.formulas ≡ true → string_bytes read.formula ≡ cell_formula earlier read.pos kept
   pub none : wants.formulas ≡ false → kept ≡ []
   pub styled : wants.styles ≡ true → id_named element.tag ≡ Ok read.style_id
+
+-- what wasn't wanted of a cell is empty
+pub record LacksUnwanted (wants : Wants) (read : CellRead) : Type 0 where
+  pub value : wants.values ≡ false → read.value ≡ Empty
+  pub formula : wants.formulas ≡ false → string_bytes read.formula ≡ []
+  pub style : wants.styles ≡ false → read.style_id ≡ 0
 
 -- the next cell was taken, of which a fact holds
 pub record TakesCell

@@ -15,7 +15,7 @@ ghost use Rattle.xlsx_cells.specs.Children.{StandsAtElement, ReadsFormulaChildre
 ghost use Rattle.xlsx_cells.specs.Counting.{IsStartRefused, IsRefused, IsPositionError};
 ghost use Rattle.xlsx_cells.specs.Ends.{kind_of_cell, reads_children};
 ghost use Rattle.xlsx_cells.specs.CellErrors.{IsCellError, IsStyledError};
-ghost use Rattle.xlsx_cells.specs.Stream.{CellFails, IsHeadRefused};
+ghost use Rattle.xlsx_cells.specs.Stream.{CellFails, IsHeadRefused, LacksUnwanted};
 ghost use Rattle.xlsx_cells.specs.StyleIds.{id_named};
 
 use crate::children::{Asked, CellContents, CellStart, Wants, read_children};
@@ -52,6 +52,7 @@ fn id_start(tag: StartTag<'_>, wants: Wants, pos: (u32, u32)) -> Result<CellStar
     ensures pos { IfOk result (λ start. start.pos ≡ pos) }
     ensures styled { wants.styles ≡ true →
         IfOk result (λ start. id_named (tag_of tag.entry) ≡ Ok start.style_id) }
+    ensures unstyled { wants.styles ≡ false → IfOk result (λ start. start.style_id ≡ 0) }
     ensures err { IfErr result (IsRefused (λ refusal.
         (wants.styles ≡ true) × (id_named (tag_of tag.entry) ≡ Err refusal))) }
     ensures kind { IfErr result IsPositionError }
@@ -67,8 +68,9 @@ fn id_start(tag: StartTag<'_>, wants: Wants, pos: (u32, u32)) -> Result<CellStar
 
 /// The style id that a text names, where it is wanted.
 fn wanted_id(style: Option<&str>, wants: Wants) -> usize
-    ensures { wants.styles ≡ true →
+    ensures styled { wants.styles ≡ true →
         result ≡ unwrap_or (style_number (option_copied style.entry)) 0 }
+    ensures unstyled { wants.styles ≡ false → result ≡ 0 }
 {
     if wants.styles {
         style_number(style).unwrap_or(0)
@@ -93,6 +95,8 @@ fn start_of(
         IfOk result (λ start. kind_of_cell (tag_of tag.entry) ≡ kind_of start.typ) }
     ensures styled { asked.entry.wants.styles ≡ true →
         IfOk result (λ start. id_named (tag_of tag.entry) ≡ Ok start.style_id) }
+    ensures unstyled { asked.entry.wants.styles ≡ false →
+        IfOk result (λ start. start.style_id ≡ 0) }
     ensures err { IfErr result (IsStartRefused (IsHeadRefused asked.entry.wants
         (grounds_of asked.entry.book) (tag_of tag.entry))) }
     ensures kind { IfErr result IsCellError }
@@ -145,6 +149,7 @@ pub fn read_cell<P: Package>(
     ensures styled { let old = reading (P.state «package».old) cursor.old in
         asked.entry.wants.styles ≡ true → (element : Element) → StandsAtElement element old →
         IfOk result (λ read. id_named element.tag ≡ Ok read.style_id) }
+    ensures unwanted { IfOk result (LacksUnwanted asked.entry.wants) }
     ensures err { let old = reading (P.state «package».old) cursor.old in
         let new = reading (P.state «package».new) cursor.new in
         IfErr result (λ error. (element : Element) → StandsAtElement element old →

@@ -8,7 +8,7 @@ ghost use Rattle.xlsx_formulas.specs.Formula.{FormulaText};
 ghost use Rattle.xlsx_cells.specs.CellsReader.{flow, IsFlowing, FlowsTo, TakesFrom, FlowFails};
 ghost use Rattle.xlsx_cells.specs.CellsReader.{RestsAtEnd, IsFlowError};
 ghost use Rattle.xlsx_cells.specs.Marks.{Mark};
-ghost use Rattle.xlsx_cells.specs.Stream.{StandsBehind};
+ghost use Rattle.xlsx_cells.specs.Stream.{StandsBehind, LacksUnwanted};
 ghost use Rattle.xlsx_cells.specs.StyleSteps.{StyledTo, TakesStyleId, StyleIdFails, IsStyleIdError};
 
 use crate::cell_read::CellRead;
@@ -63,6 +63,7 @@ impl CellStream {
             old.stream.reading.source.is_told ≡ true → (before : List Mark)
             (earlier : List FormulaText) → StandsBehind before earlier old.stream →
             IfOk result (λ found. TakesFrom wants grounds before earlier found old new) }
+        ensures unwanted { IfOk result (λ found. IfSome found (LacksUnwanted asked.entry.wants)) }
         ensures err { let old = flow (P.state «package».old) self.old in
             let new = flow (P.state «package».new) self.new in
             IfErr result (FlowFails asked.entry.wants (grounds_of asked.entry.book) old new) }

@@ -1,5 +1,5 @@
 ghost use Rattle.std.specs.Prelude.{◌≡◌, suc, length, List, true, false, Ok, IfOk, OnOk, IfErr};
-ghost use Rattle.std.specs.Prelude.{string_bytes, codes};
+ghost use Rattle.std.specs.Prelude.{string_bytes, codes, [], None};
 ghost use Rattle.part_events.specs.Event.{tag_of, start};
 ghost use Rattle.part_events.specs.Reading.{reading, open_elements, IsReading, IsAtElement};
 ghost use Rattle.part_events.specs.Reading.{ReadsPart, Skips, ahead};
@@ -120,6 +120,7 @@ fn keep_formula<P: Package>(
         StandsAtElement element old → IsNamedAs Formula element.tag →
         OnOk result (ReadsFormula element.tag element.inside before after) }
     ensures same { wants.formulas ≡ false → OnOk result (masters.new ≡ masters.old) }
+    ensures unlisted { wants.formulas ≡ false → OnOk result (last.new ≡ last.old) }
     ensures err { let old = reading (P.state «package».old) cursor.old in
         let new = reading (P.state «package».new) cursor.new in
         IfErr result (λ error. (grounds : Grounds) (format : CellFormat) (kind : CellKind)
@@ -164,6 +165,7 @@ fn keep_value<P: Package>(
         StandsAtElement element old → IsNamedAs (value_name is_inline) element.tag → OnOk result
         (or_earlier (value_kept value.old) (said element.tag element.inside)
         ≡ Ok (value_kept value.new)) }
+    ensures unvalued { asked.entry.wants.values ≡ false → OnOk result (value.new ≡ value.old) }
     ensures err { let old = reading (P.state «package».old) cursor.old in
         let new = reading (P.state «package».new) cursor.new in
         let grounds = grounds_of asked.entry.book in
@@ -224,6 +226,10 @@ fn read_child<P: Package>(
         StandsAtElement element old →
         OnOk result (ReadsFormula element.tag element.inside before after) }
     ensures same { asked.entry.wants.formulas ≡ false → OnOk result (masters.new ≡ masters.old) }
+    ensures unvalued { asked.entry.wants.values ≡ false →
+        OnOk result (latest.new.value ≡ latest.old.value) }
+    ensures unlisted { asked.entry.wants.formulas ≡ false →
+        OnOk result (latest.new.formula ≡ latest.old.formula) }
     ensures err { let old = reading (P.state «package».old) cursor.old in
         let new = reading (P.state «package».new) cursor.new in
         let grounds = grounds_of asked.entry.book in
@@ -281,6 +287,10 @@ pub fn read_children<P: Package>(
         IfOk result (λ contents. ReadsFormulaChildren earlier start.now.pos (content 0 (ahead old))
         (record { masters = masters.new; text = string_bytes contents.formula })) }
     ensures same { asked.entry.wants.formulas ≡ false → OnOk result (masters.new ≡ masters.old) }
+    ensures unvalued { asked.entry.wants.values ≡ false →
+        IfOk result (λ contents. contents.value ≡ None) }
+    ensures unlisted { asked.entry.wants.formulas ≡ false →
+        IfOk result (λ contents. string_bytes contents.formula ≡ []) }
     ensures err { let old = reading (P.state «package».old) cursor.old in
         let new = reading (P.state «package».new) cursor.new in
         let wants = asked.entry.wants in

@@ -11,7 +11,7 @@ ghost use Rattle.xlsx_values.specs.Book.{grounds_of};
 ghost use Rattle.xlsx_cells.specs.Ends.{reads_children};
 ghost use Rattle.xlsx_cells.specs.CellErrors.{IsCellError, IsStyledError};
 ghost use Rattle.xlsx_cells.specs.SheetPart.{DataFails, HoldsValues, HoldsFormulas, value_entries};
-ghost use Rattle.xlsx_cells.specs.SheetPart.{formula_entries, LieInSheet};
+ghost use Rattle.xlsx_cells.specs.SheetPart.{formula_entries, LieInSheet, LackUnwanted};
 ghost use Rattle.xlsx_cells.specs.StyleIds.{HoldsIds};
 ghost use Rattle.xlsx_cells.specs.Stream.{stream, IsStreaming, StandsBehind, data_ahead};
 ghost use Rattle.xlsx_cells.specs.Stream.{are_closed_ahead};
@@ -133,6 +133,8 @@ pub fn collect<P: Package>(
     ensures styles { let old = stream (P.state «package».old) sheet.old in
         old.reading.source.is_told ≡ true → asked.entry.wants.styles ≡ true → IfOk result (λ cells.
         HoldsIds asked.entry.style_count (data_ahead old) cells.style_ids.items) }
+    ensures unwanted { IfOk result (λ cells. LackUnwanted asked.entry.wants cells.values.items
+        cells.formulas.items cells.style_ids.items) }
     ensures err { let old = stream (P.state «package».old) sheet.old in
         let new = stream (P.state «package».new) sheet.new in
         IfErr result (DataFails asked.entry.wants (grounds_of asked.entry.book) old new) }

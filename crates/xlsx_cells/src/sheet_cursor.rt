@@ -14,7 +14,7 @@ ghost use Rattle.xlsx_cells.specs.Ends.{reads_children};
 ghost use Rattle.xlsx_cells.specs.CellErrors.{IsCellError, IsStyledError};
 ghost use Rattle.xlsx_cells.specs.Marks.{Mark};
 ghost use Rattle.xlsx_cells.specs.Stream.{stream, IsStreaming, StandsBehind, StandsAfter};
-ghost use Rattle.xlsx_cells.specs.Stream.{TakesNext, NextCellFails};
+ghost use Rattle.xlsx_cells.specs.Stream.{TakesNext, NextCellFails, LacksUnwanted};
 ghost use Rattle.xlsx_cells.specs.StyleSteps.{StandsStyled, TakesStyled, StyledStepFails};
 
 use crate::cell_read::{CellRead, read_cell};
@@ -86,6 +86,7 @@ impl SheetCursor {
             old.reading.source.is_told ≡ true → (before : List Mark)
             (earlier : List FormulaText) → StandsBehind before earlier old →
             IfOk result (λ found. TakesNext wants grounds before earlier found old new) }
+        ensures unwanted { IfOk result (λ found. IfSome found (LacksUnwanted asked.entry.wants)) }
         ensures err { let old = stream (P.state «package».old) self.old in
             let new = stream (P.state «package».new) self.new in
             IfErr result (NextCellFails asked.entry.wants (grounds_of asked.entry.book) old new) }

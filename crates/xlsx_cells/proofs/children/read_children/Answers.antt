@@ -15,6 +15,7 @@ use Rattle.xlsx_sections.proofs.Refused.{refused_later}
 use Rattle.xlsx_values.specs.Book.{kind_of, grounds_of}
 use Rattle.xlsx_values.specs.Value.{child_value, said_value, or_nothing}
 use Rattle.xlsx_formulas.specs.Kept.{last_seen}
+use Rattle.xlsx_formulas.proofs.Groups.{formulas_kept}
 use Rattle.xlsx_cells.specs.Children.{StandsAtElement, LastStep, FormulaStep, ReadsFormulaChildren}
 use Rattle.xlsx_cells.specs.Children.{value_kept}
 use Rattle.xlsx_cells.specs.Children.{IsChildRefused, AreChildrenRefused}
@@ -97,6 +98,10 @@ children-preserved g c =
           (passed.elements told)
           (c.in_ok-read_child.ensures.formula (there told) wanted element stand);
       same = λ unwanted. c.in_ok-read_child.ensures.same unwanted ∙ now.same unwanted;
+      unvalued = λ unwanted.
+          c.in_ok-read_child.ensures.unvalued unwanted ∙ now.unvalued unwanted;
+      unlisted = λ unwanted.
+          c.in_ok-read_child.ensures.unlisted unwanted ∙ now.unlisted unwanted;
     }
 
 pub returns-in_err-read_child-clause-reads : goal.returns-in_err-read_child-clause-reads
@@ -154,6 +159,11 @@ returns-in_err-read_child-clause-err g c =
       )
     ])
     (c.in_err-read_child.ensures.err element stand)))
+
+pub returns-clause-unlisted : goal.returns-clause-unlisted
+returns-clause-unlisted g c = λ unwanted.
+    let some = formulas_kept c.children.masters in
+    c.in_ok-formula.ensures some.0 some.1 ∙ rw (c.children.invariant.unlisted unwanted) refl
 
 pub returns-clause-formula : goal.returns-clause-formula
 returns-clause-formula g c = λ told wanted earlier kept.

@@ -1,4 +1,4 @@
-use Rattle.std.proofs.Common.{◌≡◌, List, true, false, length}
+use Rattle.std.proofs.Common.{◌≡◌, List, true, false, length, None}
 use Rattle.part_events.specs.Reading.{reading, open_elements}
 use Rattle.part_events.specs.Section.{children, is_any}
 use Rattle.part_events.specs.Walk.{section_ahead}
@@ -36,6 +36,8 @@ invariant-children g l =
           KeepsFormulas earlier l.start.pos (formulas_in (section_ahead l.base old))
           (children (section_ahead l.base now)) l.masters (last_seen l.latest.formula);
       same : l.asked.wants.formulas ≡ false → l.masters ≡ l.fn.masters;
+      unvalued : l.asked.wants.values ≡ false → l.latest.value ≡ None;
+      unlisted : l.asked.wants.formulas ≡ false → l.latest.formula ≡ None;
     }
 
 abbrev pub decreases-children : goal.decreases-children

@@ -6,9 +6,9 @@ use Rattle.xlsx_values.specs.Book.{grounds_of}
 use Rattle.xlsx_cells.specs.Marks.{is_cell}
 use Rattle.xlsx_cells.specs.SheetPart.{value_entries, formula_entries}
 use Rattle.xlsx_cells.specs.Stream.{stream, StandsAfter, EndsData, TakesCell, IsRead, IsCellRefused}
-use Rattle.xlsx_cells.specs.Stream.{marks_ahead}
+use Rattle.xlsx_cells.specs.Stream.{marks_ahead, LacksUnwanted}
 use Rattle.xlsx_cells.proofs.Collecting.{collected_further, values_whole, formulas_whole, ids_whole}
-use Rattle.xlsx_cells.proofs.Collecting.{taken_is_mark, keeps_on, step_refused}
+use Rattle.xlsx_cells.proofs.Collecting.{taken_is_mark, keeps_on, step_refused, unwanted_further}
 use Rattle.xlsx_cells.proofs.sheet_cells.collect.Goals as goal
 
 pub returns-in_err-read-clause-err : goal.returns-in_err-read-clause-err
@@ -47,6 +47,11 @@ cells-preserved g c =
       values_inside = c.in_ok-keep_value.ensures.inside;
       formulas_inside = c.in_ok-keep_formula.ensures.inside;
       ids_inside = c.in_ok-keep_id.ensures.inside;
+      unwanted =
+          let lacks : LacksUnwanted wants read = rw c.in-Some.is at c.in_ok-read.ensures.unwanted in
+          unwanted_further wants grounds.strings c.args.asked.style_count _ _ _ _ _ _ read
+          now.unwanted lacks c.in_ok-keep_value.ensures.value c.in_ok-keep_formula.ensures.formula
+          c.in_ok-keep_id.ensures.id;
       collected = λ told.
           let been = now.collected told in
           let takes : TakesCell been.before been.earlier mid new
