@@ -2,7 +2,8 @@
 
 ghost use Rattle.std.specs.Prelude.{◌≡◌, OnOk};
 ghost use Rattle.part_events.specs.Package.{SameParts};
-ghost use Rattle.xlsx_cells.specs.CellsReader.{flow_by, IsFlowing};
+ghost use Rattle.xlsx_cells.specs.CellsReader.{stream_by}
+use Rattle.xlsx_cells.specs.Stream.{IsStreaming};
 
 use crate::answers::push_value;
 use cell_data::{Cell, CellFormat, DataRef};
@@ -80,8 +81,8 @@ fn push_answer<P: Package>(
     reader: &mut XlsxCellReader<'_, P>,
     call: Call,
 ) -> Result<(), Fail>
-    requires { IsFlowing (flow_by P.state reader.old) }
-    ensures { IsFlowing (flow_by P.state reader.new) }
+    requires { IsStreaming (stream_by P.state reader.old) }
+    ensures { IsStreaming (stream_by P.state reader.new) }
 {
     match call {
         Call::Value => push_cell_value(out, alloc, strings, reader.next_cell()),

@@ -3,6 +3,7 @@ pub mod ChildrenRead
 pub mod Collecting
 pub mod CountersMoved
 pub mod Flowing
+pub mod Fronts
 pub mod HeadRead
 pub mod MarksAhead
 pub mod Passing

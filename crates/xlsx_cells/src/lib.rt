@@ -2,7 +2,6 @@
 #![tactic(auto)]
 
 mod cell_read;
-mod cell_stream;
 mod cells_reader;
 mod children;
 mod counters;
@@ -11,8 +10,7 @@ mod head;
 mod sheet_cells;
 mod sheet_cursor;
 
-pub use cell_read::CellRead;
-pub use cell_stream::CellStream;
+pub use cell_read::{CellRead, CellText};
 pub use cells_reader::XlsxCellReader;
 pub use children::{Asked, Wants};
 pub use head::enter_data;

@@ -13,10 +13,10 @@ ghost use Rattle.xlsx_cells.specs.CellErrors.{IsCellError, IsStyledError};
 ghost use Rattle.xlsx_cells.specs.SheetPart.{DataFails, HoldsValues, HoldsFormulas, value_entries};
 ghost use Rattle.xlsx_cells.specs.SheetPart.{formula_entries, LieInSheet, LackUnwanted};
 ghost use Rattle.xlsx_cells.specs.StyleIds.{HoldsIds};
-ghost use Rattle.xlsx_cells.specs.Stream.{stream, IsStreaming, StandsBehind, data_ahead};
+ghost use Rattle.xlsx_cells.specs.Stream.{stream, IsGoing, StandsBehind, data_ahead};
 ghost use Rattle.xlsx_cells.specs.Stream.{are_closed_ahead};
 
-use crate::cell_read::CellRead;
+use crate::cell_read::CellText;
 use crate::children::Asked;
 use crate::sheet_cursor::SheetCursor;
 use cell_data::{Cell, Data, DataRef};
@@ -113,7 +113,7 @@ pub fn collect<P: Package>(
     sheet: &mut SheetCursor,
     asked: Asked<'_>,
 ) -> Result<SheetCells, XlsxError>
-    requires streaming { IsStreaming (stream (P.state «package».old) sheet.old) }
+    requires going { IsGoing (stream (P.state «package».old) sheet.old) }
     requires fresh { StandsBehind [] [] (stream (P.state «package».old) sheet.old) }
     ensures reads { let old = stream (P.state «package».old) sheet.old in
         let new = stream (P.state «package».new) sheet.new in
@@ -146,15 +146,15 @@ pub fn collect<P: Package>(
         formulas: Vec::new(alloc),
         style_ids: Vec::new(alloc),
     };
-    'cells: while let Some(read) = sheet.next(package, asked)? {
-        let CellRead {
+    'cells: while let Some(found) = sheet.next_text(package, asked)? {
+        let CellText {
             pos,
             value,
-            formula,
+            text,
             style_id,
-        } = read;
+        } = found;
         keep_value(alloc, &mut cells.values, pos, value, asked.book.strings)?;
-        keep_formula(&mut cells.formulas, pos, formula)?;
+        keep_formula(&mut cells.formulas, pos, text)?;
         keep_id(&mut cells.style_ids, pos, style_id, asked.style_count)?;
     }
     Ok(cells)

@@ -6,7 +6,7 @@ use Rattle.xlsx_sections.specs.Elements.{KeepsElements}
 use Rattle.xlsx_values.specs.Book.{grounds_of}
 use Rattle.xlsx_cells.specs.Marks.{is_cell}
 use Rattle.xlsx_cells.specs.SheetPart.{value_entries, formula_entries, LackUnwanted}
-use Rattle.xlsx_cells.specs.Stream.{stream, IsStreaming}
+use Rattle.xlsx_cells.specs.Stream.{stream, IsGoing}
 use Rattle.xlsx_cells.proofs.Collecting.{HasCollected}
 use Rattle.xlsx_cells.proofs.sheet_cells.collect.Given as goal
 
@@ -17,7 +17,7 @@ invariant-cells g l =
     record {
       base : now.base ≡ old.base;
       keeps : KeepsElements is_cell old.base old.reading now.reading;
-      streaming : IsStreaming now;
+      going : IsGoing now;
       values_inside : All IsInSheet l.cells.values.items;
       formulas_inside : All IsInSheet l.cells.formulas.items;
       ids_inside : All IsOnSheet l.cells.style_ids.items;
