@@ -218,10 +218,10 @@ found_cell_cut wants grounds position base place old mid new first counters tag 
 -- the formulas that a cell writes, where they are wanted, and those that are kept of them
 record WritesOf
     (wants : Wants) (keeps : Bool) (inside : List Event) (old new : Masters)
-    (last : Option FormulaText) : Type 0 where
+    (latest : Option FormulaText) : Type 0 where
   written : List FormulaText
   listed : wants.formulas ≡ true → formulas_in inside ≡ Ok written
-  last : wants.formulas ≡ true → last ≡ last_or None written
+  last : wants.formulas ≡ true → latest ≡ last_or None written
   none : wants.formulas ≡ false → written ≡ []
   masters : KeepsMasters (kept_by keeps written) old new
 
@@ -315,7 +315,7 @@ taken_cell wants keeps grounds before earlier position old new mid read finds pa
         listed = all.listed;
         last = all.last;
         none = all.none;
-        keeps = refl;
+        is_kept = refl;
       };
       stands = record { counters = finds.counts; masters = all.masters earlier behind };
     }

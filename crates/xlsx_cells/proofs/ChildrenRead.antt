@@ -91,10 +91,10 @@ or_earlier_in_element element kept next (Err refusal) is = absurd (cc)
 -- so far. `all` is what all children say.
 pub record HasWritten
     (keeps : Bool) (all : Result (List FormulaText) Refusal) (left : List Element)
-    (old now : Masters) (last : Option FormulaText) : Type 0 where
+    (old now : Masters) (latest : Option FormulaText) : Type 0 where
   pub written : List FormulaText
   pub formulas : prepended written (some_answers child_formula left) ≡ all
-  pub last : last ≡ last_or None written
+  pub last : latest ≡ last_or None written
   pub masters : KeepsMasters (kept_by keeps written) old now
 
 none_kept : (keeps : Bool) → kept_by keeps [] ≡ []

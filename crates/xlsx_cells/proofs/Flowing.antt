@@ -1,7 +1,7 @@
 -- How a stream of cells goes on, and how the data that it reads are entered.
 use Rattle.std.proofs.Common.{◌≡◌, ◌∙◌, ℕ, List, [], length, true, false, Some, None}
 use Rattle.std.proofs.Common.{refl, sym, ap, subst, codes, arith, string_bytes}
-use Rattle.std.specs.Prelude.{String, ◌||◌}
+use Rattle.std.specs.Prelude.{String, ◌||◌, Option, option_map}
 use Rattle.std.specs.List.{last_or}
 use Rattle.std.specs.declared.alloc.Global.{Global}
 use Rattle.cell_refs.specs.declared.dimensions.Dimensions.{Dimensions}
@@ -13,11 +13,15 @@ use Rattle.cell_data.specs.declared.value.DataRef.{DataRef}
 use Rattle.xlsx_sections.specs.PartSection.{section_left, section_in}
 use Rattle.xlsx_sections.proofs.SectionsRead.{ahead_at_first, first_section_left, nothing_past}
 use Rattle.xlsx_values.specs.Value.{Grounds}
+use Rattle.xlsx_formulas.specs.Described.{description_seen, described}
 use Rattle.xlsx_formulas.specs.Formula.{FormulaText, behind_formulas, formula_of_last, cell_formula}
 use Rattle.xlsx_formulas.specs.Kept.{AreMasters, last_seen}
+use Rattle.xlsx_formulas.specs.declared.metadata.XlsxFormulaMetadata.{XlsxFormulaMetadata}
 use Rattle.xlsx_formulas.proofs.Cells.{last_formula}
 use Rattle.xlsx_cells.specs.CellsReader.{EntersCells, IsValued, IsFormula, values_alone}
-use Rattle.xlsx_cells.specs.CellsReader.{formulas_alone}
+use Rattle.xlsx_cells.specs.CellsReader.{formulas_alone, values_and_styles, values_and_formulas}
+use Rattle.xlsx_cells.specs.CellsReader.{IsValuedStyle, IsValuedFormula, IsValuedMetadata}
+use Rattle.xlsx_cells.specs.CellsReader.{some_text}
 use Rattle.xlsx_cells.specs.Counting.{AreKept}
 use Rattle.xlsx_cells.specs.Head.{is_sheet_data, AreDimensions}
 use Rattle.xlsx_cells.specs.Marks.{Mark}
@@ -69,14 +73,14 @@ text_taken {earlier = earlier} read own placed valued styled text takes =
         placed = rw placed is.placed;
         valued = λ wanted. rw valued (is.valued wanted);
         styled = λ wanted. rw styled (is.styled wanted);
-        listed = λ wanted. rw is.keeps (is.listed wanted);
+        listed = λ wanted. rw is.is_kept (is.listed wanted);
         found = λ wanted. text (behind_formulas kept earlier) takes.stands.masters
             ∙ ap (formula_of_last (behind_formulas kept earlier) read.pos) (is.last wanted)
             ∙ ap (λ (all : List FormulaText). formula_of_last (behind_formulas kept earlier)
-            read.pos (last_or None all)) (sym is.keeps)
+            read.pos (last_or None all)) (sym is.is_kept)
             ∙ sym (last_formula earlier read.pos kept)
             ∙ ap (λ (pos : ℕ × ℕ). cell_formula earlier pos kept) (sym placed);
-        none = λ unwanted. is.keeps ∙ is.none unwanted;
+        none = λ unwanted. is.is_kept ∙ is.none unwanted;
       };
       stands = takes.stands;
     }
@@ -94,7 +98,7 @@ value_taken read own is takes = record {
   holds = record {
     placed = rw is takes.holds.placed;
     valued = rw is (takes.holds.valued refl);
-    none = takes.holds.keeps;
+    none = takes.holds.is_kept;
   };
   stands = takes.stands;
 }
@@ -113,6 +117,69 @@ formula_taken read own is takes = record {
     placed = rw is takes.holds.placed;
     listed = takes.holds.listed refl;
     found = rw is (takes.holds.found refl);
+  };
+  stands = takes.stands;
+}
+
+pub styled_value_taken : {before : List Mark} {earlier : List FormulaText} {old new : Stream}
+    {grounds : Grounds} (read : CellRead) (own : Cell DataRef)
+    → own ≡ record { pos = read.pos; val = read.value }
+    → TakesCell NoCell before earlier old new (IsRead values_and_styles false grounds read)
+    → TakesCell NoCell before earlier old new (IsValuedStyle grounds (own, read.style_id))
+styled_value_taken read own is takes = record {
+  element = takes.element;
+  kept = takes.kept;
+  takes = takes.takes;
+  closed = takes.closed;
+  holds = record {
+    valued = record {
+      placed = rw is takes.holds.placed;
+      valued = rw is (takes.holds.valued refl);
+      none = takes.holds.is_kept;
+    };
+    styled = takes.holds.styled refl;
+  };
+  stands = takes.stands;
+}
+
+pub written_value_taken : {before : List Mark} {earlier : List FormulaText} {old new : Stream}
+    {grounds : Grounds} (read : CellText) (formula : Option (String Global))
+    → option_map string_bytes formula ≡ some_text (string_bytes read.text)
+    → TakesCell NoCell before earlier old new (IsWritten values_and_formulas grounds earlier read)
+    → TakesCell NoCell before earlier old new (IsValuedFormula grounds earlier
+    (record { pos = read.pos; value = read.value; formula = formula }))
+written_value_taken read formula is takes = record {
+  element = takes.element;
+  kept = takes.kept;
+  takes = takes.takes;
+  closed = takes.closed;
+  holds = record {
+    placed = takes.holds.placed;
+    valued = takes.holds.valued refl;
+    listed = takes.holds.listed refl;
+    found = is ∙ ap some_text (takes.holds.found refl);
+  };
+  stands = takes.stands;
+}
+
+pub described_value_taken : {before : List Mark} {earlier : List FormulaText} {old new : Stream}
+    {grounds : Grounds} (read : CellRead) (formula : Option XlsxFormulaMetadata)
+    → option_map description_seen formula ≡ described (last_seen read.formula)
+    → TakesCell NoCell before earlier old new (IsRead values_and_formulas false grounds read)
+    → TakesCell NoCell before earlier old new (IsValuedMetadata grounds
+    (record { pos = read.pos; value = read.value; formula = formula }))
+described_value_taken read formula is takes = record {
+  element = takes.element;
+  kept = takes.kept;
+  takes = takes.takes;
+  closed = takes.closed;
+  holds = record {
+    placed = takes.holds.placed;
+    valued = takes.holds.valued refl;
+    written = takes.holds.written;
+    listed = takes.holds.listed refl;
+    told = is ∙ ap described (takes.holds.last refl);
+    none = takes.holds.is_kept;
   };
   stands = takes.stands;
 }

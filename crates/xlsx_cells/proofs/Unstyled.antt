@@ -81,7 +81,7 @@ skipped_further count before earlier grounds old mid new read been takes uncount
       closed = been.closed ∙ takes.closed;
       stands = subst (λ (marks : List Mark). StandsBehind marks earlier new) (sym same)
           (subst (λ (kept : List FormulaText). StandsBehind (cell element
-          ∷ behind_marks passed behind) (behind_formulas kept earlier) new) takes.holds.keeps
+          ∷ behind_marks passed behind) (behind_formulas kept earlier) new) takes.holds.is_kept
           takes.stands);
     }
 
@@ -107,7 +107,7 @@ styled_taken count before earlier grounds old mid new read been takes =
       holds = (
         ap (λ (marks : List Mark). placed_id marks element) same
             ∙ read_id read (behind_marks passed behind) element takes.kept takes.holds,
-        takes.holds.keeps,
+        takes.holds.is_kept,
       );
       stands = subst (λ (marks : List Mark). StandsBehind (cell element ∷ marks)
           (behind_formulas takes.kept earlier) new) (sym same) takes.stands;

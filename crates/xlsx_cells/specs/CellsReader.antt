@@ -17,11 +17,15 @@ use Rattle.cell_data.specs.declared.value.DataRef.{DataRef}
 use Rattle.cell_styles.specs.declared.style.Style.{Style}
 use Rattle.xlsx_sections.specs.PartSection.{section_in, section_left}
 use Rattle.xlsx_values.specs.Value.{Grounds, cell_value}
+use Rattle.xlsx_formulas.specs.Described.{description_seen, described}
 use Rattle.xlsx_formulas.specs.Formula.{FormulaText, formulas_in, cell_formula}
 use Rattle.xlsx_cells.specs.Head.{AreDimensions, HeadCause}
 use Rattle.xlsx_cells.specs.Marks.{Mark}
 use Rattle.xlsx_cells.specs.Position.{cell_position}
 use Rattle.xlsx_cells.specs.Stream.{Stream, stream, IsGoing, StandsBehind}
+use Rattle.xlsx_cells.specs.StyleIds.{id_named}
+use Rattle.xlsx_cells.specs.declared.cell_records.XlsxCellFormula.{XlsxCellFormula}
+use Rattle.xlsx_cells.specs.declared.cell_records.XlsxCellFormulaMetadataRecord.{XlsxCellFormulaMetadataRecord}
 use Rattle.xlsx_cells.specs.declared.cells_reader.XlsxCellReader.{XlsxCellReader}
 use Rattle.xlsx_cells.specs.declared.children.Wants.{Wants}
 use Rattle.xlsx_cells.specs.declared.sheet_cursor.SheetCursor.{SheetCursor}
@@ -82,6 +86,12 @@ formulas_alone = record { values = false; formulas = true; styles = false }
 abbrev pub styles_alone : Wants
 styles_alone = record { values = false; formulas = false; styles = true }
 
+abbrev pub values_and_styles : Wants
+values_and_styles = record { values = true; formulas = false; styles = true }
+
+abbrev pub values_and_formulas : Wants
+values_and_formulas = record { values = true; formulas = true; styles = false }
+
 -- the position and the value of a cell, seen by the marks before it; its formulas are not kept
 pub record IsValued
     (grounds : Grounds) (own : Cell DataRef) (before : List Mark) (element : Element)
@@ -97,3 +107,36 @@ pub record IsFormula
   pub placed : cell_position before element.tag ≡ Ok own.pos
   pub listed : formulas_in element.inside ≡ Ok kept
   pub found : string_bytes own.val ≡ cell_formula earlier own.pos kept
+
+-- the position, the value and the style id of a cell: the number of its `s`, also 0 and past the
+-- styles
+pub record IsValuedStyle
+    (grounds : Grounds) (own : Cell DataRef × ℕ) (before : List Mark) (element : Element)
+    (kept : List FormulaText) : Type 0 where
+  pub valued : IsValued grounds own.0 before element kept
+  pub styled : id_named element.tag ≡ Ok own.1
+
+abbrev pub some_text : List ℕ → Option (List ℕ)
+some_text [] = None
+some_text (b ∷ bs) = Some (b ∷ bs)
+
+-- the position, the value and the formula of a cell, where it isn't empty
+pub record IsValuedFormula
+    (grounds : Grounds) (earlier : List FormulaText) (own : XlsxCellFormula) (before : List Mark)
+    (element : Element) (kept : List FormulaText) : Type 0 where
+  pub placed : cell_position before element.tag ≡ Ok own.pos
+  pub valued : cell_value grounds element.tag element.inside ≡ Ok (value_of_data_ref own.value)
+  pub listed : formulas_in element.inside ≡ Ok kept
+  pub found :
+      option_map string_bytes own.formula ≡ some_text (cell_formula earlier own.pos kept)
+
+-- the position and the value of a cell, and what its last formula says; its formulas are not kept
+pub record IsValuedMetadata
+    (grounds : Grounds) (own : XlsxCellFormulaMetadataRecord) (before : List Mark)
+    (element : Element) (kept : List FormulaText) : Type 0 where
+  pub placed : cell_position before element.tag ≡ Ok own.pos
+  pub valued : cell_value grounds element.tag element.inside ≡ Ok (value_of_data_ref own.value)
+  pub written : List FormulaText
+  pub listed : formulas_in element.inside ≡ Ok written
+  pub told : option_map description_seen own.formula ≡ described (last_or None written)
+  pub none : kept ≡ []

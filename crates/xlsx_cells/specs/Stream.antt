@@ -147,7 +147,7 @@ pub record IsRead
   pub listed : wants.formulas ≡ true → formulas_in element.inside ≡ Ok written
   pub last : wants.formulas ≡ true → last_seen read.formula ≡ last_or None written
   pub none : wants.formulas ≡ false → written ≡ []
-  pub keeps : kept ≡ kept_by keeps written
+  pub is_kept : kept ≡ kept_by keeps written
 
 -- what is read of it with the text of its formula, seen by the formulas before it, too
 pub record IsWritten

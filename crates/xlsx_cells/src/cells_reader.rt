@@ -1,5 +1,5 @@
 ghost use Rattle.std.specs.Prelude.{◌≡◌, List, map, string_bytes, true, false, is_err};
-ghost use Rattle.std.specs.Prelude.{IfOk, IfErr, IfSome, IsErrAnd, length};
+ghost use Rattle.std.specs.Prelude.{IfOk, IfErr, IfSome, IsErrAnd, length, option_map};
 ghost use Rattle.part_events.specs.Reader as xml_reader;
 ghost use Rattle.part_events.specs.Reading.{ReadsPart, IsReading};
 ghost use Rattle.cell_styles.specs.StyleMap.{is_explicit};
@@ -7,6 +7,7 @@ ghost use Rattle.xlsx_error.specs.declared.error.XlsxError.TheVariants.{Io, Fail
 ghost use Rattle.xlsx_values.specs.Book.{grounds_of};
 ghost use Rattle.xlsx_formulas.specs.Formula.{FormulaText};
 ghost use Rattle.xlsx_cells.specs.CellErrors.{IsStepError, IsStyledStepError};
+ghost use Rattle.xlsx_cells.specs.CellsReader.{some_text};
 ghost use Rattle.xlsx_cells.specs.Head.{IsHeadError};
 ghost use Rattle.xlsx_cells.specs.Marks.{Mark};
 ghost use Rattle.xlsx_cells.specs.Position.{NoCell};
@@ -14,6 +15,7 @@ ghost use Rattle.xlsx_cells.specs.Stream.{stream, StandsBehind, IsStreaming, Sta
 ghost use Rattle.xlsx_cells.specs.Stream.{NextFails, RestsAtEnd};
 
 use crate::cell_read::{CellRead, CellText};
+use crate::cell_records::{XlsxCellFormula, XlsxCellFormulaMetadataRecord};
 use crate::children::{Asked, Wants};
 use crate::head::enter_data;
 use crate::sheet_cursor::SheetCursor;
@@ -23,7 +25,18 @@ use cell_styles::Style;
 use part_events::{Package, XlReader};
 use std::alloc::Global;
 use xlsx_error::XlsxError;
+use xlsx_formulas::metadata_of;
 use xlsx_values::Book;
+
+/// A text that isn't empty.
+fn some_text(text: String) -> Option<String>
+    ensures { option_map string_bytes result ≡ some_text (string_bytes text) }
+{
+    if text.is_empty() {
+        return None;
+    }
+    Some(text)
+}
 
 /// Reads the cells of a sheet, in the order of its data (ECMA-376 part 1, 18.3.1.80).
 ///
@@ -60,6 +73,9 @@ impl<'a, P: Package> XlsxCellReader<'a, P> {
     ghost use Rattle.xlsx_cells.specs.CellsReader.{KeepsHold, EntersCells, EnterCellsFails};
     ghost use Rattle.xlsx_cells.specs.CellsReader.{IsValued, IsFormula, values_alone};
     ghost use Rattle.xlsx_cells.specs.CellsReader.{formulas_alone, styles_held};
+    ghost use Rattle.xlsx_cells.specs.CellsReader.{values_and_styles, values_and_formulas};
+    ghost use Rattle.xlsx_cells.specs.CellsReader.{IsValuedStyle, IsValuedFormula};
+    ghost use Rattle.xlsx_cells.specs.CellsReader.{IsValuedMetadata};
     ghost use Rattle.xlsx_cells.specs.StyleSteps.{IsUnstyled, IsStyled, place_of, StyledFails};
 
     /// A reader of the cells of the part that `xml` reads, of which it has taken nothing yet. It
@@ -279,6 +295,158 @@ impl<'a, P: Package> XlsxCellReader<'a, P> {
         };
         let CellText { pos, text, .. } = found;
         Ok(Some(Cell::new(pos, text)))
+    }
+
+    /// Takes the next cell as `next_cell` does, and answers its style id beside it: the number of
+    /// its `s`, and 0 without one, whether or not there is such a style.
+    ///
+    /// It is refused as `next_cell` is.
+    pub fn next_cell_with_style_id(&mut self) -> Result<Option<(Cell<DataRef>, usize)>, XlsxError>
+        requires { IsStreaming (stream_by P.state self.old) }
+        ensures hold { KeepsHold self.old self.new }
+        ensures streaming { IsStreaming (stream_by P.state self.new) }
+        ensures reads { let old = stream_by P.state self.old in
+            let new = stream_by P.state self.new in
+            ReadsPart Io result old.reading new.reading }
+        ensures rests { RestsAtEnd (stream_by P.state self.old) (stream_by P.state self.new) }
+        ensures stands { let old = stream_by P.state self.old in
+            let new = stream_by P.state self.new in
+            IfOk result (λ found. StandsTo (λ own. own.0.pos) found old new) }
+        ensures takes { let old = stream_by P.state self.old in
+            let new = stream_by P.state self.new in
+            let fact = IsValuedStyle (grounds_by self.old) in
+            old.reading.source.is_told ≡ true → (before : List Mark)
+            (earlier : List FormulaText) → StandsBehind before earlier old →
+            IfOk result (λ found. TakesEach NoCell fact before earlier found old new) }
+        ensures err { let old = stream_by P.state self.old in
+            let new = stream_by P.state self.new in
+            IfErr result (NextFails values_and_styles (grounds_by self.old) old new) }
+        ensures kind { IfErr result IsStepError }
+        ensures after { (stream_by P.state self.old).is_failed ≡ true →
+            IsErrAnd result (λ error. error ≡ Failed) }
+        ensures failed { (stream_by P.state self.new).is_failed ≡ is_err result }
+    {
+        let wants = Wants {
+            values: true,
+            formulas: false,
+            styles: true,
+        };
+        let asked = self.asked(wants, false);
+        let Some(read) = self.sheet.next(self.package, asked)? else {
+            return Ok(None);
+        };
+        let CellRead {
+            pos,
+            value,
+            style_id,
+            ..
+        } = read;
+        Ok(Some((Cell::new(pos, value), style_id)))
+    }
+
+    /// Takes the next cell, and answers its position, its value and its formula, without `=`: that
+    /// of `next_formula`, and None where it is empty.
+    ///
+    /// It is refused as `next_cell` and `next_formula` are.
+    pub fn next_cell_with_formula(&mut self) -> Result<Option<XlsxCellFormula>, XlsxError>
+        requires { IsStreaming (stream_by P.state self.old) }
+        ensures hold { KeepsHold self.old self.new }
+        ensures streaming { IsStreaming (stream_by P.state self.new) }
+        ensures reads { let old = stream_by P.state self.old in
+            let new = stream_by P.state self.new in
+            ReadsPart Io result old.reading new.reading }
+        ensures rests { RestsAtEnd (stream_by P.state self.old) (stream_by P.state self.new) }
+        ensures stands { let old = stream_by P.state self.old in
+            let new = stream_by P.state self.new in
+            IfOk result (λ found. StandsTo (λ own. own.pos) found old new) }
+        ensures takes { let old = stream_by P.state self.old in
+            let new = stream_by P.state self.new in
+            let fact = IsValuedFormula (grounds_by self.old) in
+            old.reading.source.is_told ≡ true → (before : List Mark)
+            (earlier : List FormulaText) → StandsBehind before earlier old →
+            IfOk result (λ found. TakesEach NoCell (fact earlier) before earlier found old new) }
+        ensures err { let old = stream_by P.state self.old in
+            let new = stream_by P.state self.new in
+            IfErr result (NextFails values_and_formulas (grounds_by self.old) old new) }
+        ensures kind { IfErr result IsStepError }
+        ensures after { (stream_by P.state self.old).is_failed ≡ true →
+            IsErrAnd result (λ error. error ≡ Failed) }
+        ensures failed { (stream_by P.state self.new).is_failed ≡ is_err result }
+    {
+        let wants = Wants {
+            values: true,
+            formulas: true,
+            styles: false,
+        };
+        let asked = self.asked(wants, true);
+        let Some(found) = self.sheet.next_text(self.package, asked)? else {
+            return Ok(None);
+        };
+        let CellText {
+            pos,
+            value,
+            text,
+            ..
+        } = found;
+        Ok(Some(XlsxCellFormula {
+            pos,
+            value,
+            formula: some_text(text),
+        }))
+    }
+
+    /// Takes the next cell, and answers its position, its value and what its last `f` says, with no
+    /// formula of a group written out. The formulas of a cell that is taken so are no other cell's
+    /// masters.
+    ///
+    /// It is refused as `next_cell` and `next_formula` are.
+    pub fn next_cell_with_formula_metadata(
+        &mut self,
+    ) -> Result<Option<XlsxCellFormulaMetadataRecord>, XlsxError>
+        requires { IsStreaming (stream_by P.state self.old) }
+        ensures hold { KeepsHold self.old self.new }
+        ensures streaming { IsStreaming (stream_by P.state self.new) }
+        ensures reads { let old = stream_by P.state self.old in
+            let new = stream_by P.state self.new in
+            ReadsPart Io result old.reading new.reading }
+        ensures rests { RestsAtEnd (stream_by P.state self.old) (stream_by P.state self.new) }
+        ensures stands { let old = stream_by P.state self.old in
+            let new = stream_by P.state self.new in
+            IfOk result (λ found. StandsTo (λ own. own.pos) found old new) }
+        ensures takes { let old = stream_by P.state self.old in
+            let new = stream_by P.state self.new in
+            let fact = IsValuedMetadata (grounds_by self.old) in
+            old.reading.source.is_told ≡ true → (before : List Mark)
+            (earlier : List FormulaText) → StandsBehind before earlier old →
+            IfOk result (λ found. TakesEach NoCell fact before earlier found old new) }
+        ensures err { let old = stream_by P.state self.old in
+            let new = stream_by P.state self.new in
+            IfErr result (NextFails values_and_formulas (grounds_by self.old) old new) }
+        ensures kind { IfErr result IsStepError }
+        ensures after { (stream_by P.state self.old).is_failed ≡ true →
+            IsErrAnd result (λ error. error ≡ Failed) }
+        ensures failed { (stream_by P.state self.new).is_failed ≡ is_err result }
+    {
+        let wants = Wants {
+            values: true,
+            formulas: true,
+            styles: false,
+        };
+        let asked = self.asked(wants, false);
+        let Some(read) = self.sheet.next(self.package, asked)? else {
+            return Ok(None);
+        };
+        let CellRead {
+            pos,
+            value,
+            formula,
+            ..
+        } = read;
+        Ok(Some(XlsxCellFormulaMetadataRecord {
+            pos,
+            value,
+            formula: metadata_of(formula),
+        }))
     }
 
     /// Takes the next cell whose style id counts, and answers its row and its column, counted from

@@ -2,6 +2,7 @@
 #![tactic(auto)]
 
 mod cell_read;
+mod cell_records;
 mod cells_reader;
 mod children;
 mod counters;
@@ -11,6 +12,9 @@ mod sheet_cells;
 mod sheet_cursor;
 
 pub use cell_read::{CellRead, CellText};
+pub use cell_records::{
+    XlsxCellFormula, XlsxCellFormulaMetadataRecord, is_same_cell_formula, is_same_metadata_record,
+};
 pub use cells_reader::XlsxCellReader;
 pub use children::{Asked, Wants};
 pub use head::enter_data;
