@@ -134,11 +134,11 @@ LieInSheet values formulas styled =
 
 -- what wasn't wanted of a sheet is empty
 pub record LackUnwanted
-    (wants : Wants) (values : List (Cell Data)) (formulas : List (Cell (String Global)))
-    (ids : List StyledCell) : Type 0 where
-  pub values : wants.values ≡ false → values ≡ []
-  pub formulas : wants.formulas ≡ false → formulas ≡ []
-  pub ids : wants.styles ≡ false → ids ≡ []
+    (wants : Wants) (valued : List (Cell Data)) (written : List (Cell (String Global)))
+    (styled : List StyledCell) : Type 0 where
+  pub values : wants.values ≡ false → valued ≡ []
+  pub formulas : wants.formulas ≡ false → written ≡ []
+  pub ids : wants.styles ≡ false → styled ≡ []
 
 -- the values that count among those of a sheet's data, with the texts of shared strings
 abbrev pub HoldsValues :
