@@ -280,33 +280,38 @@ found_cell_taken {base = base} {mid = mid} new finds deep closed left =
 
 -- the cell that was found was read
 pub taken_cell : (wants : Wants) (keeps : Bool) (grounds : Grounds) (before : List Mark)
-    (earlier : List FormulaText) (position : ℕ × ℕ) (old new : Stream) (mid : Reading)
-    (read : CellRead)
-    → (finds : FindsCell before position old.base old.reading mid new.counters)
-    → IsElementPassed is_cell old.base finds.tag old.reading old.reading mid new.reading
+    (earlier : List FormulaText) (position : ℕ × ℕ) (old : Stream) (mid new : Reading)
+    (counters : Counters) (masters : Masters) (read : CellRead)
+    → (finds : FindsCell before position old.base old.reading mid counters)
+    → IsElementPassed is_cell old.base finds.tag old.reading old.reading mid new
     → old.base < length mid.names → is_closed 0 (ahead mid) ≡ true
-    → old.reading.source.is_told ≡ true → AreMasters earlier old.masters → new.base ≡ old.base
-    → read.pos ≡ position
+    → old.reading.source.is_told ≡ true → AreMasters earlier old.masters → read.pos ≡ position
     → (wants.values ≡ true → cell_value grounds finds.tag (content 0 (ahead mid))
     ≡ Ok (value_of_data_ref read.value))
     → (wants.formulas ≡ true → ReadsFormulas keeps (content 0 (ahead mid)) old.masters
-    (record { masters = new.masters; last = last_seen read.formula }))
-    → (wants.formulas ≡ false → new.masters ≡ old.masters)
+    (record { masters = masters; last = last_seen read.formula }))
+    → (wants.formulas ≡ false → masters ≡ old.masters)
     → (wants.styles ≡ true → id_named finds.tag ≡ Ok read.style_id)
-    → TakesCell NoCell before earlier old new (IsRead wants keeps grounds read)
-taken_cell wants keeps grounds before earlier position old new mid read finds passed deep closed
-    told behind same placed valued reads kept styled =
+    → TakesCell NoCell before earlier old (record {
+      reading = new;
+      base = old.base;
+      counters = counters;
+      masters = masters;
+      is_done = old.is_done;
+      is_failed = false;
+    }) (IsRead wants keeps grounds read)
+taken_cell wants keeps grounds before earlier position old mid new counters masters read finds
+    passed deep closed told behind placed valued reads kept styled =
     let base = old.base in
     let inside = content 0 (ahead mid) in
-    let all : WritesOf wants keeps inside old.masters new.masters (last_seen read.formula) =
-    writes_of wants.formulas wants keeps inside old.masters new.masters (last_seen read.formula)
-    refl reads kept in
-    let left : section_ahead base new.reading ≡ section_behind base mid = passed.left told in
+    let all : WritesOf wants keeps inside old.masters masters (last_seen read.formula) =
+    writes_of wants.formulas wants keeps inside old.masters masters (last_seen read.formula) refl
+    reads kept in
     record {
       element = element_at base finds.tag mid;
       kept = kept_by keeps all.written;
-      takes = rw same (found_cell_taken new.reading finds deep closed left);
-      closed = rw same (sym (passed.keeps.section.closed told));
+      takes = found_cell_taken new finds deep closed (passed.left told);
+      closed = sym (passed.keeps.section.closed told);
       holds = record {
         placed = finds.placed ∙ ap Ok (sym placed);
         valued = valued;

@@ -2,7 +2,7 @@
 use Rattle.std.proofs.Common.{◌≡◌, ℕ, List, [], ◌∷◌, ◌++◌, Bool, true, false, Option, Some, None}
 use Rattle.std.proofs.Common.{Result, Ok, Err, refl, sym, subst, ◌∙◌, ap, inl, inr, codes, length}
 use Rattle.std.proofs.Common.{◌⊎◌}
-use Rattle.std.specs.Prelude.{not, ◌||◌}
+use Rattle.std.specs.Prelude.{◌||◌}
 use Rattle.std.specs.List.{last_or}
 use Rattle.part_events.specs.Event.{Tag, Event}
 use Rattle.part_events.specs.Reading.{Reading, ReadsOn, LeavesPart}
@@ -53,10 +53,6 @@ value_fails wants grounds format kind tag old new error named wanted fails =
     (IsChildRefused wants grounds format kind tag) new error
     (λ told. rw (named.0, named.1, wanted) refl)
     (λ told refusal is. inl (wanted, rw (named.0, named.1) is)) fails
-
-pub is_wanted : (b : Bool) → not b ≡ false → b ≡ true
-is_wanted true is = refl
-is_wanted false is = absurd (cc)
 
 stray_if : (values formulas : Bool) (P Q : Type 0) → (values || formulas) ≡ true → P → Q
     → ((values ≡ true) × P) ⊎ ((formulas ≡ true) × Q)
@@ -109,6 +105,17 @@ written_none keeps left first = record {
   last = refl;
   masters = λ earlier are. rw (none_kept keeps) are;
 }
+
+-- one formula was read, and kept where it is to be
+pub kept_one : (keeps : Bool) (found : FormulaText) (old new : Masters) → keeps ≡ true
+    → KeepsMasters (found ∷ []) old new → KeepsMasters (kept_by keeps (found ∷ [])) old new
+kept_one true found old new is keeps = keeps
+kept_one false found old new is keeps = absurd (cc)
+
+pub kept_none_of : (keeps : Bool) (found : FormulaText) (old new : Masters) → keeps ≡ false
+    → new ≡ old → KeepsMasters (kept_by keeps (found ∷ [])) old new
+kept_none_of true found old new is same = absurd (cc)
+kept_none_of false found old new is same = λ earlier are. rw same are
 
 kept_further : (keeps : Bool) (written earlier : List FormulaText) (found : FormulaText)
     → behind_formulas (kept_by keeps (written ++ found ∷ [])) earlier

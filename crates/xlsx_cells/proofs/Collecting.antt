@@ -71,7 +71,7 @@ no_answers answer (row_end ∷ passed) before rows =
 no_answers answer (cell element ∷ passed) before rows = absurd rows.0
 
 -- the answer of a cell that was taken is kept
-answer_kept : {A : Type 0} (answer : List Mark → Element → Result A Refusal) (kept : List A)
+pub answer_kept : {A : Type 0} (answer : List Mark → Element → Result A Refusal) (kept : List A)
     (own : A) (passed before others all : List Mark) (element : Element)
     (whole : Result (List A) Refusal) → PassesMarks NoCell before passed
     → all ≡ passed ++ cell element ∷ others
@@ -87,7 +87,7 @@ answer_kept answer kept own passed before others all element whole rows same is 
     ∙ ap (λ (own_marks : List Mark). prepended kept (answers_from answer before own_marks))
     (sym same) ∙ holds
 
-answers_whole : {A : Type 0} (answer : List Mark → Element → Result A Refusal) (kept : List A)
+pub answers_whole : {A : Type 0} (answer : List Mark → Element → Result A Refusal) (kept : List A)
     (before all : List Mark) (whole : Result (List A) Refusal) → PassesMarks NoCell before all
     → prepended kept (answers_from answer before all) ≡ whole → whole ≡ Ok kept
 answers_whole answer kept before all whole rows holds =
@@ -359,7 +359,7 @@ pub step_refused : (wants : Wants) (grounds : Grounds) (old mid new : Stream) (e
     → (refusal : Refusal) → ((before : List Mark) → AreKept before mid.counters
     → IsMarkRefused NoCell (IsCellRefused wants grounds) before (marks_ahead mid) refusal)
     → IsMarkRefused IsPlaced (IsCellRefused wants grounds) [] (marks_ahead old) refusal)
-    → NextFails wants grounds mid new error → DataFails wants grounds old new error
+    → NextFails wants grounds mid new.reading error → DataFails wants grounds old new error
 step_refused wants grounds old mid new Failed going same keeps weaker fails =
     absurd (let both : true ≡ false = sym fails ∙ going.failed in cc)
 step_refused wants grounds old mid new error going same keeps weaker fails =
@@ -377,13 +377,14 @@ step_refused wants grounds old mid new error going same keeps weaker fails =
 
 -- a step behind which no call was refused doesn't answer that one was
 pub step_error : (wants : Wants) (grounds : Grounds) (mid new : Stream) (error : XlsxError)
-    → IsGoing mid → NextFails wants grounds mid new error → IsStepError error → IsCellError error
+    → IsGoing mid → NextFails wants grounds mid new.reading error → IsStepError error
+    → IsCellError error
 step_error wants grounds mid new Failed going fails is =
     absurd (let both : true ≡ false = sym fails ∙ going.failed in cc)
 step_error wants grounds mid new error going fails is = is
 
 pub styled_error : (wants : Wants) (grounds : Grounds) (mid new : Stream) (error : XlsxError)
-    → IsGoing mid → NextFails wants grounds mid new error → IsStyledStepError error
+    → IsGoing mid → NextFails wants grounds mid new.reading error → IsStyledStepError error
     → IsStyledError error
 styled_error wants grounds mid new Failed going fails is =
     absurd (let both : true ≡ false = sym fails ∙ going.failed in cc)

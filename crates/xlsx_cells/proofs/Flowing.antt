@@ -1,7 +1,7 @@
 -- How a stream of cells goes on, and how the data that it reads are entered.
 use Rattle.std.proofs.Common.{◌≡◌, ◌∙◌, ℕ, List, [], length, true, false, Some, None}
 use Rattle.std.proofs.Common.{refl, sym, ap, subst, codes, arith, string_bytes}
-use Rattle.std.specs.Prelude.{String, ◌||◌, Option, option_map}
+use Rattle.std.specs.Prelude.{String, ◌||◌, Option, option_map, Bool}
 use Rattle.std.specs.List.{last_or}
 use Rattle.std.specs.declared.alloc.Global.{Global}
 use Rattle.cell_refs.specs.declared.dimensions.Dimensions.{Dimensions}
@@ -17,7 +17,9 @@ use Rattle.xlsx_formulas.specs.Described.{description_seen, described}
 use Rattle.xlsx_formulas.specs.Formula.{FormulaText, behind_formulas, formula_of_last, cell_formula}
 use Rattle.xlsx_formulas.specs.Kept.{AreMasters, last_seen}
 use Rattle.xlsx_formulas.specs.declared.metadata.XlsxFormulaMetadata.{XlsxFormulaMetadata}
+use Rattle.xlsx_formulas.specs.declared.masters.Masters.{Masters}
 use Rattle.xlsx_formulas.proofs.Cells.{last_formula}
+use Rattle.xlsx_formulas.proofs.Groups.{formulas_kept}
 use Rattle.xlsx_cells.specs.CellsReader.{EntersCells, IsValued, IsFormula, values_alone}
 use Rattle.xlsx_cells.specs.CellsReader.{formulas_alone, values_and_styles, values_and_formulas}
 use Rattle.xlsx_cells.specs.CellsReader.{IsValuedStyle, IsValuedFormula, IsValuedMetadata}
@@ -27,7 +29,7 @@ use Rattle.xlsx_cells.specs.Head.{is_sheet_data, AreDimensions}
 use Rattle.xlsx_cells.specs.Marks.{Mark}
 use Rattle.xlsx_cells.specs.Position.{NoCell}
 use Rattle.xlsx_cells.specs.Stream.{Stream, IsStreaming, IsGoing, RestsAtEnd, TakesCell, IsRead}
-use Rattle.xlsx_cells.specs.Stream.{IsWritten}
+use Rattle.xlsx_cells.specs.Stream.{IsWritten, LacksUnwanted, LacksUnwantedText}
 use Rattle.xlsx_cells.specs.declared.cell_read.CellRead.{CellRead}
 use Rattle.xlsx_cells.specs.declared.cell_read.CellText.{CellText}
 use Rattle.xlsx_cells.specs.declared.children.Wants.{Wants}
@@ -60,7 +62,14 @@ pub text_taken : {before : List Mark} {earlier : List FormulaText} {old new : St
     → ((behind : List FormulaText) → AreMasters behind new.masters
     → string_bytes own.text ≡ formula_of_last behind read.pos (last_seen read.formula))
     → TakesCell NoCell before earlier old new (IsRead wants true grounds read)
-    → TakesCell NoCell before earlier old new (IsWritten wants grounds earlier own)
+    → TakesCell NoCell before earlier old (record {
+      reading = new.reading;
+      base = new.base;
+      counters = new.counters;
+      masters = new.masters;
+      is_done = new.is_done;
+      is_failed = false;
+    }) (IsWritten wants grounds earlier own)
 text_taken {earlier = earlier} read own placed valued styled text takes =
     let is = takes.holds in
     let kept = takes.kept in
@@ -82,8 +91,39 @@ text_taken {earlier = earlier} read own placed valued styled text takes =
             ∙ ap (λ (pos : ℕ × ℕ). cell_formula earlier pos kept) (sym placed);
         none = λ unwanted. is.is_kept ∙ is.none unwanted;
       };
-      stands = takes.stands;
+      stands = record {
+        counters = takes.stands.counters;
+        masters = takes.stands.masters;
+      };
     }
+
+pub text_unwanted : {wants : Wants} (masters : Masters) (read : CellRead) (own : CellText)
+    → own.value ≡ read.value → own.style_id ≡ read.style_id
+    → ((behind : List FormulaText) → AreMasters behind masters
+    → string_bytes own.text ≡ formula_of_last behind read.pos (last_seen read.formula))
+    → LacksUnwanted wants read → LacksUnwantedText wants own
+text_unwanted masters read own valued styled text lacks = record {
+  value = λ unwanted. valued ∙ lacks.value unwanted;
+  text = λ unwanted.
+      let some = formulas_kept masters in
+      text some.0 some.1 ∙ rw (lacks.formula unwanted) refl;
+  style = λ unwanted. styled ∙ lacks.style unwanted;
+}
+
+-- what was asked for is the same
+pub read_as : {before : List Mark} {earlier : List FormulaText} {old new : Stream}
+    {wants own : Wants} {keeps still : Bool} {grounds same : Grounds} {read : CellRead}
+    → wants ≡ own → keeps ≡ still → grounds ≡ same
+    → TakesCell NoCell before earlier old new (IsRead wants keeps grounds read)
+    → TakesCell NoCell before earlier old new (IsRead own still same read)
+read_as wanted kept rests takes = rw (wanted, kept, rests) at takes
+
+pub written_as : {before : List Mark} {earlier : List FormulaText} {old new : Stream}
+    {wants own : Wants} {grounds same : Grounds} {read : CellText} → wants ≡ own
+    → grounds ≡ same
+    → TakesCell NoCell before earlier old new (IsWritten wants grounds earlier read)
+    → TakesCell NoCell before earlier old new (IsWritten own same earlier read)
+written_as wanted rests takes = rw (wanted, rests) at takes
 
 pub value_taken : {before : List Mark} {earlier : List FormulaText} {old new : Stream}
     {grounds : Grounds} (read : CellRead) (own : Cell DataRef)

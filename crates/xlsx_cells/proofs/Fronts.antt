@@ -14,16 +14,16 @@ pub behind_append : (first second before : List Mark) → behind_marks (first ++
 behind_append [] second before = refl
 behind_append (mark ∷ first) second before = behind_append first second (mark ∷ before)
 
-passes_both : {passes : List Mark → Element → Type 0} (first second before : List Mark)
+pub passes_both : (passes : List Mark → Element → Type 0) (first second before : List Mark)
     → PassesMarks passes before first → PassesMarks passes (behind_marks first before) second
     → PassesMarks passes before (first ++ second)
-passes_both [] second before own more = more
-passes_both (row_start tag ∷ first) second before own more =
-    (own.0, passes_both first second (row_start tag ∷ before) own.1 more)
-passes_both (row_end ∷ first) second before own more =
-    passes_both first second (row_end ∷ before) own more
-passes_both (cell element ∷ first) second before own more =
-    (own.0, passes_both first second (cell element ∷ before) own.1 more)
+passes_both passes [] second before own more = more
+passes_both passes (row_start tag ∷ first) second before own more =
+    (own.0, passes_both passes first second (row_start tag ∷ before) own.1 more)
+passes_both passes (row_end ∷ first) second before own more =
+    passes_both passes first second (row_end ∷ before) own more
+passes_both passes (cell element ∷ first) second before own more =
+    (own.0, passes_both passes first second (cell element ∷ before) own.1 more)
 
 pub passes_weaker : {one more : List Mark → Element → Type 0}
     → ((before : List Mark) (element : Element) → one before element → more before element)
@@ -37,18 +37,21 @@ passes_weaker weaker (cell element ∷ passed) before is =
     (weaker before element is.0, passes_weaker weaker passed (cell element ∷ before) is.1)
 
 -- what is refused behind marks that were passed
-pub refused_behind : {passes : List Mark → Element → Type 0}
+refused_behind : (passes : List Mark → Element → Type 0)
     (refused : List Mark → Element → Refusal → Type 0) (passed before others : List Mark)
     (refusal : Refusal) → PassesMarks passes before passed
     → IsMarkRefused passes refused (behind_marks passed before) others refusal
     → IsMarkRefused passes refused before (passed ++ others) refusal
-refused_behind refused [] before others refusal own is = is
-refused_behind refused (row_start tag ∷ passed) before others refusal own is =
-    rw own.0.1 (refused_behind refused passed (row_start tag ∷ before) others refusal own.1 is)
-refused_behind refused (row_end ∷ passed) before others refusal own is =
-    refused_behind refused passed (row_end ∷ before) others refusal own is
-refused_behind refused (cell element ∷ passed) before others refusal own is =
-    inr (own.0, refused_behind refused passed (cell element ∷ before) others refusal own.1 is)
+refused_behind passes refused [] before others refusal own is = is
+refused_behind passes refused (row_start tag ∷ passed) before others refusal own is =
+    rw own.0.1
+    (refused_behind passes refused passed (row_start tag ∷ before) others refusal own.1 is)
+refused_behind passes refused (row_end ∷ passed) before others refusal own is =
+    refused_behind passes refused passed (row_end ∷ before) others refusal own is
+refused_behind passes refused (cell element ∷ passed) before others refusal own is = inr (
+  own.0,
+  refused_behind passes refused passed (cell element ∷ before) others refusal own.1 is,
+)
 
 row_weaker : {P Q : Type 0} (row : Result (Option ℕ) Refusal) (refusal : Refusal) → (P → Q)
     → BehindRow row refusal P → BehindRow row refusal Q
@@ -87,9 +90,9 @@ front_none passes before events =
 abbrev pub front_joined : {passes : List Mark → Element → Type 0} {before : List Mark}
     {old mid new : List Event} → (first : PassesTo passes before old mid)
     → PassesTo passes (behind_marks first.passed before) mid new → PassesTo passes before old new
-front_joined {before = before} {new = new} first second = record {
+front_joined {passes = passes} {before = before} {new = new} first second = record {
   passed = first.passed ++ second.passed;
-  fact = passes_both first.passed second.passed before first.fact second.fact;
+  fact = passes_both passes first.passed second.passed before first.fact second.fact;
   marks = first.marks ∙ ap (λ (others : List Mark). first.passed ++ others) second.marks
       ∙ sym (append_assoc first.passed second.passed (marks new));
   taken = first.taken ++ second.taken;
@@ -165,7 +168,7 @@ pub refused_behind_front : {passes : List Mark → Element → Type 0} {before :
     → IsMarkRefused passes refused before (marks old) refusal
 refused_behind_front {passes = passes} {before = before} {new = new} refused refusal front is =
     subst (λ (all : List Mark). IsMarkRefused passes refused before all refusal) (sym front.marks)
-    (refused_behind refused front.passed before (marks new) refusal front.fact is)
+    (refused_behind passes refused front.passed before (marks new) refusal front.fact is)
 
 -- all marks are passed where those behind the front are
 pub passes_all : {passes : List Mark → Element → Type 0} {before : List Mark}
@@ -174,16 +177,16 @@ pub passes_all : {passes : List Mark → Element → Type 0} {before : List Mark
     → PassesMarks passes before (marks old)
 passes_all {passes = passes} {before = before} {new = new} front rest =
     subst (PassesMarks passes before) (sym front.marks)
-    (passes_both front.passed (marks new) before front.fact rest)
+    (passes_both passes front.passed (marks new) before front.fact rest)
 
 -- no cell is left behind them, but one that is left open
 pub lacks_behind : {passes : List Mark → Element → Type 0} {before : List Mark}
     {old new : List Event} → (front : PassesTo passes before old new)
     → unclosed is_cell new ≡ unclosed is_cell old
     → LacksCell passes (behind_marks front.passed before) new → LacksCell passes before old
-lacks_behind {before = before} {new = new} front same lacks = record {
+lacks_behind {passes = passes} {before = before} {new = new} front same lacks = record {
   passed = front.passed ++ lacks.passed;
-  fact = passes_both front.passed lacks.passed before front.fact lacks.fact;
+  fact = passes_both passes front.passed lacks.passed before front.fact lacks.fact;
   marks = front.marks ∙ ap (λ (others : List Mark). front.passed ++ others) lacks.marks
       ∙ sym (append_assoc front.passed lacks.passed (open_mark (unclosed is_cell new)))
       ∙ ap (λ (found : Option Element). (front.passed ++ lacks.passed) ++ open_mark found) same;

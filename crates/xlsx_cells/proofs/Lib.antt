@@ -7,7 +7,9 @@ pub mod Fronts
 pub mod HeadRead
 pub mod MarksAhead
 pub mod Passing
+pub mod RecordEquality
 pub mod Refusing
 pub mod SheetEntered
 pub mod SoundSheet
 pub mod Unstyled
+pub mod WholeReadings

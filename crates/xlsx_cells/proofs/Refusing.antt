@@ -81,12 +81,12 @@ row_refused refused (end name) before others refusal is = absurd is
 row_refused refused (leaf kind) before others refusal is = absurd is
 
 -- a step that goes on is refused by what it takes
-pub step_fails : {passes : List Mark → Element → Type 0}
-    {refused : List Mark → Element → Refusal → Type 0} {wants : Wants} {old new : Stream}
-    (error : XlsxError) → (error ≡ Failed → ⊥) → IsGoing old
+pub step_fails : (passes : List Mark → Element → Type 0)
+    (refused : List Mark → Element → Refusal → Type 0) (wants : Wants) (old : Stream)
+    (new : Reading) (error : XlsxError) → (error ≡ Failed → ⊥) → IsGoing old
     → SectionFails (end_in_data wants) (IsStepRefused passes refused old.counters) old.base
-    old.reading new.reading error
+    old.reading new error
     → IsCutOff passes old.counters old.base old.reading error
     → StepFails passes refused wants old new error
-step_fails Failed never going cause cut = absurd (never refl)
-step_fails error never going cause cut = (going, cause, cut)
+step_fails passes refused wants old new Failed never going cause cut = absurd (never refl)
+step_fails passes refused wants old new error never going cause cut = (going, cause, cut)

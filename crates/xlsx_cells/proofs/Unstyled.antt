@@ -165,7 +165,8 @@ pub styled_refused : (count : ℕ) (grounds : Grounds) (old mid new : Stream) (e
     → KeepsElements is_cell old.base old.reading mid.reading
     → (old.reading.source.is_told ≡ true → (before : List Mark) (earlier : List FormulaText)
     → StandsBehind before earlier old → HasSkipped count before earlier old mid)
-    → NextFails styles_alone grounds mid new error → StyledFails count old new error
+    → NextFails styles_alone grounds mid new.reading error
+    → StyledFails count old new.reading error
 styled_refused count grounds old mid new Failed first going same keeps skipped fails =
     absurd (let both : true ≡ false = sym fails ∙ going.failed in cc)
 styled_refused count grounds old mid new error first going same keeps skipped fails =

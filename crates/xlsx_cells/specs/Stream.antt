@@ -117,15 +117,15 @@ IsCellRefused wants grounds before element refusal =
 -- takes can't be read
 abbrev pub StepFails :
     (List Mark → Element → Type 0) → (List Mark → Element → Refusal → Type 0) → Wants → Stream →
-    Stream → XlsxError → Type 0
+    Reading → XlsxError → Type 0
 StepFails passes refused wants old new Failed = old.is_failed ≡ true
 StepFails passes refused wants old new error =
     IsGoing old
     × SectionFails (end_in_data wants) (IsStepRefused passes refused old.counters) old.base
-    old.reading new.reading error
+    old.reading new error
     × IsCutOff passes old.counters old.base old.reading error
 
-abbrev pub NextFails : Wants → Grounds → Stream → Stream → XlsxError → Type 0
+abbrev pub NextFails : Wants → Grounds → Stream → Reading → XlsxError → Type 0
 NextFails wants grounds old new error =
     StepFails NoCell (IsCellRefused wants grounds) wants old new error
 

@@ -1,6 +1,7 @@
 -- How the next cell with a style id that counts is taken: one above 0 and below the number of
 -- styles. Cells without one are passed.
 use Rattle.std.specs.Prelude.{◌≡◌, ℕ, List, [], false, Ok}
+use Rattle.part_events.specs.Reading.{Reading}
 use Rattle.part_events.specs.Section.{Element}
 use Rattle.xlsx_error.specs.declared.error.XlsxError.{XlsxError}
 use Rattle.cell_styles.specs.StyleMap.{StyledCell, is_explicit}
@@ -23,6 +24,6 @@ abbrev pub place_of : StyledCell → ℕ × ℕ
 place_of own = (own.0, own.1)
 
 -- when such a step is refused
-abbrev pub StyledFails : ℕ → Stream → Stream → XlsxError → Type 0
+abbrev pub StyledFails : ℕ → Stream → Reading → XlsxError → Type 0
 StyledFails count old new error =
     StepFails (IsUnstyled count) IsIdRefused styles_alone old new error

@@ -233,7 +233,7 @@ impl<'a, P: Package> XlsxCellReader<'a, P> {
             TakesEach NoCell (IsValued grounds) before earlier found old new) }
         ensures err { let old = stream_by P.state self.old in
             let new = stream_by P.state self.new in
-            IfErr result (NextFails values_alone (grounds_by self.old) old new) }
+            IfErr result (NextFails values_alone (grounds_by self.old) old new.reading) }
         ensures kind { IfErr result IsStepError }
         ensures after { (stream_by P.state self.old).is_failed ≡ true →
             IsErrAnd result (λ error. error ≡ Failed) }
@@ -278,7 +278,7 @@ impl<'a, P: Package> XlsxCellReader<'a, P> {
             TakesEach NoCell (IsFormula earlier) before earlier found old new) }
         ensures err { let old = stream_by P.state self.old in
             let new = stream_by P.state self.new in
-            IfErr result (NextFails formulas_alone (grounds_by self.old) old new) }
+            IfErr result (NextFails formulas_alone (grounds_by self.old) old new.reading) }
         ensures kind { IfErr result IsStepError }
         ensures after { (stream_by P.state self.old).is_failed ≡ true →
             IsErrAnd result (λ error. error ≡ Failed) }
@@ -320,7 +320,7 @@ impl<'a, P: Package> XlsxCellReader<'a, P> {
             IfOk result (λ found. TakesEach NoCell fact before earlier found old new) }
         ensures err { let old = stream_by P.state self.old in
             let new = stream_by P.state self.new in
-            IfErr result (NextFails values_and_styles (grounds_by self.old) old new) }
+            IfErr result (NextFails values_and_styles (grounds_by self.old) old new.reading) }
         ensures kind { IfErr result IsStepError }
         ensures after { (stream_by P.state self.old).is_failed ≡ true →
             IsErrAnd result (λ error. error ≡ Failed) }
@@ -367,7 +367,7 @@ impl<'a, P: Package> XlsxCellReader<'a, P> {
             IfOk result (λ found. TakesEach NoCell (fact earlier) before earlier found old new) }
         ensures err { let old = stream_by P.state self.old in
             let new = stream_by P.state self.new in
-            IfErr result (NextFails values_and_formulas (grounds_by self.old) old new) }
+            IfErr result (NextFails values_and_formulas (grounds_by self.old) old new.reading) }
         ensures kind { IfErr result IsStepError }
         ensures after { (stream_by P.state self.old).is_failed ≡ true →
             IsErrAnd result (λ error. error ≡ Failed) }
@@ -421,7 +421,7 @@ impl<'a, P: Package> XlsxCellReader<'a, P> {
             IfOk result (λ found. TakesEach NoCell fact before earlier found old new) }
         ensures err { let old = stream_by P.state self.old in
             let new = stream_by P.state self.new in
-            IfErr result (NextFails values_and_formulas (grounds_by self.old) old new) }
+            IfErr result (NextFails values_and_formulas (grounds_by self.old) old new.reading) }
         ensures kind { IfErr result IsStepError }
         ensures after { (stream_by P.state self.old).is_failed ≡ true →
             IsErrAnd result (λ error. error ≡ Failed) }
@@ -480,7 +480,7 @@ impl<'a, P: Package> XlsxCellReader<'a, P> {
             TakesEach (IsUnstyled count) IsStyled before earlier found old new) }
         ensures err { let old = stream_by P.state self.old in
             let new = stream_by P.state self.new in
-            IfErr result (StyledFails (length (styles_held self.old)) old new) }
+            IfErr result (StyledFails (length (styles_held self.old)) old new.reading) }
         ensures kind { IfErr result IsStyledStepError }
         ensures after { (stream_by P.state self.old).is_failed ≡ true →
             IsErrAnd result (λ error. error ≡ Failed) }

@@ -102,7 +102,7 @@ impl SheetCursor {
         ensures unwanted { IfOk result (λ found. IfSome found (LacksUnwanted asked.entry.wants)) }
         ensures err { let old = stream (P.state «package».old) self.old in
             let new = stream (P.state «package».new) self.new in
-            IfErr result (NextFails asked.entry.wants (grounds_of asked.entry.book) old new) }
+            IfErr result (NextFails asked.entry.wants (grounds_of asked.entry.book) old new.reading) }
         ensures kind { IfErr result IsStepError }
         ensures plain { reads_children asked.entry.wants ≡ false →
             IfErr result IsStyledStepError }
@@ -164,7 +164,7 @@ impl SheetCursor {
             IfSome found (LacksUnwantedText asked.entry.wants)) }
         ensures err { let old = stream (P.state «package».old) self.old in
             let new = stream (P.state «package».new) self.new in
-            IfErr result (NextFails asked.entry.wants (grounds_of asked.entry.book) old new) }
+            IfErr result (NextFails asked.entry.wants (grounds_of asked.entry.book) old new.reading) }
         ensures kind { IfErr result IsStepError }
         ensures plain { reads_children asked.entry.wants ≡ false →
             IfErr result IsStyledStepError }
@@ -233,7 +233,7 @@ impl SheetCursor {
             TakesEach (IsUnstyled style_count) IsStyled before earlier found old new) }
         ensures err { let old = stream (P.state «package».old) self.old in
             let new = stream (P.state «package».new) self.new in
-            IfErr result (StyledFails style_count old new) }
+            IfErr result (StyledFails style_count old new.reading) }
         ensures kind { IfErr result IsStyledStepError }
         ensures after { self.old.failed ≡ true → IsErrAnd result (λ error. error ≡ Failed) }
         ensures failed { self.new.failed ≡ is_err result }

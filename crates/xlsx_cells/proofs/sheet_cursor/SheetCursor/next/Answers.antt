@@ -1,4 +1,4 @@
-use Rattle.std.proofs.Common.{◌≡◌, List, Some, true, false, ◌∙◌, refl, arith, codes, inl}
+use Rattle.std.proofs.Common.{◌≡◌, ◌-◌, List, Some, true, ◌∙◌, refl, arith, codes, inl}
 use Rattle.std.proofs.lemmas.Result.{err_from_is_err_and}
 use Rattle.part_events.specs.Reading.{reading}
 use Rattle.part_events.specs.Walk.{element_at}
@@ -39,8 +39,8 @@ returns-in_err-found-clause-err g c =
     before (marks_left own.base old.reading) refusal (is before kept))
     (c.in_err-found.ensures.err (end_in_cell wants)) in
     rw (p.1, p.2)
-    (step_fails c.in_err-found.field-0.0 (λ same. rw same at c.in_err-found.ensures.kind) going
-    cause c.in_err-found.ensures.cut)
+    (step_fails NoCell (IsCellRefused wants grounds) wants old new c.in_err-found.field-0.0
+    (λ same. rw same at c.in_err-found.ensures.kind) going cause c.in_err-found.ensures.cut)
 
 pub returns-in_err-read-clause-err : goal.returns-in_err-read-clause-err
 returns-in_err-read-clause-err g c =
@@ -79,8 +79,8 @@ returns-in_err-read-clause-err g c =
     let cut = found_cell_cut wants grounds pos base (mid.at - 1) old mid new own.counters
     c.find_cell.new.counters tag c.in_err-read.field-0.0 there.2 there.1 finds fails in
     rw (p.1, p.2)
-    (step_fails c.in_err-read.field-0.0 (λ same. rw same at c.in_err-read.ensures.kind) going cause
-    cut)
+    (step_fails NoCell (IsCellRefused wants grounds) wants all new c.in_err-read.field-0.0
+    (λ same. rw same at c.in_err-read.ensures.kind) going cause cut)
 
 pub returns-clause-takes : goal.returns-clause-takes
 returns-clause-takes g c = λ told before earlier behind.
@@ -88,6 +88,7 @@ returns-clause-takes g c = λ told before earlier behind.
     let base = own.base in
     let old = stream (g.P.Package.state c.args.package.now) own in
     let mid = reading (g.P.Package.state c.find_cell.new.package) c.find_cell.new.cursor in
+    let new = reading (g.P.Package.state c.read_cell.new.package) c.read_cell.new.cursor in
     let wants = c.args.asked.wants in
     let pos = c.in-Some.pos in
     let going : IsGoing old = is_going old c.requires c.if-self.false c.if-self-2.false in
@@ -106,8 +107,9 @@ returns-clause-takes g c = λ told before earlier behind.
     let stand : StandsAtElement element mid = record { tag = there.current; inside = refl } in
     let told_mid = found.read.reads.moves.parts.is_told ∙ told in
     taken_cell wants c.args.asked.keeps_masters (grounds_of c.args.asked.book) before earlier pos
-    old _ mid c.in_ok-read.read there passed found.deep
-    (c.in_ok-read.ensures.skips told_mid).closed told behind.masters refl c.in_ok-read.ensures.pos
+    old mid new c.find_cell.new.counters c.read_cell.new.masters c.in_ok-read.read there passed
+    found.deep (c.in_ok-read.ensures.skips told_mid).closed told behind.masters
+    c.in_ok-read.ensures.pos
     (λ wanted. c.in_ok-read.ensures.value told_mid wanted element stand)
     (λ wanted. c.in_ok-read.ensures.formula told_mid wanted element stand)
     c.in_ok-read.ensures.same
