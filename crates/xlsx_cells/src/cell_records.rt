@@ -1,6 +1,8 @@
 //! What single calls answer of a cell.
-ghost use Rattle.std.specs.Prelude.{◌≡◌, ◌↔◌, IsTrue};
+ghost use Rattle.std.specs.Prelude.{◌≡◌, ◌↔◌, true};
 ghost use Rattle.xlsx_cells.specs.Records.{formula_cell, metadata_cell};
+ghost use Rattle.xlsx_cells.specs.declared.cell_records.XlsxCellFormula.{XlsxCellFormula};
+ghost use Rattle.xlsx_cells.specs.declared.cell_records.XlsxCellFormulaMetadataRecord.{XlsxCellFormulaMetadataRecord};
 
 use cell_data::DataRef;
 use xlsx_formulas::XlsxFormulaMetadata;
@@ -27,19 +29,11 @@ pub struct XlsxCellFormulaMetadataRecord {
     pub formula: Option<XlsxFormulaMetadata>,
 }
 
-/// Whether two cells are the same by all that they have, which is `==`.
-pub fn is_same_cell_formula(a: &XlsxCellFormula, b: &XlsxCellFormula) -> bool
-    ensures { IsTrue result ↔ (formula_cell a.now ≡ formula_cell b.now) }
-{
-    a == b
-}
-
-/// Whether two cells are the same by all that they have, which is `==`.
-pub fn is_same_metadata_record(
-    a: &XlsxCellFormulaMetadataRecord,
-    b: &XlsxCellFormulaMetadataRecord,
-) -> bool
-    ensures { IsTrue result ↔ (metadata_cell a.now ≡ metadata_cell b.now) }
-{
-    a == b
-}
+/// `a == b` exactly where both are the same by all that they have.
+pub fn equality_is_by_all_fields()
+    ensures formula { (a b : XlsxCellFormula) → (⟦<XlsxCellFormula as PartialEq>⟧.eq a b ≡ true)
+        ↔ (formula_cell a ≡ formula_cell b) }
+    ensures metadata { (a b : XlsxCellFormulaMetadataRecord) →
+        (⟦<XlsxCellFormulaMetadataRecord as PartialEq>⟧.eq a b ≡ true)
+        ↔ (metadata_cell a ≡ metadata_cell b) }
+{}

@@ -172,6 +172,14 @@ impl<'a, P: Package> XlsxCellReader<'a, P> {
         self.styles
     }
 
+    /// The shared string at this index, counted from 0.
+    pub fn shared_string(&self, index: usize) -> Option<&'a str>
+        ensures { option_map (λ text. text.now) result
+            ≡ slice_get (grounds_by self.now).strings index }
+    {
+        Some(self.strings.get(index)?.as_str())
+    }
+
     /// What the values of cells rest on.
     fn book(&self) -> Book<'a>
         ensures { grounds_of result ≡ grounds_by self.now }

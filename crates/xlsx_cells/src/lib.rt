@@ -13,7 +13,7 @@ mod sheet_cursor;
 
 pub use cell_read::{CellRead, CellText};
 pub use cell_records::{
-    XlsxCellFormula, XlsxCellFormulaMetadataRecord, is_same_cell_formula, is_same_metadata_record,
+    XlsxCellFormula, XlsxCellFormulaMetadataRecord, equality_is_by_all_fields,
 };
 pub use cells_reader::XlsxCellReader;
 pub use children::{Asked, Wants};

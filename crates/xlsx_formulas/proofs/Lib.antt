@@ -1,3 +1,4 @@
 pub mod Cells
+pub mod Equality
 pub mod Groups
 pub mod Starts

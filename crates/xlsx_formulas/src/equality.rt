@@ -1,12 +1,12 @@
-//! `==` of what formulas tell is true exactly where they tell the same.
-ghost use Rattle.std.specs.Prelude.{◌≡◌, ◌↔◌, IsTrue};
+//! What `==` of what formulas tell is.
+ghost use Rattle.std.specs.Prelude.{◌≡◌, ◌↔◌, true};
 ghost use Rattle.xlsx_formulas.specs.Described.{description_seen};
+ghost use Rattle.xlsx_formulas.specs.declared.metadata.XlsxFormulaMetadata.{XlsxFormulaMetadata};
 
 use crate::metadata::XlsxFormulaMetadata;
 
-/// Whether two formulas tell the same, which is `==`.
-pub fn is_same_metadata(a: &XlsxFormulaMetadata, b: &XlsxFormulaMetadata) -> bool
-    ensures { IsTrue result ↔ (description_seen a.now ≡ description_seen b.now) }
-{
-    a == b
-}
+/// `a == b` exactly where both tell the same.
+pub fn equality_is_by_all_fields()
+    ensures { (a b : XlsxFormulaMetadata) → (⟦<XlsxFormulaMetadata as PartialEq>⟧.eq a b ≡ true)
+        ↔ (description_seen a ≡ description_seen b) }
+{}

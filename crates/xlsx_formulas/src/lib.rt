@@ -7,7 +7,7 @@ mod formula;
 mod masters;
 mod metadata;
 
-pub use equality::is_same_metadata;
+pub use equality::equality_is_by_all_fields;
 pub use formula::{Formula, Share, read_formula, share_of};
 pub use masters::Masters;
 pub use metadata::{XlsxFormulaMetadata, metadata_of};
