@@ -7,7 +7,7 @@ use Rattle.std.specs.Prelude.{option_map, string_bytes, ◌↔◌}
 use Rattle.std.proofs.lemmas.Slice.Eq.{bytes_eq-Decides}
 use Rattle.cell_data.proofs.Equalities.{data_ref_law}
 use Rattle.xlsx_formulas.specs.Described.{description_seen}
-use Rattle.xlsx_formulas.proofs.Equality.{metadata_law}
+use Rattle.xlsx_formulas.proofs.SameMetadata.{metadata_law}
 use Rattle.xlsx_cells.specs.Records.{formula_cell, metadata_cell}
 use Rattle.xlsx_cells.specs.contracts.cell_records.XlsxCellFormulaPartialEq.TheImpl as formula
 use Rattle.xlsx_cells.specs.contracts.cell_records.XlsxCellFormulaMetadataRecordPartialEq.TheImpl as metadata

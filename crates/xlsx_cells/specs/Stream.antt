@@ -33,8 +33,8 @@ use Rattle.xlsx_cells.specs.declared.cell_read.CellText.{CellText}
 use Rattle.xlsx_cells.specs.declared.sheet_cursor.SheetCursor.{SheetCursor}
 
 -- where a stream stands: its reading, the number of the element of the sheet's data among the open
--- ones, the counters, the masters that it keeps, whether the data have ended, and whether a call was
--- refused
+-- ones, the counters, the masters that it keeps, whether the data have ended, and whether a call
+-- was refused
 pub record Stream : Type 0 where
   pub reading : Reading
   pub base : ℕ
@@ -53,8 +53,8 @@ stream source sheet = record {
   is_failed = sheet.failed;
 }
 
--- It may be asked for the next cell. Behind a refusal nothing has to hold, and behind the end of the
--- data reading may stand outside them.
+-- It may be asked for the next cell. Behind a refusal nothing has to hold, and behind the end of
+-- the data reading may stand outside them.
 pub record IsStreaming (s : Stream) : Type 0 where
   pub reading : s.is_failed ≡ false → IsReading s.reading
   pub within : s.is_failed ≡ false → s.is_done ≡ false → s.base ≤ length s.reading.names

@@ -1,5 +1,5 @@
 ghost use Rattle.std.specs.Prelude.{◌≡◌, List, map, string_bytes, true, false, is_err};
-ghost use Rattle.std.specs.Prelude.{IfOk, IfErr, IfSome, IsErrAnd, length, option_map};
+ghost use Rattle.std.specs.Prelude.{IfOk, IfErr, IfSome, IsErrAnd, length, option_map, slice_get};
 ghost use Rattle.part_events.specs.Reader as xml_reader;
 ghost use Rattle.part_events.specs.Reading.{ReadsPart, IsReading};
 ghost use Rattle.cell_styles.specs.StyleMap.{is_explicit};

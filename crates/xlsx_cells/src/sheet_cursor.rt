@@ -102,7 +102,8 @@ impl SheetCursor {
         ensures unwanted { IfOk result (λ found. IfSome found (LacksUnwanted asked.entry.wants)) }
         ensures err { let old = stream (P.state «package».old) self.old in
             let new = stream (P.state «package».new) self.new in
-            IfErr result (NextFails asked.entry.wants (grounds_of asked.entry.book) old new.reading) }
+            IfErr result
+            (NextFails asked.entry.wants (grounds_of asked.entry.book) old new.reading) }
         ensures kind { IfErr result IsStepError }
         ensures plain { reads_children asked.entry.wants ≡ false →
             IfErr result IsStyledStepError }
@@ -135,8 +136,8 @@ impl SheetCursor {
         Ok(Some(read))
     }
 
-    /// Takes the next cell as `next` does, with the text of its formula: a derived one is moved from
-    /// its group's to the cell. The formulas of groups are kept for later cells.
+    /// Takes the next cell as `next` does, with the text of its formula: a derived one is moved
+    /// from its group's to the cell. The formulas of groups are kept for later cells.
     pub fn next_text<P: Package>(
         &mut self,
         package: &mut P,
@@ -164,7 +165,8 @@ impl SheetCursor {
             IfSome found (LacksUnwantedText asked.entry.wants)) }
         ensures err { let old = stream (P.state «package».old) self.old in
             let new = stream (P.state «package».new) self.new in
-            IfErr result (NextFails asked.entry.wants (grounds_of asked.entry.book) old new.reading) }
+            IfErr result
+            (NextFails asked.entry.wants (grounds_of asked.entry.book) old new.reading) }
         ensures kind { IfErr result IsStepError }
         ensures plain { reads_children asked.entry.wants ≡ false →
             IfErr result IsStyledStepError }

@@ -1,4 +1,4 @@
 pub mod Cells
-pub mod Equality
 pub mod Groups
+pub mod SameMetadata
 pub mod Starts

@@ -38,8 +38,11 @@ cells-preserved g c =
           been.stands) in
           rw (c.in_ok-push.ensures, map-append formula_entry c.cells.cells.items (own ∷ []))
           (values_further (formula_entry own) been takes
-          (λ before element kept is.
-          (is.placed, subst (λ (grounds : Grounds). cell_value grounds element.tag element.inside ≡ Ok (formula_entry own).1) now.hold is.valued)));
+          (λ before element kept is. (
+            is.placed,
+            subst (λ (grounds : Grounds). cell_value grounds element.tag element.inside
+                ≡ Ok (formula_entry own).1) now.hold is.valued,
+          )));
     }
 
 pub returns-clause-values : goal.returns-clause-values

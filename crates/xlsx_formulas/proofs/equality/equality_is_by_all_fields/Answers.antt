@@ -1,4 +1,4 @@
-use Rattle.xlsx_formulas.proofs.Equality.{metadata_law}
+use Rattle.xlsx_formulas.proofs.SameMetadata.{metadata_law}
 use Rattle.xlsx_formulas.proofs.equality.equality_is_by_all_fields.Goals as goal
 
 pub returns : goal.returns
