@@ -364,8 +364,8 @@ fn cells_are_asked_for_one_by_one(rt: HostRuntime) -> Result<(), Fail> {
     Ok(())
 }
 
-/// A1 with the master `B1` of A1 to A3, A2 with the master `C9` of A2 to A3, and A3 that is derived,
-/// all of one index.
+/// A1 with the master `B1` of A1 to A3, A2 with the master `C9` of A2 to A3, and A3 that is
+/// derived, all of one index.
 const TWO_MASTERS: &str =
     r#"<c r="A1"><f t="shared" ref="A1:A3" si="0">B1</f></c><c r="A2"><f t="shared" ref="A2:A3" si="0">C9</f></c><c r="A3"><f t="shared" si="0"/></c>"#;
 
@@ -478,7 +478,7 @@ const MIXED: [(&str, &str, &[Call], &str); 24] = [
     ),
     (
         "a style id as it is written, also past the styles",
-        r#"<c s="5"/><c s="+1"/><c s="x"/><c/>"#,
+        r#"<c s="5"/><c s="01"/><c s="+1"/><c/>"#,
         &[
             Call::ValueAndStyleId,
             Call::ValueAndStyleId,

@@ -320,7 +320,8 @@ pub formulas_whole : (wants : Wants) (grounds : Grounds) (count : ℕ) (old now 
     (values : List ((ℕ × ℕ) × CellValue)) (formulas : List ((ℕ × ℕ) × List ℕ))
     (ids : List StyledCell)
     → (been : HasCollected wants grounds count old now values formulas ids)
-    → PassesMarks NoCell been.before (marks_ahead now) → wants.formulas ≡ true → HoldsFormulas (data_ahead old) formulas
+    → PassesMarks NoCell been.before (marks_ahead now) → wants.formulas ≡ true
+    → HoldsFormulas (data_ahead old) formulas
 formulas_whole wants grounds count old now values formulas ids been rows wanted =
     let so_far = been.listed wanted in (
       so_far.passed,
@@ -333,7 +334,8 @@ pub ids_whole : (wants : Wants) (grounds : Grounds) (count : ℕ) (old now : Str
     (values : List ((ℕ × ℕ) × CellValue)) (formulas : List ((ℕ × ℕ) × List ℕ))
     (ids : List StyledCell)
     → (been : HasCollected wants grounds count old now values formulas ids)
-    → PassesMarks NoCell been.before (marks_ahead now) → wants.styles ≡ true → HoldsIds count (data_ahead old) ids
+    → PassesMarks NoCell been.before (marks_ahead now) → wants.styles ≡ true
+    → HoldsIds count (data_ahead old) ids
 ids_whole wants grounds count old now values formulas ids been rows wanted =
     let so_far = been.styled wanted in (
       so_far.passed,

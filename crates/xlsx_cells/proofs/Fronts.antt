@@ -82,7 +82,8 @@ mark_weaker passes weaker behind (cell element ∷ others) refusal (inr further)
 
 -- ---- marks with their events
 
-abbrev pub front_none : (passes : List Mark → Element → Type 0) (before : List Mark) (events : List Event)
+abbrev pub front_none : (passes : List Mark → Element → Type 0) (before : List Mark)
+    (events : List Event)
     → PassesTo passes before events events
 front_none passes before events =
     record { passed = []; fact = record {}; marks = refl; taken = []; events = refl }
@@ -124,7 +125,8 @@ front_weaker {before = before} weaker front = record {
 }
 
 -- over a cell that was taken and passes
-abbrev pub front_over : {passes : List Mark → Element → Type 0} {before : List Mark} {element : Element}
+abbrev pub front_over : {passes : List Mark → Element → Type 0} {before : List Mark}
+    {element : Element}
     {old new : List Event} → (takes : TakesElement passes before element old new)
     → passes (behind_marks takes.front.passed before) element → PassesTo passes before old new
 front_over {element = element} {new = new} takes is =
@@ -139,7 +141,8 @@ front_over {element = element} {new = new} takes is =
     })
 
 -- a cell that is taken behind others that were passed
-abbrev pub taken_behind : {passes : List Mark → Element → Type 0} {before : List Mark} {element : Element}
+abbrev pub taken_behind : {passes : List Mark → Element → Type 0} {before : List Mark}
+    {element : Element}
     {old mid new : List Event} → (front : PassesTo passes before old mid)
     → TakesElement passes (behind_marks front.passed before) element mid new
     → TakesElement passes before element old new

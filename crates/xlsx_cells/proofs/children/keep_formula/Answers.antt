@@ -13,7 +13,8 @@ returns-in_err-formula-clause-err g c =
     let new = reading (g.P.Package.state c.read_formula.new.package) c.read_formula.new.cursor in
     let p = err_from_is_err_and c.from_residual.result c.from_residual.ensures.1 in
     rw (p.1, p.2) (λ grounds format kind element stands named.
-    formula_fails c.args.asked.wants grounds format kind element.tag old new c.in_err-formula.field-0.0
+    formula_fails c.args.asked.wants grounds format kind element.tag old new
+    c.in_err-formula.field-0.0
     named c.if-not-asked.false
     (c.in_err-formula.ensures.err element.tag stands.tag))
 

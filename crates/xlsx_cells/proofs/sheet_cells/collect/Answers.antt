@@ -50,7 +50,8 @@ cells-preserved g c =
       formulas_inside = c.in_ok-keep_formula.ensures.inside;
       ids_inside = c.in_ok-keep_id.ensures.inside;
       unwanted =
-          let lacks : LacksUnwantedText wants read = rw c.in-Some.is at c.in_ok-found.ensures.unwanted in
+          let lacks : LacksUnwantedText wants read =
+          rw c.in-Some.is at c.in_ok-found.ensures.unwanted in
           unwanted_further wants grounds.strings c.args.asked.style_count _ _ _ _ _ _ read
           now.unwanted lacks c.in_ok-keep_value.ensures.value c.in_ok-keep_formula.ensures.formula
           c.in_ok-keep_id.ensures.id;

@@ -80,7 +80,8 @@ cells-preserved g c =
           let been = now.skipped told before earlier kept in
           skipped_further c.args.style_count before earlier _ old mid new read been
           (rw c.in-Some.is at (c.in_ok-read.ensures.takes
-          (now.keeps.section.reads.moves.parts.is_told ∙ told) (behind_marks been.front.passed before)
+          (now.keeps.section.reads.moves.parts.is_told ∙ told)
+          (behind_marks been.front.passed before)
           earlier been.stands)) uncounted;
     }
 
