@@ -3,8 +3,10 @@
 #![tactic(auto)]
 
 mod counting;
+mod taking;
 
 pub use counting::formula_count;
+pub use taking::{formulas_taken, two_taken, values_taken};
 
 #[cfg(test)]
 mod tests;

@@ -2,7 +2,8 @@
 
 ghost use Rattle.std.specs.Prelude.{◌≡◌, OnOk};
 ghost use Rattle.part_events.specs.Package.{SameParts};
-ghost use Rattle.xlsx_cells.specs.CellsReader.{flow_by, IsFlowing};
+ghost use Rattle.xlsx_cells.specs.CellsReader.{stream_by};
+ghost use Rattle.xlsx_cells.specs.Stream.{IsStreaming};
 
 use crate::answers::push_value;
 use cell_data::{Cell, CellFormat, DataRef};
@@ -11,15 +12,19 @@ use part_events::{FailingPackage, Package, XlReader};
 use std::alloc::Global;
 use std::test::Fail;
 use test_packages::{SHEET, SHEET_NAME, package_of, sheet_part};
-use xlsx_cells::{XlsxCellReader, open_data};
+use xlsx_cells::{XlsxCellFormula, XlsxCellFormulaMetadataRecord, XlsxCellReader, open_data};
 use xlsx_error::XlsxError;
+use xlsx_formulas::XlsxFormulaMetadata;
 use xlsx_values::to_data;
 
 /// What a reader is asked for.
 #[derive(Clone, Copy)]
 enum Call {
     Value,
+    ValueAndStyleId,
     Formula,
+    ValueAndFormula,
+    Metadata,
     StyleId,
 }
 
@@ -41,6 +46,99 @@ fn push_cell_value(
             write!(out, "({},{} ", cell.pos.0, cell.pos.1)?;
             push_value(out, &to_data(alloc, cell.val, strings)?)?;
             out.push_str(")")?;
+        }
+        Ok(None) => out.push_str(".")?,
+        Err(error) => write!(out, "{error:?};")?,
+    }
+    Ok(())
+}
+
+/// Appends where a cell stands and its value.
+fn push_placed(
+    out: &mut String,
+    alloc: Global,
+    strings: &[String],
+    pos: (u32, u32),
+    value: DataRef,
+) -> Result<(), Fail> {
+    write!(out, "({},{} ", pos.0, pos.1)?;
+    push_value(out, &to_data(alloc, value, strings)?)
+}
+
+fn push_value_and_style(
+    out: &mut String,
+    alloc: Global,
+    strings: &[String],
+    found: Result<Option<(Cell<DataRef>, usize)>, XlsxError>,
+) -> Result<(), Fail> {
+    match found {
+        Ok(Some((cell, id))) => {
+            push_placed(out, alloc, strings, cell.pos, cell.val)?;
+            write!(out, " style {id})")?;
+        }
+        Ok(None) => out.push_str(".")?,
+        Err(error) => write!(out, "{error:?};")?,
+    }
+    Ok(())
+}
+
+fn push_value_and_formula(
+    out: &mut String,
+    alloc: Global,
+    strings: &[String],
+    found: Result<Option<XlsxCellFormula>, XlsxError>,
+) -> Result<(), Fail> {
+    match found {
+        Ok(Some(cell)) => {
+            push_placed(out, alloc, strings, cell.pos, cell.value)?;
+            match cell.formula {
+                Some(formula) => write!(out, " ={formula})")?,
+                None => out.push_str(" -)")?,
+            }
+        }
+        Ok(None) => out.push_str(".")?,
+        Err(error) => write!(out, "{error:?};")?,
+    }
+    Ok(())
+}
+
+fn push_metadata(out: &mut String, told: Option<XlsxFormulaMetadata>) -> Result<(), Fail> {
+    match told {
+        Some(XlsxFormulaMetadata::Normal { formula }) => write!(out, " own {formula})")?,
+        Some(
+            XlsxFormulaMetadata::Shared {
+                shared_index,
+                range: Some(area),
+                formula,
+            },
+        ) => {
+            let (from, to) = (area.start, area.end);
+            write!(
+                out,
+                " group {shared_index} {},{} to {},{} ",
+                from.0, from.1, to.0, to.1
+            )?;
+            write!(out, "{formula})")?;
+        }
+        Some(XlsxFormulaMetadata::Shared { range: None, .. }) => out.push_str(" no area)")?,
+        Some(XlsxFormulaMetadata::SharedDerived { shared_index }) => {
+            write!(out, " of group {shared_index})")?;
+        }
+        None => out.push_str(" -)")?,
+    }
+    Ok(())
+}
+
+fn push_value_and_metadata(
+    out: &mut String,
+    alloc: Global,
+    strings: &[String],
+    found: Result<Option<XlsxCellFormulaMetadataRecord>, XlsxError>,
+) -> Result<(), Fail> {
+    match found {
+        Ok(Some(cell)) => {
+            push_placed(out, alloc, strings, cell.pos, cell.value)?;
+            push_metadata(out, cell.formula)?;
         }
         Ok(None) => out.push_str(".")?,
         Err(error) => write!(out, "{error:?};")?,
@@ -80,12 +178,26 @@ fn push_answer<P: Package>(
     reader: &mut XlsxCellReader<'_, P>,
     call: Call,
 ) -> Result<(), Fail>
-    requires { IsFlowing (flow_by P.state reader.old) }
-    ensures { IsFlowing (flow_by P.state reader.new) }
+    requires { IsStreaming (stream_by P.state reader.old) }
+    ensures { IsStreaming (stream_by P.state reader.new) }
 {
     match call {
         Call::Value => push_cell_value(out, alloc, strings, reader.next_cell()),
+        Call::ValueAndStyleId => {
+            push_value_and_style(out, alloc, strings, reader.next_cell_with_style_id())
+        }
         Call::Formula => push_cell_formula(out, reader.next_formula()),
+        Call::ValueAndFormula => {
+            push_value_and_formula(out, alloc, strings, reader.next_cell_with_formula())
+        }
+        Call::Metadata => {
+            push_value_and_metadata(
+                out,
+                alloc,
+                strings,
+                reader.next_cell_with_formula_metadata(),
+            )
+        }
         Call::StyleId => push_cell_style(out, reader.next_style_id()),
     }
 }
@@ -252,8 +364,193 @@ fn cells_are_asked_for_one_by_one(rt: HostRuntime) -> Result<(), Fail> {
     Ok(())
 }
 
+/// A1 with the master `B1` of A1 to A3, A2 with the master `C9` of A2 to A3, and A3 that is
+/// derived, all of one index.
+const TWO_MASTERS: &str =
+    r#"<c r="A1"><f t="shared" ref="A1:A3" si="0">B1</f></c><c r="A2"><f t="shared" ref="A2:A3" si="0">C9</f></c><c r="A3"><f t="shared" si="0"/></c>"#;
+
+/// A master with an empty text, and a cell that is derived from it.
+const EMPTY_MASTER: &str =
+    r#"<c r="A1"><f t="shared" ref="A1:A2" si="0"></f></c><c r="A2"><f t="shared" si="0"/></c>"#;
+
+/// A master, behind which its cell has an empty formula, and a cell that is derived from it.
+const MASTER_AND_MORE: &str =
+    r#"<c r="A1"><f t="shared" si="0" ref="A1:A2">B1</f><f/></c><c r="A2"><f t="shared" si="0"/></c>"#;
+
+/// A type that isn't known, and a formula of a group without index.
+const BOTH_AT_FAULT: &str = r#"<c r="A1" t="x"><f t="shared"/><v>1</v></c>"#;
+
+/// What a case shows, the data of a sheet, what a reader of them is asked for, and its answers.
+const MIXED: [(&str, &str, &[Call], &str); 24] = [
+    (
+        "metadata keep no master",
+        TWO_MASTERS,
+        &[Call::Formula, Call::Metadata, Call::Formula],
+        "(0,0 =B1)(1,0 Empty group 0 1,0 to 2,0 C9)(2,0 =B3)",
+    ),
+    (
+        "the last master counts",
+        TWO_MASTERS,
+        FORMULAS,
+        "(0,0 =B1)(1,0 =C9)(2,0 =C10)",
+    ),
+    (
+        "metadata before masters",
+        TWO_MASTERS,
+        &[Call::Metadata, Call::Formula, Call::Formula],
+        "(0,0 Empty group 0 0,0 to 2,0 B1)(1,0 =C9)(2,0 =C10)",
+    ),
+    (
+        "a value with its formula keeps a master",
+        TWO_MASTERS,
+        &[Call::ValueAndFormula, Call::Value, Call::Formula],
+        "(0,0 Empty =B1)(1,0 Empty)(2,0 =B3)",
+    ),
+    (
+        "a value with its style id keeps none",
+        TWO_MASTERS,
+        &[
+            Call::ValueAndStyleId,
+            Call::ValueAndStyleId,
+            Call::ValueAndFormula,
+        ],
+        "(0,0 Empty style 0)(1,0 Empty style 0)(2,0 Empty -)",
+    ),
+    (
+        "a style id keeps none",
+        r#"<c r="A1" s="1"><f t="shared" ref="A1:A2" si="0">B1</f></c><c r="A2"><f t="shared" si="0"/></c>"#,
+        &[Call::StyleId, Call::Formula],
+        "(0,0 style 1)(1,0 =)",
+    ),
+    (
+        "a group with its value, and one cell of it",
+        GROUP,
+        &[Call::Metadata, Call::Metadata, Call::Metadata],
+        "(0,0 n:1 group 0 0,0 to 1,0 B1)(1,0 Empty of group 0).",
+    ),
+    (
+        "a formula without text is none",
+        EMPTY_MASTER,
+        &[Call::ValueAndFormula, Call::ValueAndFormula],
+        "(0,0 Empty -)(1,0 Empty -)",
+    ),
+    (
+        "and the master of a group",
+        EMPTY_MASTER,
+        &[Call::Metadata, Call::Metadata],
+        "(0,0 Empty group 0 0,0 to 1,0 )(1,0 Empty of group 0)",
+    ),
+    (
+        "a group without master has no formula, and its text is dropped",
+        r#"<c><f t="shared" si="7">Z9</f></c><c><f t="shared" si="7">Z9</f></c>"#,
+        &[Call::ValueAndFormula, Call::Metadata],
+        "(0,0 Empty -)(0,1 Empty of group 7)",
+    ),
+    (
+        "but is read",
+        r#"<c><f t="shared" si="7"><!x></f></c>"#,
+        &[Call::Metadata, Call::ValueAndFormula],
+        "Xml(Entity { at: 4 });Failed;",
+    ),
+    (
+        "a master behind which its cell has another formula is kept",
+        MASTER_AND_MORE,
+        &[Call::ValueAndFormula, Call::ValueAndFormula],
+        "(0,0 Empty -)(1,0 Empty =B2)",
+    ),
+    (
+        "metadata are those of the last formula",
+        MASTER_AND_MORE,
+        &[Call::Metadata, Call::Metadata],
+        "(0,0 Empty -)(1,0 Empty of group 0)",
+    ),
+    (
+        "a formula of another type is its cell's own",
+        r#"<c><f>B1</f><f t="array" ref="x">C1</f></c><c><f t="dataTable" ref="B2:B5" r1="A1"/></c>"#,
+        &[Call::Metadata, Call::Metadata],
+        "(0,0 Empty own C1)(0,1 Empty -)",
+    ),
+    (
+        "the largest index, and an area as it is written",
+        r#"<c><f t="shared" si="18446744073709551615" ref="C3:B2">B1</f></c><c><f t="shared" si="18446744073709551615"/></c>"#,
+        &[Call::Metadata, Call::Metadata],
+        "(0,0 Empty group 18446744073709551615 2,2 to 1,1 B1)(0,1 Empty of group 18446744073709551615)",
+    ),
+    (
+        "a style id as it is written, also past the styles",
+        r#"<c s="5"/><c s="01"/><c s="+1"/><c/>"#,
+        &[
+            Call::ValueAndStyleId,
+            Call::ValueAndStyleId,
+            Call::ValueAndStyleId,
+            Call::ValueAndStyleId,
+        ],
+        "(0,0 Empty style 5)(0,1 Empty style 1)(0,2 Empty style 0)(0,3 Empty style 0)",
+    ),
+    (
+        "a value at fault",
+        BOTH_AT_FAULT,
+        &[Call::Value, Call::StyleId],
+        "CellTAttribute(\"x\");Failed;",
+    ),
+    (
+        "a value at fault beside its style id",
+        BOTH_AT_FAULT,
+        &[Call::ValueAndStyleId, Call::Metadata],
+        "CellTAttribute(\"x\");Failed;",
+    ),
+    (
+        "a formula at fault",
+        BOTH_AT_FAULT,
+        &[Call::Formula, Call::ValueAndFormula],
+        "Unexpected(\"si attribute is mandatory if it is shared\");Failed;",
+    ),
+    (
+        "neither is at fault for a style id",
+        BOTH_AT_FAULT,
+        &[Call::StyleId],
+        ".",
+    ),
+    (
+        "attributes at fault behind the style id",
+        r#"<c r="A1" s="1" t=x/><c r="B1" s="1" t=x/><c r="C1" s="1" t=x/>"#,
+        &[Call::Formula, Call::StyleId, Call::Value, Call::StyleId],
+        "(0,0 =)(0,1 style 1)XmlAttr(UnquotedValue(16));Failed;",
+    ),
+    (
+        "the same beside the value",
+        r#"<c r="A1" s="1" t=x/>"#,
+        &[Call::ValueAndStyleId, Call::ValueAndFormula],
+        "XmlAttr(UnquotedValue(16));Failed;",
+    ),
+    (
+        "the same beside the formula",
+        r#"<c r="A1" s="1" t=x/>"#,
+        &[Call::Metadata, Call::StyleId],
+        "XmlAttr(UnquotedValue(16));Failed;",
+    ),
+    (
+        "attributes at fault without a style id",
+        r#"<c r="A1" t=x/>"#,
+        &[Call::StyleId, Call::Formula],
+        "XmlAttr(UnquotedValue(10));Failed;",
+    ),
+];
+
+#[test]
+fn calls_are_mixed(rt: HostRuntime) -> Result<(), Fail> {
+    let alloc = rt.alloc();
+    for (shown, data, calls, wanted) in MIXED {
+        let sheet = sheet_part(alloc, data)?;
+        let mut package = package_of(alloc, &[(SHEET_NAME, sheet.as_str())])?;
+        let found = told(alloc, &mut package, calls)?;
+        assert_eq!(rt; found.as_str(), wanted, "{shown}");
+    }
+    Ok(())
+}
+
 /// The first events of a sheet, what a reader of them is asked for twice, and its answers.
-const FRONTS: [(&str, Call, &str); 18] = [
+const FRONTS: [(&str, Call, &str); 26] = [
     (
         "<chartsheet/>",
         Call::Value,
@@ -281,6 +578,34 @@ const FRONTS: [(&str, Call, &str); 18] = [
         "Xml(Unclosed { at: 3 });Failed;",
     ),
     ("<sheetData><c><f>", Call::Formula, "XmlEof(\"f\");Failed;"),
+    (
+        "<sheetData><c><f>",
+        Call::ValueAndStyleId,
+        "Xml(Unclosed { at: 3 });Failed;",
+    ),
+    (
+        "<sheetData><c><f>",
+        Call::ValueAndFormula,
+        "XmlEof(\"f\");Failed;",
+    ),
+    ("<sheetData><c><f>", Call::Metadata, "XmlEof(\"f\");Failed;"),
+    ("<sheetData><c><f>", Call::StyleId, "XmlEof(\"c\");Failed;"),
+    (
+        "<sheetData><c><v>",
+        Call::ValueAndStyleId,
+        "XmlEof(\"v\");Failed;",
+    ),
+    (
+        "<sheetData><c><v>",
+        Call::ValueAndFormula,
+        "XmlEof(\"v\");Failed;",
+    ),
+    ("<sheetData><c><v>", Call::Metadata, "XmlEof(\"v\");Failed;"),
+    (
+        "<sheetData><c><v>",
+        Call::Formula,
+        "Xml(Unclosed { at: 3 });Failed;",
+    ),
     (
         r#"<sheetData><c t="str"><v>"#,
         Call::Value,

@@ -1,8 +1,9 @@
 -- How a cell is read, and why it is refused.
 use Rattle.std.proofs.Common.{◌≡◌, ℕ, List, [], ◌∷◌, ◌++◌, Bool, true, false, Option, Some, None}
-use Rattle.std.proofs.Common.{Result, Ok, Err, refl, sym, ◌∙◌, ap, subst, inl, inr, codes, length}
-use Rattle.std.proofs.Common.{◌⊎◌, ◌-◌, ◌<◌, string_bytes, arith}
+use Rattle.std.proofs.Common.{Ok, Err, refl, sym, ◌∙◌, ap, subst, inl, inr, codes, length}
+use Rattle.std.proofs.Common.{◌⊎◌, ◌-◌, ◌<◌, arith}
 use Rattle.std.specs.Prelude.{◌||◌, if◌then◌else◌}
+use Rattle.std.specs.List.{last_or}
 use Rattle.std.specs.Option.{unwrap_or}
 use Rattle.attr_text.specs.Attributes.{lookup, value_of}
 use Rattle.attr_text.proofs.LookupsByKey.{lookup-ok}
@@ -10,59 +11,41 @@ use Rattle.part_events.specs.Event.{Tag, Event, start, end}
 use Rattle.part_events.specs.Reading.{Reading, ahead}
 use Rattle.part_events.specs.Section.{Element, content, is_closed, unclosed, is_any}
 use Rattle.part_events.specs.Walk.{IsNextElement, inside, element_at, section_ahead, section_behind}
-use Rattle.part_events.specs.declared.fault.XmlFault.TheVariants.{EndMismatch, Unclosed}
 use Rattle.part_events.proofs.Matches.{open_still}
 use Rattle.xlsx_error.specs.declared.error.XlsxError.{XlsxError}
-use Rattle.xlsx_error.specs.declared.error.XlsxError.TheVariants.{OutOfMemory, Io, Xml, XmlEof}
+use Rattle.xlsx_error.specs.declared.error.XlsxError.TheVariants.{OutOfMemory}
 use Rattle.cell_data.specs.CellValue.{value_of_data_ref}
 use Rattle.cell_data.specs.declared.format.CellFormat.{CellFormat}
 use Rattle.xlsx_sections.specs.Elements.{end_outside}
 use Rattle.xlsx_sections.specs.PartSection.{PartSection, SectionFails, inside_of, section_left}
-use Rattle.xlsx_sections.specs.PartSection.{last_of, has_end}
+use Rattle.xlsx_sections.specs.PartSection.{has_end}
 use Rattle.xlsx_sections.specs.Refusal.{Refusal, in_element, further, events_behind}
 use Rattle.xlsx_sections.proofs.ElementsRead.{IsElementFound, IsElementPassed, own_inside}
 use Rattle.xlsx_sections.proofs.ElementsRead.{own_end}
-use Rattle.xlsx_sections.proofs.Refused.{refused_weaker, refused_by}
+use Rattle.xlsx_sections.proofs.Refused.{refused_by}
 use Rattle.xlsx_values.specs.CellType.{CellKind}
 use Rattle.xlsx_values.specs.Value.{Grounds, cell_value, value_in, style_number}
-use Rattle.xlsx_formulas.specs.Formula.{FormulaText, formulas_in, cell_formula, behind_formulas}
-use Rattle.xlsx_formulas.specs.Kept.{AreMasters}
+use Rattle.xlsx_formulas.specs.Formula.{FormulaText, formulas_in}
+use Rattle.xlsx_formulas.specs.Kept.{AreMasters, last_seen}
 use Rattle.xlsx_formulas.specs.declared.masters.Masters.{Masters}
 use Rattle.xlsx_sections.proofs.SectionsRead.{same_tag}
-use Rattle.xlsx_cells.specs.Children.{AreChildrenRefused, ReadsFormulaChildren}
+use Rattle.xlsx_cells.specs.Children.{AreChildrenRefused, ReadsFormulas, KeepsMasters, kept_by}
 use Rattle.xlsx_cells.specs.Counting.{AreKept, IsStartRefused, IsRefused}
 use Rattle.xlsx_cells.specs.Ends.{reads_children, kind_of_cell, end_in_child_element}
 use Rattle.xlsx_cells.specs.Ends.{end_in_children, end_in_contents}
-use Rattle.xlsx_cells.specs.Finding.{FindsCell, IsTakenRefused, IsMisplaced, BehindRow, marks_left}
-use Rattle.xlsx_cells.specs.Finding.{LacksCell, IsCutOff, IsLeftBehind, open_mark}
-use Rattle.xlsx_cells.specs.Marks.{Mark, row_start, row_end, cell, is_cell, marks, behind_marks}
-use Rattle.xlsx_cells.specs.Position.{row_named, PassesRows}
+use Rattle.xlsx_cells.specs.Finding.{FindsCell, IsMarkRefused, marks_left, TakesElement}
+use Rattle.xlsx_cells.specs.Finding.{LacksCell, IsCutOff, open_mark, element_and}
+use Rattle.xlsx_cells.specs.Marks.{Mark, cell, is_cell, marks, behind_marks}
+use Rattle.xlsx_cells.specs.Position.{NoCell}
 use Rattle.xlsx_cells.specs.Stream.{IsContentRefused, IsHeadRefused, IsCellRefused, CellFails}
-use Rattle.xlsx_cells.specs.Stream.{TakesCell, IsRead}
+use Rattle.xlsx_cells.specs.Stream.{Stream, TakesCell, IsRead}
 use Rattle.xlsx_cells.specs.StyleIds.{id_named, id_looked_up}
 use Rattle.xlsx_cells.specs.declared.cell_read.CellRead.{CellRead}
 use Rattle.xlsx_cells.specs.declared.children.Wants.{Wants}
 use Rattle.xlsx_cells.specs.declared.counters.Counters.{Counters}
+use Rattle.xlsx_cells.proofs.Fronts.{front_same, refused_behind_front}
 use Rattle.xlsx_cells.proofs.MarksAhead.{content_parts}
-use Rattle.xlsx_cells.proofs.Refusing.{taken_behind, is_refused_weaker, cut_weaker, cut_open}
-
--- the start of an element is refused, where memory may be wanting too
-pub started_refused : (base : ℕ) (first : Reading) (ending : List Event → Option (List ℕ))
-    (own : Refusal → Type 0) (refused : PartSection → Refusal → Type 0) (new : Reading)
-    (error : XlsxError)
-    → (first.source.is_told ≡ true → (refusal : Refusal) → own refusal
-    → refused (section_left base first) refusal) → IsStartRefused own error
-    → SectionFails ending refused base first new error
-started_refused base first ending own refused new Io weaker is = absurd (is 0)
-started_refused base first ending own refused new OutOfMemory weaker is = tt
-started_refused base first ending own refused new (Xml (EndMismatch at)) weaker is =
-    absurd (is 0)
-started_refused base first ending own refused new (Xml (Unclosed at)) weaker is = absurd (is 0)
-started_refused base first ending own refused new (XmlEof element) weaker is = absurd (is 0)
-started_refused base first ending own refused new error weaker is = λ told.
-    let last = last_of (section_left base first) in
-    refused_weaker last last (refused (section_left base first)) own error (weaker told) refl
-    (is last)
+use Rattle.xlsx_cells.proofs.Refusing.{start_refused, is_refused_weaker, cut_weaker, cut_open}
 
 -- the style id of a cell whose three keys were looked up together
 pub id_among : (tag : Tag) (position style typ : Option (List ℕ))
@@ -145,7 +128,7 @@ pub started_fail : (wants : Wants) (grounds : Grounds) (tag : Tag) (old new : Re
     (error : XlsxError) → IsStartRefused (IsHeadRefused wants grounds tag) error
     → CellFails wants grounds tag old new error
 started_fail wants grounds tag old new error is =
-    started_refused (length old.names) old (end_in_contents wants tag)
+    start_refused (length old.names) old (end_in_contents wants tag)
     (IsHeadRefused wants grounds tag) (IsContentRefused wants grounds tag) new error
     (λ told refusal own. elim own [
       | inl valued ↦ inl (
@@ -155,51 +138,21 @@ started_fail wants grounds tag old new error is =
       | inr named ↦ inr (inr named)
     ]) is
 
-pub row_weaker : {P Q : Type 0} (row : Result (Option ℕ) Refusal) (refusal : Refusal) → (P → Q)
-    → BehindRow row refusal P → BehindRow row refusal Q
-row_weaker (Ok row) refusal weaker is = weaker is
-row_weaker (Err own) refusal weaker is = is
-
-taken_weaker : (after before : List Mark → Element → Refusal → Type 0)
-    → ((marks : List Mark) (element : Element) (refusal : Refusal)
-    → after marks element refusal → before marks element refusal)
-    → (behind marks : List Mark) (refusal : Refusal)
-    → IsTakenRefused after behind marks refusal → IsTakenRefused before behind marks refusal
-taken_weaker after before weaker behind [] refusal is = absurd is
-taken_weaker after before weaker behind (row_start tag ∷ marks) refusal is =
-    row_weaker (row_named tag) refusal
-    (taken_weaker after before weaker (row_start tag ∷ behind) marks refusal) is
-taken_weaker after before weaker behind (row_end ∷ marks) refusal is =
-    taken_weaker after before weaker (row_end ∷ behind) marks refusal is
-taken_weaker after before weaker behind (cell element ∷ marks) refusal is =
-    weaker behind element refusal is
-
--- a cell that isn't found is a cell that isn't taken
-pub misplaced_cell : (wants : Wants) (grounds : Grounds) (behind marks : List Mark)
-    (refusal : Refusal) → IsTakenRefused IsMisplaced behind marks refusal
-    → IsTakenRefused (IsCellRefused wants grounds) behind marks refusal
-misplaced_cell wants grounds behind marks refusal is =
-    taken_weaker IsMisplaced (IsCellRefused wants grounds) (λ marks element refusal own. inl own)
-    behind marks refusal is
-
 -- the cell that was found is refused
 pub found_cell_refused : (wants : Wants) (grounds : Grounds) (before : List Mark)
     (position : ℕ × ℕ) (base : ℕ) (old new : Reading) (counters : Counters) (tag : Tag)
     (refusal : Refusal) → FindsCell before position base old new counters
     → start tag ≡ new.source.current
     → IsContentRefused wants grounds tag (section_left (length new.names) new) refusal
-    → IsTakenRefused (IsCellRefused wants grounds) before (marks_left base old)
+    → IsMarkRefused NoCell (IsCellRefused wants grounds) before (marks_left base old)
     (further (events_behind (element_at base tag new)) refusal)
 found_cell_refused wants grounds before position base old new counters tag refusal finds current
     is =
     let same : finds.tag ≡ tag = same_tag (finds.current ∙ sym current) in
     let element = element_at base tag new in
     let after = further (events_behind element) refusal in
-    let marks_same : marks_left base old
-    ≡ finds.passed ++ cell element ∷ marks (section_behind base new) =
-    finds.marks ∙ ap (λ (own : Tag). finds.passed ++ cell (element_at base own new)
-    ∷ marks (section_behind base new)) same in
-    let here : IsCellRefused wants grounds (behind_marks finds.passed before) element after =
+    let behind = behind_marks finds.front.passed before in
+    let here : IsCellRefused wants grounds behind element after =
     elim is [
       | inl own ↦ inr (inl (own.0, ap (in_element element) (rw (own_inside new) at own.1)))
       | inr others ↦ elim others [
@@ -210,34 +163,37 @@ found_cell_refused wants grounds before position base old new counters tag refus
         | inr own ↦ inr (inr (inr (own.0, ap (in_element element) own.1)))
       ]
     ] in
-    subst (λ (all : List Mark). IsTakenRefused (IsCellRefused wants grounds) before all after)
-    (sym marks_same)
-    (taken_behind (IsCellRefused wants grounds) finds.passed before
-    (cell element ∷ marks (section_behind base new)) after finds.rows here)
+    refused_behind_front (IsCellRefused wants grounds) after finds.front
+    (subst (λ (all : List Mark). IsMarkRefused NoCell (IsCellRefused wants grounds) behind all
+    after) (sym finds.next)
+    (subst (λ (own : Tag). IsMarkRefused NoCell (IsCellRefused wants grounds) behind
+    (cell (element_at base own new) ∷ marks (section_behind base new)) after) (sym same)
+    (inl here)))
 
 -- the cell that was found is left open, and no other cell is left
 found_cell_open : (before : List Mark) (position : ℕ × ℕ) (base : ℕ) (old new : Reading)
     (counters : Counters) (tag : Tag) → FindsCell before position base old new counters
     → start tag ≡ new.source.current → IsNextElement is_cell base tag old new
     → has_end (section_left (length new.names) new) ≡ false
-    → LacksCell PassesRows (section_ahead base old)
+    → LacksCell NoCell before (section_ahead base old)
 found_cell_open before position base old new counters tag finds current next ends =
     let same : finds.tag ≡ tag = same_tag (finds.current ∙ sym current) in
     let element = element_at base tag new in
+    let passed = finds.front.passed in
     let is_open : is_closed 0 (ahead new) ≡ false = sym (own_end new) ∙ ends in
     let open_one : unclosed is_cell (section_ahead base old) ≡ Some element =
     next.unclosed
     ∙ ap (λ (b : Bool). if b then unclosed is_cell (section_behind base new) else Some element)
     is_open in
     record {
-      passed = finds.passed;
-      fact = finds.rows;
-      marks = finds.marks
-          ∙ ap (λ (own : Tag). finds.passed ++ cell (element_at base own new)
+      passed = passed;
+      fact = finds.front.fact;
+      marks = finds.front.marks ∙ ap (λ (others : List Mark). passed ++ others) finds.next
+          ∙ ap (λ (own : Tag). passed ++ cell (element_at base own new)
           ∷ marks (section_behind base new)) same
-          ∙ ap (λ (events : List Event). finds.passed ++ cell element
+          ∙ ap (λ (events : List Event). passed ++ cell element
           ∷ marks (content (inside base new - 1) events)) (open_still (ahead new) is_open).1
-          ∙ ap (λ (found : Option Element). finds.passed ++ open_mark found) (sym open_one);
+          ∙ ap (λ (found : Option Element). passed ++ open_mark found) (sym open_one);
     }
 
 -- a step is cut off in the cell that was found
@@ -247,116 +203,124 @@ pub found_cell_cut : (wants : Wants) (grounds : Grounds) (position : ℕ × ℕ)
     → (old.source.is_told ≡ true → (before : List Mark) → AreKept before first
     → FindsCell before position base old mid counters)
     → CellFails wants grounds tag mid new error
-    → IsCutOff (λ before. PassesRows) first base old error
+    → IsCutOff NoCell first base old error
 found_cell_cut wants grounds position base place old mid new first counters tag error found current
     finds fails =
     cut_weaker (mid.source.is_told ≡ true → has_end (section_left (length mid.names) mid) ≡ false)
     (old.source.is_told ≡ true → (before : List Mark) → AreKept before first
-    → LacksCell PassesRows (section_ahead base old)) error
+    → LacksCell NoCell before (section_ahead base old)) error
     (λ ends told before kept.
     found_cell_open before position base old mid counters tag (finds told before kept) current
     (found.next told) (ends (found.read.reads.moves.parts.is_told ∙ told)))
     (cut_open (length mid.names) mid new (end_in_contents wants tag)
     (IsContentRefused wants grounds tag) error fails)
 
--- the formulas that are kept of a cell, where they are wanted
-record KeptOf
-    (wants : Wants) (earlier : List FormulaText) (position : ℕ × ℕ) (inside : List Event)
-    (masters : Masters) (text : List ℕ) : Type 0 where
-  kept : List FormulaText
-  listed : wants.formulas ≡ true → formulas_in inside ≡ Ok kept
-  found : wants.formulas ≡ true → text ≡ cell_formula earlier position kept
-  none : wants.formulas ≡ false → kept ≡ []
-  groups : AreMasters (behind_formulas kept earlier) masters
+-- the formulas that a cell writes, where they are wanted, and those that are kept of them
+record WritesOf
+    (wants : Wants) (keeps : Bool) (inside : List Event) (old new : Masters)
+    (latest : Option FormulaText) : Type 0 where
+  written : List FormulaText
+  listed : wants.formulas ≡ true → formulas_in inside ≡ Ok written
+  last : wants.formulas ≡ true → latest ≡ last_or None written
+  none : wants.formulas ≡ false → written ≡ []
+  masters : KeepsMasters (kept_by keeps written) old new
 
-kept_of : (formulas : Bool) (wants : Wants) (earlier : List FormulaText) (position : ℕ × ℕ)
-    (inside : List Event) (old new : Masters) (text : List ℕ) → wants.formulas ≡ formulas
-    → AreMasters earlier old
+kept_none : (keeps : Bool) (old new : Masters) → new ≡ old
+    → KeepsMasters (kept_by keeps []) old new
+kept_none true old new same = λ earlier are. rw same are
+kept_none false old new same = λ earlier are. rw same are
+
+writes_of : (formulas : Bool) (wants : Wants) (keeps : Bool) (inside : List Event)
+    (old new : Masters) (last : Option FormulaText) → wants.formulas ≡ formulas
     → (wants.formulas ≡ true
-    → ReadsFormulaChildren earlier position inside (record { masters = new; text = text }))
-    → (wants.formulas ≡ false → new ≡ old) → KeptOf wants earlier position inside new text
-kept_of true wants earlier position inside old new text is behind reads same =
+    → ReadsFormulas keeps inside old (record { masters = new; last = last }))
+    → (wants.formulas ≡ false → new ≡ old) → WritesOf wants keeps inside old new last
+writes_of true wants keeps inside old new last is reads same =
     let all = reads is in
     record {
-      kept = all.kept;
+      written = all.written;
       listed = λ wanted. all.listed;
-      found = λ wanted. all.text;
+      last = λ wanted. all.last;
       none = λ unwanted. absurd (let both : true ≡ false = sym is ∙ unwanted in cc);
-      groups = all.masters;
+      masters = all.masters;
     }
-kept_of false wants earlier position inside old new text is behind reads same = record {
-  kept = [];
+writes_of false wants keeps inside old new last is reads same = record {
+  written = [];
   listed = λ wanted. absurd (let both : false ≡ true = sym is ∙ wanted in cc);
-  found = λ wanted. absurd (let both : false ≡ true = sym is ∙ wanted in cc);
+  last = λ wanted. absurd (let both : false ≡ true = sym is ∙ wanted in cc);
   none = λ unwanted. refl;
-  groups = subst (λ (own : Masters). AreMasters earlier own) (sym (same is)) behind;
+  masters = kept_none keeps old new (same is);
 }
 
--- what is left behind the cell that was found
-left_behind_cell : {before : List Mark} {position : ℕ × ℕ} {base : ℕ} {old mid : Reading}
+-- the cell that was found was read to its end, and this is left behind it
+abbrev found_cell_taken : {before : List Mark} {position : ℕ × ℕ} {base : ℕ} {old mid : Reading}
     {counters : Counters} (new : Reading)
     → (finds : FindsCell before position base old mid counters)
     → base < length mid.names → is_closed 0 (ahead mid) ≡ true
     → section_ahead base new ≡ section_behind base mid
-    → IsLeftBehind (element_at base finds.tag mid) (section_ahead base old) (section_ahead base new)
-left_behind_cell {base = base} {mid = mid} new finds deep closed left =
+    → TakesElement NoCell before (element_at base finds.tag mid) (section_ahead base old)
+    (section_ahead base new)
+found_cell_taken {base = base} {mid = mid} new finds deep closed left =
+    let element = element_at base finds.tag mid in
     let parts = content_parts 0 (inside base mid - 1) (inside base mid) (ahead mid)
     (omega (arith, deep)) closed in
     let name = parts.0 in
-    let all : section_ahead base mid
-    ≡ content 0 (ahead mid) ++ end name ∷ section_ahead base new =
+    let all : section_ahead base mid ≡ content 0 (ahead mid) ++ end name ∷ section_ahead base new =
     parts.1 ∙ ap (λ (events : List Event). content 0 (ahead mid) ++ end name ∷ events) (sym left) in
+    let whole : start finds.tag ∷ section_ahead base mid
+    ≡ element_and element name (section_ahead base new) =
+    ap (λ (events : List Event). start finds.tag ∷ events) all in
     record {
-      passed = finds.taken;
       name = name;
-      parts = finds.events
-          ∙ ap (λ (events : List Event). finds.taken ++ start finds.tag ∷ events) all;
+      front = front_same finds.front whole;
+      next = ap marks (sym whole) ∙ finds.next
+          ∙ ap (λ (events : List Event). cell element ∷ marks events) (sym left);
       place = ap length all;
     }
 
 -- the cell that was found was read
-pub taken_cell : (wants : Wants) (grounds : Grounds) (before : List Mark)
-    (earlier : List FormulaText) (position : ℕ × ℕ) (base : ℕ) (old mid new : Reading)
-    (counters : Counters) (masters after : Masters) (read : CellRead)
-    → (finds : FindsCell before position base old mid counters)
-    → IsElementPassed is_cell base finds.tag old old mid new → base < length mid.names
-    → is_closed 0 (ahead mid) ≡ true → old.source.is_told ≡ true → AreMasters earlier masters
-    → read.pos ≡ position
+pub taken_cell : (wants : Wants) (keeps : Bool) (grounds : Grounds) (before : List Mark)
+    (earlier : List FormulaText) (position : ℕ × ℕ) (old : Stream) (mid new : Reading)
+    (counters : Counters) (masters : Masters) (read : CellRead)
+    → (finds : FindsCell before position old.base old.reading mid counters)
+    → IsElementPassed is_cell old.base finds.tag old.reading old.reading mid new
+    → old.base < length mid.names → is_closed 0 (ahead mid) ≡ true
+    → old.reading.source.is_told ≡ true → AreMasters earlier old.masters → read.pos ≡ position
     → (wants.values ≡ true → cell_value grounds finds.tag (content 0 (ahead mid))
     ≡ Ok (value_of_data_ref read.value))
-    → (wants.formulas ≡ true → ReadsFormulaChildren earlier position (content 0 (ahead mid))
-    (record { masters = after; text = string_bytes read.formula }))
-    → (wants.formulas ≡ false → after ≡ masters)
+    → (wants.formulas ≡ true → ReadsFormulas keeps (content 0 (ahead mid)) old.masters
+    (record { masters = masters; last = last_seen read.formula }))
+    → (wants.formulas ≡ false → masters ≡ old.masters)
     → (wants.styles ≡ true → id_named finds.tag ≡ Ok read.style_id)
-    → (first : Counters)
-    → TakesCell before earlier
-    (record { reading = old; base = base; counters = first; masters = masters })
-    (record { reading = new; base = base; counters = counters; masters = after })
-    (IsRead wants grounds earlier read)
-taken_cell wants grounds before earlier position base old mid new counters masters after read finds
-    passed deep closed told behind placed valued reads same styled first =
-    let element = element_at base finds.tag mid in
-    let all : KeptOf wants earlier position (content 0 (ahead mid)) after
-    (string_bytes read.formula) =
-    kept_of wants.formulas wants earlier position (content 0 (ahead mid)) masters after
-    (string_bytes read.formula) refl behind reads same in
+    → TakesCell NoCell before earlier old (record {
+      reading = new;
+      base = old.base;
+      counters = counters;
+      masters = masters;
+      is_done = old.is_done;
+      is_failed = false;
+    }) (IsRead wants keeps grounds read)
+taken_cell wants keeps grounds before earlier position old mid new counters masters read finds
+    passed deep closed told behind placed valued reads kept styled =
+    let base = old.base in
+    let inside = content 0 (ahead mid) in
+    let all : WritesOf wants keeps inside old.masters masters (last_seen read.formula) =
+    writes_of wants.formulas wants keeps inside old.masters masters (last_seen read.formula) refl
+    reads kept in
     record {
-      passed = finds.passed;
-      rows = finds.rows;
-      element = element;
-      kept = all.kept;
-      marks = finds.marks ∙ ap (λ (events : List Event). finds.passed ++ cell element
-          ∷ marks events) (sym (passed.left told));
-      left = left_behind_cell new finds deep closed (passed.left told);
+      element = element_at base finds.tag mid;
+      kept = kept_by keeps all.written;
+      takes = found_cell_taken new finds deep closed (passed.left told);
       closed = sym (passed.keeps.section.closed told);
-      fact = record {
+      holds = record {
         placed = finds.placed ∙ ap Ok (sym placed);
         valued = valued;
-        listed = all.listed;
-        found = λ wanted. all.found wanted
-            ∙ ap (λ (own : ℕ × ℕ). cell_formula earlier own all.kept) (sym placed);
-        none = all.none;
         styled = styled;
+        written = all.written;
+        listed = all.listed;
+        last = all.last;
+        none = all.none;
+        is_kept = refl;
       };
-      stands = record { counters = finds.counts; masters = all.groups };
+      stands = record { counters = finds.counts; masters = all.masters earlier behind };
     }

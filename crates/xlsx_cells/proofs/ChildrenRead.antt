@@ -1,8 +1,10 @@
 -- How the children of a cell are read, and why they are refused.
 use Rattle.std.proofs.Common.{◌≡◌, ℕ, List, [], ◌∷◌, ◌++◌, Bool, true, false, Option, Some, None}
-use Rattle.std.proofs.Common.{Result, Ok, Err, refl, ◌∙◌, ap, inl, inr, codes, length, ◌⊎◌}
-use Rattle.std.specs.Prelude.{not, ◌||◌}
-use Rattle.part_events.specs.Event.{Tag, Event, start, end, leaf, IsStartAnd}
+use Rattle.std.proofs.Common.{Result, Ok, Err, refl, sym, subst, ◌∙◌, ap, inl, inr, codes, length}
+use Rattle.std.proofs.Common.{◌⊎◌}
+use Rattle.std.specs.Prelude.{◌||◌}
+use Rattle.std.specs.List.{last_or}
+use Rattle.part_events.specs.Event.{Tag, Event}
 use Rattle.part_events.specs.Reading.{Reading, ReadsOn, LeavesPart}
 use Rattle.part_events.specs.Section.{Element}
 use Rattle.part_events.proofs.Onward.{moves_further}
@@ -12,20 +14,20 @@ use Rattle.xlsx_sections.specs.Answers.{or_earlier, some_answers, prepended}
 use Rattle.xlsx_sections.specs.Elements.{ElementReadFails, IsInsideRefused}
 use Rattle.xlsx_sections.specs.PartSection.{PartSection, always, inside_of}
 use Rattle.xlsx_sections.specs.Refusal.{Refusal, plain, stray_child, in_element}
-use Rattle.xlsx_sections.proofs.Kept.{some_passed, some_taken, some_refused}
+use Rattle.xlsx_sections.proofs.Kept.{some_passed, some_taken, some_refused, all_taken}
+use Rattle.xlsx_sections.proofs.Kept.{prepended-nil}
 use Rattle.xlsx_sections.proofs.Refused.{refused_by}
 use Rattle.xlsx_values.specs.CellType.{CellKind}
 use Rattle.xlsx_values.specs.Value.{Grounds, value_element, said_value}
 use Rattle.xlsx_values.specs.Value.{end_in_value}
 use Rattle.xlsx_formulas.specs.Formula.{FormulaText, formula_text, said_formula, some_formula}
 use Rattle.xlsx_formulas.specs.Formula.{child_formula, formulas_in, behind_formulas}
-use Rattle.xlsx_formulas.specs.Formula.{formula_of_last}
 use Rattle.xlsx_formulas.specs.Kept.{AreMasters}
-use Rattle.xlsx_formulas.proofs.Cells.{KeepsFormulas}
-use Rattle.xlsx_formulas.proofs.Cells.{child_kept, formula_kept, formulas_read}
+use Rattle.xlsx_formulas.specs.declared.masters.Masters.{Masters}
+use Rattle.xlsx_formulas.proofs.Cells.{behind_further, last_further}
 use Rattle.xlsx_cells.specs.Children.{IsNamedAs, IsChildRefused, ChildFails, LastStep}
-use Rattle.xlsx_cells.specs.Children.{FormulaStep, StepsFormula, ReadsFormula}
-use Rattle.xlsx_cells.specs.Children.{ReadsFormulaChildren}
+use Rattle.xlsx_cells.specs.Children.{StepsFormula, ReadsFormula, ReadsFormulas, KeepsMasters}
+use Rattle.xlsx_cells.specs.Children.{kept_by}
 use Rattle.xlsx_cells.specs.Ends.{reads_children, end_in_child}
 use Rattle.xlsx_cells.specs.declared.children.ChildName.TheVariants.{Formula, Value, Stray}
 use Rattle.xlsx_cells.specs.declared.children.Wants.{Wants}
@@ -52,10 +54,6 @@ value_fails wants grounds format kind tag old new error named wanted fails =
     (λ told. rw (named.0, named.1, wanted) refl)
     (λ told refusal is. inl (wanted, rw (named.0, named.1) is)) fails
 
-pub is_wanted : (b : Bool) → not b ≡ false → b ≡ true
-is_wanted true is = refl
-is_wanted false is = absurd (cc)
-
 stray_if : (values formulas : Bool) (P Q : Type 0) → (values || formulas) ≡ true → P → Q
     → ((values ≡ true) × P) ⊎ ((formulas ≡ true) × Q)
 stray_if true formulas P Q some p q = inl (refl, p)
@@ -71,13 +69,6 @@ stray_refused wants grounds format kind tag s named some =
     (said_formula tag (inside_of s) ≡ Err (plain stray_child)) some
     (rw (named.0, named.1, named.2) refl) (rw (named.0, named.1, named.2) refl)
 
--- the start at which a reader stands
-pub start_there : (event : Event) (P : Tag → Type 0) → IsStartAnd event P
-    → (tag : Tag) × (start tag ≡ event) × P tag
-start_there (start tag) P is = (tag, refl, is)
-start_there (end name) P is = absurd is
-start_there (leaf kind) P is = absurd is
-
 -- a refused call behind others that weren't
 pub leaves_further : {E : Type 0} {fault : E} {first mid new : Reading} {error : E}
     → ReadsOn first mid → LeavesPart fault mid new error → LeavesPart fault first new error
@@ -92,64 +83,91 @@ pub or_earlier_in_element : {A : Type 0} (element : Element) (kept next : Option
 or_earlier_in_element element kept next (Ok found) is = is
 or_earlier_in_element element kept next (Err refusal) is = absurd (cc)
 
--- the formulas of a cell's children, of which these are left
-pub record ListsFormulas (all : Result (List FormulaText) Refusal) (left : List Element) : Type 0
-  where
-    pub passed : List FormulaText
-    pub formulas : prepended passed (some_answers child_formula left) ≡ all
+-- The children of a cell were read but for those that are left: the cell has written these formulas
+-- so far. `all` is what all children say.
+pub record HasWritten
+    (keeps : Bool) (all : Result (List FormulaText) Refusal) (left : List Element)
+    (old now : Masters) (latest : Option FormulaText) : Type 0 where
+  pub written : List FormulaText
+  pub formulas : prepended written (some_answers child_formula left) ≡ all
+  pub last : latest ≡ last_or None written
+  pub masters : KeepsMasters (kept_by keeps written) old now
 
-listed_by : {all : Result (List FormulaText) Refusal} {left rest : List Element} {child : Element}
-    (found : Option FormulaText) → ListsFormulas all left → left ≡ child ∷ rest
-    → child_formula child ≡ Ok found → ListsFormulas all rest
-listed_by None lists same is = record {
-  passed = lists.passed;
-  formulas = some_passed child_formula lists.passed same is lists.formulas;
+none_kept : (keeps : Bool) → kept_by keeps [] ≡ []
+none_kept true = refl
+none_kept false = refl
+
+pub written_none : (keeps : Bool) (left : List Element) (first : Masters)
+    → HasWritten keeps (some_answers child_formula left) left first first None
+written_none keeps left first = record {
+  written = [];
+  formulas = prepended-nil (some_answers child_formula left);
+  last = refl;
+  masters = λ earlier are. rw (none_kept keeps) are;
 }
-listed_by (Some own) lists same is = record {
-  passed = lists.passed ++ own ∷ [];
-  formulas = some_taken child_formula lists.passed same is lists.formulas;
+
+-- one formula was read, and kept where it is to be
+pub kept_one : (keeps : Bool) (found : FormulaText) (old new : Masters) → keeps ≡ true
+    → KeepsMasters (found ∷ []) old new → KeepsMasters (kept_by keeps (found ∷ [])) old new
+kept_one true found old new is keeps = keeps
+kept_one false found old new is keeps = absurd (cc)
+
+pub kept_none_of : (keeps : Bool) (found : FormulaText) (old new : Masters) → keeps ≡ false
+    → new ≡ old → KeepsMasters (kept_by keeps (found ∷ [])) old new
+kept_none_of true found old new is same = absurd (cc)
+kept_none_of false found old new is same = λ earlier are. rw same are
+
+kept_further : (keeps : Bool) (written earlier : List FormulaText) (found : FormulaText)
+    → behind_formulas (kept_by keeps (written ++ found ∷ [])) earlier
+    ≡ behind_formulas (kept_by keeps (found ∷ [])) (behind_formulas (kept_by keeps written) earlier)
+kept_further true written earlier found = behind_further written earlier found
+kept_further false written earlier found = refl
+
+written_by : {keeps : Bool} {all : Result (List FormulaText) Refusal} {left rest : List Element}
+    {first : Masters} {child : Element} (old new : LastStep) (found : Option FormulaText)
+    → HasWritten keeps all left first old.masters old.last → left ≡ child ∷ rest
+    → child_formula child ≡ Ok found → StepsFormula keeps found old new
+    → HasWritten keeps all rest first new.masters new.last
+written_by old new None has same is steps = rw steps (record {
+  written = has.written;
+  formulas = some_passed child_formula has.written same is has.formulas;
+  last = has.last;
+  masters = has.masters;
+})
+written_by {keeps = keeps} old new (Some own) has same is steps = record {
+  written = has.written ++ own ∷ [];
+  formulas = some_taken child_formula has.written same is has.formulas;
+  last = steps.last ∙ sym (last_further None has.written own);
+  masters = λ earlier are.
+      subst (λ (before : List FormulaText). AreMasters before new.masters)
+      (sym (kept_further keeps has.written earlier own))
+      (steps.masters (behind_formulas (kept_by keeps has.written) earlier)
+      (has.masters earlier are));
 }
 
-pub listed_further : {all : Result (List FormulaText) Refusal} {left rest : List Element}
-    {child : Element} {old new : LastStep} → ListsFormulas all left → left ≡ child ∷ rest
-    → ReadsFormula child.tag child.inside old new → ListsFormulas all rest
-listed_further {child = child} lists same step =
-    listed_by step.found lists same (ap (in_element child) step.said)
+-- a child more
+pub written_further : {keeps : Bool} {all : Result (List FormulaText) Refusal}
+    {left rest : List Element} {first : Masters} {child : Element} (old new : LastStep)
+    → HasWritten keeps all left first old.masters old.last → left ≡ child ∷ rest
+    → ReadsFormula keeps child.tag child.inside old new
+    → HasWritten keeps all rest first new.masters new.last
+written_further {child = child} old new has same step =
+    written_by old new step.found has same (ap (in_element child) step.said) step.steps
 
-pub formulas_refused : {all : Result (List FormulaText) Refusal} {left rest : List Element}
-    {child : Element} {refusal : Refusal} → ListsFormulas all left → left ≡ child ∷ rest
+pub formulas_refused : {keeps : Bool} {all : Result (List FormulaText) Refusal}
+    {left rest : List Element} {first now : Masters} {last : Option FormulaText} {child : Element}
+    {refusal : Refusal} → HasWritten keeps all left first now last → left ≡ child ∷ rest
     → child_formula child ≡ Err refusal → all ≡ Err refusal
-formulas_refused lists same refuses =
-    some_refused child_formula lists.passed same refuses lists.formulas
+formulas_refused has same refuses =
+    some_refused child_formula has.written same refuses has.formulas
 
-kept_by : {earlier : List FormulaText} {position : ℕ × ℕ}
-    {all : Result (List FormulaText) Refusal} {left rest : List Element} {child : Element}
-    (old new : LastStep) (found : Option FormulaText)
-    → KeepsFormulas earlier position all left old.masters old.last → left ≡ child ∷ rest
-    → child_formula child ≡ Ok found → StepsFormula found old new
-    → KeepsFormulas earlier position all rest new.masters new.last
-kept_by old new None keeps same is steps = rw steps (child_kept keeps same is)
-kept_by old new (Some own) keeps same is steps =
-    rw steps.last (formula_kept keeps same is steps.masters)
-
-pub formulas_further : {earlier : List FormulaText} {position : ℕ × ℕ}
-    {all : Result (List FormulaText) Refusal} {left rest : List Element} {child : Element}
-    (old new : LastStep) → KeepsFormulas earlier position all left old.masters old.last
-    → left ≡ child ∷ rest → ReadsFormula child.tag child.inside old new
-    → KeepsFormulas earlier position all rest new.masters new.last
-formulas_further {child = child} old new keeps same step =
-    kept_by old new step.found keeps same (ap (in_element child) step.said) step.steps
-
--- all children were read, and the last formula was given
-pub formulas_whole : {earlier : List FormulaText} {position : ℕ × ℕ} {inside : List Event}
-    {left : List Element} {last : Option FormulaText} (new : FormulaStep)
-    → KeepsFormulas earlier position (formulas_in inside) left new.masters last → left ≡ []
-    → ((before : List FormulaText) → AreMasters before new.masters
-    → new.text ≡ formula_of_last before position last)
-    → ReadsFormulaChildren earlier position inside new
-formulas_whole {earlier = earlier} new keeps none text = record {
-  kept = keeps.passed;
-  listed = formulas_read keeps none;
-  text = text (behind_formulas keeps.passed earlier) keeps.groups ∙ keeps.text;
-  masters = keeps.groups;
+-- all children were read
+pub formulas_whole : {keeps : Bool} {inside : List Event} {left : List Element} {first : Masters}
+    (new : LastStep) → HasWritten keeps (formulas_in inside) left first new.masters new.last
+    → left ≡ [] → ReadsFormulas keeps inside first new
+formulas_whole new has none = record {
+  written = has.written;
+  listed = all_taken child_formula has.written none has.formulas;
+  last = has.last;
+  masters = has.masters;
 }

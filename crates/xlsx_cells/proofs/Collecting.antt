@@ -1,7 +1,7 @@
 -- How the cells of a sheet's data are collected.
 use Rattle.std.proofs.Common.{◌≡◌, ℕ, List, [], ◌∷◌, ◌++◌, append-nil, Bool, true, false, Option}
-use Rattle.std.proofs.Common.{Result, Ok, Err, refl, sym, ◌∙◌, ap, subst, inl, inr, ◌⊎◌}
-use Rattle.std.proofs.Common.{string_bytes, codes}
+use Rattle.std.proofs.Common.{Result, Ok, Err, refl, sym, ◌∙◌, ap, subst, inl, inr}
+use Rattle.std.proofs.Common.{string_bytes, codes, map, String, Global}
 use Rattle.std.specs.Prelude.{if◌then◌else◌, filter}
 use Rattle.std.proofs.lemmas.List.Elements.{filter-append}
 use Rattle.part_events.specs.Event.{Tag}
@@ -9,7 +9,10 @@ use Rattle.part_events.specs.Reading.{Reading}
 use Rattle.part_events.specs.Section.{Element}
 use Rattle.part_events.specs.Walk.{section_ahead}
 use Rattle.xlsx_error.specs.declared.error.XlsxError.{XlsxError}
+use Rattle.xlsx_error.specs.declared.error.XlsxError.TheVariants.{Failed}
 use Rattle.cell_data.specs.CellValue.{CellValue, value_of_data_ref}
+use Rattle.cell_data.specs.declared.cell.Cell.{Cell}
+use Rattle.cell_data.specs.declared.value.Data.{Data}
 use Rattle.cell_styles.specs.StyleMap.{StyledCell, is_explicit}
 use Rattle.xlsx_sections.specs.Answers.{prepended}
 use Rattle.xlsx_sections.specs.Elements.{KeepsElements, end_outside}
@@ -20,25 +23,30 @@ use Rattle.xlsx_sections.proofs.Refused.{refused_later}
 use Rattle.xlsx_sections.proofs.SectionsRead.{keeps_further}
 use Rattle.xlsx_values.specs.Value.{Grounds}
 use Rattle.xlsx_formulas.specs.Formula.{FormulaText, cell_formula, behind_formulas}
+use Rattle.xlsx_cells.specs.CellErrors.{IsCellError, IsStyledError, IsStepError, IsStyledStepError}
 use Rattle.xlsx_cells.specs.Counting.{AreKept}
 use Rattle.xlsx_cells.specs.Ends.{end_in_cell, end_in_data}
-use Rattle.xlsx_cells.specs.Finding.{BehindRow, IsTakenRefused, IsStepRefused}
+use Rattle.xlsx_cells.specs.Finding.{IsMarkRefused, IsStepRefused}
 use Rattle.xlsx_cells.specs.Marks.{Mark, row_start, row_end, cell, is_cell, marks, behind_marks}
-use Rattle.xlsx_cells.specs.Position.{row_named, PassesRows}
+use Rattle.xlsx_cells.specs.Position.{row_named, PassesMarks, NoCell, IsPlaced}
 use Rattle.xlsx_cells.specs.Sheet.{behind_row, answers_from, placed_value, placed_formulas}
 use Rattle.xlsx_cells.specs.Sheet.{values_in, formulas_written, formulas_along, is_nothing}
 use Rattle.xlsx_cells.specs.Sheet.{is_empty, used_values, used_formulas}
-use Rattle.xlsx_cells.specs.SheetPart.{IsMarkRefused, AreDataRefused, DataFails, HoldsValues}
-use Rattle.xlsx_cells.specs.SheetPart.{HoldsFormulas}
-use Rattle.xlsx_cells.specs.Stream.{Stream, StandsBehind, IsCellRefused, IsRead, TakesCell}
-use Rattle.xlsx_cells.specs.Stream.{NextCellFails, marks_ahead, data_ahead}
+use Rattle.xlsx_cells.specs.SheetPart.{AreDataRefused, DataFails, HoldsValues, HoldsFormulas}
+use Rattle.xlsx_cells.specs.SheetPart.{LackUnwanted, value_entry, value_entries}
+use Rattle.xlsx_cells.specs.SheetPart.{formula_entry, formula_entries}
+use Rattle.xlsx_cells.specs.Stream.{Stream, StandsBehind, IsGoing, IsCellRefused, IsWritten}
+use Rattle.xlsx_cells.specs.Stream.{TakesCell, NextFails, marks_ahead, data_ahead}
+use Rattle.xlsx_cells.specs.Stream.{LacksUnwantedText}
 use Rattle.xlsx_cells.specs.StyleIds.{placed_id, ids_in, HoldsIds}
-use Rattle.xlsx_cells.specs.declared.cell_read.CellRead.{CellRead}
+use Rattle.xlsx_cells.specs.declared.cell_read.CellText.{CellText}
 use Rattle.xlsx_cells.specs.declared.children.Wants.{Wants}
+use Rattle.xlsx_cells.proofs.Fronts.{behind_append, mark_weaker, front_over, taken_weaker}
+use Rattle.xlsx_cells.proofs.Fronts.{refused_behind_front}
 
 -- rows that were passed have no answer
 answers_passed : {A : Type 0} (answer : List Mark → Element → Result A Refusal)
-    (passed before marks : List Mark) → PassesRows passed
+    (passed before marks : List Mark) → PassesMarks NoCell before passed
     → answers_from answer before (passed ++ marks)
     ≡ answers_from answer (behind_marks passed before) marks
 answers_passed answer [] before marks rows = refl
@@ -48,10 +56,11 @@ answers_passed answer (row_start tag ∷ passed) before marks rows =
     ∙ answers_passed answer passed (row_start tag ∷ before) marks rows.1
 answers_passed answer (row_end ∷ passed) before marks rows =
     answers_passed answer passed (row_end ∷ before) marks rows
-answers_passed answer (cell element ∷ passed) before marks rows = absurd rows
+answers_passed answer (cell element ∷ passed) before marks rows = absurd rows.0
 
-pub no_answers : {A : Type 0} (answer : List Mark → Element → Result A Refusal)
-    (passed before : List Mark) → PassesRows passed → answers_from answer before passed ≡ Ok []
+no_answers : {A : Type 0} (answer : List Mark → Element → Result A Refusal)
+    (passed before : List Mark) → PassesMarks NoCell before passed
+    → answers_from answer before passed ≡ Ok []
 no_answers answer [] before rows = refl
 no_answers answer (row_start tag ∷ passed) before rows =
     ap (λ (row : Result (Option ℕ) Refusal). behind_row row
@@ -59,12 +68,12 @@ no_answers answer (row_start tag ∷ passed) before rows =
     ∙ no_answers answer passed (row_start tag ∷ before) rows.1
 no_answers answer (row_end ∷ passed) before rows =
     no_answers answer passed (row_end ∷ before) rows
-no_answers answer (cell element ∷ passed) before rows = absurd rows
+no_answers answer (cell element ∷ passed) before rows = absurd rows.0
 
 -- the answer of a cell that was taken is kept
-answer_kept : {A : Type 0} (answer : List Mark → Element → Result A Refusal) (kept : List A)
+pub answer_kept : {A : Type 0} (answer : List Mark → Element → Result A Refusal) (kept : List A)
     (own : A) (passed before others all : List Mark) (element : Element)
-    (whole : Result (List A) Refusal) → PassesRows passed
+    (whole : Result (List A) Refusal) → PassesMarks NoCell before passed
     → all ≡ passed ++ cell element ∷ others
     → answer (behind_marks passed before) element ≡ Ok own
     → prepended kept (answers_from answer before all) ≡ whole
@@ -78,8 +87,8 @@ answer_kept answer kept own passed before others all element whole rows same is 
     ∙ ap (λ (own_marks : List Mark). prepended kept (answers_from answer before own_marks))
     (sym same) ∙ holds
 
-answers_whole : {A : Type 0} (answer : List Mark → Element → Result A Refusal) (kept : List A)
-    (before all : List Mark) (whole : Result (List A) Refusal) → PassesRows all
+pub answers_whole : {A : Type 0} (answer : List Mark → Element → Result A Refusal) (kept : List A)
+    (before all : List Mark) (whole : Result (List A) Refusal) → PassesMarks NoCell before all
     → prepended kept (answers_from answer before all) ≡ whole → whole ≡ Ok kept
 answers_whole answer kept before all whole rows holds =
     sym holds ∙ ap (prepended kept) (no_answers answer all before rows) ∙ ap Ok (append-nil kept)
@@ -131,35 +140,16 @@ used_formulas_further (first ∷ passed) others =
     rw (used_formulas_further passed others)
     (used_value_if (is_empty first.1) first (used_formulas passed) (used_formulas others))
 
--- what is refused behind rows that were passed
-mark_refused_behind : (refused : List Mark → Element → Refusal → Type 0)
-    (passed before marks : List Mark) (refusal : Refusal) → PassesRows passed
-    → IsMarkRefused refused (behind_marks passed before) marks refusal
-    → IsMarkRefused refused before (passed ++ marks) refusal
-mark_refused_behind refused [] before marks refusal rows is = is
-mark_refused_behind refused (row_start tag ∷ passed) before marks refusal rows is =
-    inr (mark_refused_behind refused passed (row_start tag ∷ before) marks refusal rows.1 is)
-mark_refused_behind refused (row_end ∷ passed) before marks refusal rows is =
-    mark_refused_behind refused passed (row_end ∷ before) marks refusal rows is
-mark_refused_behind refused (cell element ∷ passed) before marks refusal rows is = absurd rows
-
-by_row : {P Q : Type 0} (tag : Tag) (row : Result (Option ℕ) Refusal) (refusal : Refusal)
-    → row_named tag ≡ row → (P → Q) → BehindRow row refusal P
-    → (row_named tag ≡ Err refusal) ⊎ Q
-by_row tag (Ok row) refusal same further is = inr (further is)
-by_row tag (Err own) refusal same further is = inl (same ∙ ap Err is)
+no_cell : (before : List Mark) (element : Element) → NoCell before element
+    → IsPlaced before element
+no_cell before element is = absurd is
 
 -- a mark that a step takes is one of the marks
-pub taken_is_mark : (refused : List Mark → Element → Refusal → Type 0) (before marks : List Mark)
-    (refusal : Refusal) → IsTakenRefused refused before marks refusal
-    → IsMarkRefused refused before marks refusal
-taken_is_mark refused before [] refusal is = absurd is
-taken_is_mark refused before (row_start tag ∷ marks) refusal is =
-    by_row tag (row_named tag) refusal refl
-    (taken_is_mark refused (row_start tag ∷ before) marks refusal) is
-taken_is_mark refused before (row_end ∷ marks) refusal is =
-    taken_is_mark refused (row_end ∷ before) marks refusal is
-taken_is_mark refused before (cell element ∷ marks) refusal is = inl is
+pub taken_is_mark : (refused : List Mark → Element → Refusal → Type 0) (before others : List Mark)
+    (refusal : Refusal) → IsMarkRefused NoCell refused before others refusal
+    → IsMarkRefused IsPlaced refused before others refusal
+taken_is_mark refused before others refusal is =
+    mark_weaker no_cell (λ own element one is_refused. is_refused) before others refusal is
 
 -- the values so far, where they are wanted
 pub record ValuesSoFar
@@ -203,22 +193,26 @@ pub record HasCollected
   pub styled : wants.styles ≡ true → IdsSoFar count before old now ids
   pub refused :
       (refusal : Refusal) →
-      IsMarkRefused (IsCellRefused wants grounds) before (marks_ahead now) refusal →
-      IsMarkRefused (IsCellRefused wants grounds) [] (marks_ahead old) refusal
+      IsMarkRefused IsPlaced (IsCellRefused wants grounds) before (marks_ahead now) refusal →
+      IsMarkRefused IsPlaced (IsCellRefused wants grounds) [] (marks_ahead old) refusal
 
 -- one cell more
 pub collected_further : (wants : Wants) (grounds : Grounds) (count : ℕ) (old mid new : Stream)
     (values : List ((ℕ × ℕ) × CellValue)) (formulas : List ((ℕ × ℕ) × List ℕ))
-    (ids : List StyledCell) (read : CellRead)
+    (ids : List StyledCell) (read : CellText)
     → (been : HasCollected wants grounds count old mid values formulas ids)
-    → TakesCell been.before been.earlier mid new (IsRead wants grounds been.earlier read)
+    → TakesCell NoCell been.before been.earlier mid new
+    (IsWritten wants grounds been.earlier read)
     → HasCollected wants grounds count old new
     (values ++ used_values grounds.strings ((read.pos, value_of_data_ref read.value) ∷ []))
-    (formulas ++ used_formulas ((read.pos, string_bytes read.formula) ∷ []))
+    (formulas ++ used_formulas ((read.pos, string_bytes read.text) ∷ []))
     (ids ++ filter (is_explicit count) ((read.pos.0, read.pos.1, read.style_id) ∷ []))
 collected_further wants grounds count old mid new values formulas ids read been takes =
-    let behind = behind_marks takes.passed been.before in
+    let front = takes.takes.front in
+    let behind = behind_marks front.passed been.before in
     let element = takes.element in
+    let marks_same : marks_ahead mid ≡ front.passed ++ cell element ∷ marks_ahead new =
+    front.marks ∙ ap (λ (others : List Mark). front.passed ++ others) takes.takes.next in
     let value = value_of_data_ref read.value in
     record {
       before = cell element ∷ behind;
@@ -227,11 +221,11 @@ collected_further wants grounds count old mid new values formulas ids read been 
       valued = λ wanted.
           let so_far = been.valued wanted in
           let answer : placed_value grounds behind element ≡ Ok (read.pos, value) =
-          rw (takes.fact.placed, takes.fact.valued wanted) refl in
+          rw (takes.holds.placed, takes.holds.valued wanted) refl in
           record {
             passed = so_far.passed ++ (read.pos, value) ∷ [];
-            all = answer_kept (placed_value grounds) so_far.passed (read.pos, value) takes.passed
-                been.before (marks_ahead new) (marks_ahead mid) element _ takes.rows takes.marks
+            all = answer_kept (placed_value grounds) so_far.passed (read.pos, value) front.passed
+                been.before (marks_ahead new) (marks_ahead mid) element _ front.fact marks_same
                 answer so_far.all;
             used = ap (λ (own : List ((ℕ × ℕ) × CellValue)). own
                 ++ used_values grounds.strings ((read.pos, value) ∷ [])) so_far.used
@@ -241,20 +235,20 @@ collected_further wants grounds count old mid new values formulas ids read been 
           let so_far = been.listed wanted in
           let own : (ℕ × ℕ) × List FormulaText = (read.pos, takes.kept) in
           let answer : placed_formulas behind element ≡ Ok own =
-          rw (takes.fact.placed, takes.fact.listed wanted) refl in
-          let text : string_bytes read.formula
+          rw (takes.holds.placed, takes.holds.listed wanted) refl in
+          let text : string_bytes read.text
           ≡ cell_formula (behind_cells so_far.passed []) read.pos takes.kept =
-          takes.fact.found wanted
+          takes.holds.found wanted
           ∙ ap (λ (all : List FormulaText). cell_formula all read.pos takes.kept) so_far.behind in
           record {
             passed = so_far.passed ++ own ∷ [];
-            all = answer_kept placed_formulas so_far.passed own takes.passed
-                been.before (marks_ahead new) (marks_ahead mid) element _ takes.rows takes.marks
+            all = answer_kept placed_formulas so_far.passed own front.passed
+                been.before (marks_ahead new) (marks_ahead mid) element _ front.fact marks_same
                 answer so_far.all;
             behind = ap (behind_formulas takes.kept) so_far.behind
                 ∙ sym (behind_cells_further so_far.passed [] own);
             used = ap (λ (all : List ((ℕ × ℕ) × List ℕ)). all
-                ++ used_formulas ((read.pos, string_bytes read.formula) ∷ [])) so_far.used
+                ++ used_formulas ((read.pos, string_bytes read.text) ∷ [])) so_far.used
                 ∙ ap (λ (formula : List ℕ). used_formulas (formulas_along [] so_far.passed)
                 ++ used_formulas ((read.pos, formula) ∷ [])) text
                 ∙ sym (used_formulas_further (formulas_along [] so_far.passed)
@@ -265,27 +259,54 @@ collected_further wants grounds count old mid new values formulas ids read been 
           let so_far = been.styled wanted in
           let own : StyledCell = (read.pos.0, read.pos.1, read.style_id) in
           let answer : placed_id behind element ≡ Ok own =
-          rw (takes.fact.placed, takes.fact.styled wanted) refl in
+          rw (takes.holds.placed, takes.holds.styled wanted) refl in
           record {
             passed = so_far.passed ++ own ∷ [];
-            all = answer_kept placed_id so_far.passed own takes.passed been.before
-                (marks_ahead new) (marks_ahead mid) element _ takes.rows takes.marks answer
+            all = answer_kept placed_id so_far.passed own front.passed been.before
+                (marks_ahead new) (marks_ahead mid) element _ front.fact marks_same answer
                 so_far.all;
             used = ap (λ (all : List StyledCell). all ++ filter (is_explicit count) (own ∷ []))
                 so_far.used
                 ∙ sym (filter-append (is_explicit count) so_far.passed (own ∷ []));
           };
       refused = λ refusal is. been.refused refusal
-          (subst (λ (all : List Mark). IsMarkRefused (IsCellRefused wants grounds) been.before all
-          refusal) (sym takes.marks)
-          (mark_refused_behind (IsCellRefused wants grounds) takes.passed been.before
-          (cell element ∷ marks_ahead new) refusal takes.rows (inr is)));
+          (refused_behind_front (IsCellRefused wants grounds) refusal
+          (front_over (taken_weaker no_cell takes.takes) (read.pos, takes.holds.placed))
+          (subst (λ (own : List Mark). IsMarkRefused IsPlaced (IsCellRefused wants grounds) own
+          (marks_ahead new) refusal)
+          (sym (behind_append front.passed (cell element ∷ []) been.before)) is));
+    }
+
+no_entries : {A B : Type 0} (entry : A → B) (cells : List A) → map entry cells ≡ [] → cells ≡ []
+no_entries entry [] is = refl
+no_entries entry (own ∷ cells) is = absurd (cc)
+
+-- what isn't wanted of one cell more leaves nothing
+pub unwanted_further : (wants : Wants) (strings : List (List ℕ)) (count : ℕ)
+    (values more_values : List (Cell Data)) (formulas more_formulas : List (Cell (String Global)))
+    (ids more_ids : List StyledCell) (read : CellText) → LackUnwanted wants values formulas ids
+    → LacksUnwantedText wants read
+    → value_entries more_values
+    ≡ value_entries values ++ used_values strings ((read.pos, value_of_data_ref read.value) ∷ [])
+    → formula_entries more_formulas
+    ≡ formula_entries formulas ++ used_formulas ((read.pos, string_bytes read.text) ∷ [])
+    → more_ids
+    ≡ ids ++ filter (is_explicit count) ((read.pos.0, read.pos.1, read.style_id) ∷ [])
+    → LackUnwanted wants more_values more_formulas more_ids
+unwanted_further wants strings count values more_values formulas more_formulas ids more_ids read
+    been lacks valued listed styled = record {
+      values = λ unwanted. no_entries value_entry more_values
+          (valued ∙ rw (been.values unwanted, lacks.value unwanted) refl);
+      formulas = λ unwanted. no_entries formula_entry more_formulas
+          (listed ∙ rw (been.formulas unwanted, lacks.text unwanted) refl);
+      ids = λ unwanted. styled ∙ rw (been.ids unwanted, lacks.style unwanted) refl;
     }
 
 pub values_whole : (wants : Wants) (grounds : Grounds) (count : ℕ) (old now : Stream)
     (values : List ((ℕ × ℕ) × CellValue)) (formulas : List ((ℕ × ℕ) × List ℕ))
-    (ids : List StyledCell) → HasCollected wants grounds count old now values formulas ids
-    → PassesRows (marks_ahead now) → wants.values ≡ true
+    (ids : List StyledCell)
+    → (been : HasCollected wants grounds count old now values formulas ids)
+    → PassesMarks NoCell been.before (marks_ahead now) → wants.values ≡ true
     → HoldsValues grounds (data_ahead old) values
 values_whole wants grounds count old now values formulas ids been rows wanted =
     let so_far = been.valued wanted in (
@@ -297,8 +318,10 @@ values_whole wants grounds count old now values formulas ids been rows wanted =
 
 pub formulas_whole : (wants : Wants) (grounds : Grounds) (count : ℕ) (old now : Stream)
     (values : List ((ℕ × ℕ) × CellValue)) (formulas : List ((ℕ × ℕ) × List ℕ))
-    (ids : List StyledCell) → HasCollected wants grounds count old now values formulas ids
-    → PassesRows (marks_ahead now) → wants.formulas ≡ true → HoldsFormulas (data_ahead old) formulas
+    (ids : List StyledCell)
+    → (been : HasCollected wants grounds count old now values formulas ids)
+    → PassesMarks NoCell been.before (marks_ahead now) → wants.formulas ≡ true
+    → HoldsFormulas (data_ahead old) formulas
 formulas_whole wants grounds count old now values formulas ids been rows wanted =
     let so_far = been.listed wanted in (
       so_far.passed,
@@ -309,8 +332,10 @@ formulas_whole wants grounds count old now values formulas ids been rows wanted 
 
 pub ids_whole : (wants : Wants) (grounds : Grounds) (count : ℕ) (old now : Stream)
     (values : List ((ℕ × ℕ) × CellValue)) (formulas : List ((ℕ × ℕ) × List ℕ))
-    (ids : List StyledCell) → HasCollected wants grounds count old now values formulas ids
-    → PassesRows (marks_ahead now) → wants.styles ≡ true → HoldsIds count (data_ahead old) ids
+    (ids : List StyledCell)
+    → (been : HasCollected wants grounds count old now values formulas ids)
+    → PassesMarks NoCell been.before (marks_ahead now) → wants.styles ≡ true
+    → HoldsIds count (data_ahead old) ids
 ids_whole wants grounds count old now values formulas ids been rows wanted =
     let so_far = been.styled wanted in (
       so_far.passed,
@@ -331,21 +356,38 @@ keeps_on before after = record {
 
 -- a step is refused, and so are the data
 pub step_refused : (wants : Wants) (grounds : Grounds) (old mid new : Stream) (error : XlsxError)
-    → mid.base ≡ old.base → KeepsElements is_cell old.base old.reading mid.reading
+    → IsGoing mid → mid.base ≡ old.base → KeepsElements is_cell old.base old.reading mid.reading
     → (old.reading.source.is_told ≡ true
     → (refusal : Refusal) → ((before : List Mark) → AreKept before mid.counters
-    → IsTakenRefused (IsCellRefused wants grounds) before (marks_ahead mid) refusal)
-    → IsMarkRefused (IsCellRefused wants grounds) [] (marks_ahead old) refusal)
-    → NextCellFails wants grounds mid new error → DataFails wants grounds old new error
-step_refused wants grounds old mid new error same keeps weaker fails =
-    let refused = IsStepRefused (IsCellRefused wants grounds) mid.counters in
+    → IsMarkRefused NoCell (IsCellRefused wants grounds) before (marks_ahead mid) refusal)
+    → IsMarkRefused IsPlaced (IsCellRefused wants grounds) [] (marks_ahead old) refusal)
+    → NextFails wants grounds mid new.reading error → DataFails wants grounds old new error
+step_refused wants grounds old mid new Failed going same keeps weaker fails =
+    absurd (let both : true ≡ false = sym fails ∙ going.failed in cc)
+step_refused wants grounds old mid new error going same keeps weaker fails =
+    let refused = IsStepRefused NoCell (IsCellRefused wants grounds) mid.counters in
     let here : SectionFails (end_in_data wants) refused old.base mid.reading new.reading error =
     subst (λ (n : ℕ). SectionFails (end_in_data wants) refused n mid.reading new.reading error) same
-    fails.0 in
+    fails.1 in
     refused_later old.base old.reading mid.reading (end_in_data wants) refused
     (AreDataRefused wants grounds) new.reading error keeps.section
     (λ told. ap (end_outside (codes "sheetData") (end_in_cell wants)) (keeps.unclosed told))
     (λ told refusal is. weaker told refusal (λ before kept.
-    subst (λ (n : ℕ). IsTakenRefused (IsCellRefused wants grounds) before
+    subst (λ (n : ℕ). IsMarkRefused NoCell (IsCellRefused wants grounds) before
     (marks (section_ahead n mid.reading)) refusal) (sym same) (is before kept)))
     here
+
+-- a step behind which no call was refused doesn't answer that one was
+pub step_error : (wants : Wants) (grounds : Grounds) (mid new : Stream) (error : XlsxError)
+    → IsGoing mid → NextFails wants grounds mid new.reading error → IsStepError error
+    → IsCellError error
+step_error wants grounds mid new Failed going fails is =
+    absurd (let both : true ≡ false = sym fails ∙ going.failed in cc)
+step_error wants grounds mid new error going fails is = is
+
+pub styled_error : (wants : Wants) (grounds : Grounds) (mid new : Stream) (error : XlsxError)
+    → IsGoing mid → NextFails wants grounds mid new.reading error → IsStyledStepError error
+    → IsStyledError error
+styled_error wants grounds mid new Failed going fails is =
+    absurd (let both : true ≡ false = sym fails ∙ going.failed in cc)
+styled_error wants grounds mid new error going fails is = is

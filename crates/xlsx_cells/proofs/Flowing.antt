@@ -1,125 +1,244 @@
 -- How a stream of cells goes on, and how the data that it reads are entered.
-use Rattle.std.proofs.Common.{◌≡◌, ◌∙◌, List, [], length, true, false, Option, Some, None}
-use Rattle.std.proofs.Common.{ℕ, Result, Ok, Err, refl, sym, subst, codes, arith}
-use Rattle.std.specs.Prelude.{IfOk, IfErr}
-use Rattle.std.specs.Prelude.{String}
+use Rattle.std.proofs.Common.{◌≡◌, ◌∙◌, ℕ, List, [], length, true, false, Some, None}
+use Rattle.std.proofs.Common.{refl, sym, ap, subst, codes, arith, string_bytes}
+use Rattle.std.specs.Prelude.{String, ◌||◌, Option, option_map, Bool}
+use Rattle.std.specs.List.{last_or}
 use Rattle.std.specs.declared.alloc.Global.{Global}
 use Rattle.cell_refs.specs.declared.dimensions.Dimensions.{Dimensions}
 use Rattle.part_events.specs.Event.{Event}
 use Rattle.part_events.specs.Reading.{Reading, IsReading, ReadsOn, ahead, events_of}
 use Rattle.part_events.specs.Section.{behind_start}
 use Rattle.cell_data.specs.declared.cell.Cell.{Cell}
-use Rattle.xlsx_error.specs.declared.error.XlsxError.{XlsxError}
-use Rattle.xlsx_error.specs.declared.error.XlsxError.TheVariants.{Failed}
 use Rattle.cell_data.specs.declared.value.DataRef.{DataRef}
 use Rattle.xlsx_sections.specs.PartSection.{section_left, section_in}
 use Rattle.xlsx_sections.proofs.SectionsRead.{ahead_at_first, first_section_left, nothing_past}
 use Rattle.xlsx_values.specs.Value.{Grounds}
-use Rattle.xlsx_formulas.specs.Formula.{FormulaText}
-use Rattle.xlsx_formulas.specs.Kept.{AreMasters}
-use Rattle.xlsx_cells.specs.CellErrors.{IsCellError, IsStyledError}
-use Rattle.xlsx_cells.specs.CellsReader.{Flow, FlowFails, TakesFrom, EntersCells, IsValued}
-use Rattle.xlsx_cells.specs.CellsReader.{IsFormula, values_alone, formulas_alone}
+use Rattle.xlsx_formulas.specs.Described.{description_seen, described}
+use Rattle.xlsx_formulas.specs.Formula.{FormulaText, behind_formulas, formula_of_last, cell_formula}
+use Rattle.xlsx_formulas.specs.Kept.{AreMasters, last_seen}
+use Rattle.xlsx_formulas.specs.declared.metadata.XlsxFormulaMetadata.{XlsxFormulaMetadata}
+use Rattle.xlsx_formulas.specs.declared.masters.Masters.{Masters}
+use Rattle.xlsx_formulas.proofs.Cells.{last_formula}
+use Rattle.xlsx_formulas.proofs.Groups.{formulas_kept}
+use Rattle.xlsx_cells.specs.CellsReader.{EntersCells, IsValued, IsFormula, values_alone}
+use Rattle.xlsx_cells.specs.CellsReader.{formulas_alone, values_and_styles, values_and_formulas}
+use Rattle.xlsx_cells.specs.CellsReader.{IsValuedStyle, IsValuedFormula, IsValuedMetadata}
+use Rattle.xlsx_cells.specs.CellsReader.{some_text}
 use Rattle.xlsx_cells.specs.Counting.{AreKept}
 use Rattle.xlsx_cells.specs.Head.{is_sheet_data, AreDimensions}
 use Rattle.xlsx_cells.specs.Marks.{Mark}
-use Rattle.xlsx_cells.specs.Stream.{Stream, TakesNext, TakesCell, IsRead, NextCellFails}
-use Rattle.xlsx_cells.specs.StyleSteps.{StyledStepFails, StyleIdFails}
+use Rattle.xlsx_cells.specs.Position.{NoCell}
+use Rattle.xlsx_cells.specs.Stream.{Stream, IsStreaming, IsGoing, RestsAtEnd, TakesCell, IsRead}
+use Rattle.xlsx_cells.specs.Stream.{IsWritten, LacksUnwanted, LacksUnwantedText}
 use Rattle.xlsx_cells.specs.declared.cell_read.CellRead.{CellRead}
+use Rattle.xlsx_cells.specs.declared.cell_read.CellText.{CellText}
 use Rattle.xlsx_cells.specs.declared.children.Wants.{Wants}
 
-abbrev stopped : Stream → Flow
-stopped stream = record { stream = stream; is_done = false; is_failed = true }
+pub is_going : (s : Stream) → IsStreaming s → s.is_failed ≡ false → s.is_done ≡ false → IsGoing s
+is_going s streams failed done = record {
+  reading = streams.reading failed;
+  within = streams.within failed done;
+  done = done;
+  failed = failed;
+}
 
--- a step of the cursor that is refused refuses the stream
-flow_refused : (wants : Wants) (grounds : Grounds) (old : Flow) (new : Stream) (error : XlsxError)
-    → old.is_failed ≡ false → old.is_done ≡ false → IsCellError error
-    → NextCellFails wants grounds old.stream new error
-    → FlowFails wants grounds old (stopped new) error
-flow_refused wants grounds old new Failed going left is fails = absurd is
-flow_refused wants grounds old new error going left is fails = (going, left, fails)
+-- a stream that goes on doesn't rest
+pub never_rests : (old new : Stream) → old.is_failed ≡ false → old.is_done ≡ false
+    → RestsAtEnd old new
+never_rests old new failed done = λ rests.
+    let goes : (old.is_failed || old.is_done) ≡ false = rw (failed, done) refl in
+    absurd (let both : true ≡ false = sym rests ∙ goes in cc)
 
-pub flow_fails : {A : Type 0} (wants : Wants) (grounds : Grounds) (old : Flow) (new : Stream)
-    (result : Result A XlsxError) → old.is_failed ≡ false → old.is_done ≡ false
-    → IfErr result (NextCellFails wants grounds old.stream new)
-    → IfErr result IsCellError → IfErr result (FlowFails wants grounds old (stopped new))
-flow_fails wants grounds old new (Ok value) going left fails is = tt
-flow_fails wants grounds old new (Err error) going left fails is =
-    flow_refused wants grounds old new error going left is fails
+pub failed_streams : (s : Stream) → s.is_failed ≡ true → IsStreaming s
+failed_streams s failed = record {
+  reading = λ going. absurd (let both : true ≡ false = sym failed ∙ going in cc);
+  within = λ going _. absurd (let both : true ≡ false = sym failed ∙ going in cc);
+}
 
-pub styled_fails : (count : ℕ) (old : Flow) (new : Stream) (error : XlsxError) → old.is_failed ≡ false
-    → old.is_done ≡ false → IsStyledError error
-    → StyledStepFails count old.stream new error → StyleIdFails count old (stopped new) error
-styled_fails count old new Failed going left is fails = absurd is
-styled_fails count old new error going left is fails = (going, left, fails)
+-- the text of the formula that was read last, by the masters behind the cell
+pub text_taken : {before : List Mark} {earlier : List FormulaText} {old new : Stream}
+    {wants : Wants} {grounds : Grounds} (read : CellRead) (own : CellText) → own.pos ≡ read.pos
+    → own.value ≡ read.value → own.style_id ≡ read.style_id
+    → ((behind : List FormulaText) → AreMasters behind new.masters
+    → string_bytes own.text ≡ formula_of_last behind read.pos (last_seen read.formula))
+    → TakesCell NoCell before earlier old new (IsRead wants true grounds read)
+    → TakesCell NoCell before earlier old (record {
+      reading = new.reading;
+      base = new.base;
+      counters = new.counters;
+      masters = new.masters;
+      is_done = new.is_done;
+      is_failed = false;
+    }) (IsWritten wants grounds earlier own)
+text_taken {earlier = earlier} read own placed valued styled text takes =
+    let is = takes.holds in
+    let kept = takes.kept in
+    record {
+      element = takes.element;
+      kept = kept;
+      takes = takes.takes;
+      closed = takes.closed;
+      holds = record {
+        placed = rw placed is.placed;
+        valued = λ wanted. rw valued (is.valued wanted);
+        styled = λ wanted. rw styled (is.styled wanted);
+        listed = λ wanted. rw is.is_kept (is.listed wanted);
+        found = λ wanted. text (behind_formulas kept earlier) takes.stands.masters
+            ∙ ap (formula_of_last (behind_formulas kept earlier) read.pos) (is.last wanted)
+            ∙ ap (λ (all : List FormulaText). formula_of_last (behind_formulas kept earlier)
+            read.pos (last_or None all)) (sym is.is_kept)
+            ∙ sym (last_formula earlier read.pos kept)
+            ∙ ap (λ (pos : ℕ × ℕ). cell_formula earlier pos kept) (sym placed);
+        none = λ unwanted. is.is_kept ∙ is.none unwanted;
+      };
+      stands = record {
+        counters = takes.stands.counters;
+        masters = takes.stands.masters;
+      };
+    }
 
--- what a step of the cursor takes, the stream takes
-pub taken_from : (wants : Wants) (grounds : Grounds) (before : List Mark)
-    (earlier : List FormulaText) (old new : Flow) (result : Result (Option CellRead) XlsxError)
-    → IfOk result (λ found. TakesNext wants grounds before earlier found old.stream new.stream)
-    → IfOk result (λ found. TakesFrom wants grounds before earlier found old new)
-taken_from wants grounds before earlier old new (Ok (Some read)) takes = takes
-taken_from wants grounds before earlier old new (Ok None) takes = λ going. takes
-taken_from wants grounds before earlier old new (Err error) takes = takes
+pub text_unwanted : {wants : Wants} (masters : Masters) (read : CellRead) (own : CellText)
+    → own.value ≡ read.value → own.style_id ≡ read.style_id
+    → ((behind : List FormulaText) → AreMasters behind masters
+    → string_bytes own.text ≡ formula_of_last behind read.pos (last_seen read.formula))
+    → LacksUnwanted wants read → LacksUnwantedText wants own
+text_unwanted masters read own valued styled text lacks = record {
+  value = λ unwanted. valued ∙ lacks.value unwanted;
+  text = λ unwanted.
+      let some = formulas_kept masters in
+      text some.0 some.1 ∙ rw (lacks.formula unwanted) refl;
+  style = λ unwanted. styled ∙ lacks.style unwanted;
+}
+
+-- what was asked for is the same
+pub read_as : {before : List Mark} {earlier : List FormulaText} {old new : Stream}
+    {wants own : Wants} {keeps still : Bool} {grounds same : Grounds} {read : CellRead}
+    → wants ≡ own → keeps ≡ still → grounds ≡ same
+    → TakesCell NoCell before earlier old new (IsRead wants keeps grounds read)
+    → TakesCell NoCell before earlier old new (IsRead own still same read)
+read_as wanted kept rests takes = rw (wanted, kept, rests) at takes
+
+pub written_as : {before : List Mark} {earlier : List FormulaText} {old new : Stream}
+    {wants own : Wants} {grounds same : Grounds} {read : CellText} → wants ≡ own
+    → grounds ≡ same
+    → TakesCell NoCell before earlier old new (IsWritten wants grounds earlier read)
+    → TakesCell NoCell before earlier old new (IsWritten own same earlier read)
+written_as wanted rests takes = rw (wanted, rests) at takes
 
 pub value_taken : {before : List Mark} {earlier : List FormulaText} {old new : Stream}
     {grounds : Grounds} (read : CellRead) (own : Cell DataRef)
     → own ≡ record { pos = read.pos; val = read.value }
-    → TakesCell before earlier old new (IsRead values_alone grounds earlier read)
-    → TakesCell before earlier old new (IsValued grounds own)
+    → TakesCell NoCell before earlier old new (IsRead values_alone false grounds read)
+    → TakesCell NoCell before earlier old new (IsValued grounds own)
 value_taken read own is takes = record {
-  passed = takes.passed;
-  rows = takes.rows;
   element = takes.element;
   kept = takes.kept;
-  marks = takes.marks;
-  left = takes.left;
+  takes = takes.takes;
   closed = takes.closed;
-  fact = record {
-    placed = rw is takes.fact.placed;
-    valued = rw is (takes.fact.valued refl);
-    none = takes.fact.none refl;
+  holds = record {
+    placed = rw is takes.holds.placed;
+    valued = rw is (takes.holds.valued refl);
+    none = takes.holds.is_kept;
   };
   stands = takes.stands;
 }
 
 pub formula_taken : {before : List Mark} {earlier : List FormulaText} {old new : Stream}
-    {grounds : Grounds} (read : CellRead) (own : Cell (String Global))
-    → own ≡ record { pos = read.pos; val = read.formula }
-    → TakesCell before earlier old new (IsRead formulas_alone grounds earlier read)
-    → TakesCell before earlier old new (IsFormula earlier own)
+    {grounds : Grounds} (read : CellText) (own : Cell (String Global))
+    → own ≡ record { pos = read.pos; val = read.text }
+    → TakesCell NoCell before earlier old new (IsWritten formulas_alone grounds earlier read)
+    → TakesCell NoCell before earlier old new (IsFormula earlier own)
 formula_taken read own is takes = record {
-  passed = takes.passed;
-  rows = takes.rows;
   element = takes.element;
   kept = takes.kept;
-  marks = takes.marks;
-  left = takes.left;
+  takes = takes.takes;
   closed = takes.closed;
-  fact = record {
-    placed = rw is takes.fact.placed;
-    listed = takes.fact.listed refl;
-    found = rw is (takes.fact.found refl);
+  holds = record {
+    placed = rw is takes.holds.placed;
+    listed = takes.holds.listed refl;
+    found = rw is (takes.holds.found refl);
   };
   stands = takes.stands;
 }
 
-pub cells_entered : {area : Dimensions} (old : Reading) (new : Flow) → IsReading old → old.at ≡ 0
-    → new.is_failed ≡ false → new.is_done ≡ false → ReadsOn old new.stream.reading
-    → new.stream.base ≡ length new.stream.reading.names → AreKept [] new.stream.counters
-    → AreMasters [] new.stream.masters
+pub styled_value_taken : {before : List Mark} {earlier : List FormulaText} {old new : Stream}
+    {grounds : Grounds} (read : CellRead) (own : Cell DataRef)
+    → own ≡ record { pos = read.pos; val = read.value }
+    → TakesCell NoCell before earlier old new (IsRead values_and_styles false grounds read)
+    → TakesCell NoCell before earlier old new (IsValuedStyle grounds (own, read.style_id))
+styled_value_taken read own is takes = record {
+  element = takes.element;
+  kept = takes.kept;
+  takes = takes.takes;
+  closed = takes.closed;
+  holds = record {
+    valued = record {
+      placed = rw is takes.holds.placed;
+      valued = rw is (takes.holds.valued refl);
+      none = takes.holds.is_kept;
+    };
+    styled = takes.holds.styled refl;
+  };
+  stands = takes.stands;
+}
+
+pub written_value_taken : {before : List Mark} {earlier : List FormulaText} {old new : Stream}
+    {grounds : Grounds} (read : CellText) (formula : Option (String Global))
+    → option_map string_bytes formula ≡ some_text (string_bytes read.text)
+    → TakesCell NoCell before earlier old new (IsWritten values_and_formulas grounds earlier read)
+    → TakesCell NoCell before earlier old new (IsValuedFormula grounds earlier
+    (record { pos = read.pos; value = read.value; formula = formula }))
+written_value_taken read formula is takes = record {
+  element = takes.element;
+  kept = takes.kept;
+  takes = takes.takes;
+  closed = takes.closed;
+  holds = record {
+    placed = takes.holds.placed;
+    valued = takes.holds.valued refl;
+    listed = takes.holds.listed refl;
+    found = is ∙ ap some_text (takes.holds.found refl);
+  };
+  stands = takes.stands;
+}
+
+pub described_value_taken : {before : List Mark} {earlier : List FormulaText} {old new : Stream}
+    {grounds : Grounds} (read : CellRead) (formula : Option XlsxFormulaMetadata)
+    → option_map description_seen formula ≡ described (last_seen read.formula)
+    → TakesCell NoCell before earlier old new (IsRead values_and_formulas false grounds read)
+    → TakesCell NoCell before earlier old new (IsValuedMetadata grounds
+    (record { pos = read.pos; value = read.value; formula = formula }))
+described_value_taken read formula is takes = record {
+  element = takes.element;
+  kept = takes.kept;
+  takes = takes.takes;
+  closed = takes.closed;
+  holds = record {
+    placed = takes.holds.placed;
+    valued = takes.holds.valued refl;
+    written = takes.holds.written;
+    listed = takes.holds.listed refl;
+    told = is ∙ ap described (takes.holds.last refl);
+    none = takes.holds.is_kept;
+  };
+  stands = takes.stands;
+}
+
+pub cells_entered : {area : Dimensions} (old : Reading) (new : Stream) → IsReading old → old.at ≡ 0
+    → new.is_failed ≡ false → new.is_done ≡ false → ReadsOn old new.reading
+    → new.base ≡ length new.reading.names → AreKept [] new.counters → AreMasters [] new.masters
     → (old.source.is_told ≡ true
-    → behind_start is_sheet_data (ahead old) ≡ Some (ahead new.stream.reading))
+    → behind_start is_sheet_data (ahead old) ≡ Some (ahead new.reading))
     → (old.source.is_told ≡ true → AreDimensions (ahead old) area) → EntersCells area old new
-cells_entered {area = area} old new is first going left reads base kept groups found dimensions =
-    let here = new.stream.reading in
+cells_entered {area = area} old new is first failed done reads base kept groups found dimensions =
+    let here = new.reading in
     record {
-      flowing = record {
-        reading = λ _. reads.stays.reading;
-        within = λ _ _. omega (arith, base);
+      going = record {
+        reading = reads.stays.reading;
+        within = omega (arith, base);
+        done = done;
+        failed = failed;
       };
-      going = going;
-      left = left;
       fresh = record { counters = kept; masters = groups };
       reads = reads;
       section = λ told.

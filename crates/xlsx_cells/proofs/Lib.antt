@@ -3,10 +3,13 @@ pub mod ChildrenRead
 pub mod Collecting
 pub mod CountersMoved
 pub mod Flowing
+pub mod Fronts
 pub mod HeadRead
 pub mod MarksAhead
 pub mod Passing
+pub mod RecordEquality
 pub mod Refusing
 pub mod SheetEntered
 pub mod SoundSheet
 pub mod Unstyled
+pub mod WholeReadings

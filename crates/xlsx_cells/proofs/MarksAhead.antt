@@ -8,7 +8,6 @@ use Rattle.part_events.specs.Section.{unclosed}
 use Rattle.part_events.proofs.Sections.{content-content}
 use Rattle.xlsx_cells.specs.Marks.{Mark, row_start, row_end, cell, is_cell, is_row}
 use Rattle.xlsx_cells.specs.Marks.{is_row_name, marks_from, marks, cell_start, marks_of}
-use Rattle.xlsx_cells.specs.Marks.{behind_marks}
 
 -- the marks of a section behind an element that lies in it
 pub marks_behind : (inner outer within : ℕ) (events : List Event) → within ≡ inner + suc outer
@@ -96,8 +95,3 @@ pub unclosed_event : (event : Event) (events : List Event) → cell_start event 
 unclosed_event (start tag) events none = rw (no_cell_start tag none) refl
 unclosed_event (end name) events none = refl
 unclosed_event (leaf kind) events none = refl
-
-pub behind_append : (first second before : List Mark) → behind_marks (first ++ second) before
-    ≡ behind_marks second (behind_marks first before)
-behind_append [] second before = refl
-behind_append (mark ∷ first) second before = behind_append first second (mark ∷ before)

@@ -13,65 +13,45 @@ use Rattle.part_events.specs.declared.walk.Step.TheVariants.{Found}
 use Rattle.xlsx_sections.specs.PartSection.{KeepsSection}
 use Rattle.xlsx_sections.proofs.SectionsRead.{section_further}
 use Rattle.xlsx_cells.specs.Counting.{AreKept}
-use Rattle.xlsx_cells.specs.Finding.{marks_left}
-use Rattle.xlsx_cells.specs.Marks.{Mark, row_start, row_end, cell, is_cell, marks, cell_start}
+use Rattle.xlsx_cells.specs.Finding.{PassesTo}
+use Rattle.xlsx_cells.specs.Marks.{Mark, cell, is_cell, marks, cell_start}
 use Rattle.xlsx_cells.specs.Marks.{marks_of, behind_marks}
-use Rattle.xlsx_cells.specs.Position.{PassesRows}
+use Rattle.xlsx_cells.specs.Position.{PassesMarks, NoCell}
 use Rattle.xlsx_cells.specs.declared.counters.Counters.{Counters}
 use Rattle.xlsx_cells.proofs.MarksAhead.{marks_cell, marks_event, unclosed_event, no_cell_start}
-use Rattle.xlsx_cells.proofs.MarksAhead.{behind_append}
+use Rattle.xlsx_cells.proofs.Fronts.{behind_append, front_none, front_joined}
 
 -- some marks were passed, none of them a cell
 pub record HasPassed
     (before : List Mark) (base : ℕ) (old now : Reading) (counters : Counters) : Type 0 where
-  pub passed : List Mark
-  pub rows : PassesRows passed
-  pub marks : marks_left base old ≡ passed ++ marks_left base now
-  pub taken : List Event
-  pub events : section_ahead base old ≡ taken ++ section_ahead base now
-  pub counts : AreKept (behind_marks passed before) counters
+  pub front : PassesTo NoCell before (section_ahead base old) (section_ahead base now)
+  pub counts : AreKept (behind_marks front.passed before) counters
 
 pub passes_none : (before : List Mark) (base : ℕ) (first : Reading) (counters : Counters)
     → AreKept before counters → HasPassed before base first first counters
 passes_none before base first counters kept =
-    record {
-      passed = [];
-      rows = record {};
-      marks = refl;
-      taken = [];
-      events = refl;
-      counts = kept;
-    }
-
-passes_both : (first second : List Mark) → PassesRows first → PassesRows second
-    → PassesRows (first ++ second)
-passes_both [] second rows more = more
-passes_both (row_start tag ∷ first) second rows more =
-    (rows.0, passes_both first second rows.1 more)
-passes_both (row_end ∷ first) second rows more = passes_both first second rows more
-passes_both (cell element ∷ first) second rows more = absurd rows
+    record { front = front_none NoCell before (section_ahead base first); counts = kept }
 
 -- one event more
 pub passed_further : {before : List Mark} {base : ℕ} {event : Event} {old mid new : Reading}
     {first next : Counters} → HasPassed before base old mid first → cell_start event ≡ None
-    → section_ahead base mid ≡ event ∷ section_ahead base new → PassesRows (marks_of event)
+    → section_ahead base mid ≡ event ∷ section_ahead base new
+    → ((others : List Mark) → PassesMarks NoCell others (marks_of event))
     → ((others : List Mark) → AreKept others first
     → AreKept (behind_marks (marks_of event) others) next) → HasPassed before base old new next
 passed_further {before = before} {base = base} {event = event} {new = new} {next = next} been none
-    left rows counts = record {
-      taken = been.taken ++ event ∷ [];
-      events = been.events ∙ ap (λ (events : List Event). been.taken ++ events) left
-          ∙ sym (append_assoc been.taken (event ∷ []) (section_ahead base new));
-      passed = been.passed ++ marks_of event;
-      rows = passes_both been.passed (marks_of event) been.rows rows;
-      marks = been.marks
-          ∙ ap (λ (events : List Event). been.passed ++ marks events) left
-          ∙ ap (λ (others : List Mark). been.passed ++ others)
-          (marks_event event (section_ahead base new) none)
-          ∙ sym (append_assoc been.passed (marks_of event) (marks_left base new));
+    left rows counts =
+    let behind = behind_marks been.front.passed before in record {
+      front = front_joined been.front (record {
+        passed = marks_of event;
+        fact = rows behind;
+        marks = ap marks left ∙ marks_event event (section_ahead base new) none;
+        taken = event ∷ [];
+        events = left;
+      });
       counts = subst (λ (others : List Mark). AreKept others next)
-          (sym (behind_append been.passed (marks_of event) before))
-          (counts (behind_marks been.passed before) been.counts);
+          (sym (behind_append been.front.passed (marks_of event) before))
+          (counts behind been.counts);
     }
 
 starts_event : (event : Event) (events : List Event) → cell_start event ≡ None
@@ -162,14 +142,14 @@ start_is_deep base tag mid new current stands within =
     omega (arith, ap length names, within)
 
 -- the next mark is a cell, at whose start reading stands
-pub cell_next : (base : ℕ) (tag : Tag) (mid new : Reading) → is_cell tag ≡ true
-    → section_ahead base mid ≡ start tag ∷ section_ahead base new → base < length new.names
-    → marks_left base mid ≡ cell (element_at base tag new) ∷ marks (section_behind base new)
-cell_next base tag mid new is left deep =
+pub cell_next : (base : ℕ) (tag : Tag) (new : Reading) → is_cell tag ≡ true
+    → base < length new.names
+    → marks (start tag ∷ section_ahead base new)
+    ≡ cell (element_at base tag new) ∷ marks (section_behind base new)
+cell_next base tag new is deep =
     let outer = inside base new - 1 in
     let more : inside base new ≡ suc outer = omega (arith, deep) in
-    ap marks left
-    ∙ ap (λ (n : ℕ). marks (start tag ∷ content n (ahead new))) more
+    ap (λ (n : ℕ). marks (start tag ∷ content n (ahead new))) more
     ∙ marks_cell tag outer (ahead new) is
     ∙ ap (λ (n : ℕ). let element : Element =
     record { tag = tag; inside = content 0 (ahead new); behind = length (content n (ahead new)) } in

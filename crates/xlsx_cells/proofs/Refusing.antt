@@ -6,15 +6,18 @@ use Rattle.part_events.specs.Reading.{Reading}
 use Rattle.part_events.specs.Section.{Element}
 use Rattle.part_events.specs.declared.fault.XmlFault.TheVariants.{EndMismatch, Unclosed}
 use Rattle.xlsx_error.specs.declared.error.XlsxError.{XlsxError}
-use Rattle.xlsx_error.specs.declared.error.XlsxError.TheVariants.{OutOfMemory, Io, Xml, XmlEof}
+use Rattle.xlsx_error.specs.declared.error.XlsxError.TheVariants.{OutOfMemory, Io, Xml, XmlEof, Failed}
 use Rattle.xlsx_sections.specs.PartSection.{PartSection, SectionFails, section_left, last_of}
 use Rattle.xlsx_sections.specs.PartSection.{has_end}
 use Rattle.xlsx_sections.specs.Refusal.{Refusal}
 use Rattle.xlsx_sections.proofs.Refused.{refused_weaker}
-use Rattle.xlsx_cells.specs.Counting.{IsRefused, IsRowRefused}
-use Rattle.xlsx_cells.specs.Finding.{IsTakenRefused, IfCutOff}
-use Rattle.xlsx_cells.specs.Marks.{Mark, row_start, row_end, cell, is_row, marks_of, behind_marks}
-use Rattle.xlsx_cells.specs.Position.{row_named, PassesRows}
+use Rattle.xlsx_cells.specs.Counting.{IsRefused, IsStartRefused, IsRowRefused}
+use Rattle.xlsx_cells.specs.Ends.{end_in_data}
+use Rattle.xlsx_cells.specs.Finding.{IsMarkRefused, IsStepRefused, IfCutOff, IsCutOff}
+use Rattle.xlsx_cells.specs.Marks.{Mark, row_start, is_row, marks_of}
+use Rattle.xlsx_cells.specs.Position.{row_named, NoCell}
+use Rattle.xlsx_cells.specs.Stream.{Stream, IsGoing, StepFails}
+use Rattle.xlsx_cells.specs.declared.children.Wants.{Wants}
 
 pub is_refused_weaker : (after before : Refusal → Type 0) (error : XlsxError)
     → ((refusal : Refusal) → after refusal → before refusal) → IsRefused after error
@@ -22,12 +25,12 @@ pub is_refused_weaker : (after before : Refusal → Type 0) (error : XlsxError)
 is_refused_weaker after before error weaker refuses =
     λ last. refused_weaker last last before after error weaker refl (refuses last)
 
--- a start of a section is refused, and so is the section
+-- a start of a section is refused, where memory may be wanting too, and so is the section
 pub start_refused : (base : ℕ) (first : Reading) (ending : List Event → Option (List ℕ))
     (own : Refusal → Type 0) (refused : PartSection → Refusal → Type 0) (new : Reading)
     (error : XlsxError)
     → (first.source.is_told ≡ true → (refusal : Refusal) → own refusal
-    → refused (section_left base first) refusal) → IsRefused own error
+    → refused (section_left base first) refusal) → IsStartRefused own error
     → SectionFails ending refused base first new error
 start_refused base first ending own refused new Io weaker is = absurd (is 0)
 start_refused base first ending own refused new OutOfMemory weaker is = tt
@@ -38,6 +41,11 @@ start_refused base first ending own refused new error weaker is = λ told.
     let last = last_of (section_left base first) in
     refused_weaker last last (refused (section_left base first)) own error (weaker told) refl
     (is last)
+
+pub or_memory : (own : Refusal → Type 0) (error : XlsxError) → IsRefused own error
+    → IsStartRefused own error
+or_memory own OutOfMemory is = tt
+or_memory own error is = is
 
 pub cut_weaker : (after before : Type 0) (error : XlsxError) → (after → before)
     → IfCutOff after error → IfCutOff before error
@@ -56,29 +64,29 @@ cut_open base old new ending refused (Xml (Unclosed at)) fails = λ told. (fails
 cut_open base old new ending refused (XmlEof element) fails = λ told. (fails told).0.1
 cut_open base old new ending refused error fails = tt
 
--- what is refused behind rows that were passed
-pub taken_behind : (refused : List Mark → Element → Refusal → Type 0)
-    (passed before marks : List Mark) (refusal : Refusal) → PassesRows passed
-    → IsTakenRefused refused (behind_marks passed before) marks refusal
-    → IsTakenRefused refused before (passed ++ marks) refusal
-taken_behind refused [] before marks refusal rows is = is
-taken_behind refused (row_start tag ∷ passed) before marks refusal rows is =
-    rw rows.0.1 (taken_behind refused passed (row_start tag ∷ before) marks refusal rows.1 is)
-taken_behind refused (row_end ∷ passed) before marks refusal rows is =
-    taken_behind refused passed (row_end ∷ before) marks refusal rows is
-taken_behind refused (cell element ∷ passed) before marks refusal rows is = absurd rows
-
 row_refused_if : (refused : List Mark → Element → Refusal → Type 0) (b : Bool) (tag : Tag)
     (before others : List Mark) (refusal : Refusal) → b ≡ true → row_named tag ≡ Err refusal
-    → IsTakenRefused refused before ((if b then row_start tag ∷ [] else []) ++ others) refusal
+    → IsMarkRefused NoCell refused before ((if b then row_start tag ∷ [] else []) ++ others)
+    refusal
 row_refused_if refused true tag before others refusal is named = rw named refl
 row_refused_if refused false tag before others refusal is named = absurd (cc)
 
 -- the next mark is the start of a row, which is refused
 pub row_refused : (refused : List Mark → Element → Refusal → Type 0) (event : Event)
     (before others : List Mark) (refusal : Refusal) → IsRowRefused event refusal
-    → IsTakenRefused refused before (marks_of event ++ others) refusal
+    → IsMarkRefused NoCell refused before (marks_of event ++ others) refusal
 row_refused refused (start tag) before others refusal is =
     row_refused_if refused (is_row tag) tag before others refusal is.0 is.1
 row_refused refused (end name) before others refusal is = absurd is
 row_refused refused (leaf kind) before others refusal is = absurd is
+
+-- a step that goes on is refused by what it takes
+pub step_fails : (passes : List Mark → Element → Type 0)
+    (refused : List Mark → Element → Refusal → Type 0) (wants : Wants) (old : Stream)
+    (new : Reading) (error : XlsxError) → (error ≡ Failed → ⊥) → IsGoing old
+    → SectionFails (end_in_data wants) (IsStepRefused passes refused old.counters) old.base
+    old.reading new error
+    → IsCutOff passes old.counters old.base old.reading error
+    → StepFails passes refused wants old new error
+step_fails passes refused wants old new Failed never going cause cut = absurd (never refl)
+step_fails passes refused wants old new error never going cause cut = (going, cause, cut)

@@ -1,5 +1,5 @@
 -- How the data of a sheet are entered, and why they can't be.
-use Rattle.std.proofs.Common.{◌≡◌, ℕ, List, [], length, true, Some, sym, ◌∙◌, ap}
+use Rattle.std.proofs.Common.{◌≡◌, ℕ, List, [], length, true, false, Some, sym, ◌∙◌, ap}
 use Rattle.std.proofs.Common.{subst, codes, arith}
 use Rattle.cell_refs.specs.declared.dimensions.Dimensions.{Dimensions}
 use Rattle.part_events.specs.Event.{Event}
@@ -17,12 +17,18 @@ use Rattle.xlsx_sections.proofs.SectionsRead.{ahead_at_first}
 pub data_entered : {path : List ℕ} {area : Dimensions} {old : PackageState} (opened : Reading)
     (new : Stream) → EntersSection (codes "sheetData") path old new.reading
     → new.base ≡ length new.reading.names → AreKept [] new.counters → AreMasters [] new.masters
+    → new.is_done ≡ false → new.is_failed ≡ false
     → (old.is_told ≡ true → opened.source.past ≡ [])
     → (old.is_told ≡ true → events_of new.reading ≡ events_of opened)
     → (old.is_told ≡ true → AreDimensions (ahead opened) area) → EntersData path area old new
-data_entered {area = area} opened new enters base kept groups fresh same dimensions =
+data_entered {area = area} opened new enters base kept groups done failed fresh same dimensions =
     record {
-      streaming = record { reading = enters.reading; within = omega (arith, base) };
+      going = record {
+        reading = enters.reading;
+        within = omega (arith, base);
+        done = done;
+        failed = failed;
+      };
       fresh = record { counters = kept; masters = groups };
       parts = enters.parts;
       faults = enters.faults;

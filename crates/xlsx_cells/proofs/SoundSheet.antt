@@ -17,10 +17,11 @@ use Rattle.xlsx_values.specs.Value.{Grounds, cell_value}
 use Rattle.xlsx_formulas.specs.Formula.{FormulaText, formulas_in}
 use Rattle.xlsx_cells.specs.Ends.{end_in_data}
 use Rattle.xlsx_cells.specs.Marks.{Mark, row_start, row_end, cell, marks}
-use Rattle.xlsx_cells.specs.Position.{row_named, cell_position}
+use Rattle.xlsx_cells.specs.Finding.{IsMarkRefused}
+use Rattle.xlsx_cells.specs.Position.{row_named, cell_position, IsPlaced}
 use Rattle.xlsx_cells.specs.Sheet.{behind_row, answers_from, at_position, placed_value}
 use Rattle.xlsx_cells.specs.Sheet.{placed_formulas, values_in, formulas_written}
-use Rattle.xlsx_cells.specs.SheetPart.{IsMarkRefused, AreDataRefused, DataCause, SheetPartCause}
+use Rattle.xlsx_cells.specs.SheetPart.{AreDataRefused, DataCause, SheetPartCause}
 use Rattle.xlsx_cells.specs.SheetPart.{IsSoundSheet}
 use Rattle.xlsx_cells.specs.Stream.{IsCellRefused}
 use Rattle.xlsx_cells.specs.StyleIds.{id_named, with_id, placed_id, ids_in}
@@ -35,7 +36,7 @@ never_both answer a refusal good bad =
 
 -- ---- what stands in answers that aren't refused
 
-pub row_sound : {A : Type 0} (row : Result (Option ℕ) Refusal) (others : Result (List A) Refusal)
+row_sound : {A : Type 0} (row : Result (Option ℕ) Refusal) (others : Result (List A) Refusal)
     (all : List A) → behind_row row others ≡ Ok all
     → ((own : Option ℕ) × (row ≡ Ok own)) × (others ≡ Ok all)
 row_sound (Ok own) others all is = ((own, refl), is)
@@ -121,17 +122,14 @@ marks_never : (wants : Wants) (grounds : Grounds) (before marks : List Mark)
     (values : List ((ℕ × ℕ) × CellValue)) (written : List ((ℕ × ℕ) × List FormulaText))
     (ids : List StyledCell) (refusal : Refusal)
     → AreSound grounds before marks values written ids
-    → IsMarkRefused (IsCellRefused wants grounds) before marks refusal → ⊥
+    → IsMarkRefused IsPlaced (IsCellRefused wants grounds) before marks refusal → ⊥
 marks_never wants grounds before [] values written ids refusal are is = is
 marks_never wants grounds before (row_start tag ∷ marks) values written ids refusal are
-    (inl misplaced) =
+    is =
     let sound = row_sound (row_named tag)
     (answers_from (placed_value grounds) (row_start tag ∷ before) marks) values are.valued in
-    never_both (row_named tag) sound.0.0 refusal sound.0.1 misplaced
-marks_never wants grounds before (row_start tag ∷ marks) values written ids refusal are
-    (inr is) =
     marks_never wants grounds (row_start tag ∷ before) marks values written ids refusal
-    (rows_sound grounds before marks tag values written ids are) is
+    (rows_sound grounds before marks tag values written ids are) (rw sound.0.1 at is)
 marks_never wants grounds before (row_end ∷ marks) values written ids refusal are is =
     marks_never wants grounds (row_end ∷ before) marks values written ids refusal
     (record { valued = are.valued; listed = are.listed; styled = are.styled }) is
@@ -147,7 +145,7 @@ marks_never wants grounds before (cell element ∷ marks) values written ids ref
           refusal first.0.1 second.0.1 third.0.1 refused
       | inr others ↦ marks_never wants grounds (cell element ∷ before) marks first.1.0 second.1.0
           third.1.0 refusal
-          (record { valued = first.1.1; listed = second.1.1; styled = third.1.1 }) others
+          (record { valued = first.1.1; listed = second.1.1; styled = third.1.1 }) others.1
     ]
 
 -- ---- the part of a sheet

@@ -11,7 +11,7 @@ use Rattle.xlsx_error.specs.declared.error.XlsxError.TheVariants.{ColumnNumberOv
 use Rattle.xlsx_error.specs.declared.error.XlsxError.TheVariants.{RowNumberOverflow, UnexpectedNode}
 use Rattle.xlsx_error.specs.declared.error.XlsxError.TheVariants.{Unexpected, Unrecognized}
 use Rattle.xlsx_error.specs.declared.error.XlsxError.TheVariants.{CellTAttribute, CellError}
-use Rattle.xlsx_error.specs.declared.error.XlsxError.TheVariants.{ParseFloat}
+use Rattle.xlsx_error.specs.declared.error.XlsxError.TheVariants.{ParseFloat, Failed}
 
 -- those of finding the next cell
 abbrev pub IsFindError : XlsxError → Type 0
@@ -59,3 +59,12 @@ IsCellError (CellTAttribute typ) = ⊤
 IsCellError (CellError written) = ⊤
 IsCellError (ParseFloat written) = ⊤
 IsCellError _ = ⊥
+
+-- those of a step of a stream, which fails from a refusal on
+abbrev pub IsStepError : XlsxError → Type 0
+IsStepError Failed = ⊤
+IsStepError error = IsCellError error
+
+abbrev pub IsStyledStepError : XlsxError → Type 0
+IsStyledStepError Failed = ⊤
+IsStyledStepError error = IsStyledError error

@@ -1,6 +1,7 @@
 -- How the children of a cell are read.
 use Rattle.std.specs.Prelude.{◌≡◌, ◌⊎◌, ℕ, List, [], ◌∷◌, length, true, false, Bool, Option, Some}
 use Rattle.std.specs.Prelude.{None, option_map, Ok, Err, codes}
+use Rattle.std.specs.List.{last_or}
 use Rattle.part_events.specs.Event.{Tag, Event, start}
 use Rattle.part_events.specs.Reading.{Reading, ahead}
 use Rattle.part_events.specs.Section.{Element, content, is_named}
@@ -12,8 +13,7 @@ use Rattle.xlsx_sections.specs.PartSection.{PartSection, SectionFails, inside_of
 use Rattle.xlsx_sections.specs.Refusal.{Refusal}
 use Rattle.xlsx_values.specs.CellType.{CellKind}
 use Rattle.xlsx_values.specs.Value.{Grounds, said_value, value_in}
-use Rattle.xlsx_formulas.specs.Formula.{FormulaText, said_formula, formulas_in, cell_formula}
-use Rattle.xlsx_formulas.specs.Formula.{behind_formulas}
+use Rattle.xlsx_formulas.specs.Formula.{FormulaText, said_formula, formulas_in, behind_formulas}
 use Rattle.xlsx_formulas.specs.Kept.{AreMasters}
 use Rattle.xlsx_formulas.specs.declared.masters.Masters.{Masters}
 use Rattle.xlsx_cells.specs.Ends.{end_in_child}
@@ -71,34 +71,38 @@ pub record LastStep : Type 0 where
   pub masters : Masters
   pub last : Option FormulaText
 
--- a formula was kept
-pub record KeepsFormula (found : FormulaText) (old new : LastStep) : Type 0 where
+-- of the formulas that a cell writes, those that its step keeps
+abbrev pub kept_by : Bool → List FormulaText → List FormulaText
+kept_by true written = written
+kept_by false written = []
+
+-- these formulas stand behind those whose masters were kept
+abbrev pub KeepsMasters : List FormulaText → Masters → Masters → Type 0
+KeepsMasters kept old new =
+    (earlier : List FormulaText) → AreMasters earlier old →
+    AreMasters (behind_formulas kept earlier) new
+
+-- a formula was read
+pub record TakesFormula (keeps : Bool) (found : FormulaText) (old new : LastStep) : Type 0 where
   pub last : new.last ≡ Some found
-  pub masters :
-      (earlier : List FormulaText) → AreMasters earlier old.masters →
-      AreMasters (found ∷ earlier) new.masters
+  pub masters : KeepsMasters (kept_by keeps (found ∷ [])) old.masters new.masters
 
 -- what a child does to them, by the formula that it writes
-abbrev pub StepsFormula : Option FormulaText → LastStep → LastStep → Type 0
-StepsFormula None old new = new ≡ old
-StepsFormula (Some found) old new = KeepsFormula found old new
+abbrev pub StepsFormula : Bool → Option FormulaText → LastStep → LastStep → Type 0
+StepsFormula keeps None old new = new ≡ old
+StepsFormula keeps (Some found) old new = TakesFormula keeps found old new
 
 -- what was read of a child
-pub record ReadsFormula (tag : Tag) (inside : List Event) (old new : LastStep) : Type 0 where
+pub record ReadsFormula
+    (keeps : Bool) (tag : Tag) (inside : List Event) (old new : LastStep) : Type 0 where
   pub found : Option FormulaText
   pub said : said_formula tag inside ≡ Ok found
-  pub steps : StepsFormula found old new
+  pub steps : StepsFormula keeps found old new
 
--- the masters and the text of a cell's formula, behind the cell
-pub record FormulaStep : Type 0 where
-  pub masters : Masters
-  pub text : List ℕ
-
--- the formulas of a cell's children were read: these are kept, and the text is the cell's
-pub record ReadsFormulaChildren
-    (earlier : List FormulaText) (position : ℕ × ℕ) (inside : List Event)
-    (new : FormulaStep) : Type 0 where
-  pub kept : List FormulaText
-  pub listed : formulas_in inside ≡ Ok kept
-  pub text : new.text ≡ cell_formula earlier position kept
-  pub masters : AreMasters (behind_formulas kept earlier) new.masters
+-- the formulas of a cell's children were read: the cell writes these
+pub record ReadsFormulas
+    (keeps : Bool) (inside : List Event) (old : Masters) (new : LastStep) : Type 0 where
+  pub written : List FormulaText
+  pub listed : formulas_in inside ≡ Ok written
+  pub last : new.last ≡ last_or None written
+  pub masters : KeepsMasters (kept_by keeps written) old new.masters

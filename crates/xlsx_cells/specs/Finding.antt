@@ -1,5 +1,5 @@
 -- How the next cell of a sheet's data is found.
-use Rattle.std.specs.Prelude.{◌≡◌, ⊤, ℕ, ◌-◌, ◌<◌, List, [], ◌∷◌, ◌++◌, codes, true, Option, Some}
+use Rattle.std.specs.Prelude.{◌≡◌, ◌⊎◌, ⊤, ℕ, ◌-◌, ◌<◌, List, [], ◌∷◌, ◌++◌, codes, true, Option, Some}
 use Rattle.std.specs.Prelude.{None, Result, Ok, Err, length}
 use Rattle.cell_refs.specs.declared.TheConstants.{MAX_ROWS, MAX_COLUMNS}
 use Rattle.part_events.specs.Event.{Tag, Event, start, end}
@@ -15,45 +15,60 @@ use Rattle.xlsx_sections.specs.PartSection.{PartSection, SectionFails, StandsAtS
 use Rattle.xlsx_sections.specs.Refusal.{Refusal}
 use Rattle.xlsx_cells.specs.Counting.{AreKept}
 use Rattle.xlsx_cells.specs.Marks.{Mark, row_start, row_end, cell, is_cell, marks, behind_marks}
-use Rattle.xlsx_cells.specs.Position.{row_named, cell_position, PassesRows}
+use Rattle.xlsx_cells.specs.Position.{row_named, cell_position, PassesMarks, NoCell}
 use Rattle.xlsx_cells.specs.declared.counters.Counters.{Counters}
 
 -- the marks of what is left of a sheet's data, whose element is number `base` of the open ones
 abbrev pub marks_left : ℕ → Reading → List Mark
 marks_left base r = marks (section_ahead base r)
 
--- what stands behind the end of an element of `old`
-pub record IsLeftBehind (element : Element) (old new : List Event) : Type 0 where
-  pub passed : List Event
+-- events of a sheet's data were passed, with such marks
+pub record PassesTo
+    (passes : List Mark → Element → Type 0) (before : List Mark) (old new : List Event)
+    : Type 0 where
+  pub passed : List Mark
+  pub fact : PassesMarks passes before passed
+  pub marks : marks old ≡ passed ++ marks new
+  pub taken : List Event
+  pub events : old ≡ taken ++ new
+
+-- an element whose end has this name, and what stands behind it
+abbrev pub element_and : Element → List ℕ → List Event → List Event
+element_and element name others = start element.tag ∷ (element.inside ++ end name ∷ others)
+
+-- such events were passed, and the cell behind them was taken
+pub record TakesElement
+    (passes : List Mark → Element → Type 0) (before : List Mark) (element : Element)
+    (old new : List Event) : Type 0 where
   pub name : List ℕ
-  pub parts : old ≡ passed ++ start element.tag ∷ (element.inside ++ end name ∷ new)
+  pub front : PassesTo passes before old (element_and element name new)
+  pub next : marks (element_and element name new) ≡ cell element ∷ marks new
   pub place : element.behind ≡ length (element.inside ++ end name ∷ new)
 
 -- a cell was found, at whose start reading stands
 pub record FindsCell
     (before : List Mark) (position : ℕ × ℕ) (base : ℕ) (old new : Reading)
     (counters : Counters) : Type 0 where
-  pub passed : List Mark
-  pub rows : PassesRows passed
   pub tag : Tag
   pub current : start tag ≡ new.source.current
-  pub marks :
-      marks_left base old
-      ≡ passed ++ cell (element_at base tag new) ∷ marks (section_behind base new)
-  pub taken : List Event
-  pub events : section_ahead base old ≡ taken ++ start tag ∷ section_ahead base new
-  pub placed : cell_position (behind_marks passed before) tag ≡ Ok position
-  pub counts : AreKept (cell (element_at base tag new) ∷ behind_marks passed before) counters
+  pub front :
+      PassesTo NoCell before (section_ahead base old) (start tag ∷ section_ahead base new)
+  pub next :
+      marks (start tag ∷ section_ahead base new)
+      ≡ cell (element_at base tag new) ∷ marks (section_behind base new)
+  pub placed : cell_position (behind_marks front.passed before) tag ≡ Ok position
+  pub counts :
+      AreKept (cell (element_at base tag new) ∷ behind_marks front.passed before) counters
 
 -- no cell is left, the data are closed, and their end was taken
-pub record FindsNone (base : ℕ) (old new : Reading) : Type 0 where
-  pub rows : PassesRows (marks_left base old)
+pub record FindsNone (before : List Mark) (base : ℕ) (old new : Reading) : Type 0 where
+  pub rows : PassesMarks NoCell before (marks_left base old)
   pub closed : is_closed_ahead base old ≡ true
   pub left : behind_section base old ≡ ahead new
 
 abbrev pub Finds :
     List Mark → Option (ℕ × ℕ) → ℕ → Reading → Reading → Counters → Type 0
-Finds before None base old new counters = FindsNone base old new
+Finds before None base old new counters = FindsNone before base old new
 Finds before (Some position) base old new counters =
     FindsCell before position base old new counters
 
@@ -74,24 +89,29 @@ abbrev pub BehindRow : Result (Option ℕ) Refusal → Refusal → Type 0 → Ty
 BehindRow (Ok row) refusal others = others
 BehindRow (Err own) refusal others = own ≡ refusal
 
--- a mark that a step takes is refused: it takes rows up to the first that is refused, or up to a
--- cell
-abbrev pub IsTakenRefused :
-    (List Mark → Element → Refusal → Type 0) → List Mark → List Mark → Refusal → Type 0
-IsTakenRefused refused before [] refusal = ⊥
-IsTakenRefused refused before (row_start tag ∷ marks) refusal =
+-- A mark is refused, seen by those before it, where `refused` says why a cell is. Rows are asked up
+-- to the first that is refused, and cells up to the first that doesn't pass.
+abbrev pub IsMarkRefused :
+    (List Mark → Element → Type 0) → (List Mark → Element → Refusal → Type 0) → List Mark →
+    List Mark → Refusal → Type 0
+IsMarkRefused passes refused before [] refusal = ⊥
+IsMarkRefused passes refused before (row_start tag ∷ marks) refusal =
     BehindRow (row_named tag) refusal
-    (IsTakenRefused refused (row_start tag ∷ before) marks refusal)
-IsTakenRefused refused before (row_end ∷ marks) refusal =
-    IsTakenRefused refused (row_end ∷ before) marks refusal
-IsTakenRefused refused before (cell element ∷ marks) refusal = refused before element refusal
+    (IsMarkRefused passes refused (row_start tag ∷ before) marks refusal)
+IsMarkRefused passes refused before (row_end ∷ marks) refusal =
+    IsMarkRefused passes refused (row_end ∷ before) marks refusal
+IsMarkRefused passes refused before (cell element ∷ marks) refusal =
+    refused before element refusal
+    ⊎ (passes before element
+    × IsMarkRefused passes refused (cell element ∷ before) marks refusal)
 
--- why a step is refused, where `refused` says why a cell is
+-- why a step is refused
 abbrev pub IsStepRefused :
-    (List Mark → Element → Refusal → Type 0) → Counters → PartSection → Refusal → Type 0
-IsStepRefused refused counters section refusal =
+    (List Mark → Element → Type 0) → (List Mark → Element → Refusal → Type 0) → Counters →
+    PartSection → Refusal → Type 0
+IsStepRefused passes refused counters section refusal =
     (before : List Mark) → AreKept before counters →
-    IsTakenRefused refused before (marks (inside_of section)) refusal
+    IsMarkRefused passes refused before (marks (inside_of section)) refusal
 
 abbrev pub IsMisplaced : List Mark → Element → Refusal → Type 0
 IsMisplaced before element refusal = cell_position before element.tag ≡ Err refusal
@@ -101,10 +121,12 @@ abbrev pub open_mark : Option Element → List Mark
 open_mark None = []
 open_mark (Some element) = cell element ∷ []
 
--- no cell is left behind marks of which a fact holds, but the one that no end closes
-pub record LacksCell (passes : List Mark → Type 0) (inside : List Event) : Type 0 where
+-- no cell is left behind such marks, but the one that no end closes
+pub record LacksCell
+    (passes : List Mark → Element → Type 0) (before : List Mark) (inside : List Event)
+    : Type 0 where
   pub passed : List Mark
-  pub fact : passes passed
+  pub fact : PassesMarks passes before passed
   pub marks : marks inside ≡ passed ++ open_mark (unclosed is_cell inside)
 
 -- where an error tells of the part's end, or of an end that breaks the nesting
@@ -114,17 +136,16 @@ IfCutOff lacks (Xml (Unclosed at)) = lacks
 IfCutOff lacks (XmlEof element) = lacks
 IfCutOff lacks _ = ⊤
 
--- A step tells of these only where no whole cell is left for it to take. Behind the marks before
--- it, it passes those of which `passes` holds.
+-- a step tells of these only where no whole cell is left for it to take
 abbrev pub IsCutOff :
-    (List Mark → List Mark → Type 0) → Counters → ℕ → Reading → XlsxError → Type 0
+    (List Mark → Element → Type 0) → Counters → ℕ → Reading → XlsxError → Type 0
 IsCutOff passes counters base old error =
     IfCutOff (old.source.is_told ≡ true → (before : List Mark) → AreKept before counters →
-    LacksCell (passes before) (section_ahead base old)) error
+    LacksCell passes before (section_ahead base old)) error
 
 -- when no cell is found; `inner` tells the end of the part in a cell
 abbrev pub FindFails :
     (Element → Option (List ℕ)) → Counters → ℕ → Reading → Reading → XlsxError → Type 0
 FindFails inner counters base old new error =
     SectionFails (end_among is_cell (codes "sheetData") inner)
-    (IsStepRefused IsMisplaced counters) base old new error
+    (IsStepRefused NoCell IsMisplaced counters) base old new error

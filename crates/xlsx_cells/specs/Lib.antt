@@ -7,6 +7,7 @@ pub mod Finding
 pub mod Head
 pub mod Marks
 pub mod Position
+pub mod Records
 pub mod Sheet
 pub mod SheetPart
 pub mod Stream

@@ -9,6 +9,7 @@ use Rattle.cell_refs.specs.declared.TheConstants.{MAX_ROWS, MAX_COLUMNS}
 use Rattle.cell_refs.specs.declared.error.RefError.{RefError}
 use Rattle.cell_refs.specs.declared.error.RefError.TheVariants as ref
 use Rattle.part_events.specs.Event.{Tag}
+use Rattle.part_events.specs.Section.{Element}
 use Rattle.xlsx_sections.specs.Refusal.{Refusal, plain, lookup_fault, misplaced}
 use Rattle.xlsx_cells.specs.Marks.{Mark, row_start, row_end, cell}
 
@@ -80,10 +81,21 @@ or_implied before (Err refusal) = Err refusal
 abbrev pub cell_position : List Mark → Tag → Result (ℕ × ℕ) Refusal
 cell_position before tag = or_implied before (position_named tag)
 
--- only rows were passed, and none of them is refused
-abbrev pub PassesRows : List Mark → Type 0
-PassesRows [] = Unit {0}
-PassesRows (row_start tag ∷ passed) =
-    ((row : Option ℕ) × (row_named tag ≡ Ok row)) × PassesRows passed
-PassesRows (row_end ∷ passed) = PassesRows passed
-PassesRows (cell element ∷ passed) = ⊥
+-- Marks were passed, seen by those before them: rows, none of which is refused, and cells of which
+-- `passes` holds.
+abbrev pub PassesMarks : (List Mark → Element → Type 0) → List Mark → List Mark → Type 0
+PassesMarks passes before [] = Unit {0}
+PassesMarks passes before (row_start tag ∷ passed) =
+    ((row : Option ℕ) × (row_named tag ≡ Ok row))
+    × PassesMarks passes (row_start tag ∷ before) passed
+PassesMarks passes before (row_end ∷ passed) = PassesMarks passes (row_end ∷ before) passed
+PassesMarks passes before (cell element ∷ passed) =
+    passes before element × PassesMarks passes (cell element ∷ before) passed
+
+-- no cell is passed
+abbrev pub NoCell : List Mark → Element → Type 0
+NoCell before element = ⊥
+
+-- a cell that has a position
+abbrev pub IsPlaced : List Mark → Element → Type 0
+IsPlaced before element = (position : ℕ × ℕ) × (cell_position before element.tag ≡ Ok position)

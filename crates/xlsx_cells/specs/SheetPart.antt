@@ -1,13 +1,12 @@
 -- The part of a sheet: what its data say, and why they can't be read.
 use Rattle.std.specs.Prelude.{◌≡◌, ◌⊎◌, ℕ, ◌+◌, ◌≤◌, List, [], ◌∷◌, length, true, codes, Option}
-use Rattle.std.specs.Prelude.{Some, None, Ok, Err, map, string_bytes, IsSomeAnd, All, String}
+use Rattle.std.specs.Prelude.{Some, None, Ok, map, string_bytes, IsSomeAnd, All, String, false}
 use Rattle.std.specs.declared.alloc.Global.{Global}
 use Rattle.cell_refs.specs.declared.dimensions.Dimensions.{Dimensions}
 use Rattle.part_events.specs.Event.{Event}
 use Rattle.part_events.specs.Nesting.{whole}
 use Rattle.part_events.specs.Package.{PackageState, SameParts, part_of, event_count}
 use Rattle.part_events.specs.Reading.{events_of}
-use Rattle.part_events.specs.Section.{Element}
 use Rattle.cell_data.specs.CellValue.{CellValue, value_of_data}
 use Rattle.cell_data.specs.Cells.{IsInSheet}
 use Rattle.cell_data.specs.declared.cell.Cell.{Cell}
@@ -21,30 +20,21 @@ use Rattle.xlsx_sections.specs.Refusal.{Refusal}
 use Rattle.xlsx_values.specs.Value.{Grounds}
 use Rattle.xlsx_formulas.specs.Formula.{FormulaText}
 use Rattle.xlsx_cells.specs.Ends.{end_in_data}
+use Rattle.xlsx_cells.specs.Finding.{IsMarkRefused}
 use Rattle.xlsx_cells.specs.Head.{dimensions_in, dimensions_or, HeadCause}
-use Rattle.xlsx_cells.specs.Marks.{Mark, row_start, row_end, cell, marks}
-use Rattle.xlsx_cells.specs.Position.{row_named}
+use Rattle.xlsx_cells.specs.Marks.{marks}
+use Rattle.xlsx_cells.specs.Position.{IsPlaced}
 use Rattle.xlsx_cells.specs.Sheet.{values_in, formulas_written, used_values, used_formulas}
 use Rattle.xlsx_cells.specs.Sheet.{formulas_along}
-use Rattle.xlsx_cells.specs.Stream.{Stream, IsStreaming, StandsBehind, IsCellRefused}
+use Rattle.xlsx_cells.specs.Stream.{Stream, IsGoing, StandsBehind, IsCellRefused}
 use Rattle.xlsx_cells.specs.StyleIds.{ids_in}
 use Rattle.xlsx_cells.specs.declared.children.Wants.{Wants}
 
--- a mark of a sheet's data is refused, by the marks before it
-abbrev pub IsMarkRefused :
-    (List Mark → Element → Refusal → Type 0) → List Mark → List Mark → Refusal → Type 0
-IsMarkRefused refused before [] refusal = ⊥
-IsMarkRefused refused before (row_start tag ∷ marks) refusal =
-    (row_named tag ≡ Err refusal) ⊎ IsMarkRefused refused (row_start tag ∷ before) marks refusal
-IsMarkRefused refused before (row_end ∷ marks) refusal =
-    IsMarkRefused refused (row_end ∷ before) marks refusal
-IsMarkRefused refused before (cell element ∷ marks) refusal =
-    refused before element refusal ⊎ IsMarkRefused refused (cell element ∷ before) marks refusal
-
--- why the data of a sheet are refused
+-- Why the data of a sheet are refused. Behind a row that is refused, and behind a cell that has no
+-- position, nothing is asked.
 abbrev pub AreDataRefused : Wants → Grounds → PartSection → Refusal → Type 0
 AreDataRefused wants grounds s refusal =
-    IsMarkRefused (IsCellRefused wants grounds) [] (marks (inside_of s)) refusal
+    IsMarkRefused IsPlaced (IsCellRefused wants grounds) [] (marks (inside_of s)) refusal
 
 abbrev pub DataCause : Wants → Grounds → PartSection → XlsxError → Type 0
 DataCause wants grounds s error =
@@ -79,7 +69,7 @@ pub record IsSoundSheet
 -- the data of the sheet at a path were entered
 pub record EntersData (path : List ℕ) (area : Dimensions) (old : PackageState) (new : Stream)
     : Type 0 where
-  pub streaming : IsStreaming new
+  pub going : IsGoing new
   pub fresh : StandsBehind [] [] new
   pub parts : SameParts old new.reading.source
   pub faults : new.reading.source.faults ≡ old.faults
@@ -123,6 +113,14 @@ formula_entries cells = map formula_entry cells
 abbrev pub LieInSheet : List (Cell Data) → List (Cell (String Global)) → List StyledCell → Type 0
 LieInSheet values formulas styled =
     All IsInSheet values × All IsInSheet formulas × All IsOnSheet styled
+
+-- what wasn't wanted of a sheet is empty
+pub record LackUnwanted
+    (wants : Wants) (valued : List (Cell Data)) (written : List (Cell (String Global)))
+    (styled : List StyledCell) : Type 0 where
+  pub values : wants.values ≡ false → valued ≡ []
+  pub formulas : wants.formulas ≡ false → written ≡ []
+  pub ids : wants.styles ≡ false → styled ≡ []
 
 -- the values that count among those of a sheet's data, with the texts of shared strings
 abbrev pub HoldsValues :

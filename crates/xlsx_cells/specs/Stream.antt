@@ -1,7 +1,7 @@
 -- A stream of cells: where it stands, and what its steps do.
-use Rattle.std.specs.Prelude.{◌≡◌, ◌⊎◌, ⊤, ℕ, ◌≤◌, ◌<◌, List, [], ◌∷◌, ◌++◌, length, Bool, true}
-use Rattle.std.specs.Prelude.{false}
-use Rattle.std.specs.Prelude.{Option, Some, None, Ok, Err, string_bytes}
+use Rattle.std.specs.Prelude.{◌≡◌, ◌⊎◌, ⊤, ℕ, ◌≤◌, ◌<◌, List, [], ◌∷◌, length, Bool, ◌||◌, true}
+use Rattle.std.specs.Prelude.{false, Option, Some, None, Ok, Err, string_bytes}
+use Rattle.std.specs.List.{last_or}
 use Rattle.cell_refs.specs.declared.TheConstants.{MAX_ROWS, MAX_COLUMNS}
 use Rattle.part_events.specs.Event.{Tag, Event}
 use Rattle.part_events.specs.Package.{PackageState}
@@ -9,33 +9,39 @@ use Rattle.part_events.specs.Reading.{Reading, reading, IsReading, ahead}
 use Rattle.part_events.specs.Section.{Element}
 use Rattle.part_events.specs.Walk.{section_ahead, is_closed_ahead, behind_section}
 use Rattle.cell_data.specs.CellValue.{value_of_data_ref}
+use Rattle.cell_data.specs.declared.value.DataRef.TheVariants.{Empty}
 use Rattle.xlsx_error.specs.declared.error.XlsxError.{XlsxError}
+use Rattle.xlsx_error.specs.declared.error.XlsxError.TheVariants.{Failed}
 use Rattle.xlsx_sections.specs.Elements.{KeepsElements}
 use Rattle.xlsx_sections.specs.PartSection.{PartSection, SectionFails, inside_of}
 use Rattle.xlsx_sections.specs.Refusal.{Refusal, in_element}
 use Rattle.xlsx_values.specs.Value.{Grounds, cell_value}
-use Rattle.xlsx_formulas.specs.Formula.{FormulaText, formulas_in, cell_formula}
-use Rattle.xlsx_formulas.specs.Formula.{behind_formulas}
-use Rattle.xlsx_formulas.specs.Kept.{AreMasters}
+use Rattle.xlsx_formulas.specs.Formula.{FormulaText, formulas_in, cell_formula, behind_formulas}
+use Rattle.xlsx_formulas.specs.Kept.{AreMasters, last_seen}
 use Rattle.xlsx_formulas.specs.declared.masters.Masters.{Masters}
+use Rattle.xlsx_cells.specs.Children.{kept_by}
 use Rattle.xlsx_cells.specs.Counting.{AreKept}
 use Rattle.xlsx_cells.specs.Ends.{end_in_contents, end_in_data}
-use Rattle.xlsx_cells.specs.Finding.{IsStepRefused, IsCutOff, IsLeftBehind}
+use Rattle.xlsx_cells.specs.Finding.{IsStepRefused, IsCutOff, TakesElement}
 use Rattle.xlsx_cells.specs.Marks.{Mark, cell, is_cell, marks, behind_marks}
-use Rattle.xlsx_cells.specs.Position.{cell_position, PassesRows}
+use Rattle.xlsx_cells.specs.Position.{cell_position, PassesMarks, NoCell}
 use Rattle.xlsx_cells.specs.StyleIds.{id_named}
 use Rattle.xlsx_cells.specs.declared.children.Wants.{Wants}
 use Rattle.xlsx_cells.specs.declared.counters.Counters.{Counters}
 use Rattle.xlsx_cells.specs.declared.cell_read.CellRead.{CellRead}
+use Rattle.xlsx_cells.specs.declared.cell_read.CellText.{CellText}
 use Rattle.xlsx_cells.specs.declared.sheet_cursor.SheetCursor.{SheetCursor}
 
 -- where a stream stands: its reading, the number of the element of the sheet's data among the open
--- ones, the counters, and the masters that it keeps
+-- ones, the counters, the masters that it keeps, whether the data have ended, and whether a call
+-- was refused
 pub record Stream : Type 0 where
   pub reading : Reading
   pub base : ℕ
   pub counters : Counters
   pub masters : Masters
+  pub is_done : Bool
+  pub is_failed : Bool
 
 abbrev pub stream : PackageState → SheetCursor → Stream
 stream source sheet = record {
@@ -43,12 +49,22 @@ stream source sheet = record {
   base = sheet.base;
   counters = sheet.counters;
   masters = sheet.masters;
+  is_done = sheet.done;
+  is_failed = sheet.failed;
 }
 
--- it stands in the sheet's data, outside cells
+-- It may be asked for the next cell. Behind a refusal nothing has to hold, and behind the end of
+-- the data reading may stand outside them.
 pub record IsStreaming (s : Stream) : Type 0 where
+  pub reading : s.is_failed ≡ false → IsReading s.reading
+  pub within : s.is_failed ≡ false → s.is_done ≡ false → s.base ≤ length s.reading.names
+
+-- it stands in the sheet's data, outside cells, and no call was refused
+pub record IsGoing (s : Stream) : Type 0 where
   pub reading : IsReading s.reading
   pub within : s.base ≤ length s.reading.names
+  pub done : s.is_done ≡ false
+  pub failed : s.is_failed ≡ false
 
 -- what is ahead of it in the sheet's data, and whether these are closed
 abbrev pub data_ahead : Stream → List Event
@@ -97,64 +113,108 @@ IsCellRefused wants grounds before element refusal =
     ⊎ ((wants.styles ≡ true)
     × (in_element element (id_named element.tag) ≡ Err refusal))))
 
--- when a step is refused
-abbrev pub NextCellFails : Wants → Grounds → Stream → Stream → XlsxError → Type 0
-NextCellFails wants grounds old new error =
-    SectionFails (end_in_data wants) (IsStepRefused (IsCellRefused wants grounds) old.counters)
-    old.base old.reading new.reading error
-    × IsCutOff (λ before. PassesRows) old.counters old.base old.reading error
+-- when a step is refused that passes such cells: after a refusal, or where the next cell that it
+-- takes can't be read
+abbrev pub StepFails :
+    (List Mark → Element → Type 0) → (List Mark → Element → Refusal → Type 0) → Wants → Stream →
+    Reading → XlsxError → Type 0
+StepFails passes refused wants old new Failed = old.is_failed ≡ true
+StepFails passes refused wants old new error =
+    IsGoing old
+    × SectionFails (end_in_data wants) (IsStepRefused passes refused old.counters) old.base
+    old.reading new error
+    × IsCutOff passes old.counters old.base old.reading error
 
--- what is read of a cell, by the marks and the formulas before it: `kept` are its own formulas,
--- where they are wanted
+abbrev pub NextFails : Wants → Grounds → Stream → Reading → XlsxError → Type 0
+NextFails wants grounds old new error =
+    StepFails NoCell (IsCellRefused wants grounds) wants old new error
+
+-- behind the end of the data and behind a refusal nothing is read
+abbrev pub RestsAtEnd : Stream → Stream → Type 0
+RestsAtEnd old new = (old.is_failed || old.is_done) ≡ true → new ≡ old
+
+-- what is read of a cell, seen by the marks before it; `kept` are those of its formulas that are
+-- kept
 pub record IsRead
-    (wants : Wants) (grounds : Grounds) (earlier : List FormulaText) (read : CellRead)
-    (before : List Mark) (element : Element) (kept : List FormulaText) : Type 0 where
+    (wants : Wants) (keeps : Bool) (grounds : Grounds) (read : CellRead) (before : List Mark)
+    (element : Element) (kept : List FormulaText) : Type 0 where
   pub placed : cell_position before element.tag ≡ Ok read.pos
   pub valued :
       wants.values ≡ true →
       cell_value grounds element.tag element.inside ≡ Ok (value_of_data_ref read.value)
+  pub styled : wants.styles ≡ true → id_named element.tag ≡ Ok read.style_id
+  pub written : List FormulaText
+  pub listed : wants.formulas ≡ true → formulas_in element.inside ≡ Ok written
+  pub last : wants.formulas ≡ true → last_seen read.formula ≡ last_or None written
+  pub none : wants.formulas ≡ false → written ≡ []
+  pub is_kept : kept ≡ kept_by keeps written
+
+-- what is read of it with the text of its formula, seen by the formulas before it, too
+pub record IsWritten
+    (wants : Wants) (grounds : Grounds) (earlier : List FormulaText) (own : CellText)
+    (before : List Mark) (element : Element) (kept : List FormulaText) : Type 0 where
+  pub placed : cell_position before element.tag ≡ Ok own.pos
+  pub valued :
+      wants.values ≡ true →
+      cell_value grounds element.tag element.inside ≡ Ok (value_of_data_ref own.value)
+  pub styled : wants.styles ≡ true → id_named element.tag ≡ Ok own.style_id
   pub listed : wants.formulas ≡ true → formulas_in element.inside ≡ Ok kept
   pub found :
-      wants.formulas ≡ true → string_bytes read.formula ≡ cell_formula earlier read.pos kept
+      wants.formulas ≡ true → string_bytes own.text ≡ cell_formula earlier own.pos kept
   pub none : wants.formulas ≡ false → kept ≡ []
-  pub styled : wants.styles ≡ true → id_named element.tag ≡ Ok read.style_id
 
--- the next cell was taken, of which a fact holds
+-- what wasn't wanted of a cell is empty
+pub record LacksUnwanted (wants : Wants) (read : CellRead) : Type 0 where
+  pub value : wants.values ≡ false → read.value ≡ Empty
+  pub formula : wants.formulas ≡ false → read.formula ≡ None
+  pub style : wants.styles ≡ false → read.style_id ≡ 0
+
+pub record LacksUnwantedText (wants : Wants) (own : CellText) : Type 0 where
+  pub value : wants.values ≡ false → own.value ≡ Empty
+  pub text : wants.formulas ≡ false → string_bytes own.text ≡ []
+  pub style : wants.styles ≡ false → own.style_id ≡ 0
+
+-- behind such marks a cell was taken, of which a fact holds
 pub record TakesCell
-    (before : List Mark) (earlier : List FormulaText) (old new : Stream)
-    (holds : List Mark → Element → List FormulaText → Type 0) : Type 0 where
-  pub passed : List Mark
-  pub rows : PassesRows passed
+    (passes : List Mark → Element → Type 0) (before : List Mark) (earlier : List FormulaText)
+    (old new : Stream) (fact : List Mark → Element → List FormulaText → Type 0) : Type 0 where
   pub element : Element
   pub kept : List FormulaText
-  pub marks : marks_ahead old ≡ passed ++ cell element ∷ marks_ahead new
-  pub left : IsLeftBehind element (data_ahead old) (data_ahead new)
+  pub takes : TakesElement passes before element (data_ahead old) (data_ahead new)
   pub closed : are_closed_ahead old ≡ are_closed_ahead new
-  pub fact : holds (behind_marks passed before) element kept
+  pub holds : fact (behind_marks takes.front.passed before) element kept
   pub stands :
-      StandsBehind (cell element ∷ behind_marks passed before) (behind_formulas kept earlier) new
+      StandsBehind (cell element ∷ behind_marks takes.front.passed before)
+      (behind_formulas kept earlier) new
 
--- no cell is left, the sheet's data are closed, and their end was taken
-pub record EndsData (old new : Stream) : Type 0 where
-  pub rows : PassesRows (marks_ahead old)
+-- no cell is left behind such marks, the sheet's data are closed, and their end was taken
+pub record EndsData
+    (passes : List Mark → Element → Type 0) (before : List Mark) (old new : Stream) : Type 0 where
+  pub rows : PassesMarks passes before (marks_ahead old)
   pub closed : are_closed_ahead old ≡ true
   pub left : behind_section old.base old.reading ≡ ahead new.reading
 
--- what a step answers
-abbrev pub TakesNext :
-    Wants → Grounds → List Mark → List FormulaText → Option CellRead → Stream → Stream → Type 0
-TakesNext wants grounds before earlier None old new = EndsData old new
-TakesNext wants grounds before earlier (Some read) old new =
-    TakesCell before earlier old new (IsRead wants grounds earlier read)
+-- What a step answers that passes such cells; `fact` says what its answer is of the cell.
+abbrev pub TakesEach :
+    {A : Type 0} → (List Mark → Element → Type 0) →
+    (A → List Mark → Element → List FormulaText → Type 0) → List Mark → List FormulaText →
+    Option A → Stream → Stream → Type 0
+TakesEach passes fact before earlier None old new =
+    old.is_done ≡ false → EndsData passes before old new
+TakesEach passes fact before earlier (Some own) old new =
+    TakesCell passes before earlier old new (fact own)
 
--- it stands behind a cell at this position
-abbrev pub StandsBehindCell : ℕ × ℕ → Stream → Stream → Type 0
-StandsBehindCell position old new =
-    IsStreaming new × (new.base ≡ old.base) × (old.reading.at < new.reading.at)
-    × KeepsElements is_cell old.base old.reading new.reading
-    × (position.0 < MAX_ROWS) × (position.1 < MAX_COLUMNS)
+-- a cell at this position was taken, and it stands behind it
+pub record PassesCell (pos : ℕ × ℕ) (old new : Stream) : Type 0 where
+  pub going : IsGoing old
+  pub goes_on : IsGoing new
+  pub base : new.base ≡ old.base
+  pub further : old.reading.at < new.reading.at
+  pub elements : KeepsElements is_cell old.base old.reading new.reading
+  pub row : pos.0 < MAX_ROWS
+  pub column : pos.1 < MAX_COLUMNS
 
--- where it stands then
-abbrev pub StandsAfter : Option CellRead → Stream → Stream → Type 0
-StandsAfter None old new = ⊤
-StandsAfter (Some read) old new = StandsBehindCell read.pos old new
+-- where it stands by its answer, whose position is told by `position`
+abbrev pub StandsTo : {A : Type 0} → (A → ℕ × ℕ) → Option A → Stream → Stream → Type 0
+StandsTo position None old new = new.is_done ≡ true
+StandsTo position (Some own) old new = PassesCell (position own) old new

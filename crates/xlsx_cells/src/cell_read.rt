@@ -1,5 +1,5 @@
 ghost use Rattle.std.specs.Prelude.{◌≡◌, suc, length, List, true, false, Ok, Err, IfOk, OnOk};
-ghost use Rattle.std.specs.Prelude.{IfErr, string_bytes};
+ghost use Rattle.std.specs.Prelude.{IfErr};
 ghost use Rattle.std.specs.Option.{option_copied, unwrap_or};
 ghost use Rattle.part_events.specs.Event.{Event, tag_of};
 ghost use Rattle.part_events.specs.Reading.{reading, open_elements, IsReading, IsAtElement};
@@ -9,13 +9,12 @@ ghost use Rattle.cell_data.specs.CellValue.{value_of_data_ref};
 ghost use Rattle.xlsx_error.specs.declared.error.XlsxError.TheVariants.{Io};
 ghost use Rattle.xlsx_values.specs.Book.{kind_of, grounds_of};
 ghost use Rattle.xlsx_values.specs.Value.{cell_value, value_in, style_number};
-ghost use Rattle.xlsx_formulas.specs.Formula.{FormulaText};
-ghost use Rattle.xlsx_formulas.specs.Kept.{AreMasters};
-ghost use Rattle.xlsx_cells.specs.Children.{StandsAtElement, ReadsFormulaChildren};
+ghost use Rattle.xlsx_formulas.specs.Kept.{last_seen};
+ghost use Rattle.xlsx_cells.specs.Children.{StandsAtElement, ReadsFormulas};
 ghost use Rattle.xlsx_cells.specs.Counting.{IsStartRefused, IsRefused, IsPositionError};
 ghost use Rattle.xlsx_cells.specs.Ends.{kind_of_cell, reads_children};
 ghost use Rattle.xlsx_cells.specs.CellErrors.{IsCellError, IsStyledError};
-ghost use Rattle.xlsx_cells.specs.Stream.{CellFails, IsHeadRefused};
+ghost use Rattle.xlsx_cells.specs.Stream.{CellFails, IsHeadRefused, LacksUnwanted};
 ghost use Rattle.xlsx_cells.specs.StyleIds.{id_named};
 
 use crate::children::{Asked, CellContents, CellStart, Wants, read_children};
@@ -24,7 +23,7 @@ use cell_data::{CellFormat, DataRef};
 use part_events::{Cursor, Package, StartTag};
 use std::alloc::Global;
 use xlsx_error::XlsxError;
-use xlsx_formulas::Masters;
+use xlsx_formulas::{Formula, Masters};
 use xlsx_sections::{skip_element_in, start_tag};
 use xlsx_values::{CellType, cell_type, format_of_style, style_number};
 
@@ -34,7 +33,18 @@ pub struct CellRead {
     /// The row and the column, counted from 0.
     pub pos: (u32, u32),
     pub value: DataRef,
-    pub formula: String,
+    /// The last `f`, as it is written.
+    pub formula: Option<Formula>,
+    pub style_id: usize,
+}
+
+/// A cell with the text of its formula: what wasn't wanted of it is empty.
+#[derive(Debug, Drop)]
+pub struct CellText {
+    /// The row and the column, counted from 0.
+    pub pos: (u32, u32),
+    pub value: DataRef,
+    pub text: String,
     pub style_id: usize,
 }
 
@@ -52,6 +62,7 @@ fn id_start(tag: StartTag<'_>, wants: Wants, pos: (u32, u32)) -> Result<CellStar
     ensures pos { IfOk result (λ start. start.pos ≡ pos) }
     ensures styled { wants.styles ≡ true →
         IfOk result (λ start. id_named (tag_of tag.entry) ≡ Ok start.style_id) }
+    ensures unstyled { wants.styles ≡ false → IfOk result (λ start. start.style_id ≡ 0) }
     ensures err { IfErr result (IsRefused (λ refusal.
         (wants.styles ≡ true) × (id_named (tag_of tag.entry) ≡ Err refusal))) }
     ensures kind { IfErr result IsPositionError }
@@ -67,8 +78,9 @@ fn id_start(tag: StartTag<'_>, wants: Wants, pos: (u32, u32)) -> Result<CellStar
 
 /// The style id that a text names, where it is wanted.
 fn wanted_id(style: Option<&str>, wants: Wants) -> usize
-    ensures { wants.styles ≡ true →
+    ensures styled { wants.styles ≡ true →
         result ≡ unwrap_or (style_number (option_copied style.entry)) 0 }
+    ensures unstyled { wants.styles ≡ false → result ≡ 0 }
 {
     if wants.styles {
         style_number(style).unwrap_or(0)
@@ -93,6 +105,8 @@ fn start_of(
         IfOk result (λ start. kind_of_cell (tag_of tag.entry) ≡ kind_of start.typ) }
     ensures styled { asked.entry.wants.styles ≡ true →
         IfOk result (λ start. id_named (tag_of tag.entry) ≡ Ok start.style_id) }
+    ensures unstyled { asked.entry.wants.styles ≡ false →
+        IfOk result (λ start. start.style_id ≡ 0) }
     ensures err { IfErr result (IsStartRefused (IsHeadRefused asked.entry.wants
         (grounds_of asked.entry.book) (tag_of tag.entry))) }
     ensures kind { IfErr result IsCellError }
@@ -137,14 +151,14 @@ pub fn read_cell<P: Package>(
         value element.tag element.inside ≡ Ok (value_of_data_ref read.value)) }
     ensures formula { let old = reading (P.state «package».old) cursor.old in
         old.source.is_told ≡ true → asked.entry.wants.formulas ≡ true → (element : Element) →
-        StandsAtElement element old → (earlier : List FormulaText) →
-        AreMasters earlier masters.old →
-        IfOk result (λ read. ReadsFormulaChildren earlier pos element.inside
-        (record { masters = masters.new; text = string_bytes read.formula })) }
+        StandsAtElement element old →
+        IfOk result (λ read. ReadsFormulas asked.entry.keeps_masters element.inside masters.old
+        (record { masters = masters.new; last = last_seen read.formula })) }
     ensures same { asked.entry.wants.formulas ≡ false → OnOk result (masters.new ≡ masters.old) }
     ensures styled { let old = reading (P.state «package».old) cursor.old in
         asked.entry.wants.styles ≡ true → (element : Element) → StandsAtElement element old →
         IfOk result (λ read. id_named element.tag ≡ Ok read.style_id) }
+    ensures unwanted { IfOk result (LacksUnwanted asked.entry.wants) }
     ensures err { let old = reading (P.state «package».old) cursor.old in
         let new = reading (P.state «package».new) cursor.new in
         IfErr result (λ error. (element : Element) → StandsAtElement element old →
@@ -158,7 +172,7 @@ pub fn read_cell<P: Package>(
         return Ok(CellRead {
             pos,
             value: DataRef::Empty,
-            formula: String::new(alloc),
+            formula: None,
             style_id: start.style_id,
         });
     }

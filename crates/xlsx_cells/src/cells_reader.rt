@@ -1,16 +1,21 @@
 ghost use Rattle.std.specs.Prelude.{◌≡◌, List, map, string_bytes, true, false, is_err};
-ghost use Rattle.std.specs.Prelude.{IfOk, IfErr, IfSome, IsErrAnd, length};
+ghost use Rattle.std.specs.Prelude.{IfOk, IfErr, IfSome, IsErrAnd, length, option_map, slice_get};
 ghost use Rattle.part_events.specs.Reader as xml_reader;
 ghost use Rattle.part_events.specs.Reading.{ReadsPart, IsReading};
 ghost use Rattle.cell_styles.specs.StyleMap.{is_explicit};
 ghost use Rattle.xlsx_error.specs.declared.error.XlsxError.TheVariants.{Io, Failed};
+ghost use Rattle.xlsx_values.specs.Book.{grounds_of};
 ghost use Rattle.xlsx_formulas.specs.Formula.{FormulaText};
+ghost use Rattle.xlsx_cells.specs.CellErrors.{IsStepError, IsStyledStepError};
+ghost use Rattle.xlsx_cells.specs.CellsReader.{some_text};
 ghost use Rattle.xlsx_cells.specs.Head.{IsHeadError};
 ghost use Rattle.xlsx_cells.specs.Marks.{Mark};
-ghost use Rattle.xlsx_cells.specs.Stream.{stream, StandsBehind, IsStreaming};
+ghost use Rattle.xlsx_cells.specs.Position.{NoCell};
+ghost use Rattle.xlsx_cells.specs.Stream.{stream, StandsBehind, IsStreaming, StandsTo, TakesEach};
+ghost use Rattle.xlsx_cells.specs.Stream.{NextFails, RestsAtEnd};
 
-use crate::cell_read::CellRead;
-use crate::cell_stream::CellStream;
+use crate::cell_read::{CellRead, CellText};
+use crate::cell_records::{XlsxCellFormula, XlsxCellFormulaMetadataRecord};
 use crate::children::{Asked, Wants};
 use crate::head::enter_data;
 use crate::sheet_cursor::SheetCursor;
@@ -20,20 +25,31 @@ use cell_styles::Style;
 use part_events::{Package, XlReader};
 use std::alloc::Global;
 use xlsx_error::XlsxError;
+use xlsx_formulas::metadata_of;
 use xlsx_values::Book;
+
+/// A text that isn't empty.
+fn some_text(text: String) -> Option<String>
+    ensures { option_map string_bytes result ≡ some_text (string_bytes text) }
+{
+    if text.is_empty() {
+        return None;
+    }
+    Some(text)
+}
 
 /// Reads the cells of a sheet, in the order of its data (ECMA-376 part 1, 18.3.1.80).
 ///
 /// What it keeps beside what it borrows is a type parameter, so that a caller knows what became of
 /// the package once the reader is gone.
-pub struct XlsxCellReader<'a, P: Package, S: Drop = CellStream> {
+pub struct XlsxCellReader<'a, P: Package, S: Drop = SheetCursor> {
     package: &'a mut P,
     strings: &'a [String],
     formats: &'a [CellFormat],
     styles: &'a [Style],
     is_1904: bool,
     dimensions: Dimensions,
-    stream: S,
+    sheet: S,
 }
 
 impl<P: Package, S: Drop> Drop for XlsxCellReader<'_, P, S> {
@@ -47,20 +63,20 @@ impl<P: Package, S: Drop> Drop for XlsxCellReader<'_, P, S> {
             styles: _,
             is_1904: _,
             dimensions: _,
-            stream: _,
+            sheet: _,
         } = self;
     }
 }
 
 impl<'a, P: Package> XlsxCellReader<'a, P> {
-    ghost use Rattle.xlsx_cells.specs.CellsReader.{flow_by, reference_of, grounds_by, area_held};
-    ghost use Rattle.xlsx_cells.specs.CellsReader.{IsFlowing, IsFlowError, KeepsHold, EntersCells};
-    ghost use Rattle.xlsx_cells.specs.CellsReader.{EnterCellsFails, CellTo, TakesCellValue};
-    ghost use Rattle.xlsx_cells.specs.CellsReader.{TakesCellFormula};
-    ghost use Rattle.xlsx_cells.specs.CellsReader.{FlowFails, RestsAtEnd, values_alone};
+    ghost use Rattle.xlsx_cells.specs.CellsReader.{stream_by, reference_of, grounds_by, area_held};
+    ghost use Rattle.xlsx_cells.specs.CellsReader.{KeepsHold, EntersCells, EnterCellsFails};
+    ghost use Rattle.xlsx_cells.specs.CellsReader.{IsValued, IsFormula, values_alone};
     ghost use Rattle.xlsx_cells.specs.CellsReader.{formulas_alone, styles_held};
-    ghost use Rattle.xlsx_cells.specs.StyleSteps.{StyledTo, TakesStyleId, StyleIdFails};
-    ghost use Rattle.xlsx_cells.specs.StyleSteps.{IsStyleIdError};
+    ghost use Rattle.xlsx_cells.specs.CellsReader.{values_and_styles, values_and_formulas};
+    ghost use Rattle.xlsx_cells.specs.CellsReader.{IsValuedStyle, IsValuedFormula};
+    ghost use Rattle.xlsx_cells.specs.CellsReader.{IsValuedMetadata};
+    ghost use Rattle.xlsx_cells.specs.StyleSteps.{IsUnstyled, IsStyled, place_of, StyledFails};
 
     /// A reader of the cells of the part that `xml` reads, of which it has taken nothing yet. It
     /// reads on behind the first start of the sheet's data. The values of cells rest on the shared
@@ -90,7 +106,7 @@ impl<'a, P: Package> XlsxCellReader<'a, P> {
         })) }
         ensures styles { IfOk result (λ reader. styles_held reader ≡ styles.now) }
         ensures enters { IfOk result (λ reader. EntersCells (area_held reader)
-            (xml_reader.reading_by P.state xml.entry) (flow_by P.state reader)) }
+            (xml_reader.reading_by P.state xml.entry) (stream_by P.state reader)) }
         ensures err { IfErr result (EnterCellsFails (xml_reader.reading_by P.state xml.entry)) }
         ensures kind { IfErr result IsHeadError }
     {
@@ -104,7 +120,7 @@ impl<'a, P: Package> XlsxCellReader<'a, P> {
             styles,
             is_1904,
             dimensions,
-            stream: CellStream::new(sheet),
+            sheet,
         })
     }
 
@@ -128,10 +144,7 @@ impl<'a, P: Package> XlsxCellReader<'a, P> {
         }) }
         ensures styles { styles_held result ≡ styles.now }
         ensures dimensions { area_held result ≡ dimensions }
-        ensures stream { (flow_by P.state result).stream ≡ stream (P.state «package».old) sheet }
-        ensures going { ((flow_by P.state result).is_done ≡ false)
-            × ((flow_by P.state result).is_failed ≡ false) }
-        ensures flowing { IsFlowing (flow_by P.state result) }
+        ensures stream { stream_by P.state result ≡ stream (P.state «package».old) sheet }
     {
         XlsxCellReader {
             package,
@@ -140,7 +153,7 @@ impl<'a, P: Package> XlsxCellReader<'a, P> {
             styles,
             is_1904,
             dimensions,
-            stream: CellStream::new(sheet),
+            sheet,
         }
     }
 
@@ -159,9 +172,42 @@ impl<'a, P: Package> XlsxCellReader<'a, P> {
         self.styles
     }
 
+    /// The shared string at this index, counted from 0.
+    pub fn shared_string(&self, index: usize) -> Option<&'a str>
+        ensures { option_map (λ text. text.now) result
+            ≡ slice_get (grounds_by self.now).strings index }
+    {
+        Some(self.strings.get(index)?.as_str())
+    }
+
+    /// What the values of cells rest on.
+    fn book(&self) -> Book<'a>
+        ensures { grounds_of result ≡ grounds_by self.now }
+    {
+        Book {
+            strings: self.strings,
+            formats: self.formats,
+            is_1904: self.is_1904,
+        }
+    }
+
+    /// What is asked for by a call that wants this.
+    fn asked(&self, wants: Wants, keeps_masters: bool) -> Asked<'a>
+        ensures wants { result.wants ≡ wants }
+        ensures grounds { grounds_of result.book ≡ grounds_by self.now }
+        ensures keeps { result.keeps_masters ≡ keeps_masters }
+    {
+        Asked {
+            wants,
+            book: self.book(),
+            style_count: self.styles.len(),
+            keeps_masters,
+        }
+    }
+
     /// How often a call of the package failed.
     pub fn faults(&self) -> u64
-        ensures { result ≡ (flow_by P.state self.now).stream.reading.source.faults }
+        ensures { result ≡ (stream_by P.state self.now).reading.source.faults }
     {
         self.package.faults()
     }
@@ -176,46 +222,38 @@ impl<'a, P: Package> XlsxCellReader<'a, P> {
     /// Unrecognized or Unexpected, by its type. Where the part ends before the data do, the refusal
     /// is XmlEof with the name of an open element, or Xml. After a refusal it is Failed.
     pub fn next_cell(&mut self) -> Result<Option<Cell<DataRef>>, XlsxError>
-        requires { IsFlowing (flow_by P.state self.old) }
+        requires { IsStreaming (stream_by P.state self.old) }
         ensures hold { KeepsHold self.old self.new }
-        ensures flowing { IsFlowing (flow_by P.state self.new) }
-        ensures reads { let old = flow_by P.state self.old in
-            let new = flow_by P.state self.new in
-            ReadsPart Io result old.stream.reading new.stream.reading }
-        ensures rests { RestsAtEnd (flow_by P.state self.old) (flow_by P.state self.new) }
-        ensures stands { let old = flow_by P.state self.old in
-            let new = flow_by P.state self.new in
-            IfOk result (λ found. CellTo found old new) }
-        ensures takes { let old = flow_by P.state self.old in
-            let new = flow_by P.state self.new in
+        ensures streaming { IsStreaming (stream_by P.state self.new) }
+        ensures reads { let old = stream_by P.state self.old in
+            let new = stream_by P.state self.new in
+            ReadsPart Io result old.reading new.reading }
+        ensures rests { RestsAtEnd (stream_by P.state self.old) (stream_by P.state self.new) }
+        ensures stands { let old = stream_by P.state self.old in
+            let new = stream_by P.state self.new in
+            IfOk result (λ found. StandsTo (λ own. own.pos) found old new) }
+        ensures takes { let old = stream_by P.state self.old in
+            let new = stream_by P.state self.new in
             let grounds = grounds_by self.old in
-            old.stream.reading.source.is_told ≡ true → (before : List Mark)
-            (earlier : List FormulaText) → StandsBehind before earlier old.stream →
-            IfOk result (λ found. TakesCellValue grounds before earlier found old new) }
-        ensures err { let old = flow_by P.state self.old in
-            let new = flow_by P.state self.new in
-            IfErr result (FlowFails values_alone (grounds_by self.old) old new) }
-        ensures kind { IfErr result IsFlowError }
-        ensures after { (flow_by P.state self.old).is_failed ≡ true →
+            old.reading.source.is_told ≡ true → (before : List Mark)
+            (earlier : List FormulaText) → StandsBehind before earlier old →
+            IfOk result (λ found.
+            TakesEach NoCell (IsValued grounds) before earlier found old new) }
+        ensures err { let old = stream_by P.state self.old in
+            let new = stream_by P.state self.new in
+            IfErr result (NextFails values_alone (grounds_by self.old) old new.reading) }
+        ensures kind { IfErr result IsStepError }
+        ensures after { (stream_by P.state self.old).is_failed ≡ true →
             IsErrAnd result (λ error. error ≡ Failed) }
-        ensures failed { (flow_by P.state self.new).is_failed ≡ is_err result }
+        ensures failed { (stream_by P.state self.new).is_failed ≡ is_err result }
     {
         let wants = Wants {
             values: true,
             formulas: false,
             styles: false,
         };
-        let book = Book {
-            strings: self.strings,
-            formats: self.formats,
-            is_1904: self.is_1904,
-        };
-        let asked = Asked {
-            wants,
-            book,
-            style_count: self.styles.len(),
-        };
-        let Some(read) = self.stream.next(self.package, asked)? else {
+        let asked = self.asked(wants, false);
+        let Some(read) = self.sheet.next(self.package, asked)? else {
             return Ok(None);
         };
         let CellRead { pos, value, .. } = read;
@@ -230,49 +268,193 @@ impl<'a, P: Package> XlsxCellReader<'a, P> {
     /// read. An `si` that is missing or no number is refused as Unexpected, the `ref` of a master
     /// by the fault of its text. After a refusal the refusal is Failed.
     pub fn next_formula(&mut self) -> Result<Option<Cell<String>>, XlsxError>
-        requires { IsFlowing (flow_by P.state self.old) }
+        requires { IsStreaming (stream_by P.state self.old) }
         ensures hold { KeepsHold self.old self.new }
-        ensures flowing { IsFlowing (flow_by P.state self.new) }
-        ensures reads { let old = flow_by P.state self.old in
-            let new = flow_by P.state self.new in
-            ReadsPart Io result old.stream.reading new.stream.reading }
-        ensures rests { RestsAtEnd (flow_by P.state self.old) (flow_by P.state self.new) }
-        ensures stands { let old = flow_by P.state self.old in
-            let new = flow_by P.state self.new in
-            IfOk result (λ found. CellTo found old new) }
-        ensures takes { let old = flow_by P.state self.old in
-            let new = flow_by P.state self.new in
-            old.stream.reading.source.is_told ≡ true → (before : List Mark)
-            (earlier : List FormulaText) → StandsBehind before earlier old.stream →
-            IfOk result (λ found. TakesCellFormula before earlier found old new) }
-        ensures err { let old = flow_by P.state self.old in
-            let new = flow_by P.state self.new in
-            IfErr result (FlowFails formulas_alone (grounds_by self.old) old new) }
-        ensures kind { IfErr result IsFlowError }
-        ensures after { (flow_by P.state self.old).is_failed ≡ true →
+        ensures streaming { IsStreaming (stream_by P.state self.new) }
+        ensures reads { let old = stream_by P.state self.old in
+            let new = stream_by P.state self.new in
+            ReadsPart Io result old.reading new.reading }
+        ensures rests { RestsAtEnd (stream_by P.state self.old) (stream_by P.state self.new) }
+        ensures stands { let old = stream_by P.state self.old in
+            let new = stream_by P.state self.new in
+            IfOk result (λ found. StandsTo (λ own. own.pos) found old new) }
+        ensures takes { let old = stream_by P.state self.old in
+            let new = stream_by P.state self.new in
+            old.reading.source.is_told ≡ true → (before : List Mark)
+            (earlier : List FormulaText) → StandsBehind before earlier old →
+            IfOk result (λ found.
+            TakesEach NoCell (IsFormula earlier) before earlier found old new) }
+        ensures err { let old = stream_by P.state self.old in
+            let new = stream_by P.state self.new in
+            IfErr result (NextFails formulas_alone (grounds_by self.old) old new.reading) }
+        ensures kind { IfErr result IsStepError }
+        ensures after { (stream_by P.state self.old).is_failed ≡ true →
             IsErrAnd result (λ error. error ≡ Failed) }
-        ensures failed { (flow_by P.state self.new).is_failed ≡ is_err result }
+        ensures failed { (stream_by P.state self.new).is_failed ≡ is_err result }
     {
         let wants = Wants {
             values: false,
             formulas: true,
             styles: false,
         };
-        let book = Book {
-            strings: self.strings,
-            formats: self.formats,
-            is_1904: self.is_1904,
-        };
-        let asked = Asked {
-            wants,
-            book,
-            style_count: self.styles.len(),
-        };
-        let Some(read) = self.stream.next(self.package, asked)? else {
+        let asked = self.asked(wants, true);
+        let Some(found) = self.sheet.next_text(self.package, asked)? else {
             return Ok(None);
         };
-        let CellRead { pos, formula, .. } = read;
-        Ok(Some(Cell::new(pos, formula)))
+        let CellText { pos, text, .. } = found;
+        Ok(Some(Cell::new(pos, text)))
+    }
+
+    /// Takes the next cell as `next_cell` does, and answers its style id beside it: the number of
+    /// its `s`, and 0 without one, whether or not there is such a style.
+    ///
+    /// It is refused as `next_cell` is.
+    pub fn next_cell_with_style_id(&mut self) -> Result<Option<(Cell<DataRef>, usize)>, XlsxError>
+        requires { IsStreaming (stream_by P.state self.old) }
+        ensures hold { KeepsHold self.old self.new }
+        ensures streaming { IsStreaming (stream_by P.state self.new) }
+        ensures reads { let old = stream_by P.state self.old in
+            let new = stream_by P.state self.new in
+            ReadsPart Io result old.reading new.reading }
+        ensures rests { RestsAtEnd (stream_by P.state self.old) (stream_by P.state self.new) }
+        ensures stands { let old = stream_by P.state self.old in
+            let new = stream_by P.state self.new in
+            IfOk result (λ found. StandsTo (λ own. own.0.pos) found old new) }
+        ensures takes { let old = stream_by P.state self.old in
+            let new = stream_by P.state self.new in
+            let fact = IsValuedStyle (grounds_by self.old) in
+            old.reading.source.is_told ≡ true → (before : List Mark)
+            (earlier : List FormulaText) → StandsBehind before earlier old →
+            IfOk result (λ found. TakesEach NoCell fact before earlier found old new) }
+        ensures err { let old = stream_by P.state self.old in
+            let new = stream_by P.state self.new in
+            IfErr result (NextFails values_and_styles (grounds_by self.old) old new.reading) }
+        ensures kind { IfErr result IsStepError }
+        ensures after { (stream_by P.state self.old).is_failed ≡ true →
+            IsErrAnd result (λ error. error ≡ Failed) }
+        ensures failed { (stream_by P.state self.new).is_failed ≡ is_err result }
+    {
+        let wants = Wants {
+            values: true,
+            formulas: false,
+            styles: true,
+        };
+        let asked = self.asked(wants, false);
+        let Some(read) = self.sheet.next(self.package, asked)? else {
+            return Ok(None);
+        };
+        let CellRead {
+            pos,
+            value,
+            style_id,
+            ..
+        } = read;
+        Ok(Some((Cell::new(pos, value), style_id)))
+    }
+
+    /// Takes the next cell, and answers its position, its value and its formula, without `=`: that
+    /// of `next_formula`, and None where it is empty.
+    ///
+    /// It is refused as `next_cell` and `next_formula` are.
+    pub fn next_cell_with_formula(&mut self) -> Result<Option<XlsxCellFormula>, XlsxError>
+        requires { IsStreaming (stream_by P.state self.old) }
+        ensures hold { KeepsHold self.old self.new }
+        ensures streaming { IsStreaming (stream_by P.state self.new) }
+        ensures reads { let old = stream_by P.state self.old in
+            let new = stream_by P.state self.new in
+            ReadsPart Io result old.reading new.reading }
+        ensures rests { RestsAtEnd (stream_by P.state self.old) (stream_by P.state self.new) }
+        ensures stands { let old = stream_by P.state self.old in
+            let new = stream_by P.state self.new in
+            IfOk result (λ found. StandsTo (λ own. own.pos) found old new) }
+        ensures takes { let old = stream_by P.state self.old in
+            let new = stream_by P.state self.new in
+            let fact = IsValuedFormula (grounds_by self.old) in
+            old.reading.source.is_told ≡ true → (before : List Mark)
+            (earlier : List FormulaText) → StandsBehind before earlier old →
+            IfOk result (λ found. TakesEach NoCell (fact earlier) before earlier found old new) }
+        ensures err { let old = stream_by P.state self.old in
+            let new = stream_by P.state self.new in
+            IfErr result (NextFails values_and_formulas (grounds_by self.old) old new.reading) }
+        ensures kind { IfErr result IsStepError }
+        ensures after { (stream_by P.state self.old).is_failed ≡ true →
+            IsErrAnd result (λ error. error ≡ Failed) }
+        ensures failed { (stream_by P.state self.new).is_failed ≡ is_err result }
+    {
+        let wants = Wants {
+            values: true,
+            formulas: true,
+            styles: false,
+        };
+        let asked = self.asked(wants, true);
+        let Some(found) = self.sheet.next_text(self.package, asked)? else {
+            return Ok(None);
+        };
+        let CellText {
+            pos,
+            value,
+            text,
+            ..
+        } = found;
+        Ok(Some(XlsxCellFormula {
+            pos,
+            value,
+            formula: some_text(text),
+        }))
+    }
+
+    /// Takes the next cell, and answers its position, its value and what its last `f` says, with no
+    /// formula of a group written out. The formulas of a cell that is taken so are no other cell's
+    /// masters.
+    ///
+    /// It is refused as `next_cell` and `next_formula` are.
+    pub fn next_cell_with_formula_metadata(
+        &mut self,
+    ) -> Result<Option<XlsxCellFormulaMetadataRecord>, XlsxError>
+        requires { IsStreaming (stream_by P.state self.old) }
+        ensures hold { KeepsHold self.old self.new }
+        ensures streaming { IsStreaming (stream_by P.state self.new) }
+        ensures reads { let old = stream_by P.state self.old in
+            let new = stream_by P.state self.new in
+            ReadsPart Io result old.reading new.reading }
+        ensures rests { RestsAtEnd (stream_by P.state self.old) (stream_by P.state self.new) }
+        ensures stands { let old = stream_by P.state self.old in
+            let new = stream_by P.state self.new in
+            IfOk result (λ found. StandsTo (λ own. own.pos) found old new) }
+        ensures takes { let old = stream_by P.state self.old in
+            let new = stream_by P.state self.new in
+            let fact = IsValuedMetadata (grounds_by self.old) in
+            old.reading.source.is_told ≡ true → (before : List Mark)
+            (earlier : List FormulaText) → StandsBehind before earlier old →
+            IfOk result (λ found. TakesEach NoCell fact before earlier found old new) }
+        ensures err { let old = stream_by P.state self.old in
+            let new = stream_by P.state self.new in
+            IfErr result (NextFails values_and_formulas (grounds_by self.old) old new.reading) }
+        ensures kind { IfErr result IsStepError }
+        ensures after { (stream_by P.state self.old).is_failed ≡ true →
+            IsErrAnd result (λ error. error ≡ Failed) }
+        ensures failed { (stream_by P.state self.new).is_failed ≡ is_err result }
+    {
+        let wants = Wants {
+            values: true,
+            formulas: true,
+            styles: false,
+        };
+        let asked = self.asked(wants, false);
+        let Some(read) = self.sheet.next(self.package, asked)? else {
+            return Ok(None);
+        };
+        let CellRead {
+            pos,
+            value,
+            formula,
+            ..
+        } = read;
+        Ok(Some(XlsxCellFormulaMetadataRecord {
+            pos,
+            value,
+            formula: metadata_of(formula),
+        }))
     }
 
     /// Takes the next cell whose style id counts, and answers its row and its column, counted from
@@ -285,32 +467,35 @@ impl<'a, P: Package> XlsxCellReader<'a, P> {
     /// refused in it too, and a part that ends there as XmlEof. After a refusal the refusal is
     /// Failed.
     pub fn next_style_id(&mut self) -> Result<Option<(u32, u32, usize)>, XlsxError>
-        requires { IsFlowing (flow_by P.state self.old) }
+        requires { IsStreaming (stream_by P.state self.old) }
         ensures hold { KeepsHold self.old self.new }
-        ensures flowing { IsFlowing (flow_by P.state self.new) }
-        ensures reads { let old = flow_by P.state self.old in
-            let new = flow_by P.state self.new in
-            ReadsPart Io result old.stream.reading new.stream.reading }
-        ensures rests { RestsAtEnd (flow_by P.state self.old) (flow_by P.state self.new) }
-        ensures stands { let old = flow_by P.state self.old in
-            let new = flow_by P.state self.new in
-            IfOk result (λ found. StyledTo found old new) }
+        ensures streaming { IsStreaming (stream_by P.state self.new) }
+        ensures reads { let old = stream_by P.state self.old in
+            let new = stream_by P.state self.new in
+            ReadsPart Io result old.reading new.reading }
+        ensures rests { RestsAtEnd (stream_by P.state self.old) (stream_by P.state self.new) }
+        ensures stands { let old = stream_by P.state self.old in
+            let new = stream_by P.state self.new in
+            IfOk result (λ found. StandsTo place_of found old new) }
         ensures counts { let count = length (styles_held self.old) in
             IfOk result (λ found. IfSome found (λ own. is_explicit count own ≡ true)) }
-        ensures takes { let old = flow_by P.state self.old in
-            let new = flow_by P.state self.new in
+        ensures takes { let old = stream_by P.state self.old in
+            let new = stream_by P.state self.new in
             let count = length (styles_held self.old) in
-            old.stream.reading.source.is_told ≡ true → (before : List Mark)
-            (earlier : List FormulaText) → StandsBehind before earlier old.stream →
-            IfOk result (λ found. TakesStyleId count before earlier found old new) }
-        ensures err { let old = flow_by P.state self.old in
-            let new = flow_by P.state self.new in
-            IfErr result (StyleIdFails (length (styles_held self.old)) old new) }
-        ensures kind { IfErr result IsStyleIdError }
-        ensures after { (flow_by P.state self.old).is_failed ≡ true →
+            old.reading.source.is_told ≡ true → (before : List Mark)
+            (earlier : List FormulaText) → StandsBehind before earlier old →
+            IfOk result (λ found.
+            TakesEach (IsUnstyled count) IsStyled before earlier found old new) }
+        ensures err { let old = stream_by P.state self.old in
+            let new = stream_by P.state self.new in
+            IfErr result (StyledFails (length (styles_held self.old)) old new.reading) }
+        ensures kind { IfErr result IsStyledStepError }
+        ensures after { (stream_by P.state self.old).is_failed ≡ true →
             IsErrAnd result (λ error. error ≡ Failed) }
-        ensures failed { (flow_by P.state self.new).is_failed ≡ is_err result }
+        ensures failed { (stream_by P.state self.new).is_failed ≡ is_err result }
     {
-        self.stream.next_styled(self.package, self.styles.len())
+        let book = self.book();
+        self.sheet
+            .next_styled(self.package, book, self.styles.len())
     }
 }

@@ -1,5 +1,5 @@
-ghost use Rattle.std.specs.Prelude.{◌≡◌, suc, length, List, true, false, Ok, IfOk, OnOk, IfErr};
-ghost use Rattle.std.specs.Prelude.{string_bytes, codes};
+ghost use Rattle.std.specs.Prelude.{◌≡◌, suc, length, true, false, Ok, IfOk, OnOk, IfErr};
+ghost use Rattle.std.specs.Prelude.{codes, None};
 ghost use Rattle.part_events.specs.Event.{tag_of, start};
 ghost use Rattle.part_events.specs.Reading.{reading, open_elements, IsReading, IsAtElement};
 ghost use Rattle.part_events.specs.Reading.{ReadsPart, Skips, ahead};
@@ -12,11 +12,10 @@ ghost use Rattle.cell_data.specs.declared.format.CellFormat.{CellFormat};
 ghost use Rattle.xlsx_values.specs.CellType.{CellKind};
 ghost use Rattle.xlsx_values.specs.Value.{Grounds, value_in, said_value, or_nothing};
 ghost use Rattle.xlsx_sections.specs.Answers.{or_earlier};
-ghost use Rattle.xlsx_formulas.specs.Formula.{FormulaText};
-ghost use Rattle.xlsx_formulas.specs.Kept.{last_seen, AreMasters};
+ghost use Rattle.xlsx_formulas.specs.Kept.{last_seen};
 ghost use Rattle.xlsx_cells.specs.Children.{StandsAtElement, value_kept, IsNamedAs, value_name};
 ghost use Rattle.xlsx_cells.specs.Children.{ChildFails, AreChildrenRefused, LastStep};
-ghost use Rattle.xlsx_cells.specs.Children.{ReadsFormula, ReadsFormulaChildren};
+ghost use Rattle.xlsx_cells.specs.Children.{ReadsFormula, ReadsFormulas};
 ghost use Rattle.xlsx_cells.specs.declared.children.ChildName.TheVariants.{Formula};
 ghost use Rattle.xlsx_cells.specs.CellErrors.{IsCellError};
 ghost use Rattle.xlsx_cells.specs.Ends.{reads_children, end_in_children};
@@ -49,19 +48,12 @@ pub struct CellStart {
     pub typ: CellType,
 }
 
-/// What the children of a cell say: of its value the last that counts, and the text of its last
-/// formula.
+/// What the children of a cell say: the last value that counts, and the last formula as it is
+/// written.
 #[derive(Debug, Drop)]
 pub struct CellContents {
     pub value: Option<DataRef>,
-    pub formula: String,
-}
-
-/// Of the children of a cell that were read: the last value that counts, and the last formula.
-#[derive(Debug, Drop)]
-struct Latest {
-    value: Option<DataRef>,
-    formula: Option<xlsx_formulas::Formula>,
+    pub formula: Option<xlsx_formulas::Formula>,
 }
 
 /// What is asked for, and what the values rest on.
@@ -71,6 +63,8 @@ pub struct Asked<'a> {
     pub book: Book<'a>,
     /// How many styles there are: a style id counts above 0 and below this.
     pub style_count: usize,
+    /// Whether the formulas of groups are kept, where formulas are wanted, for later cells.
+    pub keeps_masters: bool,
 }
 
 /// What a child of a cell is by its name.
@@ -99,7 +93,7 @@ fn keep_formula<P: Package>(
     alloc: Global,
     package: &mut P,
     cursor: &mut Cursor,
-    wants: Wants,
+    asked: Asked<'_>,
     masters: &mut Masters,
     last: &mut Option<xlsx_formulas::Formula>,
 ) -> Result<(), XlsxError>
@@ -116,22 +110,26 @@ fn keep_formula<P: Package>(
     ensures formula { let old = reading (P.state «package».old) cursor.old in
         let before : LastStep = record { masters = masters.old; last = last_seen last.old } in
         let after : LastStep = record { masters = masters.new; last = last_seen last.new } in
-        old.source.is_told ≡ true → wants.formulas ≡ true → (element : Element) →
+        old.source.is_told ≡ true → asked.entry.wants.formulas ≡ true → (element : Element) →
         StandsAtElement element old → IsNamedAs Formula element.tag →
-        OnOk result (ReadsFormula element.tag element.inside before after) }
-    ensures same { wants.formulas ≡ false → OnOk result (masters.new ≡ masters.old) }
+        OnOk result (ReadsFormula asked.entry.keeps_masters element.tag element.inside before
+        after) }
+    ensures same { asked.entry.wants.formulas ≡ false → OnOk result (masters.new ≡ masters.old) }
+    ensures unlisted { asked.entry.wants.formulas ≡ false → OnOk result (last.new ≡ last.old) }
     ensures err { let old = reading (P.state «package».old) cursor.old in
         let new = reading (P.state «package».new) cursor.new in
         IfErr result (λ error. (grounds : Grounds) (format : CellFormat) (kind : CellKind)
         (element : Element) → StandsAtElement element old → IsNamedAs Formula element.tag →
-        ChildFails wants grounds format kind element.tag old new error) }
+        ChildFails asked.entry.wants grounds format kind element.tag old new error) }
     ensures kind { IfErr result IsCellError }
 {
-    if !wants.formulas {
+    if !asked.wants.formulas {
         return skip_element_in(package, cursor, None);
     }
     let formula = read_formula(alloc, package, cursor)?;
-    masters.keep(&formula)?;
+    if asked.keeps_masters {
+        masters.keep(&formula)?;
+    }
     *last = Some(formula);
     Ok(())
 }
@@ -164,6 +162,7 @@ fn keep_value<P: Package>(
         StandsAtElement element old → IsNamedAs (value_name is_inline) element.tag → OnOk result
         (or_earlier (value_kept value.old) (said element.tag element.inside)
         ≡ Ok (value_kept value.new)) }
+    ensures unvalued { asked.entry.wants.values ≡ false → OnOk result (value.new ≡ value.old) }
     ensures err { let old = reading (P.state «package».old) cursor.old in
         let new = reading (P.state «package».new) cursor.new in
         let grounds = grounds_of asked.entry.book in
@@ -195,7 +194,7 @@ fn read_child<P: Package>(
     asked: Asked<'_>,
     start: &CellStart,
     masters: &mut Masters,
-    latest: &mut Latest,
+    latest: &mut CellContents,
 ) -> Result<(), XlsxError>
     requires reading { IsReading (reading (P.state «package».old) cursor.old) }
     requires element { IsAtElement (reading (P.state «package».old) cursor.old) }
@@ -222,8 +221,13 @@ fn read_child<P: Package>(
         record { masters = masters.new; last = last_seen latest.new.formula } in
         old.source.is_told ≡ true → asked.entry.wants.formulas ≡ true → (element : Element) →
         StandsAtElement element old →
-        OnOk result (ReadsFormula element.tag element.inside before after) }
+        OnOk result (ReadsFormula asked.entry.keeps_masters element.tag element.inside before
+        after) }
     ensures same { asked.entry.wants.formulas ≡ false → OnOk result (masters.new ≡ masters.old) }
+    ensures unvalued { asked.entry.wants.values ≡ false →
+        OnOk result (latest.new.value ≡ latest.old.value) }
+    ensures unlisted { asked.entry.wants.formulas ≡ false →
+        OnOk result (latest.new.formula ≡ latest.old.formula) }
     ensures err { let old = reading (P.state «package».old) cursor.old in
         let new = reading (P.state «package».new) cursor.new in
         let grounds = grounds_of asked.entry.book in
@@ -235,7 +239,7 @@ fn read_child<P: Package>(
     match child_name(start_tag(package)) {
         ChildName::Formula => {
             let last = &mut latest.formula;
-            keep_formula(alloc, package, cursor, asked.wants, masters, last)
+            keep_formula(alloc, package, cursor, asked, masters, last)
         }
         ChildName::Value => {
             let value = &mut latest.value;
@@ -250,6 +254,7 @@ fn read_child<P: Package>(
 }
 
 /// Reads what stands in the cell at whose start the package stands, to its end.
+#[tactic(auto, using(crate::proofs::ChildrenRead::written_none))]
 pub fn read_children<P: Package>(
     alloc: Global,
     package: &mut P,
@@ -277,10 +282,13 @@ pub fn read_children<P: Package>(
         ≡ or_nothing (Ok (value_kept contents.value))) }
     ensures formula { let old = reading (P.state «package».old) cursor.old in
         old.source.is_told ≡ true → asked.entry.wants.formulas ≡ true →
-        (earlier : List FormulaText) → AreMasters earlier masters.old →
-        IfOk result (λ contents. ReadsFormulaChildren earlier start.now.pos (content 0 (ahead old))
-        (record { masters = masters.new; text = string_bytes contents.formula })) }
+        IfOk result (λ contents. ReadsFormulas asked.entry.keeps_masters (content 0 (ahead old))
+        masters.old (record { masters = masters.new; last = last_seen contents.formula })) }
     ensures same { asked.entry.wants.formulas ≡ false → OnOk result (masters.new ≡ masters.old) }
+    ensures unvalued { asked.entry.wants.values ≡ false →
+        IfOk result (λ contents. contents.value ≡ None) }
+    ensures unlisted { asked.entry.wants.formulas ≡ false →
+        IfOk result (λ contents. contents.formula ≡ None) }
     ensures err { let old = reading (P.state «package».old) cursor.old in
         let new = reading (P.state «package».new) cursor.new in
         let wants = asked.entry.wants in
@@ -292,14 +300,12 @@ pub fn read_children<P: Package>(
     ensures kind { IfErr result IsCellError }
 {
     let base = cursor.depth();
-    let mut latest = Latest {
+    let mut latest = CellContents {
         value: None,
         formula: None,
     };
     'children: while let Some(_) = next_child_in(package, cursor, base, "c")? {
         read_child(alloc, package, cursor, asked, start, masters, &mut latest)?;
     }
-    let Latest { value, formula } = latest;
-    let formula = masters.cell_formula(alloc, formula, start.pos)?;
-    Ok(CellContents { value, formula })
+    Ok(latest)
 }

@@ -9,7 +9,7 @@ ghost use Rattle.xlsx_cells.specs.CellErrors.{IsFindError};
 ghost use Rattle.xlsx_cells.specs.Finding.{Finds, FindsCellElement, StandsAtCell, FindFails};
 ghost use Rattle.xlsx_cells.specs.Finding.{IsCutOff};
 ghost use Rattle.xlsx_cells.specs.Marks.{Mark, cell_start, marks_of, behind_marks};
-ghost use Rattle.xlsx_cells.specs.Position.{PassesRows};
+ghost use Rattle.xlsx_cells.specs.Position.{PassesMarks, NoCell};
 
 use crate::counters::Counters;
 use attr_text::local_name;
@@ -30,7 +30,8 @@ fn cell_start(event: PartEvent<'_>) -> Option<StartTag<'_>>
 fn pass(counters: &mut Counters, event: PartEvent<'_>) -> Result<(), XlsxError>
     ensures kept { OnOk result ((before : List Mark) → AreKept before counters.old →
         AreKept (behind_marks (marks_of (event_of event.entry)) before) counters.new) }
-    ensures rows { OnOk result (PassesRows (marks_of (event_of event.entry))) }
+    ensures rows { OnOk result ((before : List Mark) →
+        PassesMarks NoCell before (marks_of (event_of event.entry))) }
     ensures err { IfErr result (IsRefused (IsRowRefused (event_of event.entry))) }
     ensures kind { IfErr result IsPositionError }
 {
@@ -80,7 +81,7 @@ pub fn find_cell<P: Package>(
         IfErr result (λ error. (inner : Element → Option (List ℕ)) →
         FindFails inner counters.old base old new error) }
     ensures cut { let old = reading (P.state «package».old) cursor.old in
-        IfErr result (IsCutOff (λ before. PassesRows) counters.old base old) }
+        IfErr result (IsCutOff NoCell counters.old base old) }
     ensures kind { IfErr result IsFindError }
 {
     'events: loop {

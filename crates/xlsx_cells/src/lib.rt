@@ -2,7 +2,7 @@
 #![tactic(auto)]
 
 mod cell_read;
-mod cell_stream;
+mod cell_records;
 mod cells_reader;
 mod children;
 mod counters;
@@ -11,8 +11,8 @@ mod head;
 mod sheet_cells;
 mod sheet_cursor;
 
-pub use cell_read::CellRead;
-pub use cell_stream::CellStream;
+pub use cell_read::{CellRead, CellText};
+pub use cell_records::{XlsxCellFormula, XlsxCellFormulaMetadataRecord, equality_is_by_all_fields};
 pub use cells_reader::XlsxCellReader;
 pub use children::{Asked, Wants};
 pub use head::enter_data;

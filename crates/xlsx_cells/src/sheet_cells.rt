@@ -11,12 +11,12 @@ ghost use Rattle.xlsx_values.specs.Book.{grounds_of};
 ghost use Rattle.xlsx_cells.specs.Ends.{reads_children};
 ghost use Rattle.xlsx_cells.specs.CellErrors.{IsCellError, IsStyledError};
 ghost use Rattle.xlsx_cells.specs.SheetPart.{DataFails, HoldsValues, HoldsFormulas, value_entries};
-ghost use Rattle.xlsx_cells.specs.SheetPart.{formula_entries, LieInSheet};
+ghost use Rattle.xlsx_cells.specs.SheetPart.{formula_entries, LieInSheet, LackUnwanted};
 ghost use Rattle.xlsx_cells.specs.StyleIds.{HoldsIds};
-ghost use Rattle.xlsx_cells.specs.Stream.{stream, IsStreaming, StandsBehind, data_ahead};
+ghost use Rattle.xlsx_cells.specs.Stream.{stream, IsGoing, StandsBehind, data_ahead};
 ghost use Rattle.xlsx_cells.specs.Stream.{are_closed_ahead};
 
-use crate::cell_read::CellRead;
+use crate::cell_read::CellText;
 use crate::children::Asked;
 use crate::sheet_cursor::SheetCursor;
 use cell_data::{Cell, Data, DataRef};
@@ -113,7 +113,7 @@ pub fn collect<P: Package>(
     sheet: &mut SheetCursor,
     asked: Asked<'_>,
 ) -> Result<SheetCells, XlsxError>
-    requires streaming { IsStreaming (stream (P.state «package».old) sheet.old) }
+    requires going { IsGoing (stream (P.state «package».old) sheet.old) }
     requires fresh { StandsBehind [] [] (stream (P.state «package».old) sheet.old) }
     ensures reads { let old = stream (P.state «package».old) sheet.old in
         let new = stream (P.state «package».new) sheet.new in
@@ -133,6 +133,8 @@ pub fn collect<P: Package>(
     ensures styles { let old = stream (P.state «package».old) sheet.old in
         old.reading.source.is_told ≡ true → asked.entry.wants.styles ≡ true → IfOk result (λ cells.
         HoldsIds asked.entry.style_count (data_ahead old) cells.style_ids.items) }
+    ensures unwanted { IfOk result (λ cells. LackUnwanted asked.entry.wants cells.values.items
+        cells.formulas.items cells.style_ids.items) }
     ensures err { let old = stream (P.state «package».old) sheet.old in
         let new = stream (P.state «package».new) sheet.new in
         IfErr result (DataFails asked.entry.wants (grounds_of asked.entry.book) old new) }
@@ -144,15 +146,15 @@ pub fn collect<P: Package>(
         formulas: Vec::new(alloc),
         style_ids: Vec::new(alloc),
     };
-    'cells: while let Some(read) = sheet.next(package, asked)? {
-        let CellRead {
+    'cells: while let Some(found) = sheet.next_text(package, asked)? {
+        let CellText {
             pos,
             value,
-            formula,
+            text,
             style_id,
-        } = read;
+        } = found;
         keep_value(alloc, &mut cells.values, pos, value, asked.book.strings)?;
-        keep_formula(&mut cells.formulas, pos, formula)?;
+        keep_formula(&mut cells.formulas, pos, text)?;
         keep_id(&mut cells.style_ids, pos, style_id, asked.style_count)?;
     }
     Ok(cells)

@@ -1,23 +1,25 @@
 ghost use Rattle.std.specs.Prelude.{◌≡◌, List, [], length, true, false, None, IfOk, OnOk, IfErr};
-ghost use Rattle.std.specs.Prelude.{IfSome, IfNone};
+ghost use Rattle.std.specs.Prelude.{IfSome, IfNone, IsErrAnd, is_err};
 ghost use Rattle.part_events.specs.Package.{UsesPackage, LeavesPackage, part_of, event_count};
 ghost use Rattle.xlsx_cells.specs.Head.{IsHeadError};
 ghost use Rattle.xlsx_cells.specs.SheetPart.{EntersData, OpenDataFails};
 ghost use Rattle.part_events.specs.Reading.{ReadsPart, open_elements};
 ghost use Rattle.cell_styles.specs.StyleMap.{is_explicit};
-ghost use Rattle.xlsx_error.specs.declared.error.XlsxError.TheVariants.{Io};
+ghost use Rattle.xlsx_error.specs.declared.error.XlsxError.TheVariants.{Io, Failed};
 ghost use Rattle.xlsx_values.specs.Book.{grounds_of};
 ghost use Rattle.xlsx_formulas.specs.Formula.{FormulaText};
 ghost use Rattle.xlsx_formulas.specs.Kept.{AreMasters};
 ghost use Rattle.xlsx_cells.specs.Counting.{AreKept};
 ghost use Rattle.xlsx_cells.specs.Ends.{reads_children};
-ghost use Rattle.xlsx_cells.specs.CellErrors.{IsCellError, IsStyledError};
+ghost use Rattle.xlsx_cells.specs.CellErrors.{IsStepError, IsStyledStepError};
 ghost use Rattle.xlsx_cells.specs.Marks.{Mark};
-ghost use Rattle.xlsx_cells.specs.Stream.{stream, IsStreaming, StandsBehind, StandsAfter};
-ghost use Rattle.xlsx_cells.specs.Stream.{TakesNext, NextCellFails};
-ghost use Rattle.xlsx_cells.specs.StyleSteps.{StandsStyled, TakesStyled, StyledStepFails};
+ghost use Rattle.xlsx_cells.specs.Position.{NoCell};
+ghost use Rattle.xlsx_cells.specs.Stream.{stream, IsStreaming, StandsBehind, StandsTo, TakesEach};
+ghost use Rattle.xlsx_cells.specs.Stream.{IsRead, IsWritten, NextFails, RestsAtEnd};
+ghost use Rattle.xlsx_cells.specs.Stream.{LacksUnwanted, LacksUnwantedText};
+ghost use Rattle.xlsx_cells.specs.StyleSteps.{IsUnstyled, IsStyled, place_of, StyledFails};
 
-use crate::cell_read::{CellRead, read_cell};
+use crate::cell_read::{CellRead, CellText, read_cell};
 use crate::children::{Asked, Wants};
 use crate::counters::Counters;
 use crate::finding::find_cell;
@@ -29,13 +31,17 @@ use xlsx_error::XlsxError;
 use xlsx_formulas::Masters;
 use xlsx_values::Book;
 
-/// Where reading stands in a sheet's data: behind the cells that were taken.
+/// Where reading stands in a sheet's data: behind the cells that were taken. After the end of the
+/// data each call answers None, and after a refusal `Failed`.
 #[derive(Drop)]
 pub struct SheetCursor {
     cursor: Cursor,
     base: usize,
     counters: Counters,
     masters: Masters,
+    done: bool,
+    /// Whether a call was refused, or is under way.
+    failed: bool,
 }
 
 impl SheetCursor {
@@ -45,6 +51,8 @@ impl SheetCursor {
         ensures base { result.base ≡ length (open_elements cursor) }
         ensures counters { AreKept [] result.counters }
         ensures masters { AreMasters [] result.masters }
+        ensures done { result.done ≡ false }
+        ensures failed { result.failed ≡ false }
     {
         let base = cursor.depth();
         SheetCursor {
@@ -52,11 +60,13 @@ impl SheetCursor {
             base,
             counters: Counters::new(),
             masters: Masters::new(alloc),
+            done: false,
+            failed: false,
         }
     }
 
     /// Takes the next cell of the sheet's data, with what is asked for. Answers None at the end of
-    /// the data.
+    /// the data and from then on, and `Failed` after a refusal.
     ///
     /// An `r` that names nothing is refused by the fault of its text. A cell without one past the
     /// last row or column is `RowNumberOverflow` or `ColumnNumberOverflow`. Attributes that end in
@@ -73,36 +83,126 @@ impl SheetCursor {
         asked: Asked<'_>,
     ) -> Result<Option<CellRead>, XlsxError>
         requires { IsStreaming (stream (P.state «package».old) self.old) }
+        ensures streaming { IsStreaming (stream (P.state «package».new) self.new) }
         ensures reads { let old = stream (P.state «package».old) self.old in
             let new = stream (P.state «package».new) self.new in
             ReadsPart Io result old.reading new.reading }
+        ensures rests { RestsAtEnd (stream (P.state «package».old) self.old)
+            (stream (P.state «package».new) self.new) }
         ensures stands { let old = stream (P.state «package».old) self.old in
             let new = stream (P.state «package».new) self.new in
-            IfOk result (λ found. StandsAfter found old new) }
+            IfOk result (λ found. StandsTo (λ read. read.pos) found old new) }
+        ensures takes { let old = stream (P.state «package».old) self.old in
+            let new = stream (P.state «package».new) self.new in
+            let fact = IsRead asked.entry.wants asked.entry.keeps_masters
+            (grounds_of asked.entry.book) in
+            old.reading.source.is_told ≡ true → (before : List Mark)
+            (earlier : List FormulaText) → StandsBehind before earlier old →
+            IfOk result (λ found. TakesEach NoCell fact before earlier found old new) }
+        ensures unwanted { IfOk result (λ found. IfSome found (LacksUnwanted asked.entry.wants)) }
+        ensures err { let old = stream (P.state «package».old) self.old in
+            let new = stream (P.state «package».new) self.new in
+            IfErr result
+            (NextFails asked.entry.wants (grounds_of asked.entry.book) old new.reading) }
+        ensures kind { IfErr result IsStepError }
+        ensures plain { reads_children asked.entry.wants ≡ false →
+            IfErr result IsStyledStepError }
+        ensures after { self.old.failed ≡ true → IsErrAnd result (λ error. error ≡ Failed) }
+        ensures failed { self.new.failed ≡ is_err result }
+    {
+        if self.failed {
+            return Err(XlsxError::Failed);
+        }
+        if self.done {
+            return Ok(None);
+        }
+        self.failed = true;
+        let alloc = self.cursor.alloc();
+        let found = find_cell(package, &mut self.cursor, self.base, &mut self.counters)?;
+        let Some(pos) = found else {
+            self.done = true;
+            self.failed = false;
+            return Ok(None);
+        };
+        let read = read_cell(
+            alloc,
+            package,
+            &mut self.cursor,
+            asked,
+            pos,
+            &mut self.masters,
+        )?;
+        self.failed = false;
+        Ok(Some(read))
+    }
+
+    /// Takes the next cell as `next` does, with the text of its formula: a derived one is moved
+    /// from its group's to the cell. The formulas of groups are kept for later cells.
+    pub fn next_text<P: Package>(
+        &mut self,
+        package: &mut P,
+        asked: Asked<'_>,
+    ) -> Result<Option<CellText>, XlsxError>
+        requires { IsStreaming (stream (P.state «package».old) self.old) }
+        ensures streaming { IsStreaming (stream (P.state «package».new) self.new) }
+        ensures reads { let old = stream (P.state «package».old) self.old in
+            let new = stream (P.state «package».new) self.new in
+            ReadsPart Io result old.reading new.reading }
+        ensures rests { RestsAtEnd (stream (P.state «package».old) self.old)
+            (stream (P.state «package».new) self.new) }
+        ensures stands { let old = stream (P.state «package».old) self.old in
+            let new = stream (P.state «package».new) self.new in
+            IfOk result (λ found. StandsTo (λ own. own.pos) found old new) }
         ensures takes { let old = stream (P.state «package».old) self.old in
             let new = stream (P.state «package».new) self.new in
             let wants = asked.entry.wants in
             let grounds = grounds_of asked.entry.book in
             old.reading.source.is_told ≡ true → (before : List Mark)
             (earlier : List FormulaText) → StandsBehind before earlier old →
-            IfOk result (λ found. TakesNext wants grounds before earlier found old new) }
+            IfOk result (λ found.
+            TakesEach NoCell (IsWritten wants grounds earlier) before earlier found old new) }
+        ensures unwanted { IfOk result (λ found.
+            IfSome found (LacksUnwantedText asked.entry.wants)) }
         ensures err { let old = stream (P.state «package».old) self.old in
             let new = stream (P.state «package».new) self.new in
-            IfErr result (NextCellFails asked.entry.wants (grounds_of asked.entry.book) old new) }
-        ensures kind { IfErr result IsCellError }
-        ensures plain { reads_children asked.entry.wants ≡ false → IfErr result IsStyledError }
+            IfErr result
+            (NextFails asked.entry.wants (grounds_of asked.entry.book) old new.reading) }
+        ensures kind { IfErr result IsStepError }
+        ensures plain { reads_children asked.entry.wants ≡ false →
+            IfErr result IsStyledStepError }
+        ensures after { self.old.failed ≡ true → IsErrAnd result (λ error. error ≡ Failed) }
+        ensures failed { self.new.failed ≡ is_err result }
     {
-        let alloc = self.cursor.alloc();
-        let base = self.base;
-        let Some(pos) = find_cell(package, &mut self.cursor, base, &mut self.counters)? else {
+        let asked = Asked {
+            wants: asked.wants,
+            book: asked.book,
+            style_count: asked.style_count,
+            keeps_masters: true,
+        };
+        let Some(read) = self.next(package, asked)? else {
             return Ok(None);
         };
-        let masters = &mut self.masters;
-        Ok(Some(read_cell(alloc, package, &mut self.cursor, asked, pos, masters)?))
+        let CellRead {
+            pos,
+            value,
+            formula,
+            style_id,
+        } = read;
+        self.failed = true;
+        let alloc = self.cursor.alloc();
+        let text = self.masters.cell_formula(alloc, formula, pos)?;
+        self.failed = false;
+        Ok(Some(CellText {
+            pos,
+            value,
+            text,
+            style_id,
+        }))
     }
 
     /// Takes the next cell of the sheet's data whose style id is above 0 and below the number of
-    /// styles, and answers its row, its column and this id. Answers None at the end of the data.
+    /// styles, and answers its row, its column and this id. Answers None at the end of the data and
+    /// from then on, and `Failed` after a refusal.
     ///
     /// Rows and positions are refused as by `next`, and attributes that end in a fault and have no
     /// `s` as `XmlAttr`. What stands in cells is not read. A part that ends in a cell is
@@ -112,39 +212,49 @@ impl SheetCursor {
     pub fn next_styled<P: Package>(
         &mut self,
         package: &mut P,
+        book: Book<'_>,
         style_count: usize,
     ) -> Result<Option<(u32, u32, usize)>, XlsxError>
         requires { IsStreaming (stream (P.state «package».old) self.old) }
+        ensures streaming { IsStreaming (stream (P.state «package».new) self.new) }
         ensures reads { let old = stream (P.state «package».old) self.old in
             let new = stream (P.state «package».new) self.new in
             ReadsPart Io result old.reading new.reading }
+        ensures rests { RestsAtEnd (stream (P.state «package».old) self.old)
+            (stream (P.state «package».new) self.new) }
         ensures stands { let old = stream (P.state «package».old) self.old in
             let new = stream (P.state «package».new) self.new in
-            IfOk result (λ found. StandsStyled found old new) }
+            IfOk result (λ found. StandsTo place_of found old new) }
         ensures counts { IfOk result (λ found.
             IfSome found (λ own. is_explicit style_count own ≡ true)) }
         ensures takes { let old = stream (P.state «package».old) self.old in
             let new = stream (P.state «package».new) self.new in
             old.reading.source.is_told ≡ true → (before : List Mark)
             (earlier : List FormulaText) → StandsBehind before earlier old →
-            IfOk result (λ found. TakesStyled style_count before earlier found old new) }
+            IfOk result (λ found.
+            TakesEach (IsUnstyled style_count) IsStyled before earlier found old new) }
         ensures err { let old = stream (P.state «package».old) self.old in
             let new = stream (P.state «package».new) self.new in
-            IfErr result (StyledStepFails style_count old new) }
-        ensures kind { IfErr result IsStyledError }
+            IfErr result (StyledFails style_count old new.reading) }
+        ensures kind { IfErr result IsStyledStepError }
+        ensures after { self.old.failed ≡ true → IsErrAnd result (λ error. error ≡ Failed) }
+        ensures failed { self.new.failed ≡ is_err result }
     {
+        if self.failed {
+            return Err(XlsxError::Failed);
+        }
+        if self.done {
+            return Ok(None);
+        }
         let asked = Asked {
             wants: Wants {
                 values: false,
                 formulas: false,
                 styles: true,
             },
-            book: Book {
-                strings: &[],
-                formats: &[],
-                is_1904: false,
-            },
+            book,
             style_count,
+            keeps_masters: false,
         };
         'cells: while let Some(read) = self.next(package, asked)? {
             let CellRead { pos, style_id, .. } = read;

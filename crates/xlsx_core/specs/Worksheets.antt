@@ -22,11 +22,11 @@ use Rattle.cell_styles.specs.StyleMap.{StyledCell, StyleMap, styles_of}
 use Rattle.cell_styles.specs.declared.style.Style.{Style}
 use Rattle.xlsx_sections.specs.PartSection.{PartSection, section_in, inside_of, has_end}
 use Rattle.xlsx_values.specs.Value.{Grounds}
-use Rattle.xlsx_cells.specs.CellsReader.{Flow, IsFlowing}
 use Rattle.xlsx_cells.specs.CellErrors.{IsStyledError}
 use Rattle.xlsx_cells.specs.Head.{dimensions_in, HasNoData, HasSoundDimensions, other_in}
 use Rattle.xlsx_cells.specs.Head.{IsHeadError}
 use Rattle.xlsx_cells.specs.SheetPart.{EntersData, HoldsValues, HoldsFormulas}
+use Rattle.xlsx_cells.specs.Stream.{Stream, IsGoing}
 use Rattle.xlsx_cells.specs.StyleIds.{ids_in, HoldsIds}
 use Rattle.xlsx_cells.specs.declared.children.Wants.{Wants}
 use Rattle.xlsx_core.specs.Opened.{path_listed}
@@ -207,11 +207,9 @@ IsRangeError name error = IsPlacedError name error
 -- The data of the sheet whose part is at a path were entered, by a reader that has taken nothing of
 -- them.
 pub record EntersSheet
-    (path : Option (List ℕ)) (area : Dimensions) (old : PackageState) (new : Flow) : Type 0 where
-  pub flowing : IsFlowing new
-  pub going : new.is_failed ≡ false
-  pub left : new.is_done ≡ false
-  pub enters : IsSomeAnd path (λ there. EntersData there area old new.stream)
+    (path : Option (List ℕ)) (area : Dimensions) (old : PackageState) (new : Stream) : Type 0 where
+  pub going : IsGoing new
+  pub enters : IsSomeAnd path (λ there. EntersData there area old new)
 
 -- when they aren't: nothing is said of the package then, which nobody holds
 abbrev pub ReaderFails : List ℕ → Option (List ℕ) → PackageState → XlsxError → Type 0

@@ -1,7 +1,7 @@
 ghost use Rattle.std.specs.Prelude.{◌≡◌, true, false, length, IfOk, OnOk, IfErr, IsSomeAnd};
 ghost use Rattle.part_events.specs.Package.{SameParts, KeepsFaults};
 ghost use Rattle.xlsx_error.specs.declared.error.XlsxError.TheVariants.{Io};
-ghost use Rattle.xlsx_cells.specs.CellsReader.{values_alone, formulas_alone, area_held, flow_by};
+ghost use Rattle.xlsx_cells.specs.CellsReader.{values_alone, formulas_alone, area_held, stream_by};
 ghost use Rattle.xlsx_cells.specs.CellsReader.{grounds_by, styles_held, styles_alone};
 ghost use Rattle.xlsx_cells.specs.Ends.{reads_children};
 ghost use Rattle.xlsx_cells.specs.SheetPart.{value_entries, formula_entries, LieInSheet};
@@ -57,6 +57,7 @@ impl<P: Package> Xlsx<P> {
             wants,
             book,
             style_count: self.shared.style_sheet.styles.len(),
+            keeps_masters: true,
         };
         read_placed(self.alloc, &mut self.package, path, name, asked)
     }
@@ -248,7 +249,7 @@ impl<P: Package> Xlsx<P> {
         name: &str,
     ) -> Result<XlsxCellReader<'a, P>, XlsxError>
         ensures enters { IfOk result (λ reader. EntersSheet (path_of self.old name.now)
-            (area_held reader) (P.state self.old.package) (flow_by P.state reader)) }
+            (area_held reader) (P.state self.old.package) (stream_by P.state reader)) }
         ensures grounds { IfOk result (λ reader. grounds_by reader ≡ grounds_of_book self.old) }
         ensures styles { IfOk result (λ reader. styles_held reader ≡ palette_of_book self.old) }
         ensures err { IfErr result (ReaderFails name.now (path_of self.old name.now)

@@ -1,3 +1,4 @@
 pub mod Cells
 pub mod Groups
+pub mod SameMetadata
 pub mod Starts

@@ -1,3 +1,4 @@
+pub mod Described
 pub mod Formula
 pub mod Kept
 pub mod Refused

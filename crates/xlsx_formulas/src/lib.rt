@@ -2,8 +2,12 @@
 //! section 18.3.1.40).
 #![tactic(auto)]
 
+mod equality;
 mod formula;
 mod masters;
+mod metadata;
 
+pub use equality::equality_is_by_all_fields;
 pub use formula::{Formula, Share, read_formula, share_of};
 pub use masters::Masters;
+pub use metadata::{XlsxFormulaMetadata, metadata_of};

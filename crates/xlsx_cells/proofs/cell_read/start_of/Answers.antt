@@ -27,6 +27,6 @@ returns-clause-styled c = λ wanted.
     ∷ option_copied c.in_ok-style.typ ∷ []) =
     ap (lookup (codes "r" ∷ codes "s" ∷ codes "t" ∷ [])) (sym c.get_attrs-attributes_raw.ensures)
     ∙ c.in_ok-style.ensures in
-    rw (c.wanted_id.ensures wanted)
+    rw (c.wanted_id.ensures.styled wanted)
     (id_among (tag_of c.args.tag) (option_copied c.in_ok-style.field-0-0)
     (option_copied c.in_ok-style.style) (option_copied c.in_ok-style.typ) found)

@@ -8,20 +8,19 @@ use Rattle.part_events.specs.Walk.{inside, element_at}
 use Rattle.xlsx_sections.specs.Elements.{end_outside, FindsElementIn}
 use Rattle.xlsx_sections.specs.PartSection.{Never, SectionFails, StandsAtStart}
 use Rattle.xlsx_sections.specs.Refusal.{in_element}
-use Rattle.xlsx_sections.proofs.ElementsRead.{IsElementFound, IsElementPassed, element_found}
+use Rattle.xlsx_sections.proofs.ElementsRead.{IsElementFound, IsElementPassed, element_there}
 use Rattle.xlsx_sections.proofs.ElementsRead.{element_passed, element_refused, own_inside}
 use Rattle.xlsx_sections.proofs.Kept.{last_further, last_refused}
 use Rattle.xlsx_sections.proofs.Refused.{refused_later}
 use Rattle.xlsx_values.specs.Book.{kind_of, grounds_of}
 use Rattle.xlsx_values.specs.Value.{child_value, said_value, or_nothing}
 use Rattle.xlsx_formulas.specs.Kept.{last_seen}
-use Rattle.xlsx_cells.specs.Children.{StandsAtElement, LastStep, FormulaStep, ReadsFormulaChildren}
+use Rattle.xlsx_cells.specs.Children.{StandsAtElement, LastStep, ReadsFormulas}
 use Rattle.xlsx_cells.specs.Children.{value_kept}
 use Rattle.xlsx_cells.specs.Children.{IsChildRefused, AreChildrenRefused}
 use Rattle.xlsx_cells.specs.Ends.{end_in_child, end_in_child_element, end_in_children}
-use Rattle.xlsx_cells.proofs.ChildrenRead.{start_there, leaves_further, or_earlier_in_element}
-use Rattle.xlsx_cells.proofs.ChildrenRead.{listed_further, formulas_further, formulas_refused}
-use Rattle.xlsx_cells.proofs.ChildrenRead.{formulas_whole}
+use Rattle.xlsx_cells.proofs.ChildrenRead.{leaves_further, or_earlier_in_element}
+use Rattle.xlsx_cells.proofs.ChildrenRead.{written_further, formulas_refused, formulas_whole}
 use Rattle.xlsx_cells.proofs.children.read_children.Goals as goal
 
 pub returns-in_err-next_child_in-clause-err : goal.returns-in_err-next_child_in-clause-err
@@ -57,21 +56,17 @@ children-preserved g c =
     let format = c.args.start.now.format in
     let kind = kind_of c.args.start.now.typ in
     let place = c.in-Some.field-0 in
-    let stands : StandsAtStart is_any base (Some place) mid at =
-    rw c.in-Some.is at c.in_ok-next_child_in.ensures.stands in
-    let finds : mid.source.is_told ≡ true → FindsElementIn is_any base (Some place) mid at =
-    λ told. rw c.in-Some.is at (c.in_ok-next_child_in.ensures.found told) in
-    let first = start_there at.source.current (λ (tag : Tag). is_any tag ≡ true) stands.2 in
-    let tag = first.0 in
-    let found : IsElementFound is_any base tag place old mid at =
-    element_found is_any first.1 now.keeps c.in_ok-next_child_in.ensures.reads stands finds in
+    let there = element_there c.in-Some.is now.keeps c.in_ok-next_child_in.ensures.reads
+    c.in_ok-next_child_in.ensures.stands c.in_ok-next_child_in.ensures.found in
+    let tag = there.0 in
+    let found : IsElementFound is_any base tag place old mid at = there.2 in
     let passed : IsElementPassed is_any base tag old mid at after =
     element_passed found c.in_ok-read_child.ensures.reads c.in_ok-read_child.ensures.depth
     c.in_ok-read_child.ensures.skips in
-    let there : old.source.is_told ≡ true → at.source.is_told ≡ true =
+    let still : old.source.is_told ≡ true → at.source.is_told ≡ true =
     λ told. found.read.reads.moves.parts.is_told ∙ told in
     let element = element_at base tag at in
-    let stand : StandsAtElement element at = record { tag = first.1; inside = refl } in
+    let stand : StandsAtElement element at = record { tag = there.1; inside = refl } in
     let before : LastStep =
     record { masters = c.children.masters; last = last_seen c.children.latest.formula } in
     let behind : LastStep = record {
@@ -87,16 +82,16 @@ children-preserved g c =
           (or_earlier_in_element element (value_kept c.children.latest.value)
           (value_kept c.read_child.new.latest.value)
           (said_value grounds format kind tag element.inside)
-          (c.in_ok-read_child.ensures.value (there told) wanted element stand))
+          (c.in_ok-read_child.ensures.value (still told) wanted element stand))
           (now.value told wanted);
-      listed = λ told wanted.
-          listed_further (now.listed told wanted) (passed.elements told)
-          (c.in_ok-read_child.ensures.formula (there told) wanted element stand);
-      formulas = λ told wanted earlier kept.
-          formulas_further before behind (now.formulas told wanted earlier kept)
-          (passed.elements told)
-          (c.in_ok-read_child.ensures.formula (there told) wanted element stand);
+      formulas = λ told wanted.
+          written_further before behind (now.formulas told wanted) (passed.elements told)
+          (c.in_ok-read_child.ensures.formula (still told) wanted element stand);
       same = λ unwanted. c.in_ok-read_child.ensures.same unwanted ∙ now.same unwanted;
+      unvalued = λ unwanted.
+          c.in_ok-read_child.ensures.unvalued unwanted ∙ now.unvalued unwanted;
+      unlisted = λ unwanted.
+          c.in_ok-read_child.ensures.unlisted unwanted ∙ now.unlisted unwanted;
     }
 
 pub returns-in_err-read_child-clause-reads : goal.returns-in_err-read_child-clause-reads
@@ -121,16 +116,12 @@ returns-in_err-read_child-clause-err g c =
     let format = c.args.start.now.format in
     let kind = kind_of c.args.start.now.typ in
     let place = c.in-Some.field-0 in
-    let stands : StandsAtStart is_any base (Some place) mid at =
-    rw c.in-Some.is at c.in_ok-next_child_in.ensures.stands in
-    let finds : mid.source.is_told ≡ true → FindsElementIn is_any base (Some place) mid at =
-    λ told. rw c.in-Some.is at (c.in_ok-next_child_in.ensures.found told) in
-    let first = start_there at.source.current (λ (tag : Tag). is_any tag ≡ true) stands.2 in
-    let tag = first.0 in
-    let found : IsElementFound is_any base tag place old mid at =
-    element_found is_any first.1 now.keeps c.in_ok-next_child_in.ensures.reads stands finds in
+    let there = element_there c.in-Some.is now.keeps c.in_ok-next_child_in.ensures.reads
+    c.in_ok-next_child_in.ensures.stands c.in_ok-next_child_in.ensures.found in
+    let tag = there.0 in
+    let found : IsElementFound is_any base tag place old mid at = there.2 in
     let element = element_at base tag at in
-    let stand : StandsAtElement element at = record { tag = first.1; inside = refl } in
+    let stand : StandsAtElement element at = record { tag = there.1; inside = refl } in
     let inner = end_in_child_element wants kind in
     let refused = AreChildrenRefused wants grounds format kind in
     let error = c.in_err-read_child.field-0.0 in
@@ -149,14 +140,14 @@ returns-in_err-read_child-clause-err g c =
       )
       | inr own ↦ inr (
         own.0,
-        formulas_refused (now.listed told own.0) (found.next told).elements
+        formulas_refused (now.formulas told own.0) (found.next told).elements
             (ap (in_element element) (rw (own_inside at) at own.1)),
       )
     ])
     (c.in_err-read_child.ensures.err element stand)))
 
 pub returns-clause-formula : goal.returns-clause-formula
-returns-clause-formula g c = λ told wanted earlier kept.
+returns-clause-formula g c = λ told wanted.
     let old = reading (g.P.Package.state c.args.package.now) c.args.cursor.now in
     let mid = reading (g.P.Package.state c.children.package) c.children.cursor in
     let new = reading (g.P.Package.state c.next_child_in.new.package) c.next_child_in.new.cursor in
@@ -165,10 +156,11 @@ returns-clause-formula g c = λ told wanted earlier kept.
     let closes : FindsElementIn is_any base None mid new =
     rw c.in_default.is at
     (c.in_ok-next_child_in.ensures.found (now.keeps.section.reads.moves.parts.is_told ∙ told)) in
-    let behind : FormulaStep =
-    record { masters = c.children.masters; text = string_bytes c.in_ok-formula.formula } in
+    let behind : LastStep = record {
+      masters = c.children.masters;
+      last = last_seen c.children.latest.formula;
+    } in
     let none : inside base old ≡ 0 = omega (arith, now.base) in
-    subst (λ (n : ℕ). ReadsFormulaChildren earlier c.args.start.now.pos (content n
-    (ahead old)) behind) none
-    (formulas_whole behind (now.formulas told wanted earlier kept) closes.elements
-    c.in_ok-formula.ensures)
+    subst (λ (n : ℕ). ReadsFormulas c.args.asked.keeps_masters (content n (ahead old))
+    c.args.masters.now behind) none
+    (formulas_whole behind (now.formulas told wanted) closes.elements)

@@ -1,4 +1,4 @@
-use Rattle.std.proofs.Common.{◌≡◌, List, true, false, length}
+use Rattle.std.proofs.Common.{◌≡◌, true, false, length, None}
 use Rattle.part_events.specs.Reading.{reading, open_elements}
 use Rattle.part_events.specs.Section.{children, is_any}
 use Rattle.part_events.specs.Walk.{section_ahead}
@@ -6,11 +6,10 @@ use Rattle.xlsx_sections.specs.Answers.{or_earlier, last_answer}
 use Rattle.xlsx_sections.specs.Elements.{KeepsElements}
 use Rattle.xlsx_values.specs.Book.{kind_of, grounds_of}
 use Rattle.xlsx_values.specs.Value.{child_value}
-use Rattle.xlsx_formulas.specs.Formula.{FormulaText, formulas_in}
-use Rattle.xlsx_formulas.specs.Kept.{last_seen, AreMasters}
-use Rattle.xlsx_formulas.proofs.Cells.{KeepsFormulas}
+use Rattle.xlsx_formulas.specs.Formula.{formulas_in}
+use Rattle.xlsx_formulas.specs.Kept.{last_seen}
 use Rattle.xlsx_cells.specs.Children.{value_kept}
-use Rattle.xlsx_cells.proofs.ChildrenRead.{ListsFormulas}
+use Rattle.xlsx_cells.proofs.ChildrenRead.{HasWritten}
 use Rattle.xlsx_cells.proofs.children.read_children.Given as goal
 
 abbrev pub invariant-children : goal.invariant-children
@@ -28,14 +27,13 @@ invariant-children g l =
           (children (section_ahead l.base now)))
           ≡ last_answer (child_value grounds l.start.format kind)
           (children (section_ahead l.base old));
-      listed : old.source.is_told ≡ true → l.asked.wants.formulas ≡ true →
-          ListsFormulas (formulas_in (section_ahead l.base old))
-          (children (section_ahead l.base now));
       formulas : old.source.is_told ≡ true → l.asked.wants.formulas ≡ true →
-          (earlier : List FormulaText) → AreMasters earlier l.fn.masters →
-          KeepsFormulas earlier l.start.pos (formulas_in (section_ahead l.base old))
-          (children (section_ahead l.base now)) l.masters (last_seen l.latest.formula);
+          HasWritten l.asked.keeps_masters (formulas_in (section_ahead l.base old))
+          (children (section_ahead l.base now)) l.fn.masters l.masters
+          (last_seen l.latest.formula);
       same : l.asked.wants.formulas ≡ false → l.masters ≡ l.fn.masters;
+      unvalued : l.asked.wants.values ≡ false → l.latest.value ≡ None;
+      unlisted : l.asked.wants.formulas ≡ false → l.latest.formula ≡ None;
     }
 
 abbrev pub decreases-children : goal.decreases-children

@@ -1,4 +1,4 @@
-use Rattle.std.proofs.Common.{◌≡◌, ◌∷◌, ◌++◌, ◌∙◌, List, None, Err, true, sym, ap, subst, refl}
+use Rattle.std.proofs.Common.{◌≡◌, ◌∷◌, ◌++◌, ◌∙◌, List, None, Err, true, sym, ap, subst, refl, inl}
 use Rattle.std.proofs.Common.{codes}
 use Rattle.std.proofs.lemmas.Result.{err_from_is_err_and}
 use Rattle.std.specs.Prelude.{option_map}
@@ -13,14 +13,15 @@ use Rattle.xlsx_sections.specs.Elements.{end_among, end_outside}
 use Rattle.xlsx_sections.specs.Refusal.{Refusal}
 use Rattle.xlsx_sections.proofs.ElementsRead.{keeps_none}
 use Rattle.xlsx_cells.specs.Counting.{AreKept, IsRowRefused}
-use Rattle.xlsx_cells.specs.Finding.{IsTakenRefused, IsMisplaced, IsStepRefused, marks_left}
+use Rattle.xlsx_cells.specs.Finding.{IsMarkRefused, IsMisplaced, IsStepRefused, marks_left}
 use Rattle.xlsx_cells.specs.Marks.{Mark, cell_start, is_cell, marks, marks_of, behind_marks}
-use Rattle.xlsx_cells.specs.Position.{cell_position}
+use Rattle.xlsx_cells.specs.Position.{cell_position, NoCell}
+use Rattle.xlsx_cells.proofs.Fronts.{front_same, refused_behind_front}
 use Rattle.xlsx_cells.proofs.MarksAhead.{marks_event}
 use Rattle.xlsx_cells.proofs.Passing.{section_on, same_further, passed_further, cell_event}
 use Rattle.xlsx_cells.proofs.Passing.{same_none, passes_none}
 use Rattle.xlsx_cells.proofs.Passing.{cell_left, cell_next, start_is_deep}
-use Rattle.xlsx_cells.proofs.Refusing.{start_refused, taken_behind, row_refused}
+use Rattle.xlsx_cells.proofs.Refusing.{start_refused, or_memory, row_refused}
 use Rattle.xlsx_cells.proofs.finding.find_cell.Goals as goal
 
 pub events-init : goal.events-init
@@ -99,19 +100,18 @@ returns-in_err-pass-clause-err g c =
     c.from_residual-in_err-pass.ensures.1 in
     rw (p.1, p.2)
     (λ inner. start_refused base old (end_among is_cell (codes "sheetData") inner)
-    (IsRowRefused event) (IsStepRefused IsMisplaced c.args.counters.now) new
+    (IsRowRefused event) (IsStepRefused NoCell IsMisplaced c.args.counters.now) new
     c.in_err-pass.field-0.0
     (λ told refusal is before kept.
     let been = now.passed told before kept in
     let next : marks_left base mid ≡ marks_of event ++ marks_left base new =
     ap marks (left (now.section.reads.moves.parts.is_told ∙ told))
     ∙ marks_event event (section_ahead base new) none in
-    subst (λ (all : List Mark). IsTakenRefused IsMisplaced before all refusal)
-    (sym (been.marks ∙ ap (λ (others : List Mark). been.passed ++ others) next))
-    (taken_behind IsMisplaced been.passed before (marks_of event ++ marks_left base new) refusal
-    been.rows (row_refused IsMisplaced event (behind_marks been.passed before)
-    (marks_left base new) refusal is)))
-    c.in_err-pass.ensures.err)
+    let behind = behind_marks been.front.passed before in
+    refused_behind_front IsMisplaced refusal been.front
+    (subst (λ (all : List Mark). IsMarkRefused NoCell IsMisplaced behind all refusal) (sym next)
+    (row_refused IsMisplaced event behind (marks_left base new) refusal is)))
+    (or_memory (IsRowRefused event) c.in_err-pass.field-0.0 c.in_err-pass.ensures.err))
 
 pub returns-in_err-place-clause-err : goal.returns-in_err-place-clause-err
 returns-in_err-place-clause-err g c =
@@ -128,23 +128,24 @@ returns-in_err-place-clause-err g c =
     let steps : mid.source.is_told ≡ true → StepsInside base Found mid new =
     λ told. rw c.in-Found.is at (c.in_ok-next_inside.ensures.inside told) in
     let current : start tag ≡ new.source.current = sym first.0 ∙ c.event-event.ensures in
+    let misplaced = λ (refusal : Refusal). (before : List Mark) → AreKept before c.events.counters
+    → cell_position before tag ≡ Err refusal in
     let p = err_from_is_err_and c.from_residual-in_err-place.result
     c.from_residual-in_err-place.ensures.1 in
     rw (p.1, p.2)
-    (λ inner. start_refused base old (end_among is_cell (codes "sheetData") inner)
-    (λ (refusal : Refusal). (before : List Mark) → AreKept before c.events.counters
-    → cell_position before tag ≡ Err refusal) (IsStepRefused IsMisplaced c.args.counters.now) new
-    c.in_err-place.field-0.0
+    (λ inner. start_refused base old (end_among is_cell (codes "sheetData") inner) misplaced
+    (IsStepRefused NoCell IsMisplaced c.args.counters.now) new c.in_err-place.field-0.0
     (λ told refusal is before kept.
     let been = now.passed told before kept in
     let there = now.section.reads.moves.parts.is_told ∙ told in
-    let next = cell_next base tag mid new first.1 (cell_left base tag mid new current (steps there))
+    let behind = behind_marks been.front.passed before in
+    let next = ap marks (cell_left base tag mid new current (steps there))
+    ∙ cell_next base tag new first.1
     (start_is_deep base tag mid new current stands now.section.within) in
-    subst (λ (all : List Mark). IsTakenRefused IsMisplaced before all refusal)
-    (sym (been.marks ∙ ap (λ (others : List Mark). been.passed ++ others) next))
-    (taken_behind IsMisplaced been.passed before _ refusal been.rows
-    (is (behind_marks been.passed before) been.counts)))
-    c.in_err-place.ensures.err)
+    refused_behind_front IsMisplaced refusal been.front
+    (subst (λ (all : List Mark). IsMarkRefused NoCell IsMisplaced behind all refusal) (sym next)
+    (inl (is behind been.counts))))
+    (or_memory misplaced c.in_err-place.field-0.0 c.in_err-place.ensures.err))
 
 pub returns-in-Some-clause-element : goal.returns-in-Some-clause-element
 returns-in-Some-clause-element g c = λ told.
@@ -184,17 +185,12 @@ returns-in-Some-clause-finds g c = λ told before kept.
     (now.section.reads.moves.parts.is_told ∙ told)) in
     let current : start tag ≡ new.source.current = sym first.0 ∙ c.event-event.ensures in
     record {
-      passed = been.passed;
-      rows = been.rows;
       tag = tag;
       current = current;
-      marks = been.marks ∙ ap (λ (others : List Mark). been.passed ++ others)
-          (cell_next base tag mid new first.1 (cell_left base tag mid new current steps)
-          (start_is_deep base tag mid new current stands now.section.within));
-      taken = been.taken;
-      events = been.events ∙ ap (λ (events : List Event). been.taken ++ events)
-          (cell_left base tag mid new current steps);
-      placed = c.in_ok-place.ensures.position (behind_marks been.passed before) been.counts;
-      counts = c.in_ok-place.ensures.counts (behind_marks been.passed before)
+      front = front_same been.front (cell_left base tag mid new current steps);
+      next = cell_next base tag new first.1
+          (start_is_deep base tag mid new current stands now.section.within);
+      placed = c.in_ok-place.ensures.position (behind_marks been.front.passed before) been.counts;
+      counts = c.in_ok-place.ensures.counts (behind_marks been.front.passed before)
           (element_at base tag new) been.counts refl;
     }

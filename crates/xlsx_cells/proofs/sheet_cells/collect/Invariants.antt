@@ -5,8 +5,8 @@ use Rattle.cell_styles.specs.StyleMap.{IsOnSheet}
 use Rattle.xlsx_sections.specs.Elements.{KeepsElements}
 use Rattle.xlsx_values.specs.Book.{grounds_of}
 use Rattle.xlsx_cells.specs.Marks.{is_cell}
-use Rattle.xlsx_cells.specs.SheetPart.{value_entries, formula_entries}
-use Rattle.xlsx_cells.specs.Stream.{stream, IsStreaming}
+use Rattle.xlsx_cells.specs.SheetPart.{value_entries, formula_entries, LackUnwanted}
+use Rattle.xlsx_cells.specs.Stream.{stream, IsGoing}
 use Rattle.xlsx_cells.proofs.Collecting.{HasCollected}
 use Rattle.xlsx_cells.proofs.sheet_cells.collect.Given as goal
 
@@ -17,10 +17,12 @@ invariant-cells g l =
     record {
       base : now.base ≡ old.base;
       keeps : KeepsElements is_cell old.base old.reading now.reading;
-      streaming : IsStreaming now;
+      going : IsGoing now;
       values_inside : All IsInSheet l.cells.values.items;
       formulas_inside : All IsInSheet l.cells.formulas.items;
       ids_inside : All IsOnSheet l.cells.style_ids.items;
+      unwanted : LackUnwanted l.asked.wants l.cells.values.items l.cells.formulas.items
+          l.cells.style_ids.items;
       collected : old.reading.source.is_told ≡ true →
           HasCollected l.asked.wants (grounds_of l.asked.book) l.asked.style_count old now
           (value_entries l.cells.values.items) (formula_entries l.cells.formulas.items)

@@ -19,6 +19,8 @@ returns-clause-enters g c =
       base = sheet.base;
       counters = sheet.counters;
       masters = sheet.masters;
+      is_done = sheet.done;
+      is_failed = sheet.failed;
     } in
     let opening : old.is_told ≡ true → Opens c.args.path.now true old opened.source =
     λ told. rw c.if-not-branch.false at (c.in_ok-open.ensures.opens told) in
@@ -32,5 +34,6 @@ returns-clause-enters g c =
     c.in_ok-open.ensures.opens entered.ensures.reads entered.ensures.element
     entered.ensures.found)
     c.new-sheet.ensures.base c.new-sheet.ensures.counters c.new-sheet.ensures.masters
+    c.new-sheet.ensures.done c.new-sheet.ensures.failed
     (λ told. (opening told).past) (λ told. entered.ensures.reads.stays.part (still told))
     (λ told. entered.ensures.dimensions (still told)))

@@ -1,13 +1,14 @@
-use Rattle.std.proofs.Common.{◌≡◌, ℕ, [], Some, false, refl, ◌∙◌, subst, arith}
+use Rattle.std.proofs.Common.{◌≡◌, ℕ, Some, false, refl, ◌∙◌, subst, arith}
 use Rattle.std.proofs.lemmas.Bool.Decides.{nat_tests}
 use Rattle.std.proofs.lemmas.Result.{err_from_is_err_and}
 use Rattle.cell_styles.specs.StyleMap.{is_explicit}
 use Rattle.xlsx_sections.specs.Elements.{KeepsElements}
 use Rattle.xlsx_sections.proofs.ElementsRead.{keeps_none}
-use Rattle.xlsx_values.specs.Value.{Grounds}
+use Rattle.xlsx_values.specs.Book.{grounds_of}
 use Rattle.xlsx_cells.specs.Marks.{is_cell, behind_marks}
-use Rattle.xlsx_cells.specs.Stream.{stream, StandsAfter}
+use Rattle.xlsx_cells.specs.Stream.{stream, IsGoing, PassesCell}
 use Rattle.xlsx_cells.proofs.Collecting.{keeps_on}
+use Rattle.xlsx_cells.proofs.Flowing.{is_going}
 use Rattle.xlsx_cells.proofs.Unstyled.{skipped_further, styled_taken, unstyled_ends}
 use Rattle.xlsx_cells.proofs.Unstyled.{skipped_none, styled_refused}
 use Rattle.xlsx_cells.proofs.sheet_cursor.SheetCursor.next_styled.Goals as goal
@@ -17,11 +18,13 @@ use Rattle.xlsx_cells.proofs.sheet_cursor.SheetCursor.next_styled.Goals.{else-st
 pub cells-init : goal.cells-init
 cells-init g c =
     let old = stream (g.P.Package.state c.args.package.now) c.args.self.now in
+    let going : IsGoing old = is_going old c.requires c.if-self.false c.if-self-2.false in
     record {
       base = refl;
       further = omega arith;
-      keeps = keeps_none is_cell old.base old.reading c.requires.reading c.requires.within;
-      streaming = c.requires;
+      keeps = keeps_none is_cell old.base old.reading going.reading going.within;
+      first = going;
+      going = going;
       skipped = λ told before earlier kept.
           skipped_none c.args.style_count before earlier old kept;
     }
@@ -33,10 +36,10 @@ returns-in_err-read-clause-err g c =
     let new = stream (g.P.Package.state c.next.new.package) c.next.new.self in
     let now = c.cells.invariant in
     let p = err_from_is_err_and c.from_residual.result c.from_residual.ensures.1 in
-    let none : Grounds = record { strings = []; formats = []; is_1904 = false } in
     rw (p.1, p.2)
-    (styled_refused c.args.style_count none old mid new c.in_err-read.field-0.0 now.base now.keeps
-    now.skipped c.in_err-read.ensures.err)
+    (styled_refused c.args.style_count (grounds_of c.args.book) old mid new
+    c.in_err-read.field-0.0 now.first now.going now.base now.keeps now.skipped
+    c.in_err-read.ensures.err)
 
 pub returns-then-style_id-style_count-clause-takes :
     goal.returns-then-style_id-style_count-clause-takes
@@ -48,7 +51,7 @@ returns-then-style_id-style_count-clause-takes g c = λ told before earlier kept
     let been = now.skipped told before earlier kept in
     styled_taken c.args.style_count before earlier _ old mid new c.in-Some.read been
     (rw c.in-Some.is at (c.in_ok-read.ensures.takes (now.keeps.section.reads.moves.parts.is_told
-    ∙ told) (behind_marks been.passed before) earlier been.stands))
+    ∙ told) (behind_marks been.front.passed before) earlier been.stands))
 
 pub cells-preserved : goal.cells-preserved
 cells-preserved g c =
@@ -57,8 +60,7 @@ cells-preserved g c =
     let new = stream (g.P.Package.state c.next.new.package) c.next.new.self in
     let now = c.cells.invariant in
     let read = c.in-Some.read in
-    let stands : StandsAfter (Some read) mid new =
-    rw c.in-Some.is at c.in_ok-read.ensures.stands in
+    let stands : PassesCell read.pos mid new = rw c.in-Some.is at c.in_ok-read.ensures.stands in
     let uncounted : is_explicit c.args.style_count (read.pos.0, read.pos.1, read.style_id)
     ≡ false = elim c.else-style_id-gt0.branch [
       | else-style_id-gt0-via-then-style_id-gt0+else-style_id-style_count w ↦
@@ -67,21 +69,24 @@ cells-preserved g c =
           grind (arith, nat_tests, w.if-style_id-gt0.false)
     ] in
     record {
-      base = stands.1 ∙ now.base;
-      further = omega (arith, now.further, stands.2);
+      base = stands.base ∙ now.base;
+      further = omega (arith, now.further, stands.further);
       keeps = keeps_on now.keeps
-          (subst (λ (n : ℕ). KeepsElements is_cell n mid.reading new.reading) now.base stands.3);
-      streaming = stands.0;
+          (subst (λ (n : ℕ). KeepsElements is_cell n mid.reading new.reading) now.base
+          stands.elements);
+      first = now.first;
+      going = stands.goes_on;
       skipped = λ told before earlier kept.
           let been = now.skipped told before earlier kept in
           skipped_further c.args.style_count before earlier _ old mid new read been
           (rw c.in-Some.is at (c.in_ok-read.ensures.takes
-          (now.keeps.section.reads.moves.parts.is_told ∙ told) (behind_marks been.passed before)
+          (now.keeps.section.reads.moves.parts.is_told ∙ told)
+          (behind_marks been.front.passed before)
           earlier been.stands)) uncounted;
     }
 
 pub returns-clause-takes : goal.returns-clause-takes
-returns-clause-takes g c = λ told before earlier kept.
+returns-clause-takes g c = λ told before earlier kept going.
     let old = stream (g.P.Package.state c.args.package.now) c.args.self.now in
     let mid = stream (g.P.Package.state c.cells.package) c.cells.self in
     let new = stream (g.P.Package.state c.next.new.package) c.next.new.self in
@@ -90,4 +95,4 @@ returns-clause-takes g c = λ told before earlier kept.
     unstyled_ends c.args.style_count before earlier old mid new been
     (rw now.base (now.keeps.behind told))
     (rw c.in_default.is at (c.in_ok-read.ensures.takes (now.keeps.section.reads.moves.parts.is_told
-    ∙ told) (behind_marks been.passed before) earlier been.stands))
+    ∙ told) (behind_marks been.front.passed before) earlier been.stands) now.going.done)

@@ -1,0 +1,57 @@
+use Rattle.std.proofs.Common.{◌≡◌, Some, refl, ◌∙◌, Ok, ◌∷◌, [], subst}
+use Rattle.std.proofs.lemmas.List.{map-append}
+use Rattle.xlsx_values.specs.Value.{Grounds, cell_value}
+use Rattle.xlsx_cells.specs.CellsReader.{stream_by, grounds_by, IsValued}
+use Rattle.xlsx_cells.specs.Position.{NoCell}
+use Rattle.xlsx_cells.specs.Stream.{PassesCell, TakesCell, EndsData}
+use Rattle.xlsx_cells.proofs.WholeReadings.{values_none, values_further, values_whole}
+use Rattle.worked_calls.specs.Taking.{value_entry}
+use Rattle.worked_calls.proofs.taking.values_taken.Goals as goal
+
+pub cells-init : goal.cells-init
+cells-init g c =
+    let old = stream_by g.P.Package.state c.args.reader.now in
+    record {
+      hold = refl;
+      still = λ told. told;
+      going = c.requires.going;
+      taken = λ told. values_none (grounds_by c.args.reader.now) old c.requires.fresh;
+    }
+
+pub cells-preserved : goal.cells-preserved
+cells-preserved g c =
+    let old = stream_by g.P.Package.state c.args.reader.now in
+    let mid = stream_by g.P.Package.state c.cells.reader in
+    let new = stream_by g.P.Package.state c.next_cell.new.self in
+    let now = c.cells.invariant in
+    let own = c.in-Some.cell in
+    let stands : PassesCell own.pos mid new = rw c.in-Some.is at c.in_ok-cell.ensures.stands in
+    record {
+      hold = c.in_ok-cell.ensures.hold.grounds ∙ now.hold;
+      still = λ told. c.in_ok-cell.ensures.reads.moves.parts.is_told ∙ now.still told;
+      going = stands.goes_on;
+      taken = λ told.
+          let been = now.taken told in
+          let takes : TakesCell NoCell been.before been.earlier mid new
+          (IsValued (grounds_by c.cells.reader) own) =
+          rw c.in-Some.is at (c.in_ok-cell.ensures.takes (now.still told) been.before been.earlier
+          been.stands) in
+          rw (c.in_ok-push.ensures, map-append value_entry c.cells.cells.items (own ∷ []))
+          (values_further (value_entry own) been takes
+          (λ before element kept is. (
+            is.placed,
+            subst (λ (grounds : Grounds). cell_value grounds element.tag element.inside
+                ≡ Ok (value_entry own).1) now.hold is.valued,
+          )));
+    }
+
+pub returns-clause-values : goal.returns-clause-values
+returns-clause-values g c = λ told.
+    let mid = stream_by g.P.Package.state c.cells.reader in
+    let new = stream_by g.P.Package.state c.next_cell.new.self in
+    let now = c.cells.invariant in
+    let been = now.taken told in
+    let ends : EndsData NoCell been.before mid new = rw c.in_default.is at
+    (c.in_ok-cell.ensures.takes (now.still told) been.before been.earlier been.stands)
+    now.going.done in
+    values_whole been ends

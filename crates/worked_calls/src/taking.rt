@@ -1,0 +1,71 @@
+ghost use Rattle.std.specs.Prelude.{◌≡◌, [], List, map, true, Ok, IfOk, IfSome};
+ghost use Rattle.xlsx_formulas.specs.Formula.{FormulaText};
+ghost use Rattle.xlsx_cells.specs.CellsReader.{stream_by, grounds_by};
+ghost use Rattle.xlsx_cells.specs.Marks.{Mark};
+ghost use Rattle.xlsx_cells.specs.Sheet.{values_in};
+ghost use Rattle.xlsx_cells.specs.Stream.{IsStreaming, IsGoing, StandsBehind, data_ahead};
+ghost use Rattle.worked_calls.specs.Taking.{value_entry, formula_entry, TakesBoth};
+
+use cell_data::{Cell, DataRef};
+use part_events::Package;
+use std::alloc::Global;
+use xlsx_cells::{XlsxCellFormula, XlsxCellReader};
+use xlsx_error::XlsxError;
+
+/// The cells of a sheet with their values, of which the reader has taken none.
+pub fn values_taken<P: Package>(
+    alloc: Global,
+    reader: &mut XlsxCellReader<'_, P>,
+) -> Result<Vec<Cell<DataRef>>, XlsxError>
+    requires going { IsGoing (stream_by P.state reader.old) }
+    requires fresh { StandsBehind [] [] (stream_by P.state reader.old) }
+    ensures values { let old = stream_by P.state reader.old in
+        old.reading.source.is_told ≡ true → IfOk result (λ cells.
+        values_in (grounds_by reader.old) (data_ahead old) ≡ Ok (map value_entry cells.items)) }
+{
+    let mut cells = Vec::new(alloc);
+    'cells: while let Some(cell) = reader.next_cell()? {
+        cells.push(cell)?;
+    }
+    Ok(cells)
+}
+
+/// The same with their formulas.
+pub fn formulas_taken<P: Package>(
+    alloc: Global,
+    reader: &mut XlsxCellReader<'_, P>,
+) -> Result<Vec<XlsxCellFormula>, XlsxError>
+    requires going { IsGoing (stream_by P.state reader.old) }
+    requires fresh { StandsBehind [] [] (stream_by P.state reader.old) }
+    ensures values { let old = stream_by P.state reader.old in
+        old.reading.source.is_told ≡ true → IfOk result (λ cells.
+        values_in (grounds_by reader.old) (data_ahead old) ≡ Ok (map formula_entry cells.items)) }
+{
+    let mut cells = Vec::new(alloc);
+    'cells: while let Some(cell) = reader.next_cell_with_formula()? {
+        cells.push(cell)?;
+    }
+    Ok(cells)
+}
+
+/// The value of the next cell, and the value and the formula of the one behind it, where there are
+/// two. Nothing behind them is read.
+pub fn two_taken<P: Package>(
+    reader: &mut XlsxCellReader<'_, P>,
+) -> Result<Option<(Cell<DataRef>, XlsxCellFormula)>, XlsxError>
+    requires { IsStreaming (stream_by P.state reader.old) }
+    ensures streaming { IsStreaming (stream_by P.state reader.new) }
+    ensures takes { let old = stream_by P.state reader.old in
+        let new = stream_by P.state reader.new in
+        old.reading.source.is_told ≡ true → (before : List Mark) (earlier : List FormulaText) →
+        StandsBehind before earlier old → IfOk result
+        (λ found. IfSome found (TakesBoth (grounds_by reader.old) before earlier old new)) }
+{
+    let Some(first) = reader.next_cell()? else {
+        return Ok(None);
+    };
+    let Some(second) = reader.next_cell_with_formula()? else {
+        return Ok(None);
+    };
+    Ok(Some((first, second)))
+}

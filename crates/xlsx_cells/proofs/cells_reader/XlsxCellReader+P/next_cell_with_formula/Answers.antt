@@ -1,0 +1,12 @@
+use Rattle.xlsx_cells.proofs.Flowing.{written_value_taken, written_as}
+use Rattle.xlsx_cells.proofs.cells_reader.XlsxCellReader+P.next_cell_with_formula.Goals as goal
+
+pub returns-in_default-clause-takes : goal.returns-in_default-clause-takes
+returns-in_default-clause-takes g c = λ told before earlier kept.
+    rw c.in_default.is at (c.in_ok-found.ensures.takes told before earlier kept)
+
+pub returns-clause-takes : goal.returns-clause-takes
+returns-clause-takes g c = λ told before earlier kept.
+    written_value_taken c.in-Some.found c.some_text.result c.some_text.ensures
+    (written_as c.asked-asked.ensures.wants c.asked-asked.ensures.grounds
+    (rw c.in-Some.is at (c.in_ok-found.ensures.takes told before earlier kept)))
