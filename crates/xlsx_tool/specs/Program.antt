@@ -1,10 +1,12 @@
 -- What the program does with its words: it prints a page, or runs a command.
 use Rattle.std.specs.Prelude.{◌≡◌, ℕ, List, [], ◌∷◌, ◌++◌, Result, Ok, Err, Option, Some, None}
-use Rattle.std.specs.Prelude.{codes, if◌then◌else◌}
+use Rattle.std.specs.Prelude.{codes, if◌then◌else◌, ◌⊎◌, IfSome}
 use Rattle.std.specs.Str.{bytes_eq}
 use Rattle.xlsx_tool.specs.Run.{Streams, Succeeds, Refuses, IsSent, SendFails}
-use Rattle.xlsx_tool.specs.Status.{status_of}
+use Rattle.xlsx_tool.specs.Sink.{SinkState}
+use Rattle.xlsx_tool.specs.Status.{status_of, error_text}
 use Rattle.xlsx_tool.specs.declared.error.ToolError.{ToolError}
+use Rattle.xlsx_tool.specs.declared.error.ToolError.TheVariants.{WriteFault, OutOfMemory}
 
 abbrev pub help_text : List ℕ
 help_text =
@@ -38,3 +40,25 @@ CannotPrint None words old new error = Refuses words old new error
 abbrev pub ending_status : Result (Unit {0}) ToolError → ℕ
 ending_status (Ok done) = 0
 ending_status (Err error) = status_of error
+
+-- a line of errors: the text of the refusal, where that is told, and a line feed
+pub record IsErrorLine (error : ToolError) (line : List ℕ) : Type 0 where
+  pub text : List ℕ
+  pub told : IfSome (error_text error) (λ own. text ≡ own)
+  pub whole : line ≡ text ++ codes "\n"
+
+-- the bytes were written, or a front of them, and the sink failed
+abbrev pub IsOffered : List ℕ → SinkState → SinkState → Type 0
+IsOffered bytes old new = IsSent bytes old new ⊎ SendFails bytes old new WriteFault
+
+-- a sink of errors was given the line of the refusal, or that of want of memory, where there was
+-- none for it
+abbrev pub TellsError : ToolError → SinkState → SinkState → Type 0
+TellsError error old new =
+    (line : List ℕ) × (IsErrorLine error line ⊎ IsErrorLine OutOfMemory line)
+    × IsOffered line old new
+
+-- what it was given at the end: nothing at Ok, else the line of the refusal
+abbrev pub TellsEnding : Result (Unit {0}) ToolError → SinkState → SinkState → Type 0
+TellsEnding (Ok done) old new = new ≡ old
+TellsEnding (Err error) old new = TellsError error old new

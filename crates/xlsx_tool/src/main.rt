@@ -49,5 +49,6 @@ fn answer_on(rt: &(impl Env + Alloc<A = Global> + Print + Input)) -> Result<(), 
 }
 
 fn main(rt: HostRuntime) -> ExitCode {
-    ending(&rt, &answer_on(&rt))
+    let answer = answer_on(&rt);
+    ending(rt.alloc(), &answer, &mut StdSink::new(rt.stderr()))
 }

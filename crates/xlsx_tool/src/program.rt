@@ -1,6 +1,8 @@
-ghost use Rattle.std.specs.Prelude.{◌≡◌, ◌≢◌, true, None, Err, option_map, IfErr, OnOk};
+ghost use Rattle.std.specs.Prelude.{◌≡◌, ◌≢◌, true, None, Err, option_map, IfOk, IfErr};
+ghost use Rattle.std.specs.Prelude.{OnOk, string_bytes};
 ghost use Rattle.std.specs.Process.{exit_status};
 ghost use Rattle.xlsx_tool.specs.Program.{page_asked, Prints, CannotPrint, ending_status};
+ghost use Rattle.xlsx_tool.specs.Program.{IsErrorLine, IsOffered, TellsError, TellsEnding};
 ghost use Rattle.xlsx_tool.specs.Run.{texts, Streams, AnswersExactly};
 ghost use Rattle.xlsx_tool.specs.declared.error.ToolError.TheVariants.{Usage, WriteFault};
 
@@ -8,8 +10,7 @@ use crate::error::ToolError;
 use crate::run::{run, send};
 use crate::sink::Sink;
 use crate::source::Source;
-use std::alloc::Global;
-use std::io::Eprint;
+use std::alloc::{AllocError, Global};
 use std::process::ExitCode;
 
 const HELP: &str = "\
@@ -63,15 +64,44 @@ pub fn answer<S: Source, K: Sink>(
     }
 }
 
-/// The status that the program ends with. The text of a refusal goes to standard error before it.
-pub fn ending<E: Eprint>(errors: &E, answer: &Result<(), ToolError>) -> ExitCode
-    ensures { exit_status result ≡ ending_status answer.now }
+/// The text of a refusal, with a line feed behind it.
+fn line_of(alloc: Global, error: &ToolError) -> Result<String, AllocError>
+    ensures { IfOk result (λ line. IsErrorLine error.now (string_bytes line)) }
+{
+    let mut line = error.to_string(alloc)?;
+    line.push_str("\n")?;
+    Ok(line)
+}
+
+/// Hands the bytes to the sink. The status says it too, so a failure of the sink is let go.
+fn offer<K: Sink>(sink: &mut K, bytes: &[u8])
+    ensures { IsOffered bytes.now (K.state sink.old) (K.state sink.new) }
+{
+    let _ = send(sink, bytes);
+}
+
+/// Hands the text of a refusal and a line feed to the sink, or those of `OutOfMemory` where there
+/// is no memory for the text.
+fn tell<K: Sink>(alloc: Global, error: &ToolError, errors: &mut K)
+    ensures { TellsError error.now (K.state errors.old) (K.state errors.new) }
+{
+    match line_of(alloc, error) {
+        Ok(line) => offer(errors, line.as_bytes()),
+        Err(_) => offer(errors, b"out of memory\n"),
+    }
+}
+
+/// The status that the program ends with. Before it the sink of errors is given the text of the
+/// refusal and a line feed, and nothing at Ok. Where there is no memory for the text, that of
+/// `OutOfMemory` stands in its place.
+pub fn ending<K: Sink>(alloc: Global, answer: &Result<(), ToolError>, errors: &mut K) -> ExitCode
+    ensures status { exit_status result ≡ ending_status answer.now }
+    ensures told { TellsEnding answer.now (K.state errors.old) (K.state errors.new) }
 {
     match answer {
         Ok(()) => ExitCode::SUCCESS,
         Err(error) => {
-            // The status says it too, so a failure here is let go.
-            let _ = eprintln!(errors; "{error}");
+            tell(alloc, error, errors);
             ExitCode::from(error.status())
         }
     }
