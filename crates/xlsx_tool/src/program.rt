@@ -1,17 +1,19 @@
-ghost use Rattle.std.specs.Prelude.{◌≡◌, ◌≢◌, true, None, Err, option_map, IfOk, IfErr};
+ghost use Rattle.std.specs.Prelude.{◌≡◌, ◌≢◌, true, None, option_map, IfOk, IfErr};
 ghost use Rattle.std.specs.Prelude.{OnOk, string_bytes};
 ghost use Rattle.std.specs.Process.{exit_status};
+ghost use Rattle.xlsx_commands.specs.Command.{texts};
 ghost use Rattle.xlsx_tool.specs.Program.{page_asked, Prints, CannotPrint, ending_status};
-ghost use Rattle.xlsx_tool.specs.Program.{IsErrorLine, IsOffered, TellsError, TellsEnding};
-ghost use Rattle.xlsx_tool.specs.Run.{texts, Streams, AnswersExactly};
-ghost use Rattle.xlsx_tool.specs.declared.error.ToolError.TheVariants.{Usage, WriteFault};
+ghost use Rattle.xlsx_tool.specs.Program.{asks_for_no_input, IsErrorLine, IsOffered, TellsError};
+ghost use Rattle.xlsx_tool.specs.Program.{TellsEnding};
+ghost use Rattle.xlsx_tool.specs.Run.{Streams, AnswersExactly};
+ghost use Rattle.xlsx_commands.specs.declared.error.ToolError.TheVariants.{WriteFault};
 
-use crate::error::ToolError;
 use crate::run::{run, send};
 use crate::sink::Sink;
 use crate::source::Source;
 use std::alloc::{AllocError, Global};
 use std::process::ExitCode;
+use xlsx_commands::ToolError;
 
 const HELP: &str = "\
 Usage: xlsx_tool cells NAME < package.json
@@ -52,11 +54,11 @@ pub fn answer<S: Source, K: Sink>(
         let old : Streams = record { source = S.state source.old; sink = K.state sink.old } in
         let new : Streams = record { source = S.state source.new; sink = K.state sink.new } in
         IfErr result (CannotPrint (page_asked words) words old new) }
-    ensures unread { result ≡ Err Usage → S.state source.new ≡ S.state source.old }
+    ensures unread { asks_for_no_input (texts words.now) ≡ true
+        → S.state source.new ≡ S.state source.old }
     ensures unwritten { IfErr result (λ e. e ≢ WriteFault → K.state sink.new ≡ K.state sink.old) }
-    ensures exact { let old = S.state source.old in
-        page_asked (texts words.now) ≡ None → old.is_told ≡ true
-        → AnswersExactly (texts words.now) old result }
+    ensures exact { page_asked (texts words.now) ≡ None
+        → AnswersExactly (texts words.now) (S.state source.old) result }
 {
     match page_of(words) {
         Some(page) => send(sink, page.as_bytes()),

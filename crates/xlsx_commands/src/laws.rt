@@ -1,0 +1,40 @@
+ghost use Rattle.std.specs.Prelude.{◌≡◌, ℕ, List};
+ghost use Rattle.part_events.specs.Package.{Part};
+ghost use Rattle.xlsx_core.specs.Agreement.{HaveSameSheet};
+ghost use Rattle.xlsx_core.specs.SheetReading.{IsReadable};
+ghost use Rattle.xlsx_commands.specs.Command.{Command, cells};
+ghost use Rattle.xlsx_commands.specs.Outputs.{AreLinesOf, IsOutput, OutputCause, HasOutput};
+ghost use Rattle.xlsx_commands.specs.declared.error.ToolError.{ToolError};
+
+use xlsx_core::{
+    readable_sheets_are_not_refused, sheets_are_read_alike, sheets_go_by_their_parts,
+};
+
+/// A package that has an output for a command has no cause of a refusal of it.
+pub fn causes_leave_no_output()
+    ensures never { (command : Command) (parts : List Part) (output : List ℕ) (error : ToolError) →
+        IsOutput command parts output → OutputCause command parts error → ⊥ }
+{
+    readable_sheets_are_not_refused();
+}
+
+/// A package has an output for `cells NAME` exactly where its sheet NAME is readable.
+pub fn readable_sheets_have_lines()
+    ensures onward { (parts : List Part) (name : List ℕ) →
+        IsReadable parts name → HasOutput (cells name) parts }
+    ensures back { (parts : List Part) (name : List ℕ) →
+        HasOutput (cells name) parts → IsReadable parts name }
+{}
+
+/// A sheet has one listing, and so have the sheets of two packages that have the same parts where
+/// it is read from.
+pub fn sheets_have_one_listing()
+    ensures one { (parts : List Part) (name lines others : List ℕ) → AreLinesOf parts name lines →
+        AreLinesOf parts name others → lines ≡ others }
+    ensures alike { (parts other : List Part) (name lines others : List ℕ) →
+        HaveSameSheet parts other name → AreLinesOf parts name lines →
+        AreLinesOf other name others → lines ≡ others }
+{
+    sheets_are_read_alike();
+    sheets_go_by_their_parts();
+}
