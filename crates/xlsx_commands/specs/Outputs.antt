@@ -5,8 +5,10 @@ use Rattle.xlsx_error.specs.declared.error.XlsxError.{XlsxError}
 use Rattle.cell_data.specs.CellValue.{CellValue}
 use Rattle.cell_styles.specs.StyleMap.{StyleMap}
 use Rattle.sheet_listing.specs.SheetListing.{listing}
+use Rattle.xlsx_open.specs.Opening.{OpeningCause}
 use Rattle.xlsx_core.specs.SheetReading.{ReadsAs, SheetCause}
-use Rattle.xlsx_commands.specs.Command.{Command, cells}
+use Rattle.xlsx_commands.specs.BookLists.{AreSheetLines, AreNameLines}
+use Rattle.xlsx_commands.specs.Command.{Command, cells, sheets, names}
 use Rattle.xlsx_commands.specs.declared.error.ToolError.{ToolError}
 use Rattle.xlsx_commands.specs.declared.error.ToolError.TheVariants.{Workbook, OutOfMemory}
 
@@ -23,10 +25,14 @@ pub record AreLinesOf (parts : List Part) (name lines : List ℕ) : Type 0 where
 -- these bytes are the output of a command on a package of these parts
 unfoldable pub IsOutput : Command → List Part → List ℕ → Type 0
 IsOutput (cells name) parts output = AreLinesOf parts name output
+IsOutput sheets parts output = AreSheetLines parts output
+IsOutput names parts output = AreNameLines parts output
 
 -- why its workbook refuses it
 unfoldable pub WorkbookCause : Command → List Part → XlsxError → Type 0
 WorkbookCause (cells name) parts error = SheetCause parts name error
+WorkbookCause sheets parts error = OpeningCause parts error
+WorkbookCause names parts error = OpeningCause parts error
 
 -- ---- what the rows make
 

@@ -2,6 +2,7 @@ ghost use Rattle.std.specs.Prelude.{◌≡◌, option_map, IfOk, IfErr};
 ghost use Rattle.xlsx_commands.specs.Command.{command_meant, own_parts};
 ghost use Rattle.xlsx_commands.specs.Outputs.{IsOutput, OutputFails};
 
+use crate::book_lists::{name_lines, sheet_lines};
 use crate::cell_lines::cell_lines;
 use crate::command::Command;
 use crate::error::ToolError;
@@ -15,6 +16,8 @@ pub fn own_package(alloc: Global, command: Command<'_>) -> Option<MemoryPackage>
 {
     match command {
         Command::Cells(_) => None,
+        Command::Sheets => None,
+        Command::Names => None,
     }
 }
 
@@ -31,5 +34,7 @@ pub fn output_of(
 {
     match command {
         Command::Cells(name) => cell_lines(alloc, package, name),
+        Command::Sheets => sheet_lines(alloc, package),
+        Command::Names => name_lines(alloc, package),
     }
 }

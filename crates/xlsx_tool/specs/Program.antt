@@ -9,11 +9,15 @@ use Rattle.xlsx_commands.specs.declared.error.ToolError.TheVariants.{WriteFault,
 use Rattle.xlsx_tool.specs.Run.{Streams, Succeeds, Refuses, IsSent, SendFails, reads_nothing}
 use Rattle.xlsx_tool.specs.Sink.{SinkState}
 
-abbrev pub help_text : List ℕ
+unfoldable pub help_text : List ℕ
 help_text =
-    codes "Usage: xlsx_tool cells NAME < package.json\n\n"
-    ++ (codes "Prints one line for each cell of worksheet NAME with a value, a formula or a\n"
-    ++ codes "style: its position, value, formula and fill, with tabs between them.\n")
+    codes "Usage: xlsx_tool cells NAME < package.json\n"
+    ++ (codes "       xlsx_tool sheets < package.json\n"
+    ++ (codes "       xlsx_tool names < package.json\n\n"
+    ++ (codes "cells prints a line for each cell of worksheet NAME with a value, a formula or a\n"
+    ++ (codes "style: its position, value, formula and fill. sheets prints a line for each\n"
+    ++ (codes "sheet: its name, type and state. names prints a line for each defined name: the\n"
+    ++ codes "name and its text. The fields of a line have tabs between them.\n")))))
 
 abbrev pub version_text : List ℕ
 version_text = codes "xlsx_tool 0.1.0\n"

@@ -2,9 +2,9 @@ ghost use Rattle.std.specs.Prelude.{◌≡◌, ◌≢◌, true, None, option_map
 ghost use Rattle.std.specs.Prelude.{OnOk, string_bytes};
 ghost use Rattle.std.specs.Process.{exit_status};
 ghost use Rattle.xlsx_commands.specs.Command.{texts};
-ghost use Rattle.xlsx_tool.specs.Program.{page_asked, Prints, CannotPrint, ending_status};
+ghost use Rattle.xlsx_tool.specs.Program.{help_text, page_asked, Prints, CannotPrint};
 ghost use Rattle.xlsx_tool.specs.Program.{asks_for_no_input, IsErrorLine, IsOffered, TellsError};
-ghost use Rattle.xlsx_tool.specs.Program.{TellsEnding};
+ghost use Rattle.xlsx_tool.specs.Program.{TellsEnding, ending_status};
 ghost use Rattle.xlsx_tool.specs.Run.{Streams, AnswersExactly};
 ghost use Rattle.xlsx_commands.specs.declared.error.ToolError.TheVariants.{WriteFault};
 
@@ -17,19 +17,30 @@ use xlsx_commands::ToolError;
 
 const HELP: &str = "\
 Usage: xlsx_tool cells NAME < package.json
+       xlsx_tool sheets < package.json
+       xlsx_tool names < package.json
 
-Prints one line for each cell of worksheet NAME with a value, a formula or a
-style: its position, value, formula and fill, with tabs between them.
+cells prints a line for each cell of worksheet NAME with a value, a formula or a
+style: its position, value, formula and fill. sheets prints a line for each
+sheet: its name, type and state. names prints a line for each defined name: the
+name and its text. The fields of a line have tabs between them.
 ";
 
 const VERSION: &str = "xlsx_tool 0.1.0\n";
+
+#[tactic(auto, unfolding(crate::specs::Program::help_text))]
+fn help_page() -> &'static str
+    ensures { result.now ≡ help_text }
+{
+    HELP
+}
 
 /// The page that these words ask for: `--help` or `--version`, alone.
 pub fn page_of(words: &[String]) -> Option<&'static str>
     ensures { option_map (λ page. page.now) result ≡ page_asked (texts words.now) }
 {
     match words {
-        [word] if word.as_str() == "--help" => Some(HELP),
+        [word] if word.as_str() == "--help" => Some(help_page()),
         [word] if word.as_str() == "--version" => Some(VERSION),
         _ => None,
     }
