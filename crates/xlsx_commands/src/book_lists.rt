@@ -1,5 +1,4 @@
-ghost use Rattle.std.specs.Prelude.{◌≡◌, ◌++◌, map, string_bytes, IfOk, OnOk, IfErr};
-ghost use Rattle.list_lines.specs.Lines.{sheet_line};
+ghost use Rattle.std.specs.Prelude.{◌≡◌, map, string_bytes, IfOk, IfErr};
 ghost use Rattle.xlsx_workbook.specs.KeptContents.{pair_of};
 ghost use Rattle.xlsx_open.specs.Opening.{listed_sheet, OpeningCause};
 ghost use Rattle.xlsx_commands.specs.BookLists.{type_word, state_word, sheet_lines, name_lines};
