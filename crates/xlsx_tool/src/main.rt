@@ -1,9 +1,7 @@
 //! Prints what a worksheet of a package holds (docs/FORMAT.md).
 #![tactic(auto)]
 
-mod error;
 mod input;
-mod laws;
 mod program;
 mod run;
 mod sink;
@@ -13,7 +11,6 @@ mod std_forms_tests;
 #[cfg(test)]
 mod tests;
 
-use error::ToolError;
 use program::{answer, ending};
 use sink::StdSink;
 use source::StdSource;
@@ -21,6 +18,7 @@ use std::alloc::Global;
 use std::env::{self, Env};
 use std::io::{self, Input};
 use std::process::ExitCode;
+use xlsx_commands::ToolError;
 
 /// The words behind the program's name.
 fn words_of(rt: &(impl Env + Alloc<A = Global>)) -> Result<Vec<String>, ToolError> {

@@ -1,6 +1,5 @@
 ghost use Rattle.std.specs.Prelude.{◌<◌};
 
-use crate::error::ToolError;
 use crate::input::INPUT_LIMIT;
 use crate::program::{answer, ending};
 use crate::sink::MemorySink;
@@ -9,6 +8,7 @@ use part_events::XmlFault;
 use std::alloc::Global;
 use std::process::ExitCode;
 use std::test::Fail;
+use xlsx_commands::ToolError;
 use xlsx_error::XlsxError;
 
 /// The front of the types of relationships.
