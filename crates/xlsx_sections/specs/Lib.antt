@@ -6,3 +6,4 @@ pub mod Elements
 pub mod NumberText
 pub mod PartSection
 pub mod Refusal
+pub mod SectionEvents
