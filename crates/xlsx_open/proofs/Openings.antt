@@ -2,9 +2,9 @@
 use Rattle.std.proofs.Common.{◌≡◌, ◌+◌, ◌≤◌, ℕ, List, [], ◌∷◌, Bool, true, false, Option, Some}
 use Rattle.std.proofs.Common.{None, Result, Ok, Err, map, refl, ◌∙◌, ap, subst, inl, inr}
 use Rattle.std.proofs.Common.{arith, codes, string_bytes, String, Global}
-use Rattle.std.specs.Prelude.{option_and_then, unwrap_or, IsSomeAnd, MatchOption}
+use Rattle.std.specs.Prelude.{option_and_then, unwrap_or, IsSomeAnd, MatchOption, OnOk}
 use Rattle.part_events.specs.Package.{Part, PackageState, SameParts, UsesPackage, LeavesPackage}
-use Rattle.part_events.specs.Package.{Uses, part_of, event_count}
+use Rattle.part_events.specs.Package.{Uses, CountsUp, part_of, event_count}
 use Rattle.xlsx_error.specs.declared.error.XlsxError.{XlsxError}
 use Rattle.xlsx_error.specs.declared.error.XlsxError.TheVariants.{Io}
 use Rattle.cell_styles.specs.declared.color.Color.{Color}
@@ -13,6 +13,7 @@ use Rattle.xlsx_sections.specs.Elements.{IsInsideRefused}
 use Rattle.xlsx_sections.specs.PartSection.{always, OptionalPartCause, OptionalPartFails}
 use Rattle.xlsx_sections.specs.PartSection.{PartFails, closed_section}
 use Rattle.xlsx_sections.specs.PartSection.{closed_section_of}
+use Rattle.xlsx_sections.specs.SectionEvents.{section_events_of}
 use Rattle.xlsx_theme.specs.ThemePart.{theme_colors}
 use Rattle.xlsx_stylesheet.specs.StyleSheet.{cell_formats_in, end_in_styles}
 use Rattle.xlsx_workbook.specs.KeptContents.{pair_of, sheet_of_entry}
@@ -29,7 +30,7 @@ use Rattle.xlsx_open.specs.Opening.{Opening, HoldsOpening, ListedSheet, listed_s
 use Rattle.xlsx_open.specs.Opening.{HasPath, HasRelationships, HasWorkbook, HasNothing, IsOpening}
 use Rattle.xlsx_open.specs.Opening.{OpensAs}
 use Rattle.xlsx_open.specs.Opening.{OpeningFails, WorkbookOpens, WorkbookFails}
-use Rattle.xlsx_open.specs.Opening.{OpensPackage, BookCause, BookOpens, BookFails}
+use Rattle.xlsx_open.specs.Opening.{OpensPackage, TakesBook, BookCause, BookOpens, BookFails}
 use Rattle.xlsx_open.specs.Opening.{epoch_or_1900, book_events}
 use Rattle.xlsx_open.specs.SharedParts.{SharedCause}
 use Rattle.xlsx_open.specs.SharedParts.{SharedSaid, shared_said, SharedFails}
@@ -49,6 +50,7 @@ pub uses_then : {few more most : ℕ} {old mid new : PackageState} → few + mor
 uses_then less first second = record {
   parts = same_further first.parts second.parts;
   faults = second.faults ∙ first.faults;
+  forward = omega (arith, first.forward, second.forward);
   taken = λ told. omega (arith, less, first.taken told, second.taken (first.parts.is_told ∙ told));
 }
 
@@ -58,8 +60,13 @@ pub leaves_then : {E : Type 0} {fault error : E} {few more most : ℕ} {old mid 
 leaves_then less first second = record {
   parts = same_further first.parts second.parts;
   faults = λ other. second.faults other ∙ first.faults;
+  forward = omega (arith, first.forward, second.forward);
   taken = λ told. omega (arith, less, first.taken told, second.taken (first.parts.is_told ∙ told));
 }
+
+pub counts_then : {few more most old mid new : ℕ} → few + more ≡ most → CountsUp few old mid
+    → CountsUp more mid new → CountsUp most old new
+counts_then sum first second = omega (arith, sum, first, second)
 
 -- the sheets of entries, and the paths of their parts
 pub sheets_listed : (entries : List SheetEntry)
@@ -207,14 +214,20 @@ opens_as old mid path opening same found opens =
 pub opens_package : {A : Type 0} (result : Result A XlsxError) (old mid new : PackageState)
     (path : List ℕ) → UsesPackage (event_count old.parts (codes "_rels/.rels")) old mid
     → (old.is_told ≡ true → HasPath old.parts path)
-    → Uses (book_events mid.parts path) Io result mid new → OpensPackage Io result old new
-opens_package (Ok value) old mid new path first found second =
+    → (old.is_told ≡ true →
+    CountsUp (section_events_of (codes "Relationships") old.parts (codes "_rels/.rels")) old.taken
+    mid.taken)
+    → Uses (book_events mid.parts path) Io result mid new
+    → (mid.is_told ≡ true → OnOk result (TakesBook mid.parts path mid.taken new.taken))
+    → OpensPackage Io result old new
+opens_package (Ok value) old mid new path first found ends second taken =
     let both : UsesPackage
     (event_count old.parts (codes "_rels/.rels") + book_events mid.parts path) old new =
     uses_then (omega arith) first second in
     record {
       parts = both.parts;
       faults = both.faults;
+      forward = both.forward;
       taken = λ told. inr (
         path,
         found told,
@@ -222,14 +235,19 @@ opens_package (Ok value) old mid new path first found second =
             (event_count old.parts (codes "_rels/.rels") + book_events parts path))
             first.parts.parts (both.taken told),
       );
+      to_end = λ told. let book : TakesBook old.parts path mid.taken new.taken =
+          subst (λ (parts : List Part). TakesBook parts path mid.taken new.taken) first.parts.parts
+          (taken (first.parts.is_told ∙ told)) in
+          (path, found told, (book.0, book.1, counts_then refl (ends told) book.2));
     }
-opens_package (Err error) old mid new path first found second =
+opens_package (Err error) old mid new path first found ends second taken =
     let both : LeavesPackage
     (event_count old.parts (codes "_rels/.rels") + book_events mid.parts path) Io old new
     error = leaves_then (omega arith) first second in
     record {
       parts = both.parts;
       faults = both.faults;
+      forward = both.forward;
       taken = λ told. inr (
         path,
         found told,

@@ -185,11 +185,11 @@ part_opened is opened opens =
 pub section_entered : {name path : List ℕ} {found : Bool} {old : PackageState}
     {opened entered : Reading} → found ≡ true → SameParts old opened.source
     → OpenCounts found old opened.source → (old.is_told ≡ true → Opens path found old opened.source)
-    → ReadsOn opened entered → IsAtElement entered
+    → opened.at ≡ 0 → ReadsOn opened entered → IsAtElement entered
     → (opened.source.is_told ≡ true → behind_start (is_named (name ∷ [])) (ahead opened)
     ≡ Some (ahead entered)) → EntersSection name path old entered
 section_entered {name = name} {path = path} {old = old} {opened = opened} {entered =
-    entered} is same counted opens reads element behind =
+    entered} is same counted opens first reads element behind =
     let counts : OpenCounts true old opened.source = rw is at counted in
     let opening : old.is_told ≡ true → Opens path true old opened.source =
     λ told. rw is at (opens told) in
@@ -205,6 +205,7 @@ section_entered {name = name} {path = path} {old = old} {opened = opened} {enter
         faults = omega (arith, reads.moves.parts.faults, same.faults);
       };
       faults = reads.stays.faults ∙ counts.faults;
+      begins = omega (arith, first, reads.moves.forward, reads.moves.taken, counts.taken);
       taken = λ told.
           let size : event_count old.parts path ≡ length opened.source.rest =
           ap (λ (part : Option (List Event)). option_map_or length part 0)

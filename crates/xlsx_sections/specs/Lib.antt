@@ -7,4 +7,5 @@ pub mod Failing
 pub mod NumberText
 pub mod PartSection
 pub mod Refusal
+pub mod SectionEvents
 pub mod Steps

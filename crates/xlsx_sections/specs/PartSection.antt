@@ -5,6 +5,7 @@ use Rattle.std.specs.Prelude.{MatchOption, string_bytes}
 use Rattle.part_events.specs.Event.{Tag, Event, IsStartAnd}
 use Rattle.part_events.specs.Nesting.{whole}
 use Rattle.part_events.specs.Package.{Part, PackageState, SameParts, part_of, event_count}
+use Rattle.part_events.specs.Package.{CountsUp}
 use Rattle.part_events.specs.Reading.{Reading, ReadsOn, IsReading, TakesEvent, IsAtElement}
 use Rattle.part_events.specs.Reading.{BreaksAt, ahead, events_of}
 use Rattle.part_events.specs.Section.{content, is_closed, behind_start, is_named}
@@ -128,6 +129,7 @@ pub record EntersSection (name path : List ℕ) (old : PackageState) (new : Read
   pub element : 0 < length new.names
   pub parts : SameParts old new.source
   pub faults : new.source.faults ≡ old.faults
+  pub begins : CountsUp new.at old.taken new.source.taken
   pub taken :
       old.is_told ≡ true →
       new.source.taken + length new.source.rest ≤ old.taken + event_count old.parts path
