@@ -3,8 +3,8 @@ use Rattle.std.proofs.lemmas.List.{map_push}
 use Rattle.attr_text.specs.Attributes.{items, attribute, broken, front_of}
 use Rattle.attr_text.specs.AttrIter.{item_of}
 use Rattle.attr_text.specs.FirstItem.{front_of_parts}
-use Rattle.attr_text.proofs.SlowLemmas.{read-attribute, read-broken, read-nothing, rest-below}
-use Rattle.attr_text.proofs.tests.slow.slow_items.Goals as goal
+use Rattle.worked_texts.proofs.SlowLemmas.{read-attribute, read-broken, read-nothing, rest-below}
+use Rattle.worked_texts.proofs.slow.slow_items.Goals as goal
 
 pub loop-first-init : goal.loop-first-init
 unfolding items

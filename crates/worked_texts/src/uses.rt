@@ -3,7 +3,7 @@ ghost use Rattle.std.specs.Prelude.{◌≡◌, [], ◌∷◌, MatchResult, Ok, E
 ghost use Rattle.std.specs.Option.{option_copied};
 ghost use Rattle.attr_text.specs.Attributes.{lookup};
 
-use crate::{AttrFault, AttrValue, RawAttributes, get_attrs};
+use attr_text::{AttrFault, AttrValue, RawAttributes, get_attrs};
 
 /// An attribute text by itself.
 #[derive(Clone, Copy)]

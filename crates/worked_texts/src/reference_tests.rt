@@ -1,4 +1,7 @@
-use super::*;
+use cell_refs::{
+    Dimensions, MAX_COLUMNS, RefError, column_number_to_name, get_dimension, get_row,
+    get_row_column, push_column_name, push_reference, push_row_reference,
+};
 use std::test::Fail;
 
 #[test]

@@ -1,11 +1,9 @@
-mod slow;
-
+use crate::slow::slow_items;
 use crate::uses::{Tag, five_keys, four_keys, six_keys, three_keys, two_keys};
-use crate::{
+use attr_text::{
     AttrFault, RawAttrIter, RawAttributes, TextFault, decode_attr, entity_char, get_attrs,
     local_name, local_name_matches, push_entity, push_line_ends, unescape_hex,
 };
-use slow::slow_items;
 use std::alloc::{AllocError, Global};
 use std::process::Abort;
 use std::test::Fail;

@@ -1,8 +1,8 @@
 use Rattle.std.proofs.Common.{sym, ◌∙◌, arith}
-use Rattle.attr_text.proofs.SlowLemmas.{without_trailing_space-is}
-use Rattle.attr_text.proofs.tests.slow.front_part.Goals as goal
-use Rattle.attr_text.proofs.tests.slow.front_part.Goals.{then-loop-end-test+else-is_ascii_whitespace}
-use Rattle.attr_text.proofs.tests.slow.front_part.Goals.{else-loop-end-test}
+use Rattle.worked_texts.proofs.SlowLemmas.{without_trailing_space-is}
+use Rattle.worked_texts.proofs.slow.front_part.Goals as goal
+use Rattle.worked_texts.proofs.slow.front_part.Goals.{then-loop-end-test+else-is_ascii_whitespace}
+use Rattle.worked_texts.proofs.slow.front_part.Goals.{else-loop-end-test}
 
 pub returns : goal.returns
 returns c =

@@ -1,4 +1,7 @@
-use super::*;
+use formula_shift::{
+    Corner, Piece, Pieces, Reference, expand_shared_formula, expand_shared_formula_into,
+    expanded_len,
+};
 use std::test::Fail;
 
 #[test]

@@ -7,7 +7,7 @@ ghost use Rattle.attr_text.specs.Attributes.{without_trailing_space};
 ghost use Rattle.attr_text.specs.AttrIter.{item_of};
 ghost use Rattle.attr_text.specs.FirstItem.{front_of_parts};
 
-use crate::fault::AttrFault;
+use attr_text::AttrFault;
 use std::alloc::{AllocError, Global};
 
 /// The text from this place on.

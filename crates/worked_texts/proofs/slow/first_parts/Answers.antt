@@ -3,10 +3,10 @@ use Rattle.std.specs.Prelude.{◌==◌}
 use Rattle.std.specs.List.{position_or_len, after_first}
 use Rattle.std.proofs.lemmas.List.{drop_min}
 use Rattle.attr_text.specs.Attributes.{is_quote, is_equals_sign, without_leading_space}
-use Rattle.attr_text.proofs.SlowLemmas.{front_of-attribute, quoted}
-use Rattle.attr_text.proofs.tests.slow.first_parts.Goals as goal
-use Rattle.attr_text.proofs.tests.slow.first_parts.Goals.{else-value-ne34-via-then-value-ne34+else-value-ne39}
-use Rattle.attr_text.proofs.tests.slow.first_parts.Goals.{else-value-ne34-via-else-value-ne34}
+use Rattle.worked_texts.proofs.SlowLemmas.{front_of-attribute, quoted}
+use Rattle.worked_texts.proofs.slow.first_parts.Goals as goal
+use Rattle.worked_texts.proofs.slow.first_parts.Goals.{else-value-ne34-via-then-value-ne34+else-value-ne39}
+use Rattle.worked_texts.proofs.slow.first_parts.Goals.{else-value-ne34-via-else-value-ne34}
 
 pub returns : goal.returns
 returns c =

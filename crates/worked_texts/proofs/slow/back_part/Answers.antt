@@ -1,8 +1,8 @@
 use Rattle.std.proofs.Common.{sym, ◌∙◌, arith}
-use Rattle.attr_text.proofs.SlowLemmas.{without_leading_space-is}
-use Rattle.attr_text.proofs.tests.slow.back_part.Goals as goal
-use Rattle.attr_text.proofs.tests.slow.back_part.Goals.{then-loop-count-test+else-is_ascii_whitespace}
-use Rattle.attr_text.proofs.tests.slow.back_part.Goals.{else-loop-count-test}
+use Rattle.worked_texts.proofs.SlowLemmas.{without_leading_space-is}
+use Rattle.worked_texts.proofs.slow.back_part.Goals as goal
+use Rattle.worked_texts.proofs.slow.back_part.Goals.{then-loop-count-test+else-is_ascii_whitespace}
+use Rattle.worked_texts.proofs.slow.back_part.Goals.{else-loop-count-test}
 
 pub returns : goal.returns
 returns c =

@@ -1,6 +1,6 @@
 use Rattle.std.proofs.Common.{◌≡◌, ℕ, ◌<◌, ◌≤◌, ◌-◌, false, length, get_or}
 use Rattle.std.specs.Prelude.{◌==◌}
-use Rattle.attr_text.proofs.tests.slow.place_of.Given as goal
+use Rattle.worked_texts.proofs.slow.place_of.Given as goal
 
 abbrev pub invariant-loop-place : goal.invariant-loop-place
 invariant-loop-place l =

@@ -1,6 +1,6 @@
 use Rattle.std.proofs.Common.{◌≡◌, ℕ, ◌<◌, ◌≤◌, ◌-◌, true, length, get_or}
 use Rattle.std.specs.Char.{is_ascii_whitespace}
-use Rattle.attr_text.proofs.tests.slow.back_part.Given as goal
+use Rattle.worked_texts.proofs.slow.back_part.Given as goal
 
 abbrev pub invariant-loop-count : goal.invariant-loop-count
 invariant-loop-count l =

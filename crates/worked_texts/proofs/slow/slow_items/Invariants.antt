@@ -1,7 +1,7 @@
 use Rattle.std.proofs.Common.{◌≡◌, ◌≤◌, ◌++◌, map, length}
 use Rattle.attr_text.specs.Attributes.{items, items_left}
 use Rattle.attr_text.specs.AttrIter.{item_of}
-use Rattle.attr_text.proofs.tests.slow.slow_items.Given as goal
+use Rattle.worked_texts.proofs.slow.slow_items.Given as goal
 
 abbrev pub invariant-loop-first : goal.invariant-loop-first
 invariant-loop-first l = record {

@@ -2,7 +2,7 @@ use Rattle.std.proofs.Common.{sym, arith}
 use Rattle.std.specs.Prelude.{◌==◌}
 use Rattle.std.proofs.lemmas.Bool.{eq-eqb}
 use Rattle.std.proofs.lemmas.List.Sums.{position_or_len_is}
-use Rattle.attr_text.proofs.tests.slow.place_of.Goals as goal
+use Rattle.worked_texts.proofs.slow.place_of.Goals as goal
 
 pub returns-else-text-place-clause-value : goal.returns-else-text-place-clause-value
 returns-else-text-place-clause-value c =

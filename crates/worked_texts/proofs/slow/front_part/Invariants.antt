@@ -1,6 +1,6 @@
 use Rattle.std.proofs.Common.{◌≡◌, ℕ, ◌<◌, ◌≤◌, true, length, get_or}
 use Rattle.std.specs.Char.{is_ascii_whitespace}
-use Rattle.attr_text.proofs.tests.slow.front_part.Given as goal
+use Rattle.worked_texts.proofs.slow.front_part.Given as goal
 
 abbrev pub invariant-loop-end : goal.invariant-loop-end
 invariant-loop-end l =
