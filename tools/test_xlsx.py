@@ -30,16 +30,33 @@ SLOW = """\
 echo slow
 exec sleep 300
 """
+# Proves a crate, builds the program of this folder, or runs it unproved.
 RT = """\
 #!/bin/sh
-echo "rt $* speaks"
-[ ! -e "$FAILING" ] || exit 1
-cp "$STAND_IN" out/xlsx_tool
+if [ "$1" = try ]; then
+    shift 2
+    "$STAND_IN" "$@"
+    status=$?
+    echo "checked: ended status=$status" >&2
+    if [ "$2" = 9 ]; then
+        echo "run=none runners=0 proved=no" >&2
+        exit 6
+    fi
+    echo "run=ended status=$status runners=1 proved=no" >&2
+    exit "$status"
+fi
+echo "rt $* speaks of $(basename "$PWD")"
+[ ! -e "$FAILING" ] || [ "$1" != run ] || exit 1
+[ "$1" != run ] || cp "$STAND_IN" out/xlsx_tool
 """
-PROVING = (
-    "xlsx: proving and building xlsx_tool first, which takes twenty minutes or more from nothing\n"
+USAGE = """\
+usage: ./xlsx FILE.xlsx cells NAME
+       ./xlsx cells NAME < package.json
+       ./xlsx --help
+"""
+UNPROVED = (
+    "xlsx: this answer is not proved; past 1 MiB of lines or a minute's run there is none\n"
 )
-BUILT = f"{PROVING}rt run -- --version speaks\nxlsx: built\n"
 
 
 class Wrapper(unittest.TestCase):
@@ -52,9 +69,10 @@ class Wrapper(unittest.TestCase):
         (self.crate / "src").mkdir(parents=True)
         self.source = self.crate / "src" / "main.rt"
         self.source.write_text("")
-        (self.folder / "top" / "crates.txt").write_text("xlsx_tool:\n")
+        (self.folder / "top" / "crates.txt").write_text("xlsx_tool: low\nlow:\nbeside: low\n")
+        (self.folder / "top" / "crates" / "low").mkdir()
         (self.folder / "top" / "tools").mkdir()
-        for name in ("xlsx", "tools/markup.py", "tools/package_text.py"):
+        for name in ("xlsx", "tools/markup.py", "tools/package_text.py", "tools/prove.py"):
             shutil.copy(TOP / name, self.folder / "top" / name)
         self.written("program", STAND_IN)
         self.written("bin/rt", RT)
@@ -91,8 +109,26 @@ class Wrapper(unittest.TestCase):
 
     # The build
 
-    def test_a_first_run_says_that_it_proves_and_how_long_that_takes(self):
-        self.assertEqual(self.run_on("cells", "0", data=b"12"), (0, b"cells 0: 2\n", BUILT))
+    def log(self):
+        return self.crate / "out" / "proving.log"
+
+    def proving(self, *proved):
+        """What is said before and during a build in which these crates are proved."""
+        said = "xlsx: no proved program is there yet: proving takes some fifteen minutes; "
+        said += "--unproved answers in a minute or two\n"
+        said += f"xlsx: proving; what rt says goes to {self.log().resolve()}\n"
+        for left, name in zip((1, 0), proved):
+            said += f"xlsx: {name} is proved; {left} left, 0 min so far\n"
+        return said
+
+    def built(self):
+        return f"{self.proving('low', 'xlsx_tool')}xlsx: built\n"
+
+    def test_a_first_run_says_what_is_proved_and_how_much_is_left(self):
+        ran = self.run_on("cells", "0", data=b"12")
+        self.assertEqual(ran, (0, b"cells 0: 2\n", self.built()))
+        said = "rt lib speaks of low\nrt run -- --version speaks of xlsx_tool\n"
+        self.assertEqual(self.log().read_text(), said)
 
     def test_a_fresh_program_is_run_without_a_word(self):
         self.build()
@@ -101,22 +137,71 @@ class Wrapper(unittest.TestCase):
     def test_a_program_older_than_its_source_is_built_anew(self):
         self.build()
         os.utime(self.program, (1, 1))
-        self.assertEqual(self.run_on("cells", "0"), (0, b"cells 0: 0\n", BUILT))
+        self.assertEqual(self.run_on("cells", "0"), (0, b"cells 0: 0\n", self.built()))
         self.assertEqual(self.run_on("cells", "0"), (0, b"cells 0: 0\n", ""))
 
     def test_a_build_that_fails(self):
         self.written("failing", "")
-        said = f"{PROVING}rt run -- --version speaks\nxlsx: xlsx_tool could not be built\n"
+        said = f"{self.proving('low')}xlsx: xlsx_tool could not be built: the end of "
+        said += f"{self.log().resolve()} says why\n"
         self.assertEqual(self.run_on("cells", "0"), (1, b"", said))
+
+    def bare(self, *names):
+        """A folder of commands that has these alone."""
+        bare = self.folder / "bare"
+        bare.mkdir()
+        for name in names:
+            (bare / name).symlink_to(shutil.which(name))
+        return str(bare)
 
     def test_no_rt(self):
         said = "xlsx: rt, the command of the Rattle kit, is not among the commands (PATH)\n"
-        said += "xlsx: xlsx_tool could not be built\n"
-        bare = self.folder / "bare"
-        bare.mkdir()
-        for name in ("sh", "dirname", "awk", "find"):
-            (bare / name).symlink_to(shutil.which(name))
-        self.assertEqual(self.run_on("cells", "0", path=str(bare)), (1, b"", said))
+        path = self.bare("sh", "dirname", "awk", "find", "rm")
+        self.assertEqual(self.run_on("cells", "0", path=path), (1, b"", said))
+
+    def test_no_python(self):
+        said = "xlsx: python3, which reads workbook files, is not among the commands (PATH)\n"
+        path = self.bare("sh", "dirname", "awk", "find", "rm")
+        self.assertEqual(self.run_on("book.xlsx", "cells", "0", path=path), (1, b"", said))
+
+    # Without a proof
+
+    def test_an_unproved_answer_says_that_it_is_none(self):
+        for status in (0, 6):
+            self.assertEqual(
+                self.run_on("--unproved", "book.xlsx", "cells", str(status)),
+                (status, f"cells {status}: {self.size}\n".encode(), UNPROVED),
+            )
+        ran = self.run_on("--unproved", "cells", "5", data=b"12")
+        self.assertEqual(ran, (5, b"cells 5: 2\n", UNPROVED))
+        self.assertFalse(self.program.exists())
+
+    def test_an_unproved_run_without_an_answer(self):
+        said = f"{UNPROVED}xlsx: no answer without a proof: run=none runners=0 proved=no\n"
+        self.assertEqual(self.run_on("--unproved", "cells", "9"), (1, b"", said))
+
+    def test_a_proved_program_answers_in_place_of_an_unproved_run(self):
+        self.build()
+        ran = self.run_on("--unproved", "book.xlsx", "cells", "0")
+        self.assertEqual(ran, (0, f"cells 0: {self.size}\n".encode(), ""))
+
+    # Refused before the build
+
+    def test_what_can_be_refused_is_refused_before_the_build(self):
+        self.written("no.xlsx", "nut")
+        for words, status, said in (
+            ([], 2, USAGE),
+            (["cell", "S"], 2, USAGE),
+            (["cells"], 2, USAGE),
+            (["--unproved"], 2, USAGE),
+            (["--unproved", "book.xlsx", "cell", "S"], 2, USAGE),
+            (["book.xlsx"], 2, USAGE),
+            (["none.xlsx", "cells", "S"], 3, "none.xlsx: can't be read: No such file or directory\n"),
+            (["no.xlsx", "cells", "S"], 10, "no.xlsx: no zip archive, and so no .xlsx workbook\n"),
+        ):
+            with self.subTest(words=words):
+                self.assertEqual(self.run_on(*words), (status, b"", said))
+        self.assertFalse(self.program.exists())
 
     # Words and files
 
@@ -127,7 +212,7 @@ class Wrapper(unittest.TestCase):
                 self.run_on("cells", str(status), data=b"1"),
                 (status, f"cells {status}: 1\n".encode(), ""),
             )
-        self.assertEqual(self.run_on(), (2, b"", "usage\n"))
+        self.assertEqual(self.run_on(), (2, b"", USAGE))
         self.assertEqual(self.run_on("--version"), (0, b"version\n", ""))
 
     def test_a_workbook_file_becomes_the_programs_input(self):
@@ -155,7 +240,7 @@ class Wrapper(unittest.TestCase):
     def test_words_behind_a_file_that_are_no_command(self):
         self.build()
         for words in (["book.xlsx"], ["book.xlsx", "cells"], ["none.xlsx", "cell", "0"], ["none"]):
-            self.assertEqual(self.run_on(*words), (2, b"", "usage\n"))
+            self.assertEqual(self.run_on(*words), (2, b"", USAGE))
 
     def test_a_file_that_is_refused(self):
         self.build()
@@ -238,10 +323,11 @@ class Wrapper(unittest.TestCase):
             self.assertIn(text, out)
         self.assertTrue(out.endswith(b"\npage\n"))
 
-    def test_help_builds_nothing(self):
+    def test_help_builds_nothing_and_says_what_is_printed(self):
         status, out, said = self.run_on("--help")
         self.assertEqual((status, said), (0, ""))
-        self.assertIn(b"./xlsx FILE.xlsx WORDS", out)
+        for text in (b"./xlsx FILE.xlsx WORDS", b"cells NAME", b"C2\tn:10.5\t=SUM(B$2:B2)\t-\n"):
+            self.assertIn(text, out)
         self.assertFalse(self.program.exists())
 
     def test_help_on_a_full_device(self):
@@ -250,6 +336,18 @@ class Wrapper(unittest.TestCase):
             self.assertEqual(self.run_on("--help", stdout=full), (7, None, "write fault\n"))
 
     # With the program itself
+
+    def test_the_words_that_are_commands_are_those_of_the_program(self):
+        self.build(PROGRAM)
+        for words in (
+            *([word] for word in ("cells", "sheets", "names", "--help", "--version", "x", "")),
+            *([word, "S"] for word in ("cells", "sheets", "names", "--help", "Cells", "")),
+            ["cells", "S", "x"],
+            ["cells", "--help"],
+        ):
+            with self.subTest(words=words):
+                ran = subprocess.run([PROGRAM, *words], stdin=subprocess.DEVNULL, capture_output=True)
+                self.assertEqual(self.run_on(*words)[0] == 2, ran.returncode == 2)
 
     def test_the_program_reads_a_workbook_file(self):
         self.build(PROGRAM)

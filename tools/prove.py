@@ -1,0 +1,146 @@
+#!/usr/bin/env python3
+"""Proves the crates that a program stands on, side by side, and then proves and builds the program.
+
+prove.py PROGRAM LOG          at the top of the repository
+
+Standard output has a line for each crate once it is proved; all that `rt` says goes to the file
+LOG. The status is 0 where all is proved and built, and else 1.
+"""
+
+import os
+import pathlib
+import signal
+import subprocess
+import sys
+import time
+
+# What one proof may take of memory, in KiB.
+MEMORY = 4 * 1024 * 1024
+
+
+def needs_of(program, table):
+    """The crates of this repository below a program, itself included, each with those it stands on.
+
+    `table` is the text of crates.txt: a line `NAME: CRATE ..` for each crate, and `#` before what
+    isn't read.
+    """
+    lines = (line.split("#")[0].partition(":") for line in table.splitlines())
+    below = {name.split()[0]: needs.split() for name, colon, needs in lines if colon}
+    found, waiting = {}, [program]
+    while waiting:
+        name = waiting.pop()
+        if name not in found:
+            found[name] = [need for need in below[name] if need in below]
+            waiting += found[name]
+    return found
+
+
+def heights(needs):
+    """For each crate, how many crates stand above it in the longest chain."""
+    above = {name: [] for name in needs}
+    for name, below in needs.items():
+        for need in below:
+            above[need].append(name)
+    found = {}
+
+    def height(name):
+        if name not in found:
+            found[name] = max((1 + height(other) for other in above[name]), default=0)
+        return found[name]
+
+    for name in needs:
+        height(name)
+    return found
+
+
+def side_by_side():
+    """How many proofs the machine has processors and memory for."""
+    most = os.cpu_count() or 1
+    try:
+        for line in pathlib.Path("/proc/meminfo").read_text().splitlines():
+            if line.startswith("MemAvailable:"):
+                most = min(most, int(line.split()[1]) // MEMORY)
+    except OSError:
+        pass
+    return max(1, most)
+
+
+class Proving:
+    """The proofs of the crates below a program, some of them at work."""
+
+    def __init__(self, program, needs, log):
+        self.program, self.needs, self.log = program, needs, log
+        self.heights = heights(needs)
+        self.proved, self.at_work = set(), {}
+        self.began = time.monotonic()
+
+    def begin(self, name):
+        words = ["rt", "run", "--", "--version"] if name == self.program else ["rt", "lib"]
+        self.at_work[name] = subprocess.Popen(
+            words,
+            cwd=pathlib.Path("crates", name),
+            stdin=subprocess.DEVNULL,
+            stdout=self.log,
+            stderr=self.log,
+        )
+
+    def ready(self):
+        """The crates that can be proved now, those with the longest chain above them first."""
+        some = (
+            name
+            for name, below in self.needs.items()
+            if name not in self.proved and name not in self.at_work and self.proved >= set(below)
+        )
+        return sorted(some, key=lambda name: -self.heights[name])
+
+    def say(self, name):
+        minutes = int(time.monotonic() - self.began) // 60
+        left = len(self.needs) - len(self.proved)
+        print(f"xlsx: {name} is proved; {left} left, {minutes} min so far", flush=True)
+
+    def take_ended(self):
+        """Waits for one of the proofs at work. Whether none has failed."""
+        while True:
+            for name, child in self.at_work.items():
+                if child.poll() is not None:
+                    del self.at_work[name]
+                    if child.returncode:
+                        return False
+                    self.proved.add(name)
+                    self.say(name)
+                    return True
+            time.sleep(0.05)
+
+    def stop(self):
+        for child in self.at_work.values():
+            child.terminate()
+        for child in self.at_work.values():
+            child.wait()
+
+    def run(self, most):
+        """Whether all is proved, with at most so many proofs at work."""
+        while len(self.proved) < len(self.needs):
+            for name in self.ready()[: most - len(self.at_work)]:
+                self.begin(name)
+            if not self.take_ended():
+                return False
+        return True
+
+
+def main(program, path):
+    needs = needs_of(program, pathlib.Path("crates.txt").read_text())
+    signal.signal(signal.SIGTERM, lambda number, frame: sys.exit(128 + number))
+    signal.signal(signal.SIGHUP, lambda number, frame: sys.exit(128 + number))
+    with open(path, "wb") as log:
+        proving = Proving(program, needs, log)
+        try:
+            return 0 if proving.run(side_by_side()) else 1
+        finally:
+            proving.stop()
+
+
+if __name__ == "__main__":
+    try:
+        sys.exit(main(*sys.argv[1:]))
+    except KeyboardInterrupt:
+        sys.exit(130)

@@ -1,0 +1,139 @@
+"""Tries the documents against what they cite: names, clauses, edits, tests, files and sections."""
+
+import pathlib
+import re
+import unittest
+
+TOP = pathlib.Path(__file__).resolve().parent.parent
+DOCUMENTS = [TOP / "README.md", TOP / "CONTRIBUTING.md", *sorted((TOP / "docs").glob("*.md"))]
+# Crates of tests, whose functions promise nothing.
+OF_TESTS = {"test_packages", "worked_rows", "worked_styles", "worked_values"}
+
+QUOTED = re.compile(r"`([^`\n]+)`")
+WORD = re.compile(r"[A-Za-z_][A-Za-z0-9_]*")
+NAME = re.compile(r"[A-Za-z_][A-Za-z0-9_]*(?:(?:::|\.)[A-Za-z_][A-Za-z0-9_]*)*(?:\(\))?")
+EXPORTED = re.compile(r"^pub use (?:\w+::)*(\{[^}]*\}|\w+);", re.M)
+# A function with its indentation, and the type of the block that it stands in.
+FUNCTION = re.compile(r"^( *)pub (?:const )?fn (\w+)", re.M)
+BLOCK = re.compile(r"^(?:impl\b.*|pub trait (\w+).*)\{$|^impl\b[^{;]*$", re.M)
+ANY_FUNCTION = re.compile(r"\bfn (\w+)")
+CLAUSE = re.compile(r"^\s*ensures\*?(?: (\w+))?\s*(?=\{|$)", re.M)
+TEST = re.compile(r"#\[test\]\s*(?:#\[[^\]]*\]\s*)*fn (\w+)")
+
+
+def text(path):
+    return path.read_text(encoding="utf-8")
+
+
+def rows_of(document):
+    """The rows of a document's tables, each as its cells."""
+    for line in text(document).splitlines():
+        if line.startswith("|") and not re.match(r"\|[\s:|-]+\|$", line):
+            yield [cell.strip() for cell in re.split(r"(?<!\\)\|", line.strip().strip("|"))]
+
+
+def names_behind(words, cell):
+    """The quoted names of a cell that stand in a list behind one of these words."""
+    for listed in re.findall(rf"\b(?:{words})((?:(?:,| and|, and)? ?`\w+`)+)", cell):
+        yield from QUOTED.findall(listed)
+
+
+def sources():
+    for end in ("*.rt", "*.antt"):
+        for path in sorted((TOP / "crates").rglob(end)):
+            if "out" not in path.parts:
+                yield path
+
+
+class Documents(unittest.TestCase):
+    @classmethod
+    def setUpClass(cls):
+        cls.code = {path: text(path) for path in sources()}
+        cls.crates = {path.name for path in (TOP / "crates").iterdir()}
+        cls.edits = {path.stem for path in (TOP / "crates").rglob("*.edit")}
+        cls.tests = {name for one in cls.code.values() for name in TEST.findall(one)}
+        cls.words = {word for one in cls.code.values() for word in WORD.findall(one)}
+        cls.words |= cls.crates | cls.edits
+        for folder in ("tools", "bench", "samples"):
+            for path in (TOP / folder).glob("*.py"):
+                cls.words |= {path.name, path.stem, *WORD.findall(text(path))}
+
+    def test_every_edit_and_test_that_a_document_cites_is_there(self):
+        for document in DOCUMENTS:
+            for cells in rows_of(document):
+                for cell in cells:
+                    edits = set(names_behind("edits?", cell))
+                    tests = set(names_behind("tests?", cell))
+                    known = self.tests | self.words if "tools/" in cell else self.tests
+                    absent = (edits - self.edits) | (tests - known)
+                    self.assertEqual(absent, set(), f"{document.name}: {cell}")
+
+    def test_every_edit_is_told_of_in_the_promises(self):
+        told = set(QUOTED.findall(text(TOP / "docs" / "PROMISES.md")))
+        self.assertEqual(sorted(self.edits - told), [])
+
+    def test_every_name_that_the_promises_cite_is_there(self):
+        for name in ("PROMISES.md", "DEFINITIONS.md"):
+            for quoted in QUOTED.findall(text(TOP / "docs" / name)):
+                if NAME.fullmatch(quoted):
+                    absent = set(WORD.findall(quoted)) - self.words
+                    self.assertEqual(absent, set(), f"{name}: {quoted}")
+
+    def test_every_file_that_a_document_names_is_there(self):
+        for document in DOCUMENTS:
+            for found in re.findall(r"\b(?:crates|docs|tools|samples|bench)/[\w./-]*\w", text(document)):
+                if not re.search(r"\b(?:NAME|out)\b", found):
+                    self.assertTrue((TOP / found).exists(), f"{document.name}: {found}")
+            for link in re.findall(r"\]\(([^)#:]+)\)", text(document)):
+                self.assertTrue((document.parent / link).exists(), f"{document.name}: {link}")
+
+    def clauses(self):
+        """For each name of a function, the labels of the clauses of all functions of that name."""
+        found = {}
+        for path, code in self.code.items():
+            begun = [*ANY_FUNCTION.finditer(code)] if path.suffix == ".rt" else []
+            ends = [one.start() for one in begun[1:]] + [len(code)]
+            for one, end in zip(begun, ends):
+                labels = (label or "ensures" for label in CLAUSE.findall(code, one.start(), end))
+                found.setdefault(one.group(1), set()).update(labels)
+        return found
+
+    def test_every_clause_that_the_promises_cite_is_one_of_its_call(self):
+        clauses = self.clauses()
+        for cells in rows_of(TOP / "docs" / "PROMISES.md"):
+            cell = cells[1] if len(cells) > 1 else ""
+            spoken = re.sub(r"\([^()]*\)|ghost fields? (?:`\w+`(?:, | and )?)+", "", cell)
+            names = QUOTED.findall(spoken)
+            calls = [name.split("::")[-1].rstrip("!") for name in names]
+            of_calls = {label for call in calls for label in clauses.get(call, ())}
+            labels = {name for name in names if name not in clauses} & set().union(*clauses.values())
+            # A cell that names a type alone speaks of all its calls.
+            if of_calls and not re.search("the calls of|every call|^these", cell):
+                self.assertEqual(labels - of_calls, set(), cell)
+
+    def exported(self, crate):
+        """The names that a crate hands out."""
+        root = self.code.get(TOP / "crates" / crate / "src" / "lib.rt", "")
+        return {word for names in EXPORTED.findall(root) for word in WORD.findall(names)}
+
+    def public_functions(self, crate):
+        """The functions that a crate hands out, and the methods of its types."""
+        handed = self.exported(crate)
+        for path, code in self.code.items():
+            if path.parent != TOP / "crates" / crate / "src" or path.stem.endswith("tests"):
+                continue
+            for found in FUNCTION.finditer(code):
+                indent, name = found.groups()
+                block = [one.group(0) for one in BLOCK.finditer(code, 0, found.start())][-1:]
+                if name in handed if not indent else handed & set(WORD.findall("".join(block))):
+                    yield name
+
+    def test_every_public_function_is_in_the_promises(self):
+        told = set(WORD.findall(" ".join(QUOTED.findall(text(TOP / "docs" / "PROMISES.md")))))
+        for crate in sorted(self.crates - OF_TESTS):
+            with self.subTest(crate=crate):
+                self.assertEqual(sorted(set(self.public_functions(crate)) - told), [])
+
+
+if __name__ == "__main__":
+    unittest.main()
