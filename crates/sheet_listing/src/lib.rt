@@ -5,6 +5,3 @@ mod escaping;
 mod lines;
 
 pub use lines::{listing_of, push_listing};
-
-#[cfg(test)]
-mod tests;

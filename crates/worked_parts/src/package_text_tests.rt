@@ -1,4 +1,4 @@
-use crate::package_from_json;
+use package_text::package_from_json;
 use serde_json::Value;
 use std::test::Fail;
 

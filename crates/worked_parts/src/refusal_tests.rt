@@ -1,8 +1,8 @@
-use super::*;
 use attr_text::AttrFault;
 use part_events::XmlFault;
 use std::alloc::{AllocError, Global};
 use std::test::Fail;
+use xlsx_error::XlsxError;
 
 #[test]
 fn each_refusal_has_its_text(rt: HostRuntime) -> Result<(), Fail> {

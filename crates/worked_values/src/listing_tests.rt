@@ -1,9 +1,9 @@
 ghost use Rattle.std.specs.Prelude.{All};
 ghost use Rattle.cell_data.specs.Cells.{IsInSheet};
 
-use crate::push_listing;
 use cell_data::{Cell, CellErrorType, Data, Decimal, ExcelDateTime, ExcelDateTimeType, Range};
 use cell_styles::{Color, Fill, FillPattern, Style, StyleRange};
+use sheet_listing::push_listing;
 use std::alloc::{AllocError, Global};
 use std::test::Fail;
 

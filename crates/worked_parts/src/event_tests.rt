@@ -1,6 +1,6 @@
 ghost use Rattle.std.specs.Prelude.{◌<◌};
 
-use crate::{
+use part_events::{
     FailingPackage, MemoryPackage, Package, PartEvent, StartTag, Step, StreamError, XlReader,
     XmlFault, children_are_at_depth_one, content_is_by_match, innermost_open_is_by_depth,
     outermost_is_in_order, whole_is_longest,
