@@ -11,7 +11,9 @@ mod value;
 
 pub use cell::Cell;
 pub use decimals::Decimal;
-pub use equality::{is_same_data, is_same_data_ref};
+pub use equality::{
+    copies_are_the_same, equality_is_by_all_fields, the_first_row_with_a_value_is_the_default,
+};
 pub use format::{
     CellFormat, builtin_format_by_id, builtin_format_code_by_id, detect_custom_number_format,
 };

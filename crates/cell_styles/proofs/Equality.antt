@@ -1,15 +1,11 @@
 -- Comparisons hold exactly of equal values, part by part.
-use Rattle.std.proofs.Common.{◌≡◌, Bool, true, false, ◌&&◌, Some, None, nat_eq, refl, ap, subst}
-use Rattle.std.proofs.Common.{sym, ◌∙◌, rules}
-use Rattle.std.proofs.Props.{props}
+use Rattle.std.proofs.Common.{Bool, Some, None, nat_eq, refl, ap}
+use Rattle.std.proofs.Common.{rules}
 use Rattle.std.specs.Bool.{beq}
-use Rattle.std.specs.Prelude.{ℤ, pos}
-use Rattle.std.specs.Ordering.{int_eq}
-use Rattle.decimals.specs.Canonical.{IsTrimmed}
-use Rattle.decimals.specs.declared.decimal.Decimal.{Decimal}
 use Rattle.std.specs.Option.{option_eq}
 use Rattle.std.specs.Cmp.Lexicographic.{pointwise}
-use Rattle.cell_styles.specs.Equality.{IsEquality}
+use Rattle.decimals.specs.Equality.{IsEquality}
+use Rattle.decimals.proofs.Equality.{of_pairs, of_image, of_decimal}
 use Rattle.cell_styles.specs.Font.{FontFields}
 use Rattle.cell_styles.specs.StyleFormats.{NumberFormatFields}
 use Rattle.cell_styles.specs.declared.alignment.Alignment.{Alignment}
@@ -18,7 +14,6 @@ use Rattle.cell_styles.specs.declared.border.Borders.{Borders}
 use Rattle.cell_styles.specs.declared.fill.Fill.{Fill}
 use Rattle.cell_styles.specs.declared.protection.Protection.{Protection}
 use Rattle.cell_styles.specs.declared.style.Style.{Style}
-use Rattle.decimals.specs.contracts.decimal.DecimalPartialEq.TheImpl as size
 use Rattle.cell_styles.specs.contracts.alignment.AlignmentPartialEq.TheImpl as alignment
 use Rattle.cell_styles.specs.contracts.alignment.HorizontalAlignmentPartialEq.TheImpl as horizontal
 use Rattle.cell_styles.specs.contracts.alignment.TextRotationPartialEq.TheImpl as rotation
@@ -36,33 +31,6 @@ use Rattle.cell_styles.specs.contracts.font.UnderlineStylePartialEq.TheImpl as u
 use Rattle.cell_styles.specs.contracts.number_format.NumberFormatPartialEq.TheImpl as number_format
 use Rattle.cell_styles.specs.contracts.protection.ProtectionPartialEq.TheImpl as protection
 use Rattle.cell_styles.specs.contracts.style.StylePartialEq.TheImpl as style
-
-both_true : (p q : Bool) → (p && q) ≡ true → (p ≡ true) × (q ≡ true)
-both_true true q h = (refl, h)
-both_true false q h = absurd (cc)
-
--- a comparison of pairs, by both parts
-of_pairs : {X Y : Type 0} {eq : X → X → Bool} {eq' : Y → Y → Bool} → IsEquality eq → IsEquality eq'
-    → IsEquality (λ (a b : X × Y). eq a.0 b.0 && eq' a.1 b.1)
-of_pairs {X} {Y} {eq} {eq'} first second a b =
-    (forth, λ h. subst (λ (c : X × Y). (eq a.0 c.0 && eq' a.1 c.1) ≡ true) h back)
-  where
-    forth : (eq a.0 b.0 && eq' a.1 b.1) ≡ true → a ≡ b
-    forth h =
-        let tests = both_true (eq a.0 b.0) (eq' a.1 b.1) h in
-        λ i. ((first a.0 b.0).0 tests.0 i, (second a.1 b.1).0 tests.1 i)
-
-    back : (eq a.0 a.0 && eq' a.1 a.1) ≡ true
-    back = λ i. (first a.0 a.0).1 refl i && (second a.1 a.1).1 refl i
-
--- a comparison of what a value is made from
-of_image : {X Y : Type 0} {eq : Y → Y → Bool} (f : X → Y) (back : Y → X)
-    → ((x : X) → back (f x) ≡ x)
-    → IsEquality eq → IsEquality (λ (a b : X). eq (f a) (f b))
-of_image f back same whole a b = (
-  λ h. sym (same a) ∙ (ap back ((whole (f a) (f b)).0 h) ∙ same b),
-  λ h. (whole (f a) (f b)).1 (ap f h),
-)
 
 -- a comparison of options
 pub of_options : {X : Type 0} {eq : X → X → Bool} → IsEquality eq → IsEquality (option_eq eq)
@@ -140,34 +108,6 @@ of_alignment = of_image
 of_text : IsEquality (pointwise nat_eq)
 of_text a b = search rules
 
--- the facts that a decimal keeps
-abbrev IsDecimal : ℤ × ℤ → Type 0
-IsDecimal parts = (parts.0 ≡ pos 0 → parts.1 ≡ pos 0) × IsTrimmed parts.0
-
-abbrev decimal_of : (parts : ℤ × ℤ) → IsDecimal parts → Decimal
-decimal_of parts facts =
-    record { mantissa = parts.0; exponent = parts.1; zero = facts.0; trimmed = facts.1 }
-
-abbrev parts_of : Decimal → ℤ × ℤ
-parts_of number = (number.mantissa, number.exponent)
-
-same_decimal : (a b : Decimal) → parts_of a ≡ parts_of b → a ≡ b
-same_decimal a b e =
-    let whole : (parts : ℤ × ℤ) → IsProp (IsDecimal parts) = hlevel props in
-    subst (λ parts. (facts : IsDecimal parts) → a ≡ decimal_of parts facts) e
-    (λ facts. ap (decimal_of (parts_of a)) (whole (parts_of a) (a.zero, a.trimmed) facts)) (
-      b.zero,
-      b.trimmed,
-    )
-
-of_whole : IsEquality int_eq
-of_whole a b = search rules
-
-of_size : IsEquality size.ghosts.eq
-of_size a b =
-    let parts = of_pairs of_whole of_whole (parts_of a) (parts_of b) in
-    (λ h. same_decimal a b (parts.0 h), λ h. parts.1 (ap parts_of h))
-
 of_weight : IsEquality weight.ghosts.eq
 of_weight a b = search rules
 
@@ -193,7 +133,7 @@ of_font = of_image
       color = p.1.1.1.1.1.1.0;
       family = p.1.1.1.1.1.1.1;
     }) (λ _. refl)
-    (of_pairs (of_options of_text) (of_pairs (of_options of_size) (of_pairs of_weight
+    (of_pairs (of_options of_text) (of_pairs (of_options of_decimal) (of_pairs of_weight
     (of_pairs of_font_style (of_pairs of_underline (of_pairs of_bool
     (of_pairs (of_options of_color) (of_options of_number))))))))
 

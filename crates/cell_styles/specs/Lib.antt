@@ -1,7 +1,6 @@
 pub mod Border
 pub mod Color
 pub mod Default
-pub mod Equality
 pub mod Fill
 pub mod Filling
 pub mod Font

@@ -1,11 +1,11 @@
 ghost use Rattle.std.specs.Prelude.{◌≡◌, ℕ, ◌^◌, ◌<◌, List, length};
 ghost use Rattle.cell_refs.specs.Dimensions.{cell_count, IsInArea};
 ghost use Rattle.cell_refs.specs.declared.dimensions.Dimensions.{Dimensions};
+ghost use Rattle.decimals.specs.Equality.{IsEquality, CopiesItself};
 ghost use Rattle.cell_styles.specs.Color.{argb_of, color_of_argb};
 ghost use Rattle.cell_styles.specs.Default.{IsOnly, default_color, default_border, default_borders};
 ghost use Rattle.cell_styles.specs.Default.{default_font, default_alignment, default_fill};
 ghost use Rattle.cell_styles.specs.Default.{default_protection, default_style};
-ghost use Rattle.cell_styles.specs.Equality.{IsEquality};
 ghost use Rattle.cell_styles.specs.StyleMap.{StyledCell, IsArea, first_id_at, styles_of};
 ghost use Rattle.cell_styles.specs.StyleMap.{place_in, position_in};
 ghost use Rattle.cell_styles.specs.declared.color.Color.{Color};
@@ -36,6 +36,35 @@ pub fn equality_is_by_all_fields()
     ensures number_format { IsEquality ⟦<NumberFormat as PartialEq>⟧.eq }
     ensures protection { IsEquality ⟦<Protection as PartialEq>⟧.eq }
     ensures style { IsEquality ⟦<Style as PartialEq>⟧.eq }
+{}
+
+/// A copy of a value is that value, at each type of this crate that is `Copy`.
+pub fn copies_are_the_same()
+    ensures color { CopiesItself ⟦<Color as Clone>⟧.is_clone ⟦<Color as Clone>⟧.is_infallible }
+    ensures border_style { CopiesItself ⟦<BorderStyle as Clone>⟧.is_clone
+        ⟦<BorderStyle as Clone>⟧.is_infallible }
+    ensures border { CopiesItself ⟦<Border as Clone>⟧.is_clone ⟦<Border as Clone>⟧.is_infallible }
+    ensures borders { CopiesItself ⟦<Borders as Clone>⟧.is_clone
+        ⟦<Borders as Clone>⟧.is_infallible }
+    ensures font_weight { CopiesItself ⟦<FontWeight as Clone>⟧.is_clone
+        ⟦<FontWeight as Clone>⟧.is_infallible }
+    ensures font_style { CopiesItself ⟦<FontStyle as Clone>⟧.is_clone
+        ⟦<FontStyle as Clone>⟧.is_infallible }
+    ensures underline_style { CopiesItself ⟦<UnderlineStyle as Clone>⟧.is_clone
+        ⟦<UnderlineStyle as Clone>⟧.is_infallible }
+    ensures horizontal { CopiesItself ⟦<HorizontalAlignment as Clone>⟧.is_clone
+        ⟦<HorizontalAlignment as Clone>⟧.is_infallible }
+    ensures vertical { CopiesItself ⟦<VerticalAlignment as Clone>⟧.is_clone
+        ⟦<VerticalAlignment as Clone>⟧.is_infallible }
+    ensures text_rotation { CopiesItself ⟦<TextRotation as Clone>⟧.is_clone
+        ⟦<TextRotation as Clone>⟧.is_infallible }
+    ensures alignment { CopiesItself ⟦<Alignment as Clone>⟧.is_clone
+        ⟦<Alignment as Clone>⟧.is_infallible }
+    ensures fill_pattern { CopiesItself ⟦<FillPattern as Clone>⟧.is_clone
+        ⟦<FillPattern as Clone>⟧.is_infallible }
+    ensures fill { CopiesItself ⟦<Fill as Clone>⟧.is_clone ⟦<Fill as Clone>⟧.is_infallible }
+    ensures protection { CopiesItself ⟦<Protection as Clone>⟧.is_clone
+        ⟦<Protection as Clone>⟧.is_infallible }
 {}
 
 /// The default of each type: zeros for a color, the variants None, Normal, General and Bottom,

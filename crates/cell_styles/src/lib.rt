@@ -24,8 +24,8 @@ pub use color::Color;
 pub use fill::{Fill, FillPattern};
 pub use font::{Font, FontStyle, FontWeight, UnderlineStyle};
 pub use laws::{
-    colors_read_back, defaults_are_these, each_position_has_one_place, equality_is_by_all_fields,
-    ranges_go_by_first_ids,
+    colors_read_back, copies_are_the_same, defaults_are_these, each_position_has_one_place,
+    equality_is_by_all_fields, ranges_go_by_first_ids,
 };
 pub use number_format::NumberFormat;
 pub use protection::Protection;

@@ -1,4 +1,5 @@
 pub mod Digits
+pub mod Equality
 pub mod OneForm
 pub mod Parsed
 pub mod PowerLemmas

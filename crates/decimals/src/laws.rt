@@ -3,7 +3,10 @@ ghost use Rattle.std.specs.Str.{all_ascii_digits};
 ghost use Rattle.std.specs.Str.Parse.{digits_value};
 ghost use Rattle.decimals.specs.Decimal.{number_of};
 ghost use Rattle.decimals.specs.Decimals.{trailing_zeros, without_trailing_zeros};
+ghost use Rattle.decimals.specs.Equality.{IsEquality, CopiesItself};
 ghost use Rattle.decimals.specs.declared.decimal.Decimal.{Decimal};
+
+use crate::Decimal;
 
 /// Digits write the number that they write without the zeros at their end, times ten for each of
 /// these, and no zero ends that number but 0.
@@ -22,4 +25,15 @@ pub fn zeros_at_the_end_are_powers_of_ten()
 pub fn equal_numbers_have_one_form()
     ensures { (a b : Decimal) (shift : ℕ) → a.exponent +ℤ pos shift ≡ b.exponent
         → a.mantissa ≡ b.mantissa *ℤ pos (10 ^ shift) → number_of a ≡ number_of b }
+{}
+
+/// `a == b` exactly where both are the same whole number and the same power.
+#[tactic(auto, using(crate::proofs::Equality::of_decimal))]
+pub fn equality_is_by_all_fields()
+    ensures { IsEquality ⟦<Decimal as PartialEq>⟧.eq }
+{}
+
+/// A copy of a decimal is that decimal.
+pub fn copies_are_the_same()
+    ensures { CopiesItself ⟦<Decimal as Clone>⟧.is_clone ⟦<Decimal as Clone>⟧.is_infallible }
 {}
