@@ -67,6 +67,7 @@ fn formulas_move_by_the_way_from_start_to_end(rt: HostRuntime) -> Result<(), Fai
         ("B3+$B$3", (4, 2), (5, 1), "A4+$B$3"),
         ("B3:C4", (7, 7), (5, 6), "A1:B2"),
         ("A1", (3, 0), (2, 0), "A1"),
+        ("A1:B3", (3, 0), (2, 0), "A1:B3"),
     ];
     for (formula, start, end, expanded) in cases {
         let text = expand_shared_formula(rt.alloc(), formula, start, end)?;
