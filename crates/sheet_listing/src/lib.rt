@@ -4,6 +4,3 @@
 mod lines;
 
 pub use lines::{listing_of, push_listing};
-
-#[cfg(test)]
-mod tests;
