@@ -50,7 +50,7 @@ echo "rt $* speaks of $(basename "$PWD")"
 [ "$1" != run ] || cp "$STAND_IN" out/xlsx_tool
 """
 USAGE = """\
-usage: ./xlsx FILE.xlsx cells NAME
+usage: ./xlsx FILE.xlsx cells NAME       (or sheets, or names)
        ./xlsx cells NAME < package.json
        ./xlsx --help
 """
@@ -352,9 +352,12 @@ class Wrapper(unittest.TestCase):
     def test_the_program_reads_a_workbook_file(self):
         self.build(PROGRAM)
         self.assertEqual(self.run_on("book.xlsx", "cells", "S"), (0, LINES, ""))
-        self.assertEqual(
-            self.run_on("book.xlsx", "cells", "X"), (6, b"", "Worksheet 'X' not found\n")
-        )
+        said = "Worksheet 'X' not found\n"
+        said += "xlsx: the sheets of a workbook are listed by: ./xlsx FILE.xlsx sheets\n"
+        self.assertEqual(self.run_on("book.xlsx", "cells", "X"), (6, b"", said))
+        lines = b"S\tworksheet\tvisible\n"
+        self.assertEqual(self.run_on("book.xlsx", "sheets"), (0, lines, ""))
+        self.assertEqual(self.run_on("book.xlsx", "names"), (0, b"", ""))
         data = package_text(MINIMAL)
         self.assertEqual(self.run_on("cells", "S", data=data), (0, LINES, ""))
         with open("/dev/full", "wb") as full:
