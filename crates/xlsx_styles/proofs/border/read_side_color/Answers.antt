@@ -4,20 +4,10 @@ use Rattle.part_events.specs.Reading.{reading}
 use Rattle.xlsx_error.specs.declared.error.XlsxError.TheVariants.{XmlAttr}
 use Rattle.xlsx_sections.specs.Elements.{IsInsideRefused}
 use Rattle.xlsx_sections.specs.PartSection.{always}
-use Rattle.xlsx_sections.proofs.StartsSaid.{at_start, own_refused, own_step_refused}
+use Rattle.xlsx_sections.proofs.StartsSaid.{at_start, own_refused}
 use Rattle.xlsx_sections.proofs.StartsSaid.{last_further, last_refused}
 use Rattle.xlsx_styles.specs.Borders.{side_color, color_in}
 use Rattle.xlsx_styles.proofs.border.read_side_color.Goals as goal
-
-pub returns-in_err-_at-clause-err : goal.returns-in_err-_at-clause-err
-returns-in_err-_at-clause-err g c =
-    let old = reading (g.P.Package.state c.args.package.now) c.args.cursor.now in
-    let new = g.P.Package.state c.next_start_in.new.package in
-    let p = err_from_is_err_and c.from_residual.result c.from_residual.ensures.1 in
-    rw (p.1, p.2)
-    (own_step_refused old (always (codes "border side"))
-    (IsInsideRefused (color_in c.args.theme_colors.now)) new c.in_err-_at.field-0.0
-    c.starts.invariant.own (c.in_err-_at.ensures.refused old c.starts.invariant.said.keeps))
 
 pub starts-preserved : goal.starts-preserved
 starts-preserved g c =
