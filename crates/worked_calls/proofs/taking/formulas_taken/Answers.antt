@@ -18,7 +18,7 @@ cells-init g c =
       still = λ told. told;
       going = c.requires.going;
       taken = λ told.
-          rw c.new-cells.ensures (values_none (grounds_by c.args.reader.now) old c.requires.fresh);
+          rw c.new-cells.ensures.items (values_none (grounds_by c.args.reader.now) old c.requires.fresh);
     }
 
 pub cells-preserved : goal.cells-preserved
@@ -41,7 +41,7 @@ cells-preserved g c =
           been.stands) in
           subst (λ (entries : List ((ℕ × ℕ) × CellValue)). HasValues
           (grounds_by c.args.reader.now) old new entries)
-          (sym (ap (map formula_entry) c.in_ok-push.ensures
+          (sym (ap (map formula_entry) c.in_ok-push.ensures.items
           ∙ map-append formula_entry c.cells.cells.items (own ∷ [])))
           (values_further (formula_entry own) been takes
           (λ before element kept is. (
@@ -52,12 +52,14 @@ cells-preserved g c =
     }
 
 pub returns : goal.returns
-returns g c = λ told.
-    let mid = stream_by g.P.Package.state c.cells.reader in
-    let new = stream_by g.P.Package.state c.next_cell_with_formula.new.self in
-    let now = c.cells.invariant in
-    let been = now.taken told in
-    let ends : EndsData NoCell been.before mid new = rw c.in_default.is at
-    (c.in_ok-cell.ensures.takes (now.still told) been.before been.earlier been.stands)
-    now.going.done in
-    values_whole been ends
+returns g c = record {
+  values = λ told.
+      let mid = stream_by g.P.Package.state c.cells.reader in
+      let new = stream_by g.P.Package.state c.next_cell_with_formula.new.self in
+      let now = c.cells.invariant in
+      let been = now.taken told in
+      let ends : EndsData NoCell been.before mid new = rw c.in_default.is at
+      (c.in_ok-cell.ensures.takes (now.still told) been.before been.earlier been.stands)
+      now.going.done in
+      values_whole been ends;
+}
