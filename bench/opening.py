@@ -1,6 +1,6 @@
 #!/usr/bin/env python3
-"""Measures the opening of workbooks with many sheets and defined names beside json.load of the
-same text, and prints one table (docs/PERFORMANCE.md)."""
+"""Measures the opening of workbooks with many sheets and defined names, and the lists of these,
+beside json.load of the same text, and prints one table (docs/PERFORMANCE.md)."""
 
 import argparse
 import os
@@ -29,6 +29,8 @@ SHEETS, NAMES = 5_000, 50_000
 # No sheet has this name, so the program ends once the workbook is open, and reads no sheet.
 ABSENT = "absent"
 NO_SHEET = 6
+# The commands that open the workbook and print a list.
+LISTS = ("sheets", "names")
 # What the program may end with where it doesn't find the workbook's parts.
 NOT_FOUND = (6, 9)
 
@@ -90,6 +92,7 @@ class Size:
     open in the first alone. So what the first takes longer than the second is the opening."""
 
     def __init__(self, folder, program, times):
+        self.program = program
         self.words = [program, "cells", ABSENT]
         self.found = os.path.join(folder, f"found-{times}.json")
         self.renamed = os.path.join(folder, f"renamed-{times}.json")
@@ -100,6 +103,7 @@ class Size:
         self.bytes = os.path.getsize(self.found)
         assert os.path.getsize(self.renamed) == self.bytes
         self.opened, self.unopened, self.json = [], [], []
+        self.listed = {command: [] for command in LISTS}
 
     def refused(self, package, statuses):
         """Runs the program, and answers what was measured and what it said."""
@@ -115,17 +119,21 @@ class Size:
         self.opened.append(opened)
         self.unopened.append(unopened)
         self.json.append(measured(JSON_LOAD, self.found))
+        for command in LISTS:
+            self.listed[command].append(measured([self.program, command], self.found))
 
     def result(self):
-        """The seconds with, without and of opening and of json.load, and the peak memory of opening
-        and json.load."""
+        """The seconds with, without and of opening, of the two lists and of json.load, and the peak
+        memory of opening and json.load."""
         runs = (self.opened, self.unopened, self.json)
         opened, unopened, json = (each(median, of) for of in runs)
-        pairs = zip(self.opened, self.unopened)
-        opening = median(first.processor - second.processor for first, second in pairs)
+        opening, *lists = (
+            median(one.processor - other.processor for one, other in zip(runs, self.unopened))
+            for runs in (self.opened, *self.listed.values())
+        )
         if opening <= 0:
             sys.exit("opening.py: the opening is lost in the noise: ask for more --repeats")
-        seconds = opened.processor, unopened.processor, opening, json.processor
+        seconds = opened.processor, unopened.processor, opening, *lists, json.processor
         return *seconds, opened.peak, json.peak
 
 
@@ -136,6 +144,7 @@ HEAD = [
     "opened",
     "unopened",
     "opening",
+    *LISTS,
     "events/s",
     "json.load",
     "ratio",
@@ -146,7 +155,7 @@ HEAD = [
 
 
 def row_of(name, size):
-    opened, unopened, opening, json_seconds, peak, json_peak = size.result()
+    opened, unopened, opening, sheets, names, json_seconds, peak, json_peak = size.result()
     return [
         name,
         f"{size.bytes:,}",
@@ -154,6 +163,8 @@ def row_of(name, size):
         f"{opened:.3f}",
         f"{unopened:.3f}",
         f"{opening:.3f}",
+        f"{sheets:.3f}",
+        f"{names:.3f}",
         f"{size.events / opening:,.0f}",
         f"{json_seconds:.3f}",
         f"{opening / json_seconds:.2f}",
@@ -167,7 +178,7 @@ def growth_of(single, double):
     sizes = [(single.bytes, double.bytes), (single.events, double.events)]
     pairs = [*sizes, *zip(single.result(), double.result())]
     grown = [f"{b / a:.2f}" for a, b in pairs]
-    return ["growth", *grown[:5], "", grown[5], "", *grown[6:], ""]
+    return ["growth", *grown[:7], "", grown[7], "", *grown[8:], ""]
 
 
 def main():

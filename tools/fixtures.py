@@ -29,6 +29,20 @@ def with_rows(rows, name="S"):
     }
 
 
+def with_sheets(*sheets, names=""):
+    """The parts of a workbook whose sheets have these attributes and types, without their parts."""
+    kinds = [(kind, f"{kind}s/sheet{number}.xml") for number, (_, kind) in enumerate(sheets, 1)]
+    starts = (f'<sheet {own} r:id="rId{number}"/>' for number, (own, _) in enumerate(sheets, 1))
+    return {
+        "_rels/.rels": relationships(("officeDocument", "xl/workbook.xml")),
+        "xl/_rels/workbook.xml.rels": relationships(*kinds),
+        "xl/workbook.xml": (
+            f"<workbook><sheets>{''.join(starts)}</sheets>"
+            f"<definedNames>{names}</definedNames></workbook>"
+        ),
+    }
+
+
 # A workbook of two values and a formula, without styles, and its lines.
 MINIMAL = with_rows(
     '<row r="1"><c r="A1" t="str"><v>nut</v></c>'

@@ -24,6 +24,7 @@ from fixtures import (
     SALES_LINES,
     package_text,
     with_rows,
+    with_sheets,
 )
 
 TOP = pathlib.Path(__file__).resolve().parent.parent
@@ -132,6 +133,8 @@ class Edge:
     def test_words_that_are_no_command(self):
         for words in ([], ["cells"], ["cells", "S", "S"], ["cell", "S"], ["Cells", "S"], [""]):
             self.assertEqual(self.run_on(PACKAGE, words), refusal(2), words)
+        for words in (["sheets", "x"], ["sheets", ""], ["names", "S"], ["Sheets"], ["name"]):
+            self.assertEqual(self.run_on(PACKAGE, words), refusal(2), words)
         for words in (["--help", "--version"], ["--help", "S"], ["cells", b"\xff"]):
             self.assertEqual(self.run_on(PACKAGE, words), refusal(2), words)
 
@@ -205,6 +208,69 @@ class Edge:
             parts = {name: markup for name, markup in SALES.items() if name != left_out}
             found = self.run_on(package_text(parts), ["cells", "Sales"])
             self.assertEqual(found, wanted, left_out)
+
+    def both_lists(self, parts):
+        """What `sheets` and `names` answer."""
+        package = package_text(parts)
+        return self.run_on(package, ["sheets"]), self.run_on(package, ["names"])
+
+    def test_lists_of_a_workbook(self):
+        hidden = with_sheets(
+            ('name="S" sheetId="1" state="hidden"', "worksheet"),
+            names='<definedName name="Q">S!$A$1</definedName>',
+        )
+        kinds = with_sheets(
+            ('name="One" sheetId="1" state="visible"', "worksheet"),
+            ('name="Two" sheetId="2" state="veryHidden"', "chartsheet"),
+            ('name="One" sheetId="3"', "dialogsheet"),
+            names='<definedName name="b">1</definedName><definedName name="a" localSheetId="0"/>'
+            '<definedName>2</definedName><definedName name="b">S!$A$1:$B$2</definedName>',
+        )
+        kinds_lines = (
+            b"One\tworksheet\tvisible\nTwo\tchartsheet\tveryHidden\nOne\tdialogsheet\tvisible\n"
+        )
+        escaped = with_sheets(
+            ('name="tab&#9;here\\" sheetId="1"', "worksheet"),
+            names='<definedName name="line&#10;feed">"a\tb"</definedName>',
+        )
+        for parts, sheets, names in (
+            (hidden, b"S\tworksheet\thidden\n", b"Q\tS!$A$1\n"),
+            (kinds, kinds_lines, b"b\t1\na\t\nb\tS!$A$1:$B$2\n"),
+            (escaped, b"tab\\there\\\\\tworksheet\tvisible\n", b'line\\nfeed\t"a\\tb"\n'),
+            (MINIMAL, b"S\tworksheet\tvisible\n", b""),
+            (SALES, b"Sales\tworksheet\tvisible\n", b""),
+            (BROKEN_THEME, b"S\tworksheet\tvisible\n", b""),
+        ):
+            self.assertEqual(self.both_lists(parts), ((0, sheets, b""), (0, names, b"")), parts)
+
+    def test_lists_need_the_parts_of_a_workbook_and_none_of_its_sheets(self):
+        sheet = (0, b"S\tworksheet\tvisible\n", b""), (0, b"", b"")
+        nothing = ((0, b"", b""),) * 2
+        refused = lambda text: (no_workbook(text),) * 2
+        for changed, wanted in (
+            ({"xl/worksheets/sheet1.xml": "<worksheet><sheetData><row>"}, sheet),
+            ({"xl/worksheets/sheet1.xml": None}, sheet),
+            ({"xl/workbook.xml": None}, nothing),
+            ({"_rels/.rels": None}, refused(b"File not found '_rels/.rels'")),
+            (
+                {"xl/_rels/workbook.xml.rels": None},
+                refused(b"File not found 'xl/_rels/workbook.xml.rels'"),
+            ),
+            (
+                {"xl/sharedStrings.xml": "<sst>"},
+                refused(b"Unexpected end of xml, expecting '</sst>'"),
+            ),
+            (
+                {"xl/styles.xml": "<styleSheet>"},
+                refused(b"Unexpected end of xml, expecting '</styleSheet>'"),
+            ),
+            (
+                {"xl/workbook.xml": MINIMAL["xl/workbook.xml"].replace("sheetId", 'state="x" sheetId')},
+                refused(b"Unrecognized sheet:state: x"),
+            ),
+        ):
+            parts = {name: text for name, text in {**MINIMAL, **changed}.items() if text}
+            self.assertEqual(self.both_lists(parts), wanted, changed)
 
     def test_a_faulty_theme_refuses_nothing(self):
         package = package_text(BROKEN_THEME)

@@ -31,6 +31,9 @@ SHEETS = {
     "values_and_formulas": "S",
 }
 
+# The sheets that are no worksheets.
+CHARTS = {"Chart"}
+
 # How many texts stand behind the mark of an event.
 FORMS = {"s": 2, "e": 1, "t": 1, "d": 1, "r": 1, "o": 0}
 NAMED = {"amp": "&", "lt": "<", "gt": ">", "quot": '"', "apos": "'"}
@@ -122,6 +125,27 @@ class Samples(unittest.TestCase):
             )
             wanted = (SAMPLES / f"{name}.lines").read_bytes()
             self.assertEqual((ran.returncode, ran.stdout, ran.stderr), (0, wanted, b""), name)
+
+    def test_sheets_and_names_are_those_that_another_parser_tells(self):
+        for path in WORKBOOKS:
+            with zipfile.ZipFile(path) as archive:
+                told = told_by_expat(archive.read("xl/workbook.xml"))
+            sheets, names = "", ""
+            for (kind, name, *pairs), behind in zip(told, told[1:]):
+                if (kind, name) == ("start", "sheet"):
+                    typ = "chartsheet" if pairs[0]["name"] in CHARTS else "worksheet"
+                    sheets += f"{pairs[0]['name']}\t{typ}\t{pairs[0].get('state', 'visible')}\n"
+                elif (kind, name) == ("start", "definedName"):
+                    names += f"{pairs[0]['name']}\t{behind[1]}\n"
+            for command, wanted in (("sheets", sheets), ("names", names)):
+                ran = subprocess.run(
+                    [OUT / "xlsx_tool", command],
+                    input=package_text(path),
+                    stdout=subprocess.PIPE,
+                    stderr=subprocess.PIPE,
+                )
+                answer = ran.returncode, ran.stdout.decode(), ran.stderr
+                self.assertEqual(answer, (0, wanted, b""), (path.name, command))
 
     def test_a_chart_sheet_is_no_worksheet(self):
         ran = subprocess.run(

@@ -9,4 +9,3 @@ pub mod LinesLemmas
 pub mod LookupsByKey
 pub mod EscapesLemmas
 pub mod CutsLemmas
-pub mod SlowLemmas

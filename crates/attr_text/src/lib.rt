@@ -10,7 +10,6 @@ mod fault;
 mod items;
 mod line_ends;
 mod lookup;
-mod uses;
 mod values;
 
 pub use entity::{decode_attr, decoded_in_order, entity_char, push_entity};
@@ -20,6 +19,3 @@ pub use items::{RawAttrIter, items_in_order};
 pub use line_ends::{line_ends_in_order, push_line_ends};
 pub use lookup::{RawAttributes, local_name, local_name_matches, lookups_go_by_key};
 pub use values::{AttrValue, five_values, four_values, six_values, three_values, two_values};
-
-#[cfg(test)]
-mod tests;

@@ -24,6 +24,3 @@ pub const MAX_ROWS: u32 = 1_048_576;
 
 /// The number of columns of a worksheet.
 pub const MAX_COLUMNS: u32 = 16_384;
-
-#[cfg(test)]
-mod tests;

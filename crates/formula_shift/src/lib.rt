@@ -19,6 +19,3 @@ pub use laws::{
 };
 pub use piece::{Piece, Pieces};
 pub use reference::Reference;
-
-#[cfg(test)]
-mod tests;

@@ -1,2 +1,1 @@
-pub mod FloatsBeside
 pub mod PackageTextLemmas

@@ -4,6 +4,3 @@
 mod spelled;
 
 pub use spelled::package_from_json;
-
-#[cfg(test)]
-mod tests;

@@ -47,6 +47,14 @@ pub record PackageState : Type 0 where
 abbrev pub RisesByOne : ℕ → ℕ → Type 0
 RisesByOne old new = min (old + 1) (2 ^ 64 - 1) ≤ new
 
+-- a count of 64 bits didn't fall
+abbrev pub NeverFalls : ℕ → ℕ → Type 0
+NeverFalls old new = min old (2 ^ 64 - 1) ≤ new
+
+-- a count of 64 bits rose by so many, up to its end
+abbrev pub CountsUp : ℕ → ℕ → ℕ → Type 0
+CountsUp more old new = min new (2 ^ 64 - 1) ≡ min (old + more) (2 ^ 64 - 1)
+
 -- the count of faults rose, or stands at its end
 abbrev pub HasCause : PackageState → PackageState → Type 0
 HasCause old new = RisesByOne old.faults new.faults
@@ -106,6 +114,7 @@ event_count parts name = option_map_or length (part_of parts name) 0
 pub record UsesPackage (most : ℕ) (old new : PackageState) : Type 0 where
   pub parts : SameParts old new
   pub faults : new.faults ≡ old.faults
+  pub forward : NeverFalls old.taken new.taken
   pub taken : old.is_told ≡ true → new.taken ≤ old.taken + most
 
 -- a refused call on a package: `fault` alone may come with a higher count of faults
@@ -113,6 +122,7 @@ pub record LeavesPackage {E : Type 0} (most : ℕ) (fault : E) (old new : Packag
     (error : E) : Type 0 where
   pub parts : SameParts old new
   pub faults : KeepsFaults fault old new error
+  pub forward : NeverFalls old.taken new.taken
   pub taken : old.is_told ≡ true → new.taken ≤ old.taken + most
 
 -- what each call on a package keeps, by its answer

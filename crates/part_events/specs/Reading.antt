@@ -1,11 +1,12 @@
 -- A reader of a part: what it is to its caller, and what its calls do.
-use Rattle.std.specs.Prelude.{◌≡◌, ⊤, ℕ, suc, ◌+◌, ◌-◌, ◌<◌, ◌≤◌, ◌^◌, min, List, [], ◌∷◌, ◌++◌}
+use Rattle.std.specs.Prelude.{◌≡◌, ⊤, ℕ, suc, ◌+◌, ◌-◌, ◌<◌, ◌≤◌, ◌^◌, List, [], ◌∷◌, ◌++◌}
 use Rattle.std.specs.Prelude.{length, reverse, slice_get, Bool, true, false, Result, MatchResult}
 use Rattle.std.specs.declared.alloc.Global.{Global}
 use Rattle.part_events.specs.Event.{Event, start, end, leaf, is_start}
 use Rattle.part_events.specs.Nesting.{starts_in, ends_in, depth, open_name, IsWhole, whole_rest}
 use Rattle.part_events.specs.Nesting.{whole}
 use Rattle.part_events.specs.Package.{PackageState, HasCause, KeepsFaults, SameParts}
+use Rattle.part_events.specs.Package.{CountsUp}
 use Rattle.part_events.specs.Section.{content, is_closed, behind}
 use Rattle.part_events.specs.declared.cursor.Cursor.{Cursor}
 use Rattle.part_events.specs.declared.fault.StreamError.{StreamError}
@@ -93,8 +94,7 @@ pub record MovesForward (old new : Reading) : Type 0 where
   pub parts : SameParts old.source new.source
   pub alloc : new.alloc ≡ old.alloc
   pub forward : old.at ≤ new.at
-  pub taken : min new.source.taken (2 ^ 64 - 1)
-      ≡ min (old.source.taken + (new.at - old.at)) (2 ^ 64 - 1)
+  pub taken : CountsUp (new.at - old.at) old.source.taken new.source.taken
   pub bounded : new.source.taken + new.source.left ≤ old.source.taken + old.source.left
   pub within :
       old.source.is_told ≡ true →

@@ -12,8 +12,6 @@ mod open_names;
 mod package;
 mod reader;
 mod stored;
-#[cfg(test)]
-mod tests;
 mod text;
 mod walk;
 

@@ -30,7 +30,7 @@ use Rattle.cell_styles.specs.declared.color.Color.{Color}
 use Rattle.cell_styles.specs.declared.fill.FillPattern.{FillPattern}
 use Rattle.cell_styles.specs.declared.fill.FillPattern.TheVariants as pattern
 use Rattle.cell_styles.specs.declared.style.Style.{Style}
-use Rattle.sheet_listing.specs.Escaped.{escaped}
+use Rattle.escaped_text.specs.Escaped.{escaped}
 
 abbrev pub truth_text : Bool → List ℕ
 truth_text true = codes "b:true"

@@ -1,10 +1,6 @@
 //! The lines of a worksheet: one for each cell with a value, a formula or a style (docs/FORMAT.md).
 #![tactic(auto)]
 
-mod escaping;
 mod lines;
 
 pub use lines::{listing_of, push_listing};
-
-#[cfg(test)]
-mod tests;

@@ -8,7 +8,7 @@ ghost use Rattle.cell_data.specs.Range.{cells_of};
 ghost use Rattle.cell_refs.specs.Reference.{reference};
 ghost use Rattle.cell_styles.specs.Fill.{fill_color};
 ghost use Rattle.cell_styles.specs.StyleMap.{style_at};
-ghost use Rattle.sheet_listing.specs.Escaped.{escaped};
+ghost use Rattle.escaped_text.specs.Escaped.{escaped};
 ghost use Rattle.sheet_listing.specs.SheetListing.{kind_text, calendar_text, value_field};
 ghost use Rattle.sheet_listing.specs.SheetListing.{formula_field};
 ghost use Rattle.sheet_listing.specs.SheetListing.{field, line, line_of, listing};
@@ -19,10 +19,10 @@ ghost use Rattle.sheet_listing.specs.SheetListing.{StandsFirst, Splits, IsEarlie
 ghost use Rattle.sheet_listing.specs.SheetListing.{shown_color, fill_shown, fill_field, id_given};
 ghost use Rattle.sheet_listing.specs.SheetListing.{lines_with, placed_ids};
 
-use crate::escaping::push_escaped;
 use cell_data::{Cell, Data, ExcelDateTime, ExcelDateTimeType, Range};
 use cell_refs::{MAX_COLUMNS, MAX_ROWS, push_reference};
 use cell_styles::{Color, Fill, Style, StyleRange};
+use escaped_text::push_escaped;
 use itoa::Buffer;
 use std::alloc::{AllocError, Global};
 

@@ -1,7 +1,7 @@
 //! Parts that end early, and packages of which a call fails.
 
 use crate::answers::{answer, assert_answer};
-use part_events::FailingPackage;
+use part_events::{FailingPackage, Package};
 use std::alloc::Global;
 use std::process::Abort;
 use std::test::Fail;
@@ -9,6 +9,8 @@ use test_packages::{
     Part, RELATIONSHIPS, ROOT, SHEET, SHEET_NAME, STRINGS_NAME, WORKBOOK, events_of, package_cut,
     package_of,
 };
+use xlsx_core::{SheetAnswer, read_sheet};
+use xlsx_error::XlsxError;
 
 /// A sheet with a formula, a text, a number, a string in its cell, and values and dimensions
 /// beside.
@@ -155,5 +157,16 @@ fn a_fault_of_each_call_is_told(rt: HostRuntime) -> Result<(), Fail> {
         let wanted = if call < CALLS { "Io" } else { MINIMAL_ANSWER };
         assert_eq!(rt; found.as_str(), wanted, "at call {call}");
     }
+    Ok(())
+}
+
+#[test]
+fn the_package_is_handed_back(rt: HostRuntime) -> Result<(), Fail> {
+    let alloc = rt.alloc();
+    let calls = vec![in alloc; 0u64]?;
+    let failing = FailingPackage::new(package_of(alloc, &[ROOT])?, calls);
+    let SheetAnswer { result, package } = read_sheet(alloc, failing, "S");
+    assert_eq!(rt; result.err(), Some(XlsxError::Io));
+    assert_eq!(rt; package.faults(), 1);
     Ok(())
 }

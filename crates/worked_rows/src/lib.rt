@@ -5,8 +5,6 @@
 #[cfg(test)]
 mod answers;
 #[cfg(test)]
-mod cell_tests;
-#[cfg(test)]
 mod cut_tests;
 #[cfg(test)]
 mod opening_tests;
@@ -14,8 +12,6 @@ mod opening_tests;
 mod reader_tests;
 #[cfg(test)]
 mod sales_tests;
-#[cfg(test)]
-mod sheet_tests;
 #[cfg(test)]
 mod string_tests;
 #[cfg(test)]

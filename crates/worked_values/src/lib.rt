@@ -1,10 +1,13 @@
-//! What values are: tests of decimals, number formats, ranges and styles by their public calls.
+//! What values are: tests of decimals, number formats, ranges, styles and their lines by their public
+//! calls.
 #![tactic(auto)]
 
 #[cfg(test)]
 mod decimal_tests;
 #[cfg(test)]
 mod format_tests;
+#[cfg(test)]
+mod listing_tests;
 #[cfg(test)]
 mod range_tests;
 #[cfg(test)]

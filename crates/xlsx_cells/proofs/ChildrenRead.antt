@@ -13,7 +13,7 @@ use Rattle.cell_data.specs.declared.format.CellFormat.{CellFormat}
 use Rattle.xlsx_sections.specs.Answers.{or_earlier, some_answers, prepended}
 use Rattle.xlsx_sections.specs.Elements.{ElementReadFails, IsInsideRefused}
 use Rattle.xlsx_sections.specs.PartSection.{PartSection, always, inside_of}
-use Rattle.xlsx_sections.specs.Refusal.{Refusal, stray_child, in_element}
+use Rattle.xlsx_sections.specs.Refusal.{Refusal, plain, stray_child, in_element}
 use Rattle.xlsx_sections.proofs.Kept.{some_passed, some_taken, some_refused, all_taken}
 use Rattle.xlsx_sections.proofs.Kept.{prepended-nil}
 use Rattle.xlsx_sections.proofs.Refused.{refused_by}
@@ -62,11 +62,11 @@ stray_if false false P Q some p q = absurd (cc)
 
 pub stray_refused : (wants : Wants) (grounds : Grounds) (format : CellFormat) (kind : CellKind)
     (tag : Tag) (s : PartSection) → IsNamedAs Stray tag → reads_children wants ≡ true
-    → IsChildRefused wants grounds format kind tag s stray_child
+    → IsChildRefused wants grounds format kind tag s (plain stray_child)
 stray_refused wants grounds format kind tag s named some =
     stray_if wants.values wants.formulas
-    (said_value grounds format kind tag (inside_of s) ≡ Err stray_child)
-    (said_formula tag (inside_of s) ≡ Err stray_child) some
+    (said_value grounds format kind tag (inside_of s) ≡ Err (plain stray_child))
+    (said_formula tag (inside_of s) ≡ Err (plain stray_child)) some
     (rw (named.0, named.1, named.2) refl) (rw (named.0, named.1, named.2) refl)
 
 -- a refused call behind others that weren't

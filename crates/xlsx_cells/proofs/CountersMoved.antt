@@ -9,7 +9,7 @@ use Rattle.part_events.specs.Section.{Element}
 use Rattle.xlsx_cells.specs.Marks.{Mark, row_start, row_end, cell}
 use Rattle.xlsx_cells.specs.Position.{row_named, position_named, row_counter, column_counter}
 use Rattle.xlsx_cells.specs.Position.{or_further_row, or_further_column, implied_position}
-use Rattle.xlsx_sections.specs.Refusal.{Refusal, misplaced}
+use Rattle.xlsx_sections.specs.Refusal.{Refusal, plain, misplaced}
 
 or_further_row_more : (ends : ℕ) (named : Result (Option ℕ) Refusal) (less more : ℕ) → more
     ≡ suc less → or_further_row (suc ends) named more ≡ suc (or_further_row ends named less)
@@ -67,5 +67,5 @@ implied_refused row column rows columns refusal at_row at_column is =
     grind (arith, nat_tests, at_column) in
     let low : nat_le MAX_ROWS row ≡ nat_le MAX_ROWS rows = grind (arith, nat_tests, at_row) in
     by_tests (nat_le MAX_COLUMNS columns) (nat_le MAX_ROWS rows) (row, column) (rows, columns)
-    (misplaced ref.ColumnNumberOverflow) (misplaced ref.RowNumberOverflow) refusal
+    (plain (misplaced ref.ColumnNumberOverflow)) (plain (misplaced ref.RowNumberOverflow)) refusal
     (rw (wide, low) at is)

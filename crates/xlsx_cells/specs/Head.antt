@@ -9,7 +9,6 @@ use Rattle.cell_refs.specs.A1.{area}
 use Rattle.cell_refs.specs.declared.dimensions.Dimensions.{Dimensions}
 use Rattle.part_events.specs.Event.{Tag, Event, start, end, leaf}
 use Rattle.part_events.specs.Nesting.{whole}
-use Rattle.part_events.specs.Package.{HasCause}
 use Rattle.part_events.specs.Reading.{Reading, BreaksAt, ahead, events_of}
 use Rattle.part_events.specs.Section.{behind_start, is_named}
 use Rattle.part_events.specs.declared.fault.XmlFault.TheVariants.{EndMismatch}
@@ -23,7 +22,8 @@ use Rattle.xlsx_error.specs.declared.error.XlsxError.TheVariants.{RangeWithoutCo
 use Rattle.xlsx_error.specs.declared.error.XlsxError.TheVariants.{ColumnNumberOverflow}
 use Rattle.xlsx_error.specs.declared.error.XlsxError.TheVariants.{RowNumberOverflow}
 use Rattle.xlsx_sections.specs.Answers.{last_answer}
-use Rattle.xlsx_sections.specs.Refusal.{Refusal, RefusedAs, lookup_fault, lacks_area}
+use Rattle.xlsx_sections.specs.Failing.{FailsBy}
+use Rattle.xlsx_sections.specs.Refusal.{Refusal, plain, RefusedAs, lookup_fault, lacks_area}
 use Rattle.xlsx_cells.specs.Counting.{IsRefused}
 use Rattle.xlsx_cells.specs.Position.{some_placed}
 use Rattle.xlsx_cells.specs.declared.head.Head.{Head}
@@ -49,8 +49,8 @@ head_starts (leaf kind ∷ events) = head_starts events
 
 abbrev pub area_looked_up : Result (Option (List ℕ)) AttrFault → Result (Option Dimensions) Refusal
 area_looked_up (Ok (Some written)) = some_placed (area written)
-area_looked_up (Ok None) = Err lacks_area
-area_looked_up (Err fault) = Err (lookup_fault fault)
+area_looked_up (Ok None) = Err (plain lacks_area)
+area_looked_up (Err fault) = Err (plain (lookup_fault fault))
 
 -- the area that the start of dimensions names
 abbrev pub dimension_area : Tag → Result (Option Dimensions) Refusal
@@ -135,10 +135,8 @@ HeadCause events ahead error =
 
 -- when the head can't be read; want of memory may come at any time
 abbrev pub HeadFails : Reading → Reading → XlsxError → Type 0
-HeadFails old new Io = HasCause old.source new.source
-HeadFails old new OutOfMemory = ⊤
 HeadFails old new error =
-    old.source.is_told ≡ true → HeadCause (events_of old) (ahead old) error
+    FailsBy (HeadCause (events_of old) (ahead old)) old.source new.source error
 
 -- the refusals that reading the head can have, whatever the package tells
 abbrev pub IsHeadError : XlsxError → Type 0

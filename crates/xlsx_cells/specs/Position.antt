@@ -10,12 +10,12 @@ use Rattle.cell_refs.specs.declared.error.RefError.{RefError}
 use Rattle.cell_refs.specs.declared.error.RefError.TheVariants as ref
 use Rattle.part_events.specs.Event.{Tag}
 use Rattle.part_events.specs.Section.{Element}
-use Rattle.xlsx_sections.specs.Refusal.{Refusal, lookup_fault, misplaced}
+use Rattle.xlsx_sections.specs.Refusal.{Refusal, plain, lookup_fault, misplaced}
 use Rattle.xlsx_cells.specs.Marks.{Mark, row_start, row_end, cell}
 
 abbrev pub some_placed : {A : Type 0} → Result A RefError → Result (Option A) Refusal
 some_placed (Ok place) = Ok (Some place)
-some_placed (Err fault) = Err (misplaced fault)
+some_placed (Err fault) = Err (plain (misplaced fault))
 
 -- what an attribute names that may be absent
 abbrev pub named_by :
@@ -23,7 +23,7 @@ abbrev pub named_by :
     Result (Option A) Refusal
 named_by read (Ok None) = Ok None
 named_by read (Ok (Some written)) = some_placed (read written)
-named_by read (Err fault) = Err (lookup_fault fault)
+named_by read (Err fault) = Err (plain (lookup_fault fault))
 
 -- the row that the start of a row names, and the position that the start of a cell names
 abbrev pub row_named : Tag → Result (Option ℕ) Refusal
@@ -67,8 +67,8 @@ column_counter since (cell element ∷ before) =
 -- value
 abbrev pub implied_position : ℕ → ℕ → Result (ℕ × ℕ) Refusal
 implied_position row column =
-    if nat_le MAX_COLUMNS column then Err (misplaced ref.ColumnNumberOverflow)
-    else (if nat_le MAX_ROWS row then Err (misplaced ref.RowNumberOverflow)
+    if nat_le MAX_COLUMNS column then Err (plain (misplaced ref.ColumnNumberOverflow))
+    else (if nat_le MAX_ROWS row then Err (plain (misplaced ref.RowNumberOverflow))
     else Ok (row, column))
 
 abbrev pub or_implied : List Mark → Result (Option (ℕ × ℕ)) Refusal → Result (ℕ × ℕ) Refusal

@@ -1,19 +1,19 @@
 -- The part of a sheet: what its data say, and why they can't be read.
-use Rattle.std.specs.Prelude.{◌≡◌, ◌⊎◌, ⊤, ℕ, ◌+◌, ◌≤◌, List, [], ◌∷◌, length, true, codes, Option}
+use Rattle.std.specs.Prelude.{◌≡◌, ◌⊎◌, ℕ, ◌+◌, ◌≤◌, List, [], ◌∷◌, length, true, codes, Option}
 use Rattle.std.specs.Prelude.{Some, None, Ok, map, string_bytes, IsSomeAnd, All, String, false}
 use Rattle.std.specs.declared.alloc.Global.{Global}
 use Rattle.cell_refs.specs.declared.dimensions.Dimensions.{Dimensions}
 use Rattle.part_events.specs.Event.{Event}
 use Rattle.part_events.specs.Nesting.{whole}
-use Rattle.part_events.specs.Package.{PackageState, SameParts, HasCause, part_of, event_count}
+use Rattle.part_events.specs.Package.{PackageState, SameParts, part_of, event_count}
 use Rattle.part_events.specs.Reading.{events_of}
 use Rattle.cell_data.specs.CellValue.{CellValue, value_of_data}
 use Rattle.cell_data.specs.Cells.{IsInSheet}
 use Rattle.cell_data.specs.declared.cell.Cell.{Cell}
 use Rattle.xlsx_error.specs.declared.error.XlsxError.{XlsxError}
-use Rattle.xlsx_error.specs.declared.error.XlsxError.TheVariants.{OutOfMemory, Io}
 use Rattle.cell_data.specs.declared.value.Data.{Data}
 use Rattle.cell_styles.specs.StyleMap.{StyledCell, IsOnSheet}
+use Rattle.xlsx_sections.specs.Failing.{FailsBy}
 use Rattle.xlsx_sections.specs.PartSection.{PartSection, SectionCause, SectionFails, section_left}
 use Rattle.xlsx_sections.specs.PartSection.{section_in, inside_of, has_end}
 use Rattle.xlsx_sections.specs.Refusal.{Refusal}
@@ -93,10 +93,8 @@ OptionalHeadCause None error = ⊥
 OptionalHeadCause (Some events) error = HeadCause events (whole events) error
 
 abbrev pub OpenDataFails : List ℕ → PackageState → PackageState → XlsxError → Type 0
-OpenDataFails path old new Io = HasCause old new
-OpenDataFails path old new OutOfMemory = ⊤
 OpenDataFails path old new error =
-    old.is_told ≡ true → OptionalHeadCause (part_of old.parts path) error
+    FailsBy (OptionalHeadCause (part_of old.parts path)) old new error
 
 -- cells as pairs of a position and what they hold
 abbrev pub value_entry : Cell Data → (ℕ × ℕ) × CellValue

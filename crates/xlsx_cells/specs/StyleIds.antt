@@ -6,7 +6,7 @@ use Rattle.attr_text.specs.declared.fault.AttrFault.{AttrFault}
 use Rattle.part_events.specs.Event.{Tag, Event}
 use Rattle.part_events.specs.Section.{Element}
 use Rattle.cell_styles.specs.StyleMap.{StyledCell, is_explicit}
-use Rattle.xlsx_sections.specs.Refusal.{Refusal, lookup_fault, in_element}
+use Rattle.xlsx_sections.specs.Refusal.{Refusal, plain, lookup_fault, in_element}
 use Rattle.xlsx_values.specs.Value.{style_number}
 use Rattle.xlsx_cells.specs.Marks.{Mark, marks}
 use Rattle.xlsx_cells.specs.Position.{cell_position}
@@ -14,7 +14,7 @@ use Rattle.xlsx_cells.specs.Sheet.{answers_from}
 
 abbrev pub id_looked_up : Result (Option (List ℕ)) AttrFault → Result ℕ Refusal
 id_looked_up (Ok written) = Ok (unwrap_or (style_number written) 0)
-id_looked_up (Err fault) = Err (lookup_fault fault)
+id_looked_up (Err fault) = Err (plain (lookup_fault fault))
 
 -- the style id that the start of a cell names: the number of its `s`, and 0 without one
 abbrev pub id_named : Tag → Result ℕ Refusal

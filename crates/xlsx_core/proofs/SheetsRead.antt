@@ -7,7 +7,6 @@ use Rattle.part_events.specs.Event.{Event}
 use Rattle.part_events.specs.Package.{Part, PackageState, SameParts}
 use Rattle.cell_data.specs.CellValue.{CellValue}
 use Rattle.xlsx_error.specs.declared.error.XlsxError.{XlsxError}
-use Rattle.xlsx_error.specs.declared.error.XlsxError.TheVariants.{OutOfMemory, Io}
 use Rattle.xlsx_error.specs.declared.error.XlsxError.TheVariants.{WorksheetNotFound}
 use Rattle.cell_styles.specs.StyleMap.{StyleMap}
 use Rattle.cell_styles.specs.declared.style.Style.{Style}
@@ -21,10 +20,12 @@ use Rattle.xlsx_open.specs.Opening.{HoldsOpening, OpensAs}
 use Rattle.xlsx_open.specs.SharedParts.{SharedSaid}
 use Rattle.xlsx_open.specs.declared.shared_parts.SharedParts.{SharedParts}
 use Rattle.xlsx_core.specs.Opened.{path_listed}
+use Rattle.xlsx_core.specs.SheetReading.{SheetCause, PlacedCause}
 use Rattle.xlsx_core.specs.SheetReading.{path_named, events_at, events_named, grounds_with}
 use Rattle.xlsx_core.specs.SheetReading.{opened_grounds, all_wanted, HoldsSheet, IsPaletteOf}
 use Rattle.xlsx_core.specs.SheetReading.{ReadsAs}
 use Rattle.xlsx_core.specs.SheetReading.{SheetFails, PlacedSheetFails}
+use Rattle.xlsx_sections.proofs.Failing.{fails_by_weaker}
 
 some_of : {A : Type 0} (o : Option A) (fact : A → Type 0) → IsSomeAnd o fact → (x : A)
     × (o ≡ Some x) × fact x
@@ -119,33 +120,21 @@ reads_as name path grounds palette old mid values formulas styles same opens has
     }
 
 -- a workbook that opens, and whose sheet isn't read
-pub sheet_fails : (name : List ℕ) (path : Option (List ℕ)) (grounds : Grounds)
-    (palette : List Style) (old mid new : PackageState) (error : XlsxError) → SameParts old mid
-    → mid.faults ≡ old.faults
-    → (old.is_told ≡ true → OpensPlaced name path grounds palette old.parts)
-    → PlacedSheetFails name all_wanted grounds path mid new error → SheetFails name old new error
-sheet_fails name path grounds palette old mid new OutOfMemory same faults opens fails = tt
-sheet_fails name path grounds palette old mid new Io same faults opens fails = rw faults at fails
-sheet_fails name path grounds palette old mid new (WorksheetNotFound asked) same faults opens
-    fails = λ told.
-    let none : events_at path old.parts ≡ None =
-    ap (λ (parts : List Part). events_at path parts) (sym same.parts)
-    ∙ fails.1 (same.is_told ∙ told) in
-    let here = opens told in (
-      fails.0,
-      record {
-        opening = here.opening;
-        opens = here.opens;
-        none = ap (λ (own : Option (List ℕ)). events_at own old.parts) (sym here.listed) ∙ none;
-      },
-    )
-sheet_fails name path grounds palette old mid new error same faults opens fails = λ told.
-    let here = opens told in
-    let fact : Grounds → List Event → Type 0 = λ own events.
-    SheetPartCause all_wanted own events error in
-    let there = of_opening name path grounds palette old.parts here fact
-    (subst (λ (parts : List Part). IsSomeAnd (events_at path parts) (fact grounds)) same.parts
-    (fails (same.is_told ∙ told))) in
+placed_cause : (name : List ℕ) (path : Option (List ℕ)) (grounds : Grounds) (palette : List Style)
+    (parts : List Part) (error : XlsxError) → OpensPlaced name path grounds palette parts
+    → PlacedCause name path (SheetPartCause all_wanted grounds) parts error
+    → SheetCause parts name error
+placed_cause name path grounds palette parts (WorksheetNotFound asked) here cause = (
+  cause.0,
+  record {
+    opening = here.opening;
+    opens = here.opens;
+    none = ap (λ (own : Option (List ℕ)). events_at own parts) (sym here.listed) ∙ cause.1;
+  },
+)
+placed_cause name path grounds palette parts error here cause =
+    let there = of_opening name path grounds palette parts here
+    (λ own events. SheetPartCause all_wanted own events error) cause in
     inr (record {
       opening = here.opening;
       events = there.0;
@@ -153,3 +142,15 @@ sheet_fails name path grounds palette old mid new error same faults opens fails 
       found = there.1;
       cause = there.2;
     })
+
+pub sheet_fails : (name : List ℕ) (path : Option (List ℕ)) (grounds : Grounds)
+    (palette : List Style) (old mid new : PackageState) (error : XlsxError) → SameParts old mid
+    → (old.is_told ≡ true → OpensPlaced name path grounds palette old.parts)
+    → PlacedSheetFails name all_wanted grounds path mid new error → SheetFails name old new error
+sheet_fails name path grounds palette old mid new error same opens fails =
+    let cause_by : List Part → XlsxError → Type 0 =
+    PlacedCause name path (SheetPartCause all_wanted grounds) in
+    fails_by_weaker (SheetCause old.parts name) (cause_by mid.parts) new error same
+    (λ told cause. placed_cause name path grounds palette old.parts error (opens told)
+    (subst (λ (parts : List Part). cause_by parts error) same.parts cause))
+    fails

@@ -1,17 +1,16 @@
 -- The reading of one sheet of a workbook that opens.
-use Rattle.std.specs.Prelude.{◌≡◌, ◌⊎◌, ⊤, ℕ, List, [], ◌∷◌, true, if◌then◌else◌, Option, Some}
+use Rattle.std.specs.Prelude.{◌≡◌, ◌⊎◌, ℕ, List, [], ◌∷◌, true, if◌then◌else◌, Option, Some}
 use Rattle.std.specs.Prelude.{None, Bool, map, option_and_then, string_bytes, IsSomeAnd, String}
 use Rattle.std.specs.Str.{bytes_eq}
 use Rattle.std.specs.declared.alloc.Global.{Global}
 use Rattle.part_events.specs.Event.{Event}
 use Rattle.part_events.specs.Nesting.{whole}
-use Rattle.part_events.specs.Package.{Part, PackageState, HasCause, part_of}
+use Rattle.part_events.specs.Package.{Part, PackageState, part_of}
 use Rattle.cell_data.specs.CellValue.{CellValue, value_of_data}
 use Rattle.cell_refs.specs.Positions.{last_of_each}
 use Rattle.cell_data.specs.Range.{cells_of}
 use Rattle.xlsx_error.specs.declared.error.XlsxError.{XlsxError}
 use Rattle.cell_data.specs.declared.format.CellFormat.{CellFormat}
-use Rattle.xlsx_error.specs.declared.error.XlsxError.TheVariants.{OutOfMemory, Io}
 use Rattle.xlsx_error.specs.declared.error.XlsxError.TheVariants.{WorksheetNotFound}
 use Rattle.cell_data.specs.declared.range.Range.{Range}
 use Rattle.cell_data.specs.declared.value.Data.{Data}
@@ -29,6 +28,7 @@ use Rattle.xlsx_cells.specs.declared.children.Wants.{Wants}
 use Rattle.xlsx_workbook.specs.Sheets.{PlacedSheet}
 use Rattle.xlsx_open.specs.Opening.{Opening, OpensAs, IsOpeningError, OpeningCause}
 use Rattle.xlsx_core.specs.declared.sheet_reading.SheetReading.{SheetReading}
+use Rattle.xlsx_sections.specs.Failing.{FailsBy}
 
 -- where the part of the first sheet of this name is
 abbrev pub path_named : List ℕ → List PlacedSheet → Option (List ℕ)
@@ -134,9 +134,7 @@ SheetCause parts name error = OpeningCause parts error ⊎ HasPartCause parts na
 
 -- when the reading of the sheet of this name is refused; want of memory may come at any time
 abbrev pub SheetFails : List ℕ → PackageState → PackageState → XlsxError → Type 0
-SheetFails name old new Io = HasCause old new
-SheetFails name old new OutOfMemory = ⊤
-SheetFails name old new error = old.is_told ≡ true → SheetCause old.parts name error
+SheetFails name old new error = FailsBy (SheetCause old.parts name) old new error
 
 -- the refusals that reading a sheet that is found can have, whatever the package tells
 abbrev pub IsPartError : XlsxError → Type 0
@@ -147,29 +145,27 @@ abbrev pub IsSheetError : List ℕ → XlsxError → Type 0
 IsSheetError name (WorksheetNotFound asked) = string_bytes asked ≡ name
 IsSheetError name error = IsOpeningError error ⊎ IsPartError error
 
--- When the data of a sheet of an open workbook aren't entered: it has this name and this path,
--- where it is there.
+-- Why a sheet of an open workbook isn't read: it has this name, and no part at this path, or this
+-- is why its part can't be read.
+abbrev pub PlacedCause :
+    List ℕ → Option (List ℕ) → (List Event → XlsxError → Type 0) → List Part → XlsxError → Type 0
+PlacedCause name path cause parts (WorksheetNotFound asked) =
+    (string_bytes asked ≡ name) × (events_at path parts ≡ None)
+PlacedCause name path cause parts error =
+    IsSomeAnd (events_at path parts) (λ events. cause events error)
+
+-- when its data aren't entered
 abbrev pub PlacedHeadFails :
     List ℕ → Option (List ℕ) → PackageState → PackageState → XlsxError → Type 0
-PlacedHeadFails name path old new Io = HasCause old new
-PlacedHeadFails name path old new OutOfMemory = ⊤
-PlacedHeadFails name path old new (WorksheetNotFound asked) =
-    (string_bytes asked ≡ name) × (old.is_told ≡ true → events_at path old.parts ≡ None)
 PlacedHeadFails name path old new error =
-    old.is_told ≡ true →
-    IsSomeAnd (events_at path old.parts) (λ events. HeadCause events (whole events) error)
+    FailsBy (PlacedCause name path (λ events. HeadCause events (whole events)) old.parts) old new
+    error
 
--- When what is wanted of it isn't read.
+-- and when what is wanted of it isn't read
 abbrev pub PlacedSheetFails :
     List ℕ → Wants → Grounds → Option (List ℕ) → PackageState → PackageState → XlsxError → Type 0
-PlacedSheetFails name wants grounds path old new Io = HasCause old new
-PlacedSheetFails name wants grounds path old new OutOfMemory = ⊤
-PlacedSheetFails name wants grounds path old new (WorksheetNotFound asked) =
-    (string_bytes asked ≡ name) × (old.is_told ≡ true → events_at path old.parts ≡ None)
 PlacedSheetFails name wants grounds path old new error =
-    old.is_told ≡ true →
-    IsSomeAnd (events_at path old.parts)
-    (λ events. SheetPartCause wants grounds events error)
+    FailsBy (PlacedCause name path (SheetPartCause wants grounds) old.parts) old new error
 
 -- the refusals that entering them can have
 abbrev pub IsPlacedHeadError : List ℕ → XlsxError → Type 0

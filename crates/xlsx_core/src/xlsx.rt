@@ -1,9 +1,9 @@
 ghost use Rattle.std.specs.Prelude.{◌≡◌, true, map, option_map, slice_get, string_bytes};
 ghost use Rattle.std.specs.Prelude.{MatchResult, IfOk, IfErr};
 ghost use Rattle.xlsx_error.specs.declared.error.XlsxError.TheVariants.{Io};
-ghost use Rattle.xlsx_sections.specs.PartSection.{SoundFails};
 ghost use Rattle.xlsx_open.specs.Opening.{Opening, HoldsOpening, OpensAs, OpensSoundly};
 ghost use Rattle.xlsx_open.specs.Opening.{IsOpeningError, OpensFrom, FailsToOpen, OpeningFails};
+ghost use Rattle.xlsx_sections.specs.Failing.{SoundFails};
 
 use cell_data::HeaderRow;
 use cell_styles::Style;

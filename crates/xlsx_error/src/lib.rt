@@ -4,6 +4,3 @@
 mod error;
 
 pub use error::XlsxError;
-
-#[cfg(test)]
-mod tests;

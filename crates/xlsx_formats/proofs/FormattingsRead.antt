@@ -115,7 +115,7 @@ pub settings_fail : (P : List (Option (List ℕ)) → Type 0) (said : NamedSaid)
 settings_fail P said tag own old new error same is names fails =
     let found = ok_found P (lookup formatting_keys own.attributes) names in
     refused_as (length old.names) old (always (codes "xf")) (IsInsideRefused settings_of)
-    (IsInsideRefused (formatting_of said tag)) new error is (omega arith)
+    (IsInsideRefused (formatting_of said tag)) new error
     (λ refusal refuses.
     let inside = inside_of (section_left (length old.names) old) in
     ap (λ (start : Tag). formatting_of said start inside) same

@@ -9,7 +9,7 @@ use Rattle.attr_text.specs.declared.fault.AttrFault.{AttrFault}
 use Rattle.part_events.specs.Event.{Tag, Event}
 use Rattle.part_events.specs.Section.{PlacedTag, starts_by, is_named}
 use Rattle.xlsx_sections.specs.Answers.{some_answers, with_two}
-use Rattle.xlsx_sections.specs.Refusal.{Refusal, lookup_fault, decoded_at}
+use Rattle.xlsx_sections.specs.Refusal.{Refusal, plain, lookup_fault, decoded_at}
 use Rattle.xlsx_formats.specs.declared.format_codes.FormatCodes.{FormatCodes}
 use Rattle.xlsx_formats.specs.declared.kept_code.KeptCode.{KeptCode}
 
@@ -33,7 +33,7 @@ written_by behind (Some id) (Some code) = with_code id (decoded_at behind code)
 abbrev pub written_if :
     ℕ → Result (List (Option (List ℕ))) AttrFault → Result (Option WrittenFormat) Refusal
 written_if behind (Ok texts) = with_two (written_by behind) (Ok None) texts
-written_if behind (Err fault) = Err (lookup_fault fault)
+written_if behind (Err fault) = Err (plain (lookup_fault fault))
 
 abbrev pub written_keys : List (List ℕ)
 written_keys = codes "numFmtId" ∷ codes "formatCode" ∷ []

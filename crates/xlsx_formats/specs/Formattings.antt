@@ -17,7 +17,7 @@ use Rattle.cell_styles.specs.declared.protection.Protection.{Protection}
 use Rattle.cell_styles.specs.declared.style.Style.{Style}
 use Rattle.xlsx_sections.specs.Changes.{all_changes, or_fault, changed_with}
 use Rattle.xlsx_sections.specs.NumberText.{number_text}
-use Rattle.xlsx_sections.specs.Refusal.{Refusal, lookup_fault}
+use Rattle.xlsx_sections.specs.Refusal.{Refusal, plain, lookup_fault}
 use Rattle.xlsx_styles.specs.Alignments.{alignment_of, protection_of}
 use Rattle.xlsx_styles.specs.Fonts.{FontSaid, said_of}
 use Rattle.xlsx_styles.specs.Texts.{number_below}
@@ -167,7 +167,7 @@ abbrev pub formatting_by :
     NamedSaid → Result Settings Refusal → Result (List (Option (List ℕ))) AttrFault
     → Result FormattingSaid Refusal
 formatting_by lists settings (Ok texts) = formatting_set lists texts settings
-formatting_by lists settings (Err fault) = Err (lookup_fault fault)
+formatting_by lists settings (Err fault) = Err (plain (lookup_fault fault))
 
 -- a cell format, by its start and what stands in it
 abbrev pub formatting_of : NamedSaid → Tag → List Event → Result FormattingSaid Refusal

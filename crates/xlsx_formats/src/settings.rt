@@ -7,7 +7,7 @@ ghost use Rattle.part_events.specs.Section.{content};
 ghost use Rattle.xlsx_error.specs.declared.error.XlsxError.TheVariants.{Io};
 ghost use Rattle.xlsx_sections.specs.Elements.{ElementReadFails};
 ghost use Rattle.xlsx_sections.specs.PartSection.{always};
-ghost use Rattle.xlsx_sections.specs.Refusal.{lookup_fault, placed_at};
+ghost use Rattle.xlsx_sections.specs.Refusal.{plain, lookup_fault, placed_at};
 ghost use Rattle.xlsx_styles.specs.Errors.{IsPlainError};
 ghost use Rattle.xlsx_formats.specs.Formattings.{setting_change, settings_of};
 
@@ -32,7 +32,7 @@ fn change_setting(settings: &mut Settings, tag: StartTag<'_>) -> Result<(), Attr
         setting_change (placed_at (tag_of tag.entry) behind) settings.old ≡ Ok settings.new)
         (λ fault. (behind : ℕ) →
         setting_change (placed_at (tag_of tag.entry) behind) settings.old
-        ≡ Err (lookup_fault fault)) }
+        ≡ Err (plain (lookup_fault fault))) }
 {
     match tag.local_name() {
         "alignment" => settings.alignment = Some(parse_alignment(&tag)?),

@@ -14,7 +14,7 @@ use Rattle.part_events.specs.Section.{Element, children, is_named}
 use Rattle.xlsx_sections.specs.Answers.{some_answers, with_three}
 use Rattle.xlsx_sections.specs.ElementText.{element_text}
 use Rattle.xlsx_sections.specs.NumberText.{number_text}
-use Rattle.xlsx_sections.specs.Refusal.{Refusal, lookup_fault, misplaced, stray_child, lacks_index}
+use Rattle.xlsx_sections.specs.Refusal.{Refusal, plain, lookup_fault, misplaced, stray_child, lacks_index}
 use Rattle.xlsx_sections.specs.Refusal.{wrong_index, in_element}
 
 -- whose formula an element writes: its cell's alone, that of a group of this index and area, or one
@@ -30,18 +30,18 @@ pub record FormulaText : Type 0 where
 
 abbrev pub shared_in : ℕ → Result Dimensions RefError → Result Sharing Refusal
 shared_in index (Ok range) = Ok (master index range)
-shared_in index (Err fault) = Err (misplaced fault)
+shared_in index (Err fault) = Err (plain (misplaced fault))
 
 abbrev pub shared_over : ℕ → Option (List ℕ) → Result Sharing Refusal
 shared_over index None = Ok (derived index)
 shared_over index (Some range) = shared_in index (area range)
 
 abbrev pub shared_numbered : Option ℕ → Option (List ℕ) → Result Sharing Refusal
-shared_numbered None range = Err wrong_index
+shared_numbered None range = Err (plain wrong_index)
 shared_numbered (Some index) range = shared_over index range
 
 abbrev pub shared_by : Option (List ℕ) → Option (List ℕ) → Result Sharing Refusal
-shared_by None range = Err lacks_index
+shared_by None range = Err (plain lacks_index)
 shared_by (Some index) range = shared_numbered (number_text index) range
 
 abbrev pub sharing_typed :
@@ -51,8 +51,8 @@ sharing_typed (Some typ) index range =
     if bytes_eq typ (codes "shared") then shared_by index range else Ok own
 
 abbrev pub sharing_from : Result (List (Option (List ℕ))) AttrFault → Result Sharing Refusal
-sharing_from (Ok values) = with_three sharing_typed (Err lacks_index) values
-sharing_from (Err fault) = Err (lookup_fault fault)
+sharing_from (Ok values) = with_three sharing_typed (Err (plain lacks_index)) values
+sharing_from (Err fault) = Err (plain (lookup_fault fault))
 
 -- what the start of an `f` says
 abbrev pub sharing_of : Tag → Result Sharing Refusal
@@ -80,7 +80,7 @@ abbrev pub said_formula : Tag → List Event → Result (Option FormulaText) Ref
 said_formula tag inside =
     if is_named (codes "f" ∷ []) tag then some_formula (formula_text tag inside)
     else (if is_named (codes "v" ∷ []) tag then Ok None
-    else (if is_named (codes "is" ∷ []) tag then Ok None else Err stray_child))
+    else (if is_named (codes "is" ∷ []) tag then Ok None else Err (plain stray_child)))
 
 abbrev pub child_formula : Element → Result (Option FormulaText) Refusal
 child_formula child = in_element child (said_formula child.tag child.inside)

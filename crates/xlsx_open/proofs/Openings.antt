@@ -2,16 +2,18 @@
 use Rattle.std.proofs.Common.{◌≡◌, ◌+◌, ◌≤◌, ℕ, List, [], ◌∷◌, Bool, true, false, Option, Some}
 use Rattle.std.proofs.Common.{None, Result, Ok, Err, map, refl, ◌∙◌, ap, subst, inl, inr}
 use Rattle.std.proofs.Common.{arith, codes, string_bytes, String, Global}
-use Rattle.std.specs.Prelude.{option_and_then, unwrap_or, IsSomeAnd, MatchOption}
+use Rattle.std.specs.Prelude.{option_and_then, unwrap_or, IsSomeAnd, MatchOption, OnOk}
 use Rattle.part_events.specs.Package.{Part, PackageState, SameParts, UsesPackage, LeavesPackage}
-use Rattle.part_events.specs.Package.{Uses, part_of, event_count}
+use Rattle.part_events.specs.Package.{Uses, CountsUp, part_of, event_count}
 use Rattle.xlsx_error.specs.declared.error.XlsxError.{XlsxError}
-use Rattle.xlsx_error.specs.declared.error.XlsxError.TheVariants.{OutOfMemory, Io}
+use Rattle.xlsx_error.specs.declared.error.XlsxError.TheVariants.{Io}
 use Rattle.cell_styles.specs.declared.color.Color.{Color}
+use Rattle.xlsx_sections.proofs.Failing.{fails_by_weaker, same_parts}
 use Rattle.xlsx_sections.specs.Elements.{IsInsideRefused}
 use Rattle.xlsx_sections.specs.PartSection.{always, OptionalPartCause, OptionalPartFails}
 use Rattle.xlsx_sections.specs.PartSection.{PartFails, closed_section}
 use Rattle.xlsx_sections.specs.PartSection.{closed_section_of}
+use Rattle.xlsx_sections.specs.SectionEvents.{section_events_of}
 use Rattle.xlsx_theme.specs.ThemePart.{theme_colors}
 use Rattle.xlsx_stylesheet.specs.StyleSheet.{cell_formats_in, end_in_styles}
 use Rattle.xlsx_workbook.specs.KeptContents.{pair_of, sheet_of_entry}
@@ -23,12 +25,14 @@ use Rattle.xlsx_workbook.specs.Workbook.{IsContents, AreContentsRefused}
 use Rattle.xlsx_workbook.specs.declared.sheet.Metadata.{Metadata}
 use Rattle.xlsx_workbook.specs.declared.sheet.SheetEntry.{SheetEntry}
 use Rattle.xlsx_workbook.specs.declared.workbook.WorkbookContents.{WorkbookContents}
+use Rattle.xlsx_open.specs.Opening.{OpeningCause, RootCause, WorkbookCause, ContentsCause}
 use Rattle.xlsx_open.specs.Opening.{Opening, HoldsOpening, ListedSheet, listed_sheet, without_path}
 use Rattle.xlsx_open.specs.Opening.{HasPath, HasRelationships, HasWorkbook, HasNothing, IsOpening}
 use Rattle.xlsx_open.specs.Opening.{OpensAs}
 use Rattle.xlsx_open.specs.Opening.{OpeningFails, WorkbookOpens, WorkbookFails}
-use Rattle.xlsx_open.specs.Opening.{OpensPackage, BookCause, BookOpens, BookFails}
+use Rattle.xlsx_open.specs.Opening.{OpensPackage, TakesBook, BookCause, BookOpens, BookFails}
 use Rattle.xlsx_open.specs.Opening.{epoch_or_1900, book_events}
+use Rattle.xlsx_open.specs.SharedParts.{SharedCause}
 use Rattle.xlsx_open.specs.SharedParts.{SharedSaid, shared_said, SharedFails}
 use Rattle.xlsx_open.specs.declared.shared_parts.SharedParts.{SharedParts}
 
@@ -46,6 +50,7 @@ pub uses_then : {few more most : ℕ} {old mid new : PackageState} → few + mor
 uses_then less first second = record {
   parts = same_further first.parts second.parts;
   faults = second.faults ∙ first.faults;
+  forward = omega (arith, first.forward, second.forward);
   taken = λ told. omega (arith, less, first.taken told, second.taken (first.parts.is_told ∙ told));
 }
 
@@ -55,8 +60,13 @@ pub leaves_then : {E : Type 0} {fault error : E} {few more most : ℕ} {old mid 
 leaves_then less first second = record {
   parts = same_further first.parts second.parts;
   faults = λ other. second.faults other ∙ first.faults;
+  forward = omega (arith, first.forward, second.forward);
   taken = λ told. omega (arith, less, first.taken told, second.taken (first.parts.is_told ∙ told));
 }
+
+pub counts_then : {few more most old mid new : ℕ} → few + more ≡ most → CountsUp few old mid
+    → CountsUp more mid new → CountsUp most old new
+counts_then sum first second = omega (arith, sum, first, second)
 
 -- the sheets of entries, and the paths of their parts
 pub sheets_listed : (entries : List SheetEntry)
@@ -137,56 +147,54 @@ has_nothing parts path related shared absent =
 pub root_fails : (old new : PackageState) (error : XlsxError)
     → PartFails (codes "Relationships") (always (codes "Relationships")) IsPathRefused
     (codes "_rels/.rels") old new error → OpeningFails old new error
-root_fails old new Io fails = fails
-root_fails old new OutOfMemory fails = tt
-root_fails old new error fails = λ told. inl (fails told)
+root_fails old new error fails =
+    fails_by_weaker (OpeningCause old.parts) (RootCause old.parts) new error (same_parts old)
+    (λ told cause. inl cause) fails
 
 -- the workbook's own part is refused behind its relationships
 pub contents_fail : (old mid new : PackageState) (path : List ℕ) (related : List ℕ
-    → Option Related) (error : XlsxError) → SameParts old mid → mid.faults ≡ old.faults
+    → Option Related) (error : XlsxError) → SameParts old mid
     → (old.is_told ≡ true → HasRelationships old.parts path related)
     → OptionalPartFails (codes "workbook") (always (codes "workbook"))
     (AreContentsRefused (folder_of path) related) (workbook_part path) mid new error
     → WorkbookFails path old new error
-contents_fail old mid new path related Io same faults has fails = omega (arith, faults, fails)
-contents_fail old mid new path related OutOfMemory same faults has fails = tt
-contents_fail old mid new path related error same faults has fails = λ told. inr (
-  related,
-  has told,
-  subst (λ (parts : List Part). OptionalPartCause (codes "workbook") (always (codes "workbook"))
-      (AreContentsRefused (folder_of path) related) (part_of parts (workbook_part path)) error)
-      same.parts (fails (same.is_told ∙ told)),
-)
+contents_fail old mid new path related error same has fails =
+    fails_by_weaker (WorkbookCause old.parts path) (ContentsCause mid.parts path related) new error same
+    (λ told cause. inr (
+      related,
+      has told,
+      subst (λ (parts : List Part). ContentsCause parts path related error) same.parts cause,
+    ))
+    fails
 
 -- the styles are refused behind the theme, by whose colors they name theirs
 pub styles_fail : (old mid new : PackageState) (path : List ℕ) (theme : List Color)
-    (error : XlsxError) → SameParts old mid → mid.faults ≡ old.faults
+    (error : XlsxError) → SameParts old mid
     → (old.is_told ≡ true → theme ≡ theme_colors old.parts (theme_part path))
     → OptionalPartFails (codes "styleSheet") end_in_styles
     (IsInsideRefused (cell_formats_in theme)) (styles_part path) mid new error
     → SharedFails path old new error
-styles_fail old mid new path theme Io same faults is fails = omega (arith, faults, fails)
-styles_fail old mid new path theme OutOfMemory same faults is fails = tt
-styles_fail old mid new path theme error same faults is fails = λ told.
-    inr (subst (λ (colors : List Color). OptionalPartCause (codes "styleSheet") end_in_styles
-    (IsInsideRefused (cell_formats_in colors)) (part_of old.parts (styles_part path)) error)
-    (is told) (subst (λ (parts : List Part). OptionalPartCause (codes "styleSheet") end_in_styles
-    (IsInsideRefused (cell_formats_in theme)) (part_of parts (styles_part path)) error) same.parts
-    (fails (same.is_told ∙ told))))
+styles_fail old mid new path theme error same is fails =
+    let cause_by : List Color → List Part → XlsxError → Type 0 = λ colors parts.
+    OptionalPartCause (codes "styleSheet") end_in_styles
+    (IsInsideRefused (cell_formats_in colors)) (part_of parts (styles_part path)) in
+    fails_by_weaker (SharedCause old.parts path) (cause_by theme mid.parts) new error same
+    (λ told cause. inr (subst (λ (colors : List Color). cause_by colors old.parts error) (is told)
+    (subst (λ (parts : List Part). cause_by theme parts error) same.parts cause)))
+    fails
 
 -- what the package's relationships lead to is refused
 pub book_fails : (old mid new : PackageState) (path : List ℕ) (error : XlsxError)
-    → SameParts old mid → mid.faults ≡ old.faults → (old.is_told ≡ true → HasPath old.parts path)
+    → SameParts old mid → (old.is_told ≡ true → HasPath old.parts path)
     → BookFails path mid new error → OpeningFails old new error
-book_fails old mid new path Io same faults found fails = omega (arith, faults, fails)
-book_fails old mid new path OutOfMemory same faults found fails = tt
-book_fails old mid new path error same faults found fails = λ told.
-    inr (
+book_fails old mid new path error same found fails =
+    fails_by_weaker (OpeningCause old.parts) (BookCause mid.parts path) new error same
+    (λ told cause. inr (
       path,
       found told,
-      subst (λ (parts : List Part). BookCause parts path error) same.parts
-          (fails (same.is_told ∙ told)),
-    )
+      subst (λ (parts : List Part). BookCause parts path error) same.parts cause,
+    ))
+    fails
 
 pub opens_as : (old mid : PackageState) (path : List ℕ) (opening : Opening) → SameParts old mid
     → HasPath old.parts path → BookOpens mid.parts path opening → OpensAs old.parts opening
@@ -206,14 +214,20 @@ opens_as old mid path opening same found opens =
 pub opens_package : {A : Type 0} (result : Result A XlsxError) (old mid new : PackageState)
     (path : List ℕ) → UsesPackage (event_count old.parts (codes "_rels/.rels")) old mid
     → (old.is_told ≡ true → HasPath old.parts path)
-    → Uses (book_events mid.parts path) Io result mid new → OpensPackage Io result old new
-opens_package (Ok value) old mid new path first found second =
+    → (old.is_told ≡ true →
+    CountsUp (section_events_of (codes "Relationships") old.parts (codes "_rels/.rels")) old.taken
+    mid.taken)
+    → Uses (book_events mid.parts path) Io result mid new
+    → (mid.is_told ≡ true → OnOk result (TakesBook mid.parts path mid.taken new.taken))
+    → OpensPackage Io result old new
+opens_package (Ok value) old mid new path first found ends second taken =
     let both : UsesPackage
     (event_count old.parts (codes "_rels/.rels") + book_events mid.parts path) old new =
     uses_then (omega arith) first second in
     record {
       parts = both.parts;
       faults = both.faults;
+      forward = both.forward;
       taken = λ told. inr (
         path,
         found told,
@@ -221,14 +235,19 @@ opens_package (Ok value) old mid new path first found second =
             (event_count old.parts (codes "_rels/.rels") + book_events parts path))
             first.parts.parts (both.taken told),
       );
+      to_end = λ told. let book : TakesBook old.parts path mid.taken new.taken =
+          subst (λ (parts : List Part). TakesBook parts path mid.taken new.taken) first.parts.parts
+          (taken (first.parts.is_told ∙ told)) in
+          (path, found told, (book.0, book.1, counts_then refl (ends told) book.2));
     }
-opens_package (Err error) old mid new path first found second =
+opens_package (Err error) old mid new path first found ends second taken =
     let both : LeavesPackage
     (event_count old.parts (codes "_rels/.rels") + book_events mid.parts path) Io old new
     error = leaves_then (omega arith) first second in
     record {
       parts = both.parts;
       faults = both.faults;
+      forward = both.forward;
       taken = λ told. inr (
         path,
         found told,

@@ -7,7 +7,8 @@ use Rattle.part_events.specs.Event.{Event}
 use Rattle.part_events.specs.Package.{Part, PackageState, part_of}
 use Rattle.xlsx_error.specs.declared.error.XlsxError.{XlsxError}
 use Rattle.xlsx_error.specs.declared.error.XlsxError.TheVariants.{OutOfMemory, Io}
-use Rattle.xlsx_sections.specs.PartSection.{PartSection, SoundFails, inside_of, always}
+use Rattle.xlsx_sections.specs.Failing.{SoundFails}
+use Rattle.xlsx_sections.specs.PartSection.{PartSection, inside_of, always}
 use Rattle.xlsx_sections.specs.PartSection.{closed_section_of}
 use Rattle.xlsx_sections.specs.Refusal.{Refusal}
 use Rattle.xlsx_sections.proofs.Sound.{is_sound_part, no_optional_cause, no_part_cause}

@@ -4,21 +4,25 @@ use Rattle.std.specs.Prelude.{Some, map, unwrap_or, Result, Ok, Err, IsSomeAnd}
 use Rattle.std.specs.Prelude.{MatchOption, MatchResult, string_bytes, String}
 use Rattle.std.specs.declared.alloc.Global.{Global}
 use Rattle.part_events.specs.Event.{Event}
-use Rattle.part_events.specs.Package.{Part, PackageState, HasCause, KeepsFaults, SameParts, part_of}
-use Rattle.part_events.specs.Package.{event_count}
+use Rattle.part_events.specs.Package.{Part, PackageState, KeepsFaults, SameParts, part_of}
+use Rattle.part_events.specs.Package.{NeverFalls, CountsUp, event_count}
 use Rattle.part_events.specs.declared.fault.XmlFault.TheVariants.{EndMismatch, Entity}
 use Rattle.xlsx_error.specs.declared.error.XlsxError.{XlsxError}
 use Rattle.xlsx_error.specs.declared.error.XlsxError.TheVariants.{OutOfMemory, Io, Xml}
 use Rattle.xlsx_error.specs.declared.error.XlsxError.TheVariants.{XmlAttr, XmlEof, FileNotFound}
 use Rattle.xlsx_error.specs.declared.error.XlsxError.TheVariants.{RelationshipNotFound}
 use Rattle.xlsx_error.specs.declared.error.XlsxError.TheVariants.{Unrecognized}
+use Rattle.xlsx_sections.specs.Failing.{FailsBy}
 use Rattle.xlsx_sections.specs.PartSection.{always, closed_section_of, PartCause, OptionalPartCause}
 use Rattle.xlsx_sections.specs.Refusal.{Refusal}
+use Rattle.xlsx_sections.specs.SectionEvents.{section_events_of}
+use Rattle.xlsx_theme.specs.ThemePart.{TakesTheme}
 use Rattle.xlsx_stylesheet.specs.StylesErrors.{IsStylesEnd}
 use Rattle.xlsx_strings.specs.Strings.{IsStringsEnd}
 use Rattle.xlsx_workbook.specs.DefinedNames.{names_in}
 use Rattle.xlsx_workbook.specs.KeptContents.{pair_of}
 use Rattle.xlsx_workbook.specs.Paths.{folder_of, workbook_part, relationships_part}
+use Rattle.xlsx_workbook.specs.Paths.{theme_part}
 use Rattle.xlsx_workbook.specs.Relationships.{Related, path_in, related_in, IsPathRefused}
 use Rattle.xlsx_workbook.specs.Relationships.{AreRelationshipsRefused}
 use Rattle.xlsx_workbook.specs.Sheets.{PlacedSheet, sheets_in, epoch_in}
@@ -28,7 +32,7 @@ use Rattle.xlsx_workbook.specs.declared.sheet.Metadata.{Metadata}
 use Rattle.xlsx_workbook.specs.declared.sheet.SheetType.{SheetType}
 use Rattle.xlsx_workbook.specs.declared.sheet.SheetVisible.{SheetVisible}
 use Rattle.xlsx_open.specs.SharedParts.{SharedSaid, shared_said, HasShared, SharedCause}
-use Rattle.xlsx_open.specs.SharedParts.{shared_events}
+use Rattle.xlsx_open.specs.SharedParts.{shared_events, shared_sections}
 use Rattle.xlsx_open.specs.declared.shared_parts.SharedParts.{SharedParts}
 
 -- what a workbook opens as: its sheets with the paths of their parts, its defined names with their
@@ -166,9 +170,7 @@ IsOpeningError _ = ⊥
 
 -- when opening is refused
 abbrev pub OpeningFails : PackageState → PackageState → XlsxError → Type 0
-OpeningFails old new Io = HasCause old new
-OpeningFails old new OutOfMemory = ⊤
-OpeningFails old new error = old.is_told ≡ true → OpeningCause old.parts error
+OpeningFails old new error = FailsBy (OpeningCause old.parts) old new error
 
 -- how many events the parts have that lead to a workbook at this path, and its own
 abbrev pub workbook_events : List Part → List ℕ → ℕ
@@ -188,15 +190,43 @@ TakesOpening parts before after =
     ⊎ ((path : List ℕ) × HasPath parts path
     × (after ≤ before + (event_count parts (codes "_rels/.rels") + book_events parts path)))
 
+-- how many of them stand up to the ends of their sections
+abbrev pub workbook_sections : List Part → List ℕ → ℕ
+workbook_sections parts path =
+    section_events_of (codes "Relationships") parts (relationships_part path)
+    + section_events_of (codes "workbook") parts (workbook_part path)
+
+-- and with what its sheets share, where so many events of the theme's part count
+abbrev pub book_sections : ℕ → List Part → List ℕ → ℕ
+book_sections theme parts path = shared_sections theme parts path + workbook_sections parts path
+
+-- these events were taken of a workbook's parts, and no others
+abbrev pub TakesBook : List Part → List ℕ → ℕ → ℕ → Type 0
+TakesBook parts path before after =
+    (theme : ℕ) × TakesTheme parts (theme_part path) theme
+    × CountsUp (book_sections theme parts path) before after
+
+-- these were taken in an opening that isn't refused: each section was read to its end and no
+-- further
+abbrev pub TakesSections : List Part → ℕ → ℕ → Type 0
+TakesSections parts before after =
+    (path : List ℕ) × HasPath parts path
+    × ((theme : ℕ) × TakesTheme parts (theme_part path) theme
+    × CountsUp (section_events_of (codes "Relationships") parts (codes "_rels/.rels")
+    + book_sections theme parts path) before after)
+
 -- what opening keeps of its package that isn't refused, and what it keeps that is
 pub record OpensFrom (old new : PackageState) : Type 0 where
   pub parts : SameParts old new
   pub faults : new.faults ≡ old.faults
+  pub forward : NeverFalls old.taken new.taken
   pub taken : old.is_told ≡ true → TakesOpening old.parts old.taken new.taken
+  pub to_end : old.is_told ≡ true → TakesSections old.parts old.taken new.taken
 
 pub record FailsToOpen {E : Type 0} (fault : E) (old new : PackageState) (error : E) : Type 0 where
   pub parts : SameParts old new
   pub faults : KeepsFaults fault old new error
+  pub forward : NeverFalls old.taken new.taken
   pub taken : old.is_told ≡ true → TakesOpening old.parts old.taken new.taken
 
 abbrev pub OpensPackage : {A E : Type 0} → E → Result A E → PackageState → PackageState → Type 0
@@ -210,9 +240,7 @@ WorkbookOpens parts path opening =
     × HasRelationships parts path related × HasWorkbook parts path related opening
 
 abbrev pub WorkbookFails : List ℕ → PackageState → PackageState → XlsxError → Type 0
-WorkbookFails path old new Io = HasCause old new
-WorkbookFails path old new OutOfMemory = ⊤
-WorkbookFails path old new error = old.is_told ≡ true → WorkbookCause old.parts path error
+WorkbookFails path old new error = FailsBy (WorkbookCause old.parts path) old new error
 
 -- the workbook at this path opens, with what its sheets share
 abbrev pub BookOpens : List Part → List ℕ → Opening → Type 0
@@ -220,6 +248,4 @@ BookOpens parts path opening =
     HasShared parts path opening.shared × WorkbookOpens parts path opening
 
 abbrev pub BookFails : List ℕ → PackageState → PackageState → XlsxError → Type 0
-BookFails path old new Io = HasCause old new
-BookFails path old new OutOfMemory = ⊤
-BookFails path old new error = old.is_told ≡ true → BookCause old.parts path error
+BookFails path old new error = FailsBy (BookCause old.parts path) old new error

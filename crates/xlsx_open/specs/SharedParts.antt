@@ -1,13 +1,14 @@
 -- What the sheets of a workbook share: its strings, its theme and its styles.
-use Rattle.std.specs.Prelude.{◌≡◌, ◌⊎◌, ⊤, ℕ, ◌+◌, List, map, Bool, true, codes, string_bytes}
-use Rattle.part_events.specs.Package.{Part, PackageState, HasCause, part_of, event_count}
+use Rattle.std.specs.Prelude.{◌≡◌, ◌⊎◌, ℕ, ◌+◌, List, map, Bool, true, codes, string_bytes}
+use Rattle.part_events.specs.Package.{Part, PackageState, CountsUp, part_of, event_count}
 use Rattle.xlsx_error.specs.declared.error.XlsxError.{XlsxError}
-use Rattle.xlsx_error.specs.declared.error.XlsxError.TheVariants.{OutOfMemory, Io}
 use Rattle.cell_data.specs.declared.format.CellFormat.{CellFormat}
 use Rattle.xlsx_sections.specs.Elements.{IsInsideRefused}
+use Rattle.xlsx_sections.specs.Failing.{FailsBy}
 use Rattle.xlsx_sections.specs.PartSection.{OptionalPartCause}
+use Rattle.xlsx_sections.specs.SectionEvents.{section_events_of}
 use Rattle.xlsx_formats.specs.Formattings.{StyleSaid, style_said}
-use Rattle.xlsx_theme.specs.ThemePart.{theme_colors, is_theme_default}
+use Rattle.xlsx_theme.specs.ThemePart.{theme_colors, is_theme_default, TakesTheme}
 use Rattle.xlsx_stylesheet.specs.StyleSheet.{cell_formats_in, end_in_styles, HasStyles}
 use Rattle.xlsx_strings.specs.Strings.{strings_in, end_in_strings, HasStrings}
 use Rattle.xlsx_workbook.specs.Paths.{strings_part, theme_part, styles_part}
@@ -57,12 +58,22 @@ SharedCause parts path error = StringsCause parts path error ⊎ StylesCause par
 
 -- when its reading is refused
 abbrev pub SharedFails : List ℕ → PackageState → PackageState → XlsxError → Type 0
-SharedFails path old new Io = HasCause old new
-SharedFails path old new OutOfMemory = ⊤
-SharedFails path old new error = old.is_told ≡ true → SharedCause old.parts path error
+SharedFails path old new error = FailsBy (SharedCause old.parts path) old new error
 
 -- how many events its parts have
 abbrev pub shared_events : List Part → List ℕ → ℕ
 shared_events parts path =
     event_count parts (strings_part path)
     + (event_count parts (theme_part path) + event_count parts (styles_part path))
+
+-- how many of them stand up to the ends of their sections, where so many of the theme's count
+abbrev pub shared_sections : ℕ → List Part → List ℕ → ℕ
+shared_sections theme parts path =
+    section_events_of (codes "sst") parts (strings_part path)
+    + (theme + section_events_of (codes "styleSheet") parts (styles_part path))
+
+-- these events were taken, and no others
+abbrev pub TakesShared : List Part → List ℕ → ℕ → ℕ → Type 0
+TakesShared parts path before after =
+    (theme : ℕ) × TakesTheme parts (theme_part path) theme
+    × CountsUp (shared_sections theme parts path) before after

@@ -1,11 +1,12 @@
-ghost use Rattle.std.specs.Prelude.{◌≡◌, [], map, true, false, unwrap_or, string_bytes, IfOk};
+ghost use Rattle.std.specs.Prelude.{◌≡◌, [], map, true, false, unwrap_or, string_bytes, IfOk, OnOk};
 ghost use Rattle.std.specs.Prelude.{IfErr};
-ghost use Rattle.part_events.specs.Package.{Uses};
+ghost use Rattle.part_events.specs.Package.{Uses, CountsUp};
 ghost use Rattle.xlsx_error.specs.declared.error.XlsxError.TheVariants.{Io};
 ghost use Rattle.xlsx_workbook.specs.Paths.{workbook_part, relationships_part};
 ghost use Rattle.xlsx_open.specs.Opening.{Opening, HoldsOpening, OpensAs, IsOpeningError};
 ghost use Rattle.xlsx_open.specs.Opening.{OpensPackage, WorkbookOpens, WorkbookFails, BookOpens};
 ghost use Rattle.xlsx_open.specs.Opening.{BookFails, OpeningFails, workbook_events, book_events};
+ghost use Rattle.xlsx_open.specs.Opening.{workbook_sections, TakesBook};
 ghost use Rattle.xlsx_open.specs.SharedParts.{shared_said};
 
 use crate::shared_parts::{SharedParts, read_shared};
@@ -99,6 +100,10 @@ fn open_workbook<P: Package>(
     ensures uses { let old = P.state «package».old in
         let new = P.state «package».new in
         Uses (workbook_events old.parts path.now) Io result old new }
+    ensures to_end { let old = P.state «package».old in
+        let new = P.state «package».new in
+        let count = workbook_sections old.parts path.now in
+        old.is_told ≡ true → OnOk result (CountsUp count old.taken new.taken) }
     ensures opened { let old = P.state «package».old in
         old.is_told ≡ true → IfOk result (λ o. (opening : Opening)
         × HoldsOpening o.metadata o.paths.items o.shared o.is_1904 opening
@@ -127,6 +132,9 @@ fn open_at<P: Package>(alloc: Global, package: &mut P, path: &str) -> Result<Ope
     ensures uses { let old = P.state «package».old in
         let new = P.state «package».new in
         Uses (book_events old.parts path.now) Io result old new }
+    ensures to_end { let old = P.state «package».old in
+        let new = P.state «package».new in
+        old.is_told ≡ true → OnOk result (TakesBook old.parts path.now old.taken new.taken) }
     ensures opened { let old = P.state «package».old in
         old.is_told ≡ true → IfOk result (λ o. (opening : Opening)
         × HoldsOpening o.metadata o.paths.items o.shared o.is_1904 opening

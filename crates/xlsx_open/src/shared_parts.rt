@@ -1,15 +1,18 @@
-ghost use Rattle.std.specs.Prelude.{◌≡◌, codes, map, string_bytes, true, IfOk, IfErr};
-ghost use Rattle.part_events.specs.Package.{Uses, event_count};
+ghost use Rattle.std.specs.Prelude.{◌≡◌, ℕ, codes, map, string_bytes, true, IfOk, OnOk, IfErr};
+ghost use Rattle.part_events.specs.Package.{Uses, CountsUp, event_count};
 ghost use Rattle.xlsx_error.specs.declared.error.XlsxError.TheVariants.{Io};
 ghost use Rattle.xlsx_sections.specs.Elements.{IsInsideRefused};
-ghost use Rattle.xlsx_sections.specs.PartSection.{OptionalPartFails, SoundFails};
+ghost use Rattle.xlsx_sections.specs.Failing.{SoundFails};
+ghost use Rattle.xlsx_sections.specs.PartSection.{OptionalPartFails};
+ghost use Rattle.xlsx_sections.specs.SectionEvents.{ReadsToEnd};
 ghost use Rattle.xlsx_formats.specs.Formattings.{style_said};
-ghost use Rattle.xlsx_theme.specs.ThemePart.{HasTheme};
+ghost use Rattle.xlsx_theme.specs.ThemePart.{HasTheme, TakesTheme};
 ghost use Rattle.xlsx_stylesheet.specs.StyleSheet.{cell_formats_in, end_in_styles, HasStyles};
 ghost use Rattle.xlsx_strings.specs.Strings.{strings_in, end_in_strings, HasStrings};
 ghost use Rattle.xlsx_workbook.specs.Paths.{strings_part, theme_part, styles_part};
 ghost use Rattle.xlsx_open.specs.Opening.{IsOpeningError};
 ghost use Rattle.xlsx_open.specs.SharedParts.{shared_said, HasShared, SharedFails, shared_events};
+ghost use Rattle.xlsx_open.specs.SharedParts.{TakesShared};
 
 use cell_styles::Color;
 use part_events::Package;
@@ -47,6 +50,8 @@ fn read_strings<P: Package>(
     ensures uses { let old = P.state «package».old in
         let new = P.state «package».new in
         Uses (event_count old.parts (strings_part path.now)) Io result old new }
+    ensures to_end { ReadsToEnd (codes "sst") (strings_part path.now) result
+        (P.state «package».old) (P.state «package».new) }
     ensures strings { let old = P.state «package».old in
         old.is_told ≡ true → IfOk result (λ strings.
         HasStrings old.parts (strings_part path.now) (map string_bytes strings.items)) }
@@ -69,6 +74,11 @@ fn read_colors<P: Package>(
     ensures uses { let old = P.state «package».old in
         let new = P.state «package».new in
         Uses (event_count old.parts (theme_part path.now)) Io result old new }
+    ensures to_end { let old = P.state «package».old in
+        let new = P.state «package».new in
+        old.is_told ≡ true → OnOk result ((count : ℕ)
+        × TakesTheme old.parts (theme_part path.now) count
+        × CountsUp count old.taken new.taken) }
     ensures theme { let old = P.state «package».old in
         old.is_told ≡ true → IfOk result (HasTheme old.parts (theme_part path.now)) }
     ensures err { IfErr result (SoundFails (P.state «package».old) (P.state «package».new)) }
@@ -87,6 +97,8 @@ fn read_style_sheet<P: Package>(
     ensures uses { let old = P.state «package».old in
         let new = P.state «package».new in
         Uses (event_count old.parts (styles_part path.now)) Io result old new }
+    ensures to_end { ReadsToEnd (codes "styleSheet") (styles_part path.now) result
+        (P.state «package».old) (P.state «package».new) }
     ensures styles { let old = P.state «package».old in
         old.is_told ≡ true → IfOk result (λ sheet.
         HasStyles theme_colors.now old.parts (styles_part path.now) sheet.formats.items
@@ -123,6 +135,10 @@ pub fn read_shared<P: Package>(
     ensures uses { let old = P.state «package».old in
         let new = P.state «package».new in
         Uses (shared_events old.parts path.now) Io result old new }
+    ensures to_end { let old = P.state «package».old in
+        let new = P.state «package».new in
+        old.is_told ≡ true →
+        OnOk result (TakesShared old.parts path.now old.taken new.taken) }
     ensures shared { let old = P.state «package».old in
         old.is_told ≡ true → IfOk result (λ shared.
         HasShared old.parts path.now (shared_said shared)) }

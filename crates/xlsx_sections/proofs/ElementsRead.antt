@@ -10,19 +10,20 @@ use Rattle.part_events.specs.Reading.{Reading, IsReading, ReadsOn, Skips, IsAtEn
 use Rattle.part_events.specs.Reading.{events_of}
 use Rattle.part_events.specs.Section.{Element, content, is_closed, behind, outermost, unclosed}
 use Rattle.part_events.specs.Walk.{inside, element_at, section_ahead, section_behind}
-use Rattle.part_events.specs.Walk.{is_closed_ahead, behind_section, IsNextElement}
-use Rattle.part_events.specs.declared.fault.XmlFault.TheVariants.{EndMismatch, Unclosed}
+use Rattle.part_events.specs.Walk.{is_closed_ahead, behind_section, IsNextElement, StandsAt, FindsElement}
+use Rattle.part_events.specs.declared.walk.Step.TheVariants.{Found}
 use Rattle.part_events.proofs.Nested.{whole_split}
 use Rattle.part_events.proofs.Onward.{reads_nothing}
 use Rattle.part_events.proofs.Sections.{GoesOnBehind, goes_on_behind}
 use Rattle.xlsx_error.specs.declared.error.XlsxError.{XlsxError}
-use Rattle.xlsx_error.specs.declared.error.XlsxError.TheVariants.{OutOfMemory, Io, Xml, XmlEof}
 use Rattle.xlsx_sections.specs.Elements.{KeepsElements, FindsElementIn, end_outside}
 use Rattle.xlsx_sections.specs.Elements.{end_among}
-use Rattle.xlsx_sections.specs.PartSection.{PartSection, KeepsSection, SectionFails, StandsAtStart}
+use Rattle.xlsx_sections.specs.PartSection.{Ending, Refusing, KeepsSection, SectionFails, StandsAtStart}
 use Rattle.xlsx_sections.specs.PartSection.{Never, section_left, last_of, has_end, inside_of}
 use Rattle.xlsx_sections.specs.Refusal.{Refusal, further, events_behind}
-use Rattle.xlsx_sections.proofs.Refused.{refused_further, refused_later}
+pub use Rattle.xlsx_sections.specs.Steps.{IsElementFound}
+use Rattle.xlsx_sections.specs.Steps.{StepsToElement}
+use Rattle.xlsx_sections.proofs.Refused.{refused_in, refused_later}
 use Rattle.xlsx_sections.proofs.SectionsRead.{section_further, start_there}
 
 -- an element that is closed takes its events, its end, and leaves what stands behind
@@ -104,18 +105,6 @@ keeps_none wanted base first is within = record {
   behind = λ _. refl;
 }
 
--- a wanted element of a section was found, whose start is event number `place` of its part
-pub record IsElementFound
-    (wanted : Tag → Bool) (base : ℕ) (tag : Tag) (place : ℕ) (first old new : Reading) : Type 0
-  where
-    pub before : KeepsElements wanted base first old
-    pub read : KeepsSection base first new
-    pub next : first.source.is_told ≡ true → IsNextElement wanted base tag old new
-    pub deep : base < length new.names
-    pub there :
-        first.source.is_told ≡ true →
-        place + suc (length (section_ahead base new)) ≡ last_of (section_left base first)
-
 -- how the section goes on behind the element at whose start a reader stands
 goes_on : (base : ℕ) (new : Reading) → base < length new.names
     → GoesOnBehind 0 (inside base new - 1) (inside base new) (ahead new)
@@ -146,6 +135,19 @@ element_found {base = base} {place = place} {tag = tag} {first = first} {old = o
       deep = stands.1;
       there = λ told. omega (arith, stands.3, here.last told);
     }
+
+-- a step to the next wanted element found one
+pub element_step_found : {base at : ℕ} {old new : Reading} (wanted : Tag → Bool) → suc at ≡ new.at
+    → ReadsOn old new → StandsAt wanted base Found old new
+    → (old.source.is_told ≡ true → FindsElement wanted base Found old new) → (first : Reading)
+    → KeepsElements wanted base first old → StepsToElement wanted base (Some at) first old new
+element_step_found {base = base} {at = at} {old = old} {new =
+    new} wanted place reads stands finds first before =
+    let own = start_there new.source.current (λ (tag : Tag). wanted tag ≡ true) stands.2 in
+    subst (λ (event : Event). IsStartAnd event
+    (λ tag. IsElementFound wanted base tag at first old new)) own.1
+    (element_found wanted own.1 before reads
+    (stands.0, stands.1, stands.2, place, omega (arith, stands.3, place)) finds)
 
 -- the wanted element at whose start a step stands
 pub element_there : {base place : ℕ} {first old new : Reading} {wanted : Tag → Bool}
@@ -238,8 +240,8 @@ unclosed_there {base = base} {tag = tag} {new = new} {wanted = wanted} told foun
 
 -- an element that was found is refused, and so is the section
 pub element_refused : {base place : ℕ} {tag : Tag} {first old new : Reading} {wanted : Tag → Bool}
-    (name : List ℕ) (inner : Element → Option (List ℕ)) (ending : List Event → Option (List ℕ))
-    (after before : PartSection → Refusal → Type 0) (last : Reading) (error : XlsxError)
+    (name : List ℕ) (inner : Element → Option (List ℕ)) (ending : Ending)
+    (after before : Refusing) (last : Reading) (error : XlsxError)
     → IsElementFound wanted base tag place first old new
     → (first.source.is_told ≡ true
     → inner (element_at base tag new) ≡ ending (content 0 (ahead new)))
@@ -249,63 +251,32 @@ pub element_refused : {base place : ℕ} {tag : Tag} {first old new : Reading} {
     (further (events_behind (element_at base tag new)) refusal))
     → SectionFails ending after (length new.names) new last error
     → SectionFails (end_among wanted name inner) before base first last error
-element_refused name inner ending after before last Io found ends weaker fails =
-    omega (arith, found.read.reads.stays.faults, fails)
-element_refused name inner ending after before last OutOfMemory found ends weaker fails = tt
-element_refused {base = base} {tag = tag} {first = first} {old = old} {new = new} {wanted =
-    wanted} name inner ending after before last (Xml (EndMismatch at)) found ends weaker fails =
-    λ told.
-    let cause = fails (found.read.reads.moves.parts.is_told ∙ told) in (
-      subst (λ (events : List Event). BreaksAt events at) (found.read.reads.stays.part told)
-          cause.0,
-      is_open told found cause.1,
-    )
-element_refused {base = base} {tag = tag} {first = first} {old = old} {new = new} {wanted =
-    wanted} name inner ending after before last (Xml (Unclosed at)) found ends weaker fails =
-    λ told.
-    let cause = fails (found.read.reads.moves.parts.is_told ∙ told) in
-    let same = found.read.reads.stays.part told in (
-      (
-        subst (λ (events : List Event). whole events ≡ events) same cause.0.0,
-        is_open told found cause.0.1,
-      ),
-      ap (end_outside name inner) (unclosed_there told found cause.0.1) ∙ ends told
-          ∙ sym (ap ending (own_inside new)) ∙ cause.1,
-      subst (λ (events : List Event). at ≡ length events) same cause.2,
-    )
-element_refused {base = base} {tag = tag} {first = first} {old = old} {new = new} {wanted =
-    wanted} name inner ending after before last (XmlEof element) found ends weaker fails =
-    λ told.
-    let cause = fails (found.read.reads.moves.parts.is_told ∙ told) in
-    let same = found.read.reads.stays.part told in (
-      (
-        subst (λ (events : List Event). whole events ≡ events) same cause.0.0,
-        is_open told found cause.0.1,
-      ),
-      ap (end_outside name inner) (unclosed_there told found cause.0.1) ∙ ends told
-          ∙ sym (ap ending (own_inside new)) ∙ cause.1,
-    )
-element_refused {base = base} {tag = tag} {first = first} {old = old} {new = new} {wanted =
-    wanted} name inner ending after before last error found ends weaker fails =
-    λ told.
+element_refused {base = base} {tag = tag} {first = first} {new = new} {wanted = wanted} name inner
+    ending after before last error found ends weaker fails =
     let way = goes_on base new found.deep in
-    refused_further (last_of (section_left (length new.names) new))
-    (events_behind (element_at base tag new)) (last_of (section_left base first))
-    (before (section_left base first)) (after (section_left (length new.names) new)) error
-    (weaker told)
-    (omega (
-      arith,
-      found.read.last told,
-      ap length (own_inside new),
-      ap length way.parts,
-      length-append (content 0 (ahead new)) way.others,
-    ))
-    (fails (found.read.reads.moves.parts.is_told ∙ told))
+    refused_in ending (end_among wanted name inner) after before
+    (events_behind (element_at base tag new)) (section_left (length new.names) new)
+    (section_left base first) last.source error found.read.reads.moves.parts
+    (λ told. record {
+      events = sym (found.read.reads.stays.part told);
+      open_too = is_open told found;
+      ends = λ is_open.
+          ap (end_outside name inner) (unclosed_there told found is_open) ∙ ends told
+          ∙ sym (ap ending (own_inside new));
+      last = omega (
+        arith,
+        found.read.last told,
+        ap length (own_inside new),
+        ap length way.parts,
+        length-append (content 0 (ahead new)) way.others,
+      );
+      weaker = weaker told;
+    })
+    fails
 
 -- the step to the next element is refused, and so is the section
 pub step_refused : {base : ℕ} {first mid : Reading} {wanted : Tag → Bool} (name : List ℕ)
-    (inner : Element → Option (List ℕ)) (before : PartSection → Refusal → Type 0) (new : Reading)
-    (error : XlsxError) → KeepsElements wanted base first mid
+    (inner : Element → Option (List ℕ)) (before : Refusing) (new : Reading) (error : XlsxError) → KeepsElements wanted base first mid
     → SectionFails (end_among wanted name inner) Never base mid new error
     → SectionFails (end_among wanted name inner) before base first new error
 step_refused {base = base} {first = first} {mid = mid} {wanted =

@@ -1,4 +1,5 @@
 pub mod ElementsRead
+pub mod Failing
 pub mod Kept
 pub mod ListsRead
 pub mod NumbersRead
@@ -6,4 +7,5 @@ pub mod Refused
 pub mod SectionsRead
 pub mod Sound
 pub mod StartsRead
+pub mod StartsSaid
 pub mod TextsRead

@@ -20,6 +20,7 @@ use Rattle.part_events.proofs.Walking.{takes_inside}
 use Rattle.xlsx_sections.specs.PartSection.{PartSection, KeepsSection, EntersSection, section_left}
 use Rattle.xlsx_sections.specs.PartSection.{section_from, section_in, last_of}
 use Rattle.xlsx_sections.specs.PartSection.{StandsAtEvent, FindsEvent, StandsAtStart, FindsStartIn}
+use Rattle.xlsx_sections.specs.Steps.{IsEventInside}
 
 -- an event is the start of one tag
 pub same_tag : {first second : Tag} → start first ≡ start second → first ≡ second
@@ -58,21 +59,7 @@ section_taken {base = base} {old = old} {new = new} before reads takes is steps 
     (λ told. let taken = takes_inside base old new takes (steps told) before.within is in
     (sym taken.closed, sym taken.ends))
 
--- an event of a section was taken, which is number `place` of its part
-pub record IsEventInside (base : ℕ) (event : Event) (place : ℕ) (first old new : Reading) : Type 0
-  where
-    pub read : KeepsSection base first new
-    pub current : event ≡ new.source.current
-    pub was : base ≤ length old.names
-    pub takes : TakesEvent old new
-    pub steps : first.source.is_told ≡ true → StepsAhead true old new
-    pub left : first.source.is_told ≡ true → section_ahead base old ≡ event ∷ section_ahead base new
-    pub behind : first.source.is_told ≡ true → behind_section base old ≡ behind_section base new
-    pub ends : first.source.is_told ≡ true → section_end base old ≡ section_end base new
-    pub there :
-        first.source.is_told ≡ true →
-        place + suc (length (section_ahead base new)) ≡ last_of (section_left base first)
-
+-- an event of a section was taken
 pub event_inside : {base place : ℕ} {event : Event} {first old new : Reading} → event
     ≡ new.source.current → KeepsSection base first old → ReadsOn old new
     → StandsAtEvent base (Some place) old new
@@ -103,7 +90,7 @@ event_inside {base = base} {place = place} {event = event} {first = first} {old 
     }
 
 -- a wanted start of a section was found, which is event number `place` of its part
-pub record IsStartFound (wanted : Tag
+pub record IsStartRead (wanted : Tag
     → Bool) (base : ℕ) (tag : Tag) (place : ℕ) (first old new : Reading) : Type 0 where
   pub read : KeepsSection base first new
   pub starts :
@@ -119,7 +106,7 @@ pub start_found : {base place : ℕ} {tag : Tag} {first old new : Reading} (want
     → start tag ≡ new.source.current → KeepsSection base first old → ReadsOn old new
     → StandsAtStart wanted base (Some place) old new
     → (old.source.is_told ≡ true → FindsStartIn wanted base (Some place) old new)
-    → IsStartFound wanted base tag place first old new
+    → IsStartRead wanted base tag place first old new
 start_found {base = base} {place = place} {tag = tag} {first = first} {old = old} {new =
     new} wanted current before reads stands finds =
     let next : old.source.is_told ≡ true → IsNextStart wanted base tag old new = λ told.
@@ -185,21 +172,29 @@ first_section_left name opened entered fresh tracked same found =
     ∙ ap (option_map (section_from (events_of entered))) found
     ∙ ap (λ (s : PartSection). Some s) there
 
+-- the part that was opened
+pub part_opened : {path : List ℕ} {found : Bool} {old : PackageState} → found ≡ true
+    → (opened : Reading) → Opens path found old opened.source
+    → part_of old.parts path ≡ Some (events_of opened)
+part_opened is opened opens =
+    let here = rw is at opens in
+    here.part ∙ ap (λ (past : List Event). Some (reverse past ++ opened.source.rest))
+    (sym here.past)
+
 -- the part was opened, and read on behind the start of its first section of this name
 pub section_entered : {name path : List ℕ} {found : Bool} {old : PackageState}
     {opened entered : Reading} → found ≡ true → SameParts old opened.source
     → OpenCounts found old opened.source → (old.is_told ≡ true → Opens path found old opened.source)
-    → ReadsOn opened entered → IsAtElement entered
+    → opened.at ≡ 0 → ReadsOn opened entered → IsAtElement entered
     → (opened.source.is_told ≡ true → behind_start (is_named (name ∷ [])) (ahead opened)
     ≡ Some (ahead entered)) → EntersSection name path old entered
 section_entered {name = name} {path = path} {old = old} {opened = opened} {entered =
-    entered} is same counted opens reads element behind =
+    entered} is same counted opens first reads element behind =
     let counts : OpenCounts true old opened.source = rw is at counted in
     let opening : old.is_told ≡ true → Opens path true old opened.source =
     λ told. rw is at (opens told) in
     let there : old.is_told ≡ true → part_of old.parts path ≡ Some (events_of opened) = λ told.
-    (opening told).part ∙ ap (λ (past : List Event). Some (reverse past ++ opened.source.rest))
-    (sym (opening told).past)
+    part_opened is opened (opens told)
     in
     record {
       reading = reads.stays.reading;
@@ -210,6 +205,7 @@ section_entered {name = name} {path = path} {old = old} {opened = opened} {enter
         faults = omega (arith, reads.moves.parts.faults, same.faults);
       };
       faults = reads.stays.faults ∙ counts.faults;
+      begins = omega (arith, first, reads.moves.forward, reads.moves.taken, counts.taken);
       taken = λ told.
           let size : event_count old.parts path ≡ length opened.source.rest =
           ap (λ (part : Option (List Event)). option_map_or length part 0)

@@ -12,7 +12,7 @@ use Rattle.xlsx_error.specs.declared.error.XlsxError.TheVariants.{Xml, XmlEof, F
 use Rattle.xlsx_sections.specs.PartSection.{PartSection, inside_of, has_end, last_of, section_from}
 use Rattle.xlsx_sections.specs.PartSection.{section_in, if_closed, closed_section}
 use Rattle.xlsx_sections.specs.PartSection.{closed_section_of, StartCause, SectionCause}
-use Rattle.xlsx_sections.specs.PartSection.{OptionalPartCause, PartCause}
+use Rattle.xlsx_sections.specs.PartSection.{OptionalPartCause, PartCause, LacksPart}
 use Rattle.xlsx_sections.specs.Refusal.{Refusal}
 use Rattle.xlsx_sections.proofs.Refused.{never_refused}
 
@@ -91,16 +91,21 @@ no_optional_cause name path parts good ending refused error is never cause =
     (λ s. SectionCause ending refused s error)) is.found here in
     no_section_cause ending refused is.section error is.closed never there
 
+lacks_no_part : (parts : List Part) (path : List ℕ) (events : List Event) (error : XlsxError)
+    → part_of parts path ≡ Some events → LacksPart parts path error → ⊥
+lacks_no_part parts path events (FileNotFound wanted) some lacks =
+    let none = lacks.1 in
+    absurd (cc)
+lacks_no_part parts path events _ some lacks = lacks
+
 pub no_part_cause : (name path : List ℕ) (parts : List Part) (good : List Event
     → Type 0) (ending : List Event → Option (List ℕ)) (refused : PartSection → Refusal
     → Type 0) (error : XlsxError) (is : IsSoundPart name path parts good)
     → ((refusal : Refusal) → refused is.section refusal → ⊥)
     → PartCause name ending refused parts path error → ⊥
-no_part_cause name path parts good ending refused (FileNotFound wanted) is never cause =
-    let none = cause.1 in
-    let some = is.there in
-    absurd (cc)
-no_part_cause name path parts good ending refused error is never cause =
+no_part_cause name path parts good ending refused error is never (inl lacks) =
+    lacks_no_part parts path is.events error is.there lacks
+no_part_cause name path parts good ending refused error is never (inr cause) =
     no_optional_cause name path parts good ending refused error is never cause
 
 absent_or_there : {A : Type 0} (found : Option A) (absent there : Type 0)

@@ -1,7 +1,7 @@
 -- What is made of a value by many elements, one after the other, of which one may be refused.
 use Rattle.std.specs.Prelude.{List, [], ◌∷◌, Result, Ok, Err}
 use Rattle.attr_text.specs.declared.fault.AttrFault.{AttrFault}
-use Rattle.xlsx_sections.specs.Refusal.{Refusal, lookup_fault}
+use Rattle.xlsx_sections.specs.Refusal.{Refusal, plain, lookup_fault}
 
 abbrev pub changed_by : {A : Type 0} → (A → Result A Refusal) → Result A Refusal → Result A Refusal
 changed_by change (Ok a) = change a
@@ -14,7 +14,7 @@ all_changes change (x ∷ xs) a = changed_by (all_changes change xs) (change x a
 
 abbrev pub or_fault : {A : Type 0} → Result A AttrFault → Result A Refusal
 or_fault (Ok a) = Ok a
-or_fault (Err fault) = Err (lookup_fault fault)
+or_fault (Err fault) = Err (plain (lookup_fault fault))
 
 abbrev pub changed_with : {A B : Type 0} → (A → B → A) → A → Result B AttrFault → Result A AttrFault
 changed_with change a (Ok b) = Ok (change a b)

@@ -3,6 +3,9 @@ pub mod Changes
 pub mod ElementLists
 pub mod ElementText
 pub mod Elements
+pub mod Failing
 pub mod NumberText
 pub mod PartSection
 pub mod Refusal
+pub mod SectionEvents
+pub mod Steps

@@ -1,10 +1,11 @@
 -- When a section of a part can't be taken.
-use Rattle.std.specs.Prelude.{◌≡◌, ⊤, ℕ, suc, ◌+◌, ◌-◌, ◌<◌, ◌≤◌, List, [], ◌∷◌, length, Bool, true}
+use Rattle.std.specs.Prelude.{◌≡◌, ◌⊎◌, ⊤, ℕ, suc, ◌+◌, ◌-◌, ◌<◌, ◌≤◌, List, [], ◌∷◌, length, Bool, true}
 use Rattle.std.specs.Prelude.{false, if◌then◌else◌, Option, Some, None, option_map, option_and_then}
 use Rattle.std.specs.Prelude.{MatchOption, string_bytes}
 use Rattle.part_events.specs.Event.{Tag, Event, IsStartAnd}
 use Rattle.part_events.specs.Nesting.{whole}
-use Rattle.part_events.specs.Package.{Part, PackageState, HasCause, SameParts, part_of, event_count}
+use Rattle.part_events.specs.Package.{Part, PackageState, SameParts, part_of, event_count}
+use Rattle.part_events.specs.Package.{CountsUp}
 use Rattle.part_events.specs.Reading.{Reading, ReadsOn, IsReading, TakesEvent, IsAtElement}
 use Rattle.part_events.specs.Reading.{BreaksAt, ahead, events_of}
 use Rattle.part_events.specs.Section.{content, is_closed, behind_start, is_named}
@@ -14,6 +15,7 @@ use Rattle.part_events.specs.declared.fault.XmlFault.TheVariants.{EndMismatch, U
 use Rattle.xlsx_error.specs.declared.error.XlsxError.{XlsxError}
 use Rattle.xlsx_error.specs.declared.error.XlsxError.TheVariants.{OutOfMemory, Io, Xml, XmlEof}
 use Rattle.xlsx_error.specs.declared.error.XlsxError.TheVariants.{FileNotFound}
+use Rattle.xlsx_sections.specs.Failing.{FailsBy}
 use Rattle.xlsx_sections.specs.Refusal.{Refusal, RefusedAs}
 
 -- What is left of a section: all events of its part, the number of the first event that is left,
@@ -70,11 +72,19 @@ pub record KeepsSection (base : ℕ) (first now : Reading) : Type 0 where
 abbrev pub EndsOpenIn : PartSection → Type 0
 EndsOpenIn s = (whole s.events ≡ s.events) × (has_end s ≡ false)
 
+-- the text by which the end of the part is told in a section, by what stands there; None where an
+-- element is skipped
+abbrev pub Ending : Type 0
+Ending = List Event → Option (List ℕ)
+
+-- which refusals a section has
+abbrev pub Refusing : Type 1
+Refusing = PartSection → Refusal → Type 0
+
 -- Why a section can't be taken: the nesting breaks or the part ends before its end, or one of its
--- elements is refused. `ending` is the text by which the end of the part is told, by what stands in
--- the section; None where an element is skipped.
+-- elements is refused.
 abbrev pub SectionCause :
-    (List Event → Option (List ℕ)) → (PartSection → Refusal → Type 0) → PartSection → XlsxError
+    Ending → Refusing → PartSection → XlsxError
     → Type 0
 SectionCause ending refused s (Xml (EndMismatch at)) = BreaksAt s.events at × (has_end s ≡ false)
 SectionCause ending refused s (Xml (Unclosed at)) =
@@ -85,19 +95,10 @@ SectionCause ending refused s error = RefusedAs (last_of s) (refused s) error
 
 -- when a call that reads a section on is refused; want of memory may come at any time
 abbrev pub SectionFails :
-    (List Event → Option (List ℕ)) → (PartSection → Refusal → Type 0) → ℕ →
+    Ending → Refusing → ℕ →
     Reading → Reading → XlsxError → Type 0
-SectionFails ending refused base old new Io = HasCause old.source new.source
-SectionFails ending refused base old new OutOfMemory = ⊤
 SectionFails ending refused base old new error =
-    old.source.is_told ≡ true → SectionCause ending refused (section_left base old) error
-
--- when a call is refused for which the parts give no cause: by a fault of the package, or for want
--- of memory
-abbrev pub SoundFails : PackageState → PackageState → XlsxError → Type 0
-SoundFails old new Io = HasCause old new
-SoundFails old new OutOfMemory = ⊤
-SoundFails old new _ = ⊥
+    FailsBy (SectionCause ending refused (section_left base old)) old.source new.source error
 
 -- the part ends by the end of this element, whatever stands before
 abbrev pub always : List ℕ → List Event → Option (List ℕ)
@@ -114,12 +115,12 @@ StartCause name events (XmlEof element) = (element.now ≡ name) × (whole event
 StartCause name events _ = ⊥
 
 -- when it isn't found in what is ahead of a reader
-abbrev pub StartFails : List ℕ → Reading → Reading → XlsxError → Type 0
-StartFails name old new Io = HasCause old.source new.source
-StartFails name old new OutOfMemory = ⊤
-StartFails name old new error =
-    old.source.is_told ≡ true →
+abbrev pub IsStartLacking : List ℕ → Reading → XlsxError → Type 0
+IsStartLacking name old error =
     (behind_start (is_named (name ∷ [])) (ahead old) ≡ None) × StartCause name (events_of old) error
+
+abbrev pub StartFails : List ℕ → Reading → Reading → XlsxError → Type 0
+StartFails name old new error = FailsBy (IsStartLacking name old) old.source new.source error
 
 -- the part at this path was opened, and is read on behind the start of its first section of this
 -- name
@@ -128,6 +129,7 @@ pub record EntersSection (name path : List ℕ) (old : PackageState) (new : Read
   pub element : 0 < length new.names
   pub parts : SameParts old new.source
   pub faults : new.source.faults ≡ old.faults
+  pub begins : CountsUp new.at old.taken new.source.taken
   pub taken :
       old.is_told ≡ true →
       new.source.taken + length new.source.rest ≤ old.taken + event_count old.parts path
@@ -144,14 +146,12 @@ LacksSection name (Some events) error =
 
 -- when a section can't be entered, in a part that may be absent
 abbrev pub EnterFails : List ℕ → List ℕ → PackageState → PackageState → XlsxError → Type 0
-EnterFails name path old new Io = HasCause old new
-EnterFails name path old new OutOfMemory = ⊤
 EnterFails name path old new error =
-    old.is_told ≡ true → LacksSection name (part_of old.parts path) error
+    FailsBy (LacksSection name (part_of old.parts path)) old new error
 
 -- why the first section of this name can't be taken: its start isn't there, or it is refused
 abbrev pub FirstSectionCause :
-    List ℕ → (List Event → Option (List ℕ)) → (PartSection → Refusal → Type 0) →
+    List ℕ → Ending → Refusing →
     List Event → XlsxError → Type 0
 FirstSectionCause name ending refused events error =
     MatchOption (section_in name events) (StartCause name events error)
@@ -159,38 +159,38 @@ FirstSectionCause name ending refused events error =
 
 -- why that section of a part can't be taken, where the part may be absent
 abbrev pub OptionalPartCause :
-    List ℕ → (List Event → Option (List ℕ)) → (PartSection → Refusal → Type 0) →
+    List ℕ → Ending → Refusing →
     Option (List Event) → XlsxError → Type 0
 OptionalPartCause name ending refused None error = ⊥
 OptionalPartCause name ending refused (Some events) error =
     FirstSectionCause name ending refused events error
 
--- and where the part, which is looked for by this path, has to be there
-abbrev pub PartCause :
-    List ℕ → (List Event → Option (List ℕ)) → (PartSection → Refusal → Type 0) →
-    List Part → List ℕ → XlsxError → Type 0
-PartCause name ending refused parts path (FileNotFound wanted) =
+-- the part that is looked for by this path isn't there
+abbrev pub LacksPart : List Part → List ℕ → XlsxError → Type 0
+LacksPart parts path (FileNotFound wanted) =
     (string_bytes wanted ≡ path) × (part_of parts path ≡ None)
+LacksPart parts path _ = ⊥
+
+-- and why that section can't be taken, where the part has to be there
+abbrev pub PartCause :
+    List ℕ → Ending → Refusing → List Part → List ℕ → XlsxError → Type 0
 PartCause name ending refused parts path error =
-    OptionalPartCause name ending refused (part_of parts path) error
+    LacksPart parts path error
+    ⊎ OptionalPartCause name ending refused (part_of parts path) error
 
 -- when the reading of a section is refused, in a part that may be absent
 abbrev pub OptionalPartFails :
-    List ℕ → (List Event → Option (List ℕ)) → (PartSection → Refusal → Type 0) → List ℕ →
+    List ℕ → Ending → Refusing → List ℕ →
     PackageState → PackageState → XlsxError → Type 0
-OptionalPartFails name ending refused path old new Io = HasCause old new
-OptionalPartFails name ending refused path old new OutOfMemory = ⊤
 OptionalPartFails name ending refused path old new error =
-    old.is_told ≡ true → OptionalPartCause name ending refused (part_of old.parts path) error
+    FailsBy (OptionalPartCause name ending refused (part_of old.parts path)) old new error
 
 -- and in a part that has to be there
 abbrev pub PartFails :
-    List ℕ → (List Event → Option (List ℕ)) → (PartSection → Refusal → Type 0) → List ℕ →
+    List ℕ → Ending → Refusing → List ℕ →
     PackageState → PackageState → XlsxError → Type 0
-PartFails name ending refused path old new Io = HasCause old new
-PartFails name ending refused path old new OutOfMemory = ⊤
 PartFails name ending refused path old new error =
-    old.is_told ≡ true → PartCause name ending refused old.parts path error
+    FailsBy (PartCause name ending refused old.parts path) old new error
 
 -- what stands in the first section of this name, where its end is there before the nesting breaks
 abbrev pub if_closed : List Event → Option (List Event)

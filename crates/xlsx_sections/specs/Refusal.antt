@@ -1,7 +1,8 @@
--- Why an element of a section can't be taken, and which error tells of it. A new section adds its
--- refusals to both.
-use Rattle.std.specs.Prelude.{◌≡◌, ◌⊎◌, ⊤, ℕ, suc, ◌+◌, ◌-◌, List, length, codes, string_bytes}
-use Rattle.std.specs.Prelude.{Result, Ok, Err}
+-- Why an element of a section can't be taken, and which error tells of it. A new section adds each
+-- of its refusals to `PlainRefusal` and to what an error tells.
+use Rattle.std.specs.Prelude.{◌≡◌, ⊤, ℕ, suc, ◌+◌, ◌-◌, List, [], ◌∷◌, length, if◌then◌else◌}
+use Rattle.std.specs.Prelude.{codes, string_bytes, Option, Some, None, IsSomeAnd, Result, Ok, Err}
+use Rattle.std.specs.Str.{bytes_eq}
 use Rattle.attr_text.specs.Text.{decoded}
 use Rattle.attr_text.specs.declared.fault.AttrFault.{AttrFault}
 use Rattle.cell_refs.specs.declared.error.RefError.{RefError}
@@ -21,66 +22,89 @@ use Rattle.xlsx_error.specs.declared.error.XlsxError.TheVariants.{RowNumberOverf
 use Rattle.xlsx_error.specs.declared.error.XlsxError.TheVariants.{Unexpected, CellTAttribute}
 use Rattle.xlsx_error.specs.declared.error.XlsxError.TheVariants.{CellError, ParseFloat}
 
-pub data Refusal : Type 0 where
+-- a refusal of which its error tells whole
+pub data PlainRefusal : Type 0 where
   -- a lookup of its attributes is refused
-  lookup_fault : AttrFault → Refusal
+  lookup_fault : AttrFault → PlainRefusal
+  -- a sheet has this state, which is none
+  unknown_state : List ℕ → PlainRefusal
+  -- a sheet, or the workbook, is in no relationship
+  unrelated : PlainRefusal
+  -- the sheet of this path has a type which is none
+  unknown_type : List ℕ → PlainRefusal
+  -- the text of a row, of a position or of an area names none
+  misplaced : RefError → PlainRefusal
+  -- the dimensions of a sheet name no area
+  lacks_area : PlainRefusal
+  -- a cell has a child that is neither its value nor its formula
+  stray_child : PlainRefusal
+  -- a shared formula has no index, or one that is no number
+  lacks_index : PlainRefusal
+  wrong_index : PlainRefusal
+  -- a cell names a shared string that isn't there
+  lacks_string : PlainRefusal
+  -- this text is no truth value, no error, or no number
+  wrong_truth : List ℕ → PlainRefusal
+  wrong_error : List ℕ → PlainRefusal
+  wrong_number : List ℕ → PlainRefusal
+  -- a cell with a value has this type, which is none
+  wrong_type : List ℕ → PlainRefusal
+
+pub data Refusal : Type 0 where
   -- a reference in one of its texts has no character; so many events of the section stand behind
   -- the event with the text
   no_character : ℕ → Refusal
-  -- a sheet has this state, which is none
-  unknown_state : List ℕ → Refusal
-  -- a sheet, or the workbook, is in no relationship
-  unrelated : Refusal
-  -- the sheet of this path has a type which is none
-  unknown_type : List ℕ → Refusal
-  -- the text of a row, of a position or of an area names none
-  misplaced : RefError → Refusal
-  -- the dimensions of a sheet name no area
-  lacks_area : Refusal
-  -- a cell has a child that is neither its value nor its formula
-  stray_child : Refusal
-  -- a shared formula has no index, or one that is no number
-  lacks_index : Refusal
-  wrong_index : Refusal
-  -- a cell names a shared string that isn't there
-  lacks_string : Refusal
-  -- this text is no truth value, no error, or no number
-  wrong_truth : List ℕ → Refusal
-  wrong_error : List ℕ → Refusal
-  wrong_number : List ℕ → Refusal
-  -- a cell with a value has this type, which is none
-  wrong_type : List ℕ → Refusal
+  plain : PlainRefusal → Refusal
+
+-- the refusal beside the first of these texts that is the text of an error
+abbrev pub told_by : List ℕ → List (List ℕ × PlainRefusal) → Option PlainRefusal
+told_by text [] = None
+told_by text (row ∷ rows) = if bytes_eq text row.0 then Some row.1 else told_by text rows
+
+abbrev pub unrecognized : List ℕ → List (List ℕ × PlainRefusal)
+unrecognized value =
+    (codes "sheet:state", unknown_state value)
+    ∷ (codes "sheet:type", unknown_type value)
+    ∷ (codes "boolean cell value", wrong_truth value)
+    ∷ []
+
+abbrev pub nodes_expected : List (List ℕ × PlainRefusal)
+nodes_expected =
+    (codes "dimension", lacks_area)
+    ∷ (codes "v, f, or is", stray_child)
+    ∷ []
+
+abbrev pub unexpected : List (List ℕ × PlainRefusal)
+unexpected =
+    (codes "Cell string index not found in shared strings table", lacks_string)
+    ∷ (codes "si attribute must be a number", wrong_index)
+    ∷ (codes "si attribute is mandatory if it is shared", lacks_index)
+    ∷ []
+
+-- the plain refusal of which an error tells
+abbrev pub plain_told : XlsxError → Option PlainRefusal
+plain_told (XmlAttr fault) = Some (lookup_fault fault)
+plain_told RelationshipNotFound = Some unrelated
+plain_told (Unrecognized typ val) = told_by typ.now (unrecognized (string_bytes val))
+plain_told (Alphanumeric byte) = Some (misplaced (ref.Alphanumeric byte))
+plain_told RangeWithoutRowComponent = Some (misplaced ref.RangeWithoutRowComponent)
+plain_told RangeWithoutColumnComponent = Some (misplaced ref.RangeWithoutColumnComponent)
+plain_told ColumnNumberOverflow = Some (misplaced ref.ColumnNumberOverflow)
+plain_told RowNumberOverflow = Some (misplaced ref.RowNumberOverflow)
+plain_told (DimensionCount count) = Some (misplaced (ref.DimensionCount count))
+plain_told (UnexpectedNode node) = told_by node.now nodes_expected
+plain_told (Unexpected text) = told_by text.now unexpected
+plain_told (CellTAttribute typ) = Some (wrong_type (string_bytes typ))
+plain_told (CellError written) = Some (wrong_error (string_bytes written))
+plain_told (ParseFloat written) = Some (wrong_number (string_bytes written))
+plain_told _ = None
 
 -- An error tells of a refusal, in a section whose end is event number `last` of its part, or would
 -- be.
 abbrev pub RefusedAs : ℕ → (Refusal → Type 0) → XlsxError → Type 0
 RefusedAs last refused (Xml (Entity at)) =
     (behind : ℕ) × (at + suc behind ≡ last) × refused (no_character behind)
-RefusedAs last refused (XmlAttr fault) = refused (lookup_fault fault)
-RefusedAs last refused RelationshipNotFound = refused unrelated
-RefusedAs last refused (Unrecognized typ val) =
-    ((typ.now ≡ codes "sheet:state") × refused (unknown_state (string_bytes val)))
-    ⊎ (((typ.now ≡ codes "sheet:type") × refused (unknown_type (string_bytes val)))
-    ⊎ ((typ.now ≡ codes "boolean cell value") × refused (wrong_truth (string_bytes val))))
-RefusedAs last refused (Alphanumeric byte) = refused (misplaced (ref.Alphanumeric byte))
-RefusedAs last refused RangeWithoutRowComponent = refused (misplaced ref.RangeWithoutRowComponent)
-RefusedAs last refused RangeWithoutColumnComponent =
-    refused (misplaced ref.RangeWithoutColumnComponent)
-RefusedAs last refused ColumnNumberOverflow = refused (misplaced ref.ColumnNumberOverflow)
-RefusedAs last refused RowNumberOverflow = refused (misplaced ref.RowNumberOverflow)
-RefusedAs last refused (DimensionCount count) = refused (misplaced (ref.DimensionCount count))
-RefusedAs last refused (UnexpectedNode node) =
-    ((node.now ≡ codes "dimension") × refused lacks_area)
-    ⊎ ((node.now ≡ codes "v, f, or is") × refused stray_child)
-RefusedAs last refused (Unexpected text) =
-    ((text.now ≡ codes "Cell string index not found in shared strings table")
-    × refused lacks_string)
-    ⊎ (((text.now ≡ codes "si attribute must be a number") × refused wrong_index)
-    ⊎ ((text.now ≡ codes "si attribute is mandatory if it is shared") × refused lacks_index))
-RefusedAs last refused (CellTAttribute typ) = refused (wrong_type (string_bytes typ))
-RefusedAs last refused (CellError written) = refused (wrong_error (string_bytes written))
-RefusedAs last refused (ParseFloat written) = refused (wrong_number (string_bytes written))
-RefusedAs last refused _ = ⊥
+RefusedAs last refused error = IsSomeAnd (plain_told error) (λ own. refused (plain own))
 
 -- An error tells of a refusal at event number `at` of its part, behind which `behind` events of the
 -- section stand. Want of memory may come at any event.
@@ -90,21 +114,8 @@ RefusedAt refused at behind error = RefusedAs (at + suc behind) refused error
 
 -- the same refusal in a longer list of events, `more` of which stand behind the shorter one
 abbrev pub further : ℕ → Refusal → Refusal
-further more (lookup_fault fault) = lookup_fault fault
 further more (no_character behind) = no_character (behind + more)
-further more (unknown_state state) = unknown_state state
-further more unrelated = unrelated
-further more (unknown_type path) = unknown_type path
-further more (misplaced fault) = misplaced fault
-further more lacks_area = lacks_area
-further more stray_child = stray_child
-further more lacks_index = lacks_index
-further more wrong_index = wrong_index
-further more lacks_string = lacks_string
-further more (wrong_truth text) = wrong_truth text
-further more (wrong_error text) = wrong_error text
-further more (wrong_number text) = wrong_number text
-further more (wrong_type typ) = wrong_type typ
+further more (plain own) = plain own
 
 abbrev pub answer_further : {A : Type 0} → ℕ → Result A Refusal → Result A Refusal
 answer_further more (Ok a) = Ok a

@@ -1,7 +1,7 @@
 ghost use Rattle.std.specs.Prelude.{◌≡◌, ◌≤◌, ◌++◌, List, ℕ, suc, length, map, true, Ok, Option};
 ghost use Rattle.std.specs.Prelude.{option_map, string_bytes, IfOk, OnOk, IfErr, OnErr};
 ghost use Rattle.part_events.specs.JoinedText.{joined_text, IsFrontOf, PutsFront};
-ghost use Rattle.part_events.specs.Reading.{reading, open_elements, IsReading, IsAtElement};
+ghost use Rattle.part_events.specs.Reading.{Reading, reading, open_elements, IsReading, IsAtElement};
 ghost use Rattle.part_events.specs.Reading.{ReadsPart, Skips, ahead};
 ghost use Rattle.part_events.specs.Section.{Element, content, is_any, is_named};
 ghost use Rattle.xlsx_error.specs.declared.error.XlsxError.TheVariants.{Io};
@@ -10,6 +10,8 @@ ghost use Rattle.xlsx_sections.specs.Elements.{FindsElementIn, IsTextError, IsEn
 ghost use Rattle.xlsx_sections.specs.ElementText.{element_text};
 ghost use Rattle.xlsx_sections.specs.PartSection.{always, Never, IsStepError, SectionFails};
 ghost use Rattle.xlsx_sections.specs.PartSection.{StandsAtStart};
+ghost use Rattle.xlsx_sections.specs.Elements.{KeepsElements};
+ghost use Rattle.xlsx_sections.specs.Steps.{StepsToElement};
 
 use part_events::{Cursor, Package, Step, XmlFault};
 use xlsx_error::XlsxError;
@@ -48,6 +50,17 @@ pub fn next_element_in<P: Package>(
         let wanted = is_named (map (λ name. name.now) names.now) in
         IfErr result (λ error. (inner : Element → Option (List ℕ)) →
         SectionFails (end_among wanted section.now inner) Never base old new error) }
+    ensures step { let old = reading (P.state «package».old) cursor.old in
+        let new = reading (P.state «package».new) cursor.new in
+        let wanted = is_named (map (λ name. name.now) names.now) in
+        IfOk result (λ found. (first : Reading) → KeepsElements wanted base first old →
+        StepsToElement wanted base found first old new) }
+    ensures refused { let old = reading (P.state «package».old) cursor.old in
+        let new = reading (P.state «package».new) cursor.new in
+        let wanted = is_named (map (λ name. name.now) names.now) in
+        IfErr result (λ error. (first : Reading) (inner : Element → Option (List ℕ)) →
+        KeepsElements wanted base first old →
+        SectionFails (end_among wanted section.now inner) Never base first new error) }
     ensures kind { IfErr result (IsStepError section.now) }
 {
     match cursor.next_element(package, base, names)? {
@@ -86,6 +99,15 @@ pub fn next_child_in<P: Package>(
         let new = reading (P.state «package».new) cursor.new in
         IfErr result (λ error. (inner : Element → Option (List ℕ)) →
         SectionFails (end_among is_any section.now inner) Never base old new error) }
+    ensures step { let old = reading (P.state «package».old) cursor.old in
+        let new = reading (P.state «package».new) cursor.new in
+        IfOk result (λ found. (first : Reading) → KeepsElements is_any base first old →
+        StepsToElement is_any base found first old new) }
+    ensures refused { let old = reading (P.state «package».old) cursor.old in
+        let new = reading (P.state «package».new) cursor.new in
+        IfErr result (λ error. (first : Reading) (inner : Element → Option (List ℕ)) →
+        KeepsElements is_any base first old →
+        SectionFails (end_among is_any section.now inner) Never base first new error) }
     ensures kind { IfErr result (IsStepError section.now) }
 {
     match cursor.next_child(package, base)? {

@@ -2,7 +2,7 @@ ghost use Rattle.std.specs.Prelude.{◌≡◌, ◌≤◌, [], ◌∷◌, length,
 ghost use Rattle.std.specs.Prelude.{IfErr, IfSome, IfNone};
 ghost use Rattle.part_events.specs.Event.{tag_of, start, is_start};
 ghost use Rattle.part_events.specs.Package.{UsesPackage, LeavesPackage, part_of, event_count};
-ghost use Rattle.part_events.specs.Reading.{reading, open_elements, IsReading, IsAtElement};
+ghost use Rattle.part_events.specs.Reading.{Reading, reading, open_elements, IsReading, IsAtElement};
 ghost use Rattle.part_events.specs.Reading.{ReadsPart, ahead};
 ghost use Rattle.part_events.specs.Section.{is_named, behind_start};
 ghost use Rattle.xlsx_error.specs.declared.error.XlsxError.TheVariants.{Io};
@@ -10,6 +10,8 @@ ghost use Rattle.xlsx_sections.specs.PartSection.{always, Never, IsStepError, En
 ghost use Rattle.xlsx_sections.specs.PartSection.{EnterFails, SectionFails, StartFails};
 ghost use Rattle.xlsx_sections.specs.PartSection.{StandsAtEvent, FindsEvent, StandsAtStart};
 ghost use Rattle.xlsx_sections.specs.PartSection.{FindsStartIn};
+ghost use Rattle.xlsx_sections.specs.Elements.{KeepsStarts};
+ghost use Rattle.xlsx_sections.specs.Steps.{StepsToStart};
 
 use part_events::{Cursor, Package, PartEvent, StartTag, Step};
 use std::alloc::Global;
@@ -84,9 +86,18 @@ pub fn next_start_among<P: Package>(
         let wanted = is_named (map (λ name. name.now) names.now) in
         old.source.is_told ≡ true →
         IfOk result (λ found. FindsStartIn wanted base found old new) }
+    ensures step { let old = reading (P.state «package».old) cursor.old in
+        let new = reading (P.state «package».new) cursor.new in
+        let wanted = is_named (map (λ name. name.now) names.now) in
+        IfOk result (λ found. (first : Reading) → KeepsStarts base first old →
+        StepsToStart wanted base found first old new) }
     ensures err { let old = reading (P.state «package».old) cursor.old in
         let new = reading (P.state «package».new) cursor.new in
         IfErr result (SectionFails (always section.now) Never base old new) }
+    ensures refused { let old = reading (P.state «package».old) cursor.old in
+        let new = reading (P.state «package».new) cursor.new in
+        IfErr result (λ error. (first : Reading) → KeepsStarts base first old →
+        SectionFails (always section.now) Never base first new error) }
     ensures kind { IfErr result (IsStepError section.now) }
 {
     match cursor.next_start(package, base, names)? {
@@ -121,9 +132,18 @@ pub fn next_start_in<P: Package>(
         let new = reading (P.state «package».new) cursor.new in
         old.source.is_told ≡ true →
         IfOk result (λ found. FindsStartIn (is_named (name.now ∷ [])) base found old new) }
+    ensures step { let old = reading (P.state «package».old) cursor.old in
+        let new = reading (P.state «package».new) cursor.new in
+        let wanted = is_named (name.now ∷ []) in
+        IfOk result (λ found. (first : Reading) → KeepsStarts base first old →
+        StepsToStart wanted base found first old new) }
     ensures err { let old = reading (P.state «package».old) cursor.old in
         let new = reading (P.state «package».new) cursor.new in
         IfErr result (SectionFails (always section.now) Never base old new) }
+    ensures refused { let old = reading (P.state «package».old) cursor.old in
+        let new = reading (P.state «package».new) cursor.new in
+        IfErr result (λ error. (first : Reading) → KeepsStarts base first old →
+        SectionFails (always section.now) Never base first new error) }
     ensures kind { IfErr result (IsStepError section.now) }
 {
     next_start_among(package, cursor, base, &[name], section)

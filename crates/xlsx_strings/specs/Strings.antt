@@ -18,7 +18,7 @@ use Rattle.xlsx_sections.specs.ElementLists.{list_said, end_in_list}
 use Rattle.xlsx_sections.specs.Elements.{end_among}
 use Rattle.xlsx_sections.specs.ElementText.{element_text}
 use Rattle.xlsx_sections.specs.PartSection.{closed_section_of}
-use Rattle.xlsx_sections.specs.Refusal.{Refusal, lookup_fault}
+use Rattle.xlsx_sections.specs.Refusal.{Refusal, plain, lookup_fault}
 
 -- space, tab, CR and LF
 abbrev pub is_blank : ℕ → Bool
@@ -52,7 +52,7 @@ all_spaced kept (Err refusal) = Err refusal
 
 abbrev pub text_by : List Event → Result Bool AttrFault → Result (List ℕ) Refusal
 text_by inside (Ok kept) = all_spaced kept (element_text true inside)
-text_by inside (Err fault) = Err (lookup_fault fault)
+text_by inside (Err fault) = Err (plain (lookup_fault fault))
 
 -- the text of an element of this start, by what stands in it
 abbrev pub text_within : Tag → List Event → Result (List ℕ) Refusal

@@ -1,11 +1,12 @@
-ghost use Rattle.std.specs.Prelude.{◌≡◌, ◌≤◌, [], ◌∷◌, ◌++◌, codes, length, map, true, Ok};
+ghost use Rattle.std.specs.Prelude.{◌≡◌, ◌≤◌, [], ◌∷◌, ◌++◌, codes, suc, length, map, true, Ok};
 ghost use Rattle.std.specs.Prelude.{string_bytes, IfOk, OnOk, IfErr};
 ghost use Rattle.part_events.specs.Package.{Uses, event_count};
 ghost use Rattle.part_events.specs.Reading.{reading, open_elements, IsReading, ReadsPart};
-ghost use Rattle.part_events.specs.Walk.{section_ahead, is_closed_ahead};
+ghost use Rattle.part_events.specs.Walk.{section_ahead, is_closed_ahead, section_end};
 ghost use Rattle.xlsx_error.specs.declared.error.XlsxError.TheVariants.{Io};
 ghost use Rattle.xlsx_sections.specs.Elements.{IsInsideRefused};
 ghost use Rattle.xlsx_sections.specs.PartSection.{SectionFails, OptionalPartFails};
+ghost use Rattle.xlsx_sections.specs.SectionEvents.{ReadsToEnd};
 ghost use Rattle.xlsx_strings.specs.Strings.{strings_in, end_in_strings, HasStrings};
 ghost use Rattle.xlsx_strings.specs.Strings.{AreStringsError};
 
@@ -38,6 +39,9 @@ fn strings_in<P: Package>(
         ReadsPart Io result old new }
     ensures closed { let old = reading (P.state «package».old) cursor.old in
         old.source.is_told ≡ true → OnOk result (is_closed_ahead base old ≡ true) }
+    ensures ends { let old = reading (P.state «package».old) cursor.old in
+        let new = reading (P.state «package».new) cursor.new in
+        old.source.is_told ≡ true → OnOk result (new.at ≡ suc (section_end base old)) }
     ensures strings { let old = reading (P.state «package».old) cursor.old in
         old.source.is_told ≡ true → IfOk result (λ strings.
         strings_in (section_ahead base old) ≡ Ok (map string_bytes strings.items)) }
@@ -72,6 +76,8 @@ pub fn read_shared_strings<P: Package>(
     ensures uses { let old = P.state «package».old in
         let new = P.state «package».new in
         Uses (event_count old.parts path.now) Io result old new }
+    ensures to_end { ReadsToEnd (codes "sst") path.now result (P.state «package».old)
+        (P.state «package».new) }
     ensures strings { let old = P.state «package».old in
         old.is_told ≡ true → IfOk result (λ strings.
         HasStrings old.parts path.now (map string_bytes strings.items)) }

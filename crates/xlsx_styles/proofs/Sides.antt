@@ -20,8 +20,7 @@ pub side_fails : (theme : List Color) (tag own : Tag) (style : BorderStyle) (old
     → ElementReadFails (always (codes "border side")) (side_of theme tag) old new error
 side_fails theme tag own style old new error is here line fails there =
     refused_as (length old.names) old (always (codes "border side"))
-    (IsInsideRefused (color_in theme)) (IsInsideRefused (side_of theme tag)) new error is
-    (omega arith)
+    (IsInsideRefused (color_in theme)) (IsInsideRefused (side_of theme tag)) new error
     (λ refusal refuses.
     ap (side_by theme (inside_of (section_left (length old.names) old)))
     (ap side_line (same_tag (there ∙ sym here)) ∙ line)

@@ -14,7 +14,7 @@ use Rattle.cell_styles.specs.declared.border.BorderStyle.TheVariants as line
 use Rattle.cell_styles.specs.declared.color.Color.{Color}
 use Rattle.xlsx_sections.specs.Answers.{last_answer}
 use Rattle.xlsx_sections.specs.Elements.{end_among}
-use Rattle.xlsx_sections.specs.Refusal.{Refusal, lookup_fault, in_element}
+use Rattle.xlsx_sections.specs.Refusal.{Refusal, plain, lookup_fault, in_element}
 use Rattle.xlsx_sections.specs.Changes.{all_changes, or_fault}
 use Rattle.xlsx_styles.specs.Colors.{color_of, is_color}
 use Rattle.xlsx_styles.specs.Texts.{named}
@@ -56,7 +56,7 @@ side_line tag = lined (value_of (codes "style") tag.attributes)
 
 abbrev pub side_by : List Color → List Event → Result BorderStyle AttrFault → Result Border Refusal
 side_by theme inside (Ok style) = colored style (color_in theme inside)
-side_by theme inside (Err fault) = Err (lookup_fault fault)
+side_by theme inside (Err fault) = Err (plain (lookup_fault fault))
 
 -- a side, by its start and what stands in it
 abbrev pub side_of : List Color → Tag → List Event → Result Border Refusal

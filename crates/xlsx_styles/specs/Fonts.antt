@@ -18,7 +18,7 @@ use Rattle.cell_styles.specs.declared.font.FontWeight.{FontWeight}
 use Rattle.cell_styles.specs.declared.font.FontWeight.TheVariants as weight
 use Rattle.cell_styles.specs.declared.font.UnderlineStyle.{UnderlineStyle}
 use Rattle.cell_styles.specs.declared.font.UnderlineStyle.TheVariants as underline
-use Rattle.xlsx_sections.specs.Refusal.{Refusal, lookup_fault, decoded_at}
+use Rattle.xlsx_sections.specs.Refusal.{Refusal, plain, lookup_fault, decoded_at}
 use Rattle.xlsx_sections.specs.Changes.{all_changes, or_fault, changed_with}
 use Rattle.xlsx_styles.specs.Colors.{color_of, is_color}
 use Rattle.xlsx_styles.specs.Texts.{truth_or, number_below, named}
@@ -188,7 +188,7 @@ abbrev pub name_changed :
     ℕ → FontSaid → Result (Option (List ℕ)) AttrFault → Result FontSaid Refusal
 name_changed behind font (Ok None) = Ok font
 name_changed behind font (Ok (Some text)) = with_decoded font (decoded_at behind text)
-name_changed behind font (Err fault) = Err (lookup_fault fault)
+name_changed behind font (Err fault) = Err (plain (lookup_fault fault))
 
 -- what a start of this local name makes of a font, by the text of its `val`
 abbrev pub with_value : List ℕ → FontSaid → Option (List ℕ) → FontSaid

@@ -10,7 +10,7 @@ ghost use Rattle.xlsx_error.specs.declared.error.XlsxError.TheVariants.{Io};
 ghost use Rattle.xlsx_sections.specs.Answers.{or_earlier};
 ghost use Rattle.xlsx_sections.specs.Elements.{ElementReadFails};
 ghost use Rattle.xlsx_sections.specs.PartSection.{always};
-ghost use Rattle.xlsx_sections.specs.Refusal.{lookup_fault, placed_at};
+ghost use Rattle.xlsx_sections.specs.Refusal.{plain, lookup_fault, placed_at};
 ghost use Rattle.xlsx_styles.specs.Borders.{line_named, border_line, side_line, side_color};
 ghost use Rattle.xlsx_styles.specs.Borders.{color_in, side_of, side_named, with_side, border_of};
 ghost use Rattle.xlsx_styles.specs.Borders.{end_in_border};
@@ -98,7 +98,7 @@ fn keep_color(
         (λ _. (behind : ℕ) → or_earlier kept.old
         (side_color theme_colors.now (placed_at (tag_of tag.entry) behind)) ≡ Ok kept.new)
         (λ fault. (behind : ℕ) → side_color theme_colors.now (placed_at (tag_of tag.entry) behind)
-        ≡ Err (lookup_fault fault)) }
+        ≡ Err (plain (lookup_fault fault))) }
 {
     let color = parse_color(&tag, theme_colors)?;
     if color.is_some() {

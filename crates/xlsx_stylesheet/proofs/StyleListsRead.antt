@@ -106,7 +106,7 @@ list_fails {A = A} {kind = kind} theme said place kept meaning tag old new error
     subst (λ (kind : StyleList).
     ElementReadFails (list_end kind) (list_read theme kind said) old new error) named
     (refused_as (length old.names) old (list_end kind) (IsInsideRefused meaning)
-    (IsInsideRefused (list_read theme kind said)) new error is (omega arith)
+    (IsInsideRefused (list_read theme kind said)) new error
     (λ refusal refuses. same (inside_of (section_left (length old.names) old))
     ∙ ap (λ (answer : Result (List A) Refusal). with_list place (prepended kept answer)) refuses)
     fails)

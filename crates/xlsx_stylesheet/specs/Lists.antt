@@ -11,7 +11,7 @@ use Rattle.cell_styles.specs.declared.color.Color.{Color}
 use Rattle.cell_styles.specs.declared.fill.Fill.{Fill}
 use Rattle.xlsx_sections.specs.ElementLists.{list_said, end_in_list}
 use Rattle.xlsx_sections.specs.PartSection.{always}
-use Rattle.xlsx_sections.specs.Refusal.{Refusal, lookup_fault}
+use Rattle.xlsx_sections.specs.Refusal.{Refusal, plain, lookup_fault}
 use Rattle.xlsx_styles.specs.Borders.{border_of, end_in_border}
 use Rattle.xlsx_styles.specs.Fills.{fill_of}
 use Rattle.xlsx_styles.specs.Fonts.{FontSaid, font_of}
@@ -57,7 +57,7 @@ diagonals_of tag = diagonals_by (lookup diagonal_keys tag.attributes)
 abbrev pub border_by :
     List Color → List Event → Result (Bool × Bool) AttrFault → Result Borders Refusal
 border_by theme inside (Ok ways) = border_of theme ways.0 ways.1 inside
-border_by theme inside (Err fault) = Err (lookup_fault fault)
+border_by theme inside (Err fault) = Err (plain (lookup_fault fault))
 
 abbrev pub border_said : List Color → Tag → List Event → Result Borders Refusal
 border_said theme tag inside = border_by theme inside (diagonals_of tag)

@@ -4,7 +4,7 @@ ghost use Rattle.part_events.specs.Event.{Tag, start, tag_of};
 ghost use Rattle.part_events.specs.Reading.{reading, open_elements, IsReading, IsAtElement};
 ghost use Rattle.part_events.specs.Reading.{ReadsPart, Skips, ahead};
 ghost use Rattle.part_events.specs.Section.{content};
-ghost use Rattle.part_events.specs.Walk.{section_ahead, is_closed_ahead};
+ghost use Rattle.part_events.specs.Walk.{section_ahead, is_closed_ahead, section_end};
 ghost use Rattle.xlsx_error.specs.declared.error.XlsxError.TheVariants.{Io};
 ghost use Rattle.xlsx_sections.specs.Elements.{ElementReadFails, IsInsideRefused};
 ghost use Rattle.xlsx_sections.specs.PartSection.{SectionFails};
@@ -127,6 +127,9 @@ pub fn lists_in<P: Package>(
         ReadsPart Io result old new }
     ensures closed { let old = reading (P.state «package».old) cursor.old in
         old.source.is_told ≡ true → OnOk result (is_closed_ahead base old ≡ true) }
+    ensures ends { let old = reading (P.state «package».old) cursor.old in
+        let new = reading (P.state «package».new) cursor.new in
+        old.source.is_told ≡ true → OnOk result (new.at ≡ suc (section_end base old)) }
     ensures lists { let old = reading (P.state «package».old) cursor.old in
         old.source.is_told ≡ true → IfOk result (λ lists. (formats : List WrittenFormat)
         × AreCodes formats lists.codes

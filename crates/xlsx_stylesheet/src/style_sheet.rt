@@ -3,6 +3,7 @@ ghost use Rattle.part_events.specs.Package.{Uses, event_count};
 ghost use Rattle.xlsx_error.specs.declared.error.XlsxError.TheVariants.{Io};
 ghost use Rattle.xlsx_sections.specs.Elements.{IsInsideRefused};
 ghost use Rattle.xlsx_sections.specs.PartSection.{OptionalPartFails};
+ghost use Rattle.xlsx_sections.specs.SectionEvents.{ReadsToEnd};
 ghost use Rattle.xlsx_formats.specs.Formattings.{formatting_said, style_said};
 ghost use Rattle.xlsx_stylesheet.specs.StyleSheet.{cell_formats_in, end_in_styles, AreStyles};
 ghost use Rattle.xlsx_stylesheet.specs.StyleSheet.{HasStyles};
@@ -57,6 +58,8 @@ pub fn read_styles<P: Package>(
     ensures uses { let old = P.state «package».old in
         let new = P.state «package».new in
         Uses (event_count old.parts path.now) Io result old new }
+    ensures to_end { ReadsToEnd (codes "styleSheet") path.now result (P.state «package».old)
+        (P.state «package».new) }
     ensures styles { let old = P.state «package».old in
         old.is_told ≡ true → IfOk result (λ found.
         HasStyles theme_colors.now old.parts path.now found.formats.items

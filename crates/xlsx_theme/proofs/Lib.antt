@@ -1,2 +1,3 @@
 pub mod SchemeRead
 pub mod ThemeRead
+pub mod ThemeTaken

@@ -1,17 +1,28 @@
 -- What a part says of its theme's colors, by its first color scheme.
-use Rattle.std.proofs.Common.{◌≡◌, ℕ, List, [], ◌∷◌, length, Option, Some, true, Result, Ok, sym}
-use Rattle.std.proofs.Common.{◌∙◌, ap, subst, codes, arith}
-use Rattle.std.specs.Prelude.{option_map, IsOkAnd}
+use Rattle.std.proofs.Common.{◌≡◌, ℕ, List, [], ◌∷◌, length, Bool, true, false, Option, Some, None}
+use Rattle.std.proofs.Common.{Result, Ok, Err, refl, sym, ◌∙◌, ap, subst, codes, arith}
+use Rattle.std.specs.Prelude.{option_map, option_and_then, unwrap_or, is_none, if◌then◌else◌}
+use Rattle.std.specs.Prelude.{IsOkAnd, MatchOption}
 use Rattle.part_events.specs.Event.{Event}
+use Rattle.part_events.specs.Nesting.{whole}
+use Rattle.part_events.specs.Package.{Part, part_of}
 use Rattle.part_events.specs.Reading.{Reading, IsReading, ahead, events_of}
 use Rattle.part_events.specs.Section.{content, is_closed, behind_start, is_named}
 use Rattle.part_events.specs.Walk.{inside, section_ahead, is_closed_ahead}
+use Rattle.part_events.specs.declared.fault.XmlFault.TheVariants.{EndMismatch, Unclosed}
+use Rattle.xlsx_error.specs.declared.error.XlsxError.{XlsxError}
+use Rattle.xlsx_error.specs.declared.error.XlsxError.TheVariants.{Xml, XmlEof}
 use Rattle.cell_styles.specs.declared.color.Color.{Color}
-use Rattle.xlsx_sections.specs.PartSection.{section_from, section_in}
+use Rattle.xlsx_sections.specs.Elements.{IsInsideRefused, named_end}
+use Rattle.xlsx_sections.specs.PartSection.{section_from, section_in, if_closed, last_of}
+use Rattle.xlsx_sections.specs.PartSection.{StartCause, SectionCause}
 use Rattle.xlsx_sections.specs.Refusal.{Refusal}
+use Rattle.xlsx_sections.proofs.Refused.{some_refusal}
 use Rattle.xlsx_sections.proofs.SectionsRead.{ahead_at_first, nothing_past}
 use Rattle.xlsx_theme.specs.ColorScheme.{slot_colors, numbered_colors, all_numbered, scheme_colors}
-use Rattle.xlsx_theme.specs.ThemePart.{IsThemeOf, SaysTheme}
+use Rattle.xlsx_styles.specs.Theme.{default_theme}
+use Rattle.xlsx_theme.specs.ThemePart.{IsThemeOf, SaysTheme, HasTheme, ThemeCause, colors_inside}
+use Rattle.xlsx_theme.specs.ThemePart.{own_colors, own_colors_of}
 use Rattle.xlsx_theme.specs.declared.theme_part.ThemeColors.{ThemeColors}
 
 -- the scheme that a reader finds that took nothing, or that there is none
@@ -43,3 +54,44 @@ scheme_says {theme = theme} base old mid whole_it there closed says is =
           ∙ ap all_numbered says))
           is,
     )
+
+-- a faulty part says no colors
+no_colors : (closed : Bool) (inside : List Event) → closed ≡ false
+    → option_and_then colors_inside (if closed then Some inside else None) ≡ None
+no_colors closed inside is = rw is refl
+
+refused_colors : (closed : Bool) (inside : List Event) (refusal : Refusal)
+    → scheme_colors inside ≡ Err refusal
+    → option_and_then colors_inside (if closed then Some inside else None) ≡ None
+refused_colors true inside refusal is = rw is refl
+refused_colors false inside refusal is = refl
+
+faulty_section : (events : List Event) (found : Option (List Event)) (error : XlsxError)
+    → MatchOption (option_map (section_from events) found)
+    (StartCause (codes "clrScheme") events error)
+    (λ s. SectionCause (named_end None) (IsInsideRefused scheme_colors) s error)
+    → option_and_then colors_inside (option_and_then if_closed found) ≡ None
+faulty_section events None error cause = refl
+faulty_section events (Some left) (Xml (EndMismatch at)) cause =
+    no_colors (is_closed 0 left) (content 0 left) cause.1
+faulty_section events (Some left) (Xml (Unclosed at)) cause =
+    no_colors (is_closed 0 left) (content 0 left) cause.0.1
+faulty_section events (Some left) (XmlEof element) cause =
+    no_colors (is_closed 0 left) (content 0 left) cause.0.1
+faulty_section events (Some left) error cause =
+    let s = section_from events left in
+    let some = some_refusal (last_of s) (IsInsideRefused scheme_colors s) error cause in
+    refused_colors (is_closed 0 left) (content 0 left) some.0 some.1
+
+pub faulty_theme : (parts : List Part) (path : List ℕ) (events : List Event) (error : XlsxError)
+    (theme : ThemeColors) → part_of parts path ≡ Some events → ThemeCause events error
+    → IsThemeOf None theme → HasTheme parts path theme
+faulty_theme parts path events error theme there cause is =
+    let none : own_colors_of parts path ≡ None =
+    ap (option_and_then own_colors) there
+    ∙ faulty_section events (behind_start (is_named (codes "clrScheme" ∷ [])) (whole events)) error
+    cause in
+    record {
+      colors = is.colors ∙ ap (λ (own : Option (List Color)). unwrap_or own default_theme) (sym none);
+      defaulted = is.defaulted ∙ ap is_none (sym none);
+    }

@@ -1,20 +1,21 @@
 -- The colors of a workbook's theme, by the events of its part.
-use Rattle.std.specs.Prelude.{◌≡◌, ◌≤◌, ⊤, ℕ, List, [], ◌∷◌, length, Bool, true, false, codes}
-use Rattle.std.specs.Prelude.{Option, None, Result, Ok, Err, unwrap_or, is_none, option_and_then}
+use Rattle.std.specs.Prelude.{◌≡◌, ◌≤◌, ℕ, List, [], ◌∷◌, length, Bool, true, false, codes}
+use Rattle.std.specs.Prelude.{Option, None, Some, Result, Ok, Err, unwrap_or, is_none, option_and_then}
 use Rattle.std.specs.Prelude.{MatchOption, IsOkAnd}
 use Rattle.std.specs.Option.{option_map_or}
 use Rattle.part_events.specs.Event.{Event}
 use Rattle.part_events.specs.Nesting.{whole}
-use Rattle.part_events.specs.Package.{Part, HasCause, part_of}
+use Rattle.part_events.specs.Package.{Part, part_of, event_count}
 use Rattle.part_events.specs.Reading.{Reading, events_of}
 use Rattle.part_events.specs.Section.{behind, behind_start, is_named}
 use Rattle.xlsx_error.specs.declared.error.XlsxError.{XlsxError}
-use Rattle.xlsx_error.specs.declared.error.XlsxError.TheVariants.{OutOfMemory, Io}
 use Rattle.cell_styles.specs.declared.color.Color.{Color}
 use Rattle.xlsx_sections.specs.Elements.{IsInsideRefused, named_end}
+use Rattle.xlsx_sections.specs.Failing.{FailsBy}
 use Rattle.xlsx_sections.specs.PartSection.{section_in, closed_section, has_end, inside_of}
 use Rattle.xlsx_sections.specs.PartSection.{FirstSectionCause}
 use Rattle.xlsx_sections.specs.Refusal.{Refusal}
+use Rattle.xlsx_sections.specs.SectionEvents.{section_events_of}
 use Rattle.xlsx_styles.specs.Theme.{default_theme}
 use Rattle.xlsx_theme.specs.ColorScheme.{scheme_colors}
 use Rattle.xlsx_theme.specs.declared.theme_part.ThemeColors.{ThemeColors}
@@ -82,6 +83,18 @@ ThemeCause events error =
 
 -- when they can't be read by a reader of which nothing was taken
 abbrev pub ReadThemeFails : Reading → Reading → XlsxError → Type 0
-ReadThemeFails old new Io = HasCause old.source new.source
-ReadThemeFails old new OutOfMemory = ⊤
-ReadThemeFails old new error = old.source.is_told ≡ true → ThemeCause (events_of old) error
+ReadThemeFails old new error =
+    FailsBy (ThemeCause (events_of old)) old.source new.source error
+
+-- the colors of a theme's part, which may be absent, can be read
+abbrev pub IsSoundTheme : Option (List Event) → Type 0
+IsSoundTheme None = Unit {0}
+IsSoundTheme (Some events) = (error : XlsxError) → ThemeCause events error → ⊥
+
+-- How many events of the theme's part at a path are taken: those up to the end of its first scheme,
+-- and all where it has none. Of a faulty part these are no more than it has.
+pub record TakesTheme (parts : List Part) (path : List ℕ) (count : ℕ) : Type 0 where
+  pub most : count ≤ event_count parts path
+  pub sound :
+      IsSoundTheme (part_of parts path) →
+      count ≡ section_events_of (codes "clrScheme") parts path

@@ -8,7 +8,7 @@ ghost use Rattle.part_events.specs.Section.{content};
 ghost use Rattle.xlsx_error.specs.declared.error.XlsxError.TheVariants.{Io};
 ghost use Rattle.xlsx_sections.specs.Elements.{ElementReadFails, IsEndError, named_end};
 ghost use Rattle.xlsx_sections.specs.PartSection.{Never, SectionFails, StandsAtStart, FindsStartIn};
-ghost use Rattle.xlsx_sections.specs.Refusal.{lookup_fault, placed_at};
+ghost use Rattle.xlsx_sections.specs.Refusal.{plain, lookup_fault, placed_at};
 ghost use Rattle.xlsx_styles.specs.Colors.{hex_color};
 ghost use Rattle.xlsx_theme.specs.ColorScheme.{is_color_model, model_color, model_answer};
 ghost use Rattle.xlsx_theme.specs.ColorScheme.{unless_given, slot_color, IsSchemeError};
@@ -41,7 +41,7 @@ fn keep_first(kept: &mut Option<Color>, tag: StartTag<'_>) -> Result<(), AttrFau
         unless_given kept.old (model_answer (placed_at tag behind)) ≡ Ok kept.new)
         (λ fault. (behind : ℕ) →
         unless_given kept.old (model_answer (placed_at tag behind))
-        ≡ Err (lookup_fault fault)) }
+        ≡ Err (plain (lookup_fault fault))) }
 {
     if kept.is_none() {
         *kept = model_color(tag)?;

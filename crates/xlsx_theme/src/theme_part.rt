@@ -1,12 +1,13 @@
-ghost use Rattle.std.specs.Prelude.{◌≡◌, None, true, IfOk, OnOk, IfErr};
-ghost use Rattle.part_events.specs.Package.{Uses, event_count};
+ghost use Rattle.std.specs.Prelude.{◌≡◌, ℕ, None, codes, true, IfOk, OnOk, IfErr};
+ghost use Rattle.part_events.specs.Package.{Uses, CountsUp, event_count};
 ghost use Rattle.part_events.specs.Reader.{reading_by, SamePackage};
 ghost use Rattle.part_events.specs.Reading.{reading, IsReading, ReadsPart, ahead, events_of};
 ghost use Rattle.xlsx_error.specs.declared.error.XlsxError.TheVariants.{Io};
-ghost use Rattle.xlsx_sections.specs.PartSection.{SoundFails};
 ghost use Rattle.xlsx_theme.specs.ColorScheme.{numbered_colors, IsSchemeError};
 ghost use Rattle.xlsx_theme.specs.ThemePart.{IsThemeOf, IsTheme, HasTheme, SaysTheme};
-ghost use Rattle.xlsx_theme.specs.ThemePart.{behind_scheme, ReadThemeFails};
+ghost use Rattle.xlsx_theme.specs.ThemePart.{behind_scheme, ReadThemeFails, TakesTheme};
+ghost use Rattle.xlsx_sections.specs.Failing.{SoundFails};
+ghost use Rattle.xlsx_sections.specs.SectionEvents.{section_events};
 
 use crate::color_scheme::{numbered, read_slots};
 use cell_styles::Color;
@@ -61,6 +62,10 @@ fn read_scheme<P: Package>(
     ensures behind { let old = reading (P.state «package».old) cursor.old in
         let new = reading (P.state «package».new) cursor.new in
         old.source.is_told ≡ true → OnOk result (ahead new ≡ behind_scheme (ahead old)) }
+    ensures ends { let old = reading (P.state «package».old) cursor.old in
+        let new = reading (P.state «package».new) cursor.new in
+        let count = section_events (codes "clrScheme") (events_of old) in
+        old.source.is_told ≡ true → OnOk result (new.at ≡ count) }
     ensures theme { let old = reading (P.state «package».old) cursor.old in
         old.source.is_told ≡ true → IfOk result (SaysTheme (events_of old)) }
     ensures form { IfOk result IsTheme }
@@ -118,6 +123,10 @@ pub fn read_theme<P: Package>(
     ensures uses { let old = P.state «package».old in
         let new = P.state «package».new in
         Uses (event_count old.parts path.now) Io result old new }
+    ensures to_end { let old = P.state «package».old in
+        let new = P.state «package».new in
+        old.is_told ≡ true → OnOk result ((count : ℕ)
+        × TakesTheme old.parts path.now count × CountsUp count old.taken new.taken) }
     ensures theme { let old = P.state «package».old in
         old.is_told ≡ true → IfOk result (HasTheme old.parts path.now) }
     ensures form { IfOk result IsTheme }

@@ -6,8 +6,8 @@ use Rattle.std.proofs.lemmas.List.{append-nil, length-append, length-drop, lengt
 use Rattle.part_events.specs.Package.{RisesByOne}
 use Rattle.xlsx_tool.specs.Source.{SourceState}
 use Rattle.xlsx_tool.specs.Input.{InputRead, InputFails, PieceRead, PieceFails, TookTooMany}
-use Rattle.xlsx_tool.specs.declared.error.ToolError.{ToolError}
-use Rattle.xlsx_tool.specs.declared.error.ToolError.TheVariants.{ReadFault, OutOfMemory}
+use Rattle.xlsx_commands.specs.declared.error.ToolError.{ToolError}
+use Rattle.xlsx_commands.specs.declared.error.ToolError.TheVariants.{ReadFault, OutOfMemory}
 
 -- some of the input was read, and is these bytes
 pub record IsReading (bytes : List ℕ) (first now : SourceState) : Type 0 where

@@ -1,4 +1,3 @@
 pub mod InputLemmas
-pub mod OneListing
 pub mod RunLemmas
 pub mod SourceLemmas

@@ -4,67 +4,41 @@ use Rattle.std.proofs.Common.{subst, append_assoc}
 use Rattle.std.proofs.Common.{true≢false, true, arith, Option, Some, None}
 use Rattle.std.specs.Prelude.{◌≢◌, Result, Ok, Err, IfErr, OnOk}
 use Rattle.std.proofs.lemmas.List.{take-append-drop, length-append}
-use Rattle.part_events.specs.Memory.{Contents, state_of}
 use Rattle.part_events.specs.Package.{Part}
-use Rattle.xlsx_core.specs.SheetReading.{ReadsAs, IsReadable, SheetCause, SheetFails}
-use Rattle.cell_data.specs.CellValue.{CellValue}
-use Rattle.cell_styles.specs.StyleMap.{StyleMap}
-use Rattle.xlsx_error.specs.declared.error.XlsxError.{XlsxError}
-use Rattle.xlsx_error.specs.declared.error.XlsxError.TheVariants as workbook
-use Rattle.xlsx_tool.specs.Input.{InputRead}
+use Rattle.xlsx_commands.specs.Command.{Command, command_of, own_parts}
+use Rattle.xlsx_commands.specs.Outputs.{IsOutput, OutputCause, OutputFails, HasOutput}
 use Rattle.package_text.specs.PackageText.{package_in}
-use Rattle.xlsx_tool.specs.Run.{Streams, sheet_asked, Spells, Succeeds, HasPackageCause}
-use Rattle.xlsx_tool.specs.Run.{ReadingFails, Refuses}
-use Rattle.xlsx_tool.specs.Run.{AnswersExactly, LinesFail}
+use Rattle.xlsx_tool.specs.Run.{Streams, Spells, Succeeds, HasOutputCause}
+use Rattle.xlsx_tool.specs.Run.{TellsInput, GivesParts, IsFed, PackageFed, FeedingFails, OutputRead}
+use Rattle.xlsx_tool.specs.Run.{ReadingFails, Refuses, AnswersExactly}
 use Rattle.xlsx_tool.specs.Source.{SourceState}
-use Rattle.xlsx_tool.specs.Status.{of_workbook}
-use Rattle.xlsx_tool.specs.declared.error.ToolError.{ToolError}
-use Rattle.xlsx_tool.specs.declared.error.ToolError.TheVariants.{Usage, ReadFault, InputTooLarge}
-use Rattle.xlsx_tool.specs.declared.error.ToolError.TheVariants.{NotAPackage, Workbook}
-use Rattle.xlsx_tool.specs.declared.error.ToolError.TheVariants.{WriteFault, OutOfMemory}
+use Rattle.xlsx_commands.specs.declared.error.ToolError.{ToolError}
+use Rattle.xlsx_commands.specs.declared.error.ToolError.TheVariants.{Usage, ReadFault, InputTooLarge}
+use Rattle.xlsx_commands.specs.declared.error.ToolError.TheVariants.{NotAPackage, Workbook}
+use Rattle.xlsx_commands.specs.declared.error.ToolError.TheVariants.{WriteFault, OutOfMemory}
 
-pub err_at :
-    {A E : Type 0} (result : Result A E) (e : E) (P : E → Type 0)
-    → result ≡ Err e → IfErr result P → P e
-err_at {A = A} {E = E} result e P is holds = subst (λ (r : Result A E). IfErr r P) is holds
+-- ---- the output of a command on what a source spells
 
--- ---- the lines of a sheet
+given_by :
+    (own : Option (List Part)) (parts : List Part) (old new : SourceState)
+    → IsFed own parts old new → GivesParts own old parts
+given_by (Some own) parts old new fed = fed.0
+given_by None parts old new fed = fed.0
 
--- why a sheet of a package in memory isn't read is why its lines aren't had
-pub workbook_fails :
-    (name : List ℕ) (old new : Contents) (error : XlsxError)
-    → SheetFails name (state_of old) (state_of new) error
-    → LinesFail old.parts name (of_workbook error)
-workbook_fails name old new workbook.Io fails = absurd (omega (arith, fails))
-workbook_fails name old new workbook.OutOfMemory fails = tt
-workbook_fails name old new (workbook.WorksheetNotFound asked) fails = fails refl
-workbook_fails name old new error fails = fails refl
-
--- ---- the lines of a source
-
--- the source spells the package that was read
-pub spelled_by :
-    (bytes : List ℕ) (parts : List Part) (old new : SourceState)
-    → InputRead bytes old new → package_in bytes ≡ Some parts
-    → old.is_told ≡ true → Spells old.left parts
-spelled_by bytes parts old new input spelled told =
-    let same = (input.whole told).0 in
-    record { fits = rw same input.fits; spelled = ap package_in same ∙ spelled }
-
-pub from_lines :
-    (name bytes : List ℕ) (parts : List Part) (old new : SourceState) (error : ToolError)
-    → InputRead bytes old new → package_in bytes ≡ Some parts
-    → LinesFail parts name error → ReadingFails name old new error
-from_lines name bytes parts old new (Workbook error) input spelled fails = (
-  input.faults,
+pub from_output :
+    (command : Command) (parts : List Part) (old new : SourceState) (error : ToolError)
+    → PackageFed command parts old new → OutputFails command parts error
+    → ReadingFails command old new error
+from_output command parts old new (Workbook error) feeds fails = (
+  feeds.faults,
   record {
     parts = parts;
     cause = fails;
-    spells = spelled_by bytes parts old new input spelled;
+    fed = λ tells. given_by (own_parts command) parts old new (feeds.fed tells);
   },
 )
-from_lines name bytes parts old new OutOfMemory input spelled fails = input.faults
-from_lines name bytes parts old new _ input spelled fails = absurd fails
+from_output command parts old new OutOfMemory feeds fails = feeds.faults
+from_output command parts old new _ feeds fails = absurd fails
 
 -- ---- the sink
 
@@ -100,119 +74,120 @@ same_some : {A : Type 0} (x y : A) (found : Option A) → found ≡ Some x → f
 unfolding some_of
 same_some x y found first second = ap (some_of x) (sym first ∙ second)
 
--- a sheet that is read isn't refused, as each is
+-- an output and a cause of a refusal exclude each other
 abbrev pub NeverBoth : Type 0
 NeverBoth =
-    (parts : List Part) (name : List ℕ) (values : List ((ℕ × ℕ) × CellValue))
-    (formulas : List ((ℕ × ℕ) × List ℕ)) (styles : StyleMap) (error : XlsxError)
-    → ReadsAs parts name values formulas styles → SheetCause parts name error → ⊥
+    (command : Command) (parts : List Part) (output : List ℕ) (error : ToolError)
+    → IsOutput command parts output → OutputCause command parts error → ⊥
 
--- the words are a command on the package that the source spells
+-- the words are a command on a package of these parts
 record IsCommand
-    (words : List (List ℕ)) (source : SourceState) (name : List ℕ) (parts : List Part)
+    (words : List (List ℕ)) (source : SourceState) (command : Command) (parts : List Part)
     : Type 0 where
-  is_told : source.is_told ≡ true
-  asked : sheet_asked words ≡ Some name
-  spells : Spells source.left parts
+  asked : command_of words ≡ Some command
+  tells : TellsInput (own_parts command) source
+  gives : GivesParts (own_parts command) source parts
 
 same_package :
-    (source : SourceState) (parts others : List Part)
-    → Spells source.left parts → Spells source.left others → parts ≡ others
-same_package source parts others first second =
+    (own : Option (List Part)) (source : SourceState) (parts others : List Part)
+    → GivesParts own source parts → GivesParts own source others → parts ≡ others
+same_package (Some own) source parts others first second = first ∙ sym second
+same_package None source parts others first second =
     same_some parts others (package_in source.left) first.spelled second.spelled
 
--- a sheet that is read has no cause of a refusal in its package
-no_package_cause :
-    NeverBoth → (words : List (List ℕ)) (source : SourceState) (name asked : List ℕ)
-    (parts : List Part) (values : List ((ℕ × ℕ) × CellValue)) (formulas : List ((ℕ × ℕ) × List ℕ))
-    (styles : StyleMap) (error : XlsxError)
-    → IsCommand words source name parts → ReadsAs parts name values formulas styles
-    → sheet_asked words ≡ Some asked → HasPackageCause asked source error → ⊥
-no_package_cause never words source name asked parts values formulas styles error command reads
-    same cause =
-    let name_is = same_some asked name (sheet_asked words) same command.asked in
-    let package_is =
-    same_package source cause.parts parts (cause.spells command.is_told) command.spells
-    in
-    let named = subst (λ (name : List ℕ). SheetCause cause.parts name error) name_is cause.cause in
-    never parts name values formulas styles error reads
-    (subst (λ (parts : List Part). SheetCause parts name error) package_is named)
+-- a command that reads the input is told of it
+told_input :
+    (own : Option (List Part)) (source : SourceState) (parts : List Part) → own ≡ None
+    → TellsInput own source → GivesParts own source parts
+    → (source.is_told ≡ true) × Spells source.left parts
+told_input (Some own) source parts none tells gives = absurd cc
+told_input None source parts none tells gives = (tells, gives)
 
--- a package whose sheet is read was not refused for any cause of its own
+-- a package that has an output has no cause of a refusal
+no_cause :
+    NeverBoth → (words : List (List ℕ)) (source : SourceState) (command asked : Command)
+    (parts : List Part) (output : List ℕ) (error : ToolError)
+    → IsCommand words source command parts → IsOutput command parts output
+    → command_of words ≡ Some asked → HasOutputCause asked source error → ⊥
+no_cause never words source command asked parts output error is prints same cause =
+    let command_is = same_some asked command (command_of words) same is.asked in
+    let own = subst (λ (command : Command). HasOutputCause command source error) command_is cause in
+    let package_is = same_package (own_parts command) source own.parts parts (own.fed is.tells)
+    is.gives in
+    never command parts output error prints
+    (subst (λ (parts : List Part). OutputCause command parts error) package_is own.cause)
+
+-- a package that has an output was not refused for any cause of its own
 not_refused :
-    NeverBoth → (words : List (List ℕ)) (old new : Streams) (name : List ℕ)
-    (parts : List Part) (values : List ((ℕ × ℕ) × CellValue)) (formulas : List ((ℕ × ℕ) × List ℕ))
-    (styles : StyleMap) (error : ToolError)
-    → IsCommand words old.source name parts → ReadsAs parts name values formulas styles
+    NeverBoth → (words : List (List ℕ)) (old new : Streams) (command : Command)
+    (parts : List Part) (output : List ℕ) (error : ToolError)
+    → IsCommand words old.source command parts → IsOutput command parts output
     → (error ≢ OutOfMemory) × (error ≢ ReadFault) × (error ≢ WriteFault)
     → Refuses words old new error → ⊥
-not_refused never words old new name parts values formulas styles Usage command reads own
-    refuses =
-    not_some name (sheet_asked words) command.asked refuses.0
-not_refused never words old new name parts values formulas styles ReadFault command reads own
-    refuses =
-    own.1 refl
-not_refused never words old new name parts values formulas styles InputTooLarge command reads own
-    refuses =
-    let took = refuses.cause.1 command.is_told in
+not_refused never words old new command parts output Usage is prints own refuses =
+    not_some command (command_of words) is.asked refuses.0
+not_refused never words old new command parts output ReadFault is prints own refuses = own.1 refl
+not_refused never words old new command parts output InputTooLarge is prints own refuses =
+    let command_is = same_some refuses.command command (command_of words) refuses.asked is.asked in
+    let fails = subst
+    (λ (command : Command). FeedingFails command old.source new.source InputTooLarge) command_is
+    refuses.cause in
+    let input = told_input (own_parts command) old.source parts fails.0 is.tells is.gives in
+    let took = fails.2 input.0 in
     let long = length-append took.taken new.source.left in
-    omega (arith, took.many, command.spells.fits, ap length took.from, long)
-not_refused never words old new name parts values formulas styles NotAPackage command reads own
-    refuses =
-    let none = (refuses.cause.1 command.is_told).spelled in
-    not_some parts (package_in old.source.left) command.spells.spelled none
-not_refused never words old new name parts values formulas styles (Workbook error) command reads
-    own refuses =
-    no_package_cause never words old.source name refuses.name parts values formulas styles error
-    command reads refuses.asked refuses.cause.1
-not_refused never words old new name parts values formulas styles WriteFault command reads own
-    refuses =
-    own.2 refl
-not_refused never words old new name parts values formulas styles OutOfMemory command reads own
-    refuses =
-    own.0 refl
+    omega (arith, took.many, input.1.fits, ap length took.from, long)
+not_refused never words old new command parts output NotAPackage is prints own refuses =
+    let command_is = same_some refuses.command command (command_of words) refuses.asked is.asked in
+    let fails = subst
+    (λ (command : Command). FeedingFails command old.source new.source NotAPackage) command_is
+    refuses.cause in
+    let input = told_input (own_parts command) old.source parts fails.0 is.tells is.gives in
+    not_some parts (package_in old.source.left) input.1.spelled (fails.2 input.0).spelled
+not_refused never words old new command parts output (Workbook error) is prints own refuses =
+    no_cause never words old.source command refuses.command parts output (Workbook error) is prints
+    refuses.asked refuses.cause.1
+not_refused never words old new command parts output WriteFault is prints own refuses = own.2 refl
+not_refused never words old new command parts output OutOfMemory is prints own refuses = own.0 refl
 
--- a sheet whose lines were written is read
-is_readable :
-    (words : List (List ℕ)) (old new : Streams) (name : List ℕ) (parts : List Part)
-    → IsCommand words old.source name parts → Succeeds words old new
-    → IsReadable parts name
-is_readable words old new name parts command succeeds =
-    let listed = succeeds.reads command.is_told in
-    let name_is = same_some succeeds.name name (sheet_asked words) succeeds.asked command.asked in
-    let package_is = same_package old.source listed.parts parts listed.spells command.spells in
-    let named = subst
-    (λ name. ReadsAs listed.parts name listed.values listed.formulas listed.styles) name_is
-    listed.reads in (
-      listed.values,
-      listed.formulas,
-      listed.styles,
-      subst (λ parts. ReadsAs parts name listed.values listed.formulas listed.styles) package_is
-          named,
+-- a command whose output was written has one
+has_output :
+    (words : List (List ℕ)) (old new : Streams) (command : Command) (parts : List Part)
+    → IsCommand words old.source command parts → Succeeds words old new
+    → HasOutput command parts
+has_output words old new command parts is succeeds =
+    let command_is = same_some succeeds.command command (command_of words) succeeds.asked is.asked
+    in
+    let read = subst
+    (λ (command : Command). OutputRead command succeeds.output old.source new.source) command_is
+    succeeds.reads in
+    let gives = given_by (own_parts command) read.parts old.source new.source
+    (read.fed.fed is.tells) in
+    let package_is = same_package (own_parts command) old.source read.parts parts gives is.gives in (
+      succeeds.output,
+      subst (λ (parts : List Part). IsOutput command parts succeeds.output) package_is
+          read.is_output,
     )
 
 pub answers :
     NeverBoth → (words : List (List ℕ)) (old new : Streams) (result : Result (Unit {0}) ToolError)
-    → old.source.is_told ≡ true
     → OnOk result (Succeeds words old new) → IfErr result (Refuses words old new)
     → AnswersExactly words old.source result
-answers never words old new (Ok x) told ok err = record {
-  exactly = λ name parts asked spells memory read write. (
-      let command : IsCommand words old.source name parts =
-      record { is_told = told; asked = asked; spells = spells }
+answers never words old new (Ok x) ok err = record {
+  exactly = λ command parts asked tells gives memory read write. (
+      let is : IsCommand words old.source command parts =
+      record { asked = asked; tells = tells; gives = gives }
       in
-      (λ _. is_readable words old new name parts command ok, λ _. refl)
+      (λ _. has_output words old new command parts is ok, λ _. refl)
       );
 }
-answers never words old new (Err error) told ok err = record {
-  exactly = λ name parts asked spells memory read write. (
-      let command : IsCommand words old.source name parts =
-      record { is_told = told; asked = asked; spells = spells }
+answers never words old new (Err error) ok err = record {
+  exactly = λ command parts asked tells gives memory read write. (
+      let is : IsCommand words old.source command parts =
+      record { asked = asked; tells = tells; gives = gives }
       in (
         λ is_ok. absurd (true≢false (sym is_ok)),
-        λ readable. absurd (
-            not_refused never words old new name parts readable.0 readable.1 readable.2 error
-            command readable.3
+        λ printed. absurd (
+            not_refused never words old new command parts printed.0 error is printed.1
             (λ is. memory (ap Err is), λ is. read (ap Err is), λ is. write (ap Err is)) err
             ),
       )

@@ -2,9 +2,9 @@
 use Rattle.std.specs.Prelude.{◌≡◌, ℕ, ◌+◌, ◌<◌, ◌≤◌, List, [], ◌++◌, length, Bool, true, false}
 use Rattle.part_events.specs.Package.{RisesByOne}
 use Rattle.xlsx_tool.specs.Source.{SourceState}
-use Rattle.xlsx_tool.specs.declared.error.ToolError.{ToolError}
-use Rattle.xlsx_tool.specs.declared.error.ToolError.TheVariants.{ReadFault, InputTooLarge}
-use Rattle.xlsx_tool.specs.declared.error.ToolError.TheVariants.{OutOfMemory}
+use Rattle.xlsx_commands.specs.declared.error.ToolError.{ToolError}
+use Rattle.xlsx_commands.specs.declared.error.ToolError.TheVariants.{ReadFault, InputTooLarge}
+use Rattle.xlsx_commands.specs.declared.error.ToolError.TheVariants.{OutOfMemory}
 
 -- the most bytes that an input may have: 2 ^ 26
 abbrev pub longest_input : ℕ

@@ -4,5 +4,4 @@ pub mod Program
 pub mod Run
 pub mod Sink
 pub mod Source
-pub mod Status
 pub mod StdForms

@@ -1,16 +1,23 @@
 -- What the program does with its words: it prints a page, or runs a command.
 use Rattle.std.specs.Prelude.{◌≡◌, ℕ, List, [], ◌∷◌, ◌++◌, Result, Ok, Err, Option, Some, None}
-use Rattle.std.specs.Prelude.{codes, if◌then◌else◌}
+use Rattle.std.specs.Prelude.{codes, if◌then◌else◌, ◌⊎◌, IfSome, Bool, ◌||◌, is_some}
 use Rattle.std.specs.Str.{bytes_eq}
-use Rattle.xlsx_tool.specs.Run.{Streams, Succeeds, Refuses, IsSent, SendFails}
-use Rattle.xlsx_tool.specs.Status.{status_of}
-use Rattle.xlsx_tool.specs.declared.error.ToolError.{ToolError}
+use Rattle.xlsx_commands.specs.Command.{command_of}
+use Rattle.xlsx_commands.specs.Status.{status_of, error_text}
+use Rattle.xlsx_commands.specs.declared.error.ToolError.{ToolError}
+use Rattle.xlsx_commands.specs.declared.error.ToolError.TheVariants.{WriteFault, OutOfMemory}
+use Rattle.xlsx_tool.specs.Run.{Streams, Succeeds, Refuses, IsSent, SendFails, reads_nothing}
+use Rattle.xlsx_tool.specs.Sink.{SinkState}
 
-abbrev pub help_text : List ℕ
+unfoldable pub help_text : List ℕ
 help_text =
-    codes "Usage: xlsx_tool cells NAME < package.json\n\n"
-    ++ (codes "Prints one line for each cell of worksheet NAME with a value, a formula or a\n"
-    ++ codes "style: its position, value, formula and fill, with tabs between them.\n")
+    codes "Usage: xlsx_tool cells NAME < package.json\n"
+    ++ (codes "       xlsx_tool sheets < package.json\n"
+    ++ (codes "       xlsx_tool names < package.json\n\n"
+    ++ (codes "cells prints a line for each cell of worksheet NAME with a value, a formula or a\n"
+    ++ (codes "style: its position, value, formula and fill. sheets prints a line for each\n"
+    ++ (codes "sheet: its name, type and state. names prints a line for each defined name: the\n"
+    ++ codes "name and its text. The fields of a line have tabs between them.\n")))))
 
 abbrev pub version_text : List ℕ
 version_text = codes "xlsx_tool 0.1.0\n"
@@ -22,6 +29,10 @@ page_asked (word ∷ []) =
     if bytes_eq word (codes "--help") then Some help_text
     else (if bytes_eq word (codes "--version") then Some version_text else None)
 page_asked (word ∷ further ∷ words) = None
+
+-- the words ask for a page, are no command, or are one that reads no input
+abbrev pub asks_for_no_input : List (List ℕ) → Bool
+asks_for_no_input words = is_some (page_asked words) || reads_nothing (command_of words)
 
 -- the page that was asked for is written and nothing is read, or the command is run
 abbrev pub Prints : Option (List ℕ) → List (List ℕ) → Streams → Streams → Type 0
@@ -38,3 +49,25 @@ CannotPrint None words old new error = Refuses words old new error
 abbrev pub ending_status : Result (Unit {0}) ToolError → ℕ
 ending_status (Ok done) = 0
 ending_status (Err error) = status_of error
+
+-- a line of errors: the text of the refusal, where that is told, and a line feed
+pub record IsErrorLine (error : ToolError) (line : List ℕ) : Type 0 where
+  pub text : List ℕ
+  pub told : IfSome (error_text error) (λ own. text ≡ own)
+  pub whole : line ≡ text ++ codes "\n"
+
+-- the bytes were written, or a front of them, and the sink failed
+abbrev pub IsOffered : List ℕ → SinkState → SinkState → Type 0
+IsOffered bytes old new = IsSent bytes old new ⊎ SendFails bytes old new WriteFault
+
+-- a sink of errors was given the line of the refusal, or that of want of memory, where there was
+-- none for it
+abbrev pub TellsError : ToolError → SinkState → SinkState → Type 0
+TellsError error old new =
+    (line : List ℕ) × (IsErrorLine error line ⊎ IsErrorLine OutOfMemory line)
+    × IsOffered line old new
+
+-- what it was given at the end: nothing at Ok, else the line of the refusal
+abbrev pub TellsEnding : Result (Unit {0}) ToolError → SinkState → SinkState → Type 0
+TellsEnding (Ok done) old new = new ≡ old
+TellsEnding (Err error) old new = TellsError error old new

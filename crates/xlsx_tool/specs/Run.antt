@@ -1,35 +1,18 @@
 -- What a run of the program answers, and when.
-use Rattle.std.specs.Prelude.{◌≡◌, ◌≢◌, ◌↔◌, Result, Err, IsOk, ℕ, ◌≤◌, List, [], ◌∷◌, ◌++◌, length}
-use Rattle.std.specs.Prelude.{true, if◌then◌else◌, Option, Some, None, codes, map, String}
-use Rattle.std.specs.Prelude.{string_bytes}
-use Rattle.std.specs.Str.{bytes_eq}
-use Rattle.std.specs.declared.alloc.Global.{Global}
+use Rattle.std.specs.Prelude.{◌≡◌, ◌≢◌, ◌↔◌, Result, Err, IsOk, ℕ, ◌≤◌, List, [], ◌++◌, length}
+use Rattle.std.specs.Prelude.{true, Bool, Option, Some, None, is_some}
 use Rattle.part_events.specs.Memory.{Contents, closed}
 use Rattle.part_events.specs.Package.{Part, RisesByOne}
-use Rattle.xlsx_core.specs.SheetReading.{ReadsAs, IsReadable, SheetCause}
-use Rattle.cell_data.specs.CellValue.{CellValue}
-use Rattle.cell_styles.specs.StyleMap.{StyleMap}
-use Rattle.xlsx_error.specs.declared.error.XlsxError.{XlsxError}
+use Rattle.xlsx_commands.specs.Command.{Command, command_of, own_parts}
+use Rattle.xlsx_commands.specs.Outputs.{IsOutput, OutputCause, HasOutput}
 use Rattle.xlsx_tool.specs.Input.{TookTooMany, longest_input}
-use Rattle.sheet_listing.specs.SheetListing.{listing}
 use Rattle.package_text.specs.PackageText.{package_in}
 use Rattle.xlsx_tool.specs.Sink.{SinkState}
 use Rattle.xlsx_tool.specs.Source.{SourceState}
-use Rattle.xlsx_tool.specs.declared.error.ToolError.{ToolError}
-use Rattle.xlsx_tool.specs.declared.error.ToolError.TheVariants.{Usage, ReadFault, InputTooLarge}
-use Rattle.xlsx_tool.specs.declared.error.ToolError.TheVariants.{NotAPackage, Workbook}
-use Rattle.xlsx_tool.specs.declared.error.ToolError.TheVariants.{WriteFault, OutOfMemory}
-
--- the words as texts
-abbrev pub texts : List (String Global) → List (List ℕ)
-texts words = map string_bytes words
-
--- the name in the words `cells NAME`; no other words are a command
-abbrev pub sheet_asked : List (List ℕ) → Option (List ℕ)
-sheet_asked [] = None
-sheet_asked (word ∷ []) = None
-sheet_asked (word ∷ name ∷ []) = if bytes_eq word (codes "cells") then Some name else None
-sheet_asked (word ∷ name ∷ further ∷ words) = None
+use Rattle.xlsx_commands.specs.declared.error.ToolError.{ToolError}
+use Rattle.xlsx_commands.specs.declared.error.ToolError.TheVariants.{Usage, ReadFault, InputTooLarge}
+use Rattle.xlsx_commands.specs.declared.error.ToolError.TheVariants.{NotAPackage}
+use Rattle.xlsx_commands.specs.declared.error.ToolError.TheVariants.{WriteFault, OutOfMemory}
 
 -- the source and the sink of a run
 pub record Streams : Type 0 where
@@ -46,126 +29,36 @@ pub record Spells (input : List ℕ) (parts : List Part) : Type 0 where
   pub fits : length input ≤ longest_input
   pub spelled : package_in input ≡ Some parts
 
--- these are the lines of the sheet of this name, as it is read from these parts
-pub record AreLinesOf (parts : List Part) (name lines : List ℕ) : Type 0 where
-  pub values : List ((ℕ × ℕ) × CellValue)
-  pub formulas : List ((ℕ × ℕ) × List ℕ)
-  pub styles : StyleMap
-  pub reads : ReadsAs parts name values formulas styles
-  pub listed : lines ≡ listing values formulas styles
+-- the words are no command, or one that reads no input
+abbrev pub reads_nothing : Option Command → Bool
+reads_nothing None = true
+reads_nothing (Some command) = is_some (own_parts command)
 
--- the input is a package whose sheet of this name is read, and its lines are written
-pub record ListsSheet (name : List ℕ) (old new : Streams) : Type 0 where
-  pub parts : List Part
-  pub values : List ((ℕ × ℕ) × CellValue)
-  pub formulas : List ((ℕ × ℕ) × List ℕ)
-  pub styles : StyleMap
-  pub spells : Spells old.source.left parts
-  pub reads : ReadsAs parts name values formulas styles
-  pub whole : new.source.left ≡ []
-  pub written :
-      old.sink.is_told ≡ true
-      → new.sink.written ≡ old.sink.written ++ listing values formulas styles
+-- the source tells what a command needs of it, where it has these parts of its own
+abbrev pub TellsInput : Option (List Part) → SourceState → Type 0
+TellsInput (Some own) source = Unit {0}
+TellsInput None source = source.is_told ≡ true
 
--- a run that answers Ok
-pub record Succeeds (words : List (List ℕ)) (old new : Streams) : Type 0 where
-  pub name : List ℕ
-  pub asked : sheet_asked words ≡ Some name
-  pub faults : NoFaults old new
-  pub reads : old.source.is_told ≡ true → ListsSheet name old new
+-- these are the parts of the package that it works on
+abbrev pub GivesParts : Option (List Part) → SourceState → List Part → Type 0
+GivesParts (Some own) source parts = parts ≡ own
+GivesParts None source parts = Spells source.left parts
 
--- the input is no package
-pub record IsNoPackage (source : SourceState) : Type 0 where
-  pub fits : length source.left ≤ longest_input
-  pub spelled : package_in source.left ≡ None
+-- they are, and nothing is left of what it reads
+abbrev pub IsFed : Option (List Part) → List Part → SourceState → SourceState → Type 0
+IsFed (Some own) parts old new = (parts ≡ own) × (new ≡ old)
+IsFed None parts old new = Spells old.left parts × (new.left ≡ [])
 
--- the input is a package in which this refusal of the asked sheet has its cause
-pub record HasPackageCause (name : List ℕ) (source : SourceState) (error : XlsxError) : Type 0 where
-  pub parts : List Part
-  pub cause : SheetCause parts name error
-  pub spells : source.is_told ≡ true → Spells source.left parts
-
--- the input is read, and what was written is a front of its lines
-pub record WroteFront (name : List ℕ) (old new : Streams) : Type 0 where
-  pub parts : List Part
-  pub values : List ((ℕ × ℕ) × CellValue)
-  pub formulas : List ((ℕ × ℕ) × List ℕ)
-  pub styles : StyleMap
-  pub spells : Spells old.source.left parts
-  pub reads : ReadsAs parts name values formulas styles
-  pub whole : new.source.left ≡ []
-  pub front : List ℕ
-  pub behind : List ℕ
-  pub lines : listing values formulas styles ≡ front ++ behind
-  pub written : old.sink.is_told ≡ true → new.sink.written ≡ old.sink.written ++ front
-
--- why a command's lines were not had
-abbrev pub ReadingFails : List ℕ → SourceState → SourceState → ToolError → Type 0
-ReadingFails name old new ReadFault = RisesByOne old.faults new.faults
-ReadingFails name old new InputTooLarge =
-    (new.faults ≡ old.faults) × (old.is_told ≡ true → TookTooMany old new)
-ReadingFails name old new NotAPackage =
-    (new.faults ≡ old.faults) × (old.is_told ≡ true → IsNoPackage old)
-ReadingFails name old new (Workbook error) =
-    (new.faults ≡ old.faults) × HasPackageCause name old error
-ReadingFails name old new OutOfMemory = new.faults ≡ old.faults
-ReadingFails name old new _ = ⊥
-
--- a command that was refused before anything was written
-pub record RefusesCommand
-    (words : List (List ℕ)) (old new : Streams) (error : ToolError) : Type 0 where
-  pub name : List ℕ
-  pub asked : sheet_asked words ≡ Some name
-  pub sink_faults : new.sink.faults ≡ old.sink.faults
-  pub cause : ReadingFails name old.source new.source error
-
--- a command whose lines were not written whole
-pub record RefusesLines (words : List (List ℕ)) (old new : Streams) : Type 0 where
-  pub name : List ℕ
-  pub asked : sheet_asked words ≡ Some name
-  pub source_faults : new.source.faults ≡ old.source.faults
-  pub cause : RisesByOne old.sink.faults new.sink.faults
-  pub front : old.source.is_told ≡ true → WroteFront name old new
-
--- when a run answers each refusal
-abbrev pub Refuses : List (List ℕ) → Streams → Streams → ToolError → Type 0
-Refuses words old new Usage = (sheet_asked words ≡ None) × NoFaults old new
-Refuses words old new WriteFault = RefusesLines words old new
-Refuses words old new error = RefusesCommand words old new error
-
--- Of a command on a package of these parts: it answers Ok exactly where the sheet of the asked name
--- is readable, unless memory, the source or the sink fails it.
-pub record AnswersExactly
-    (words : List (List ℕ)) (source : SourceState) (result : Result (Unit {0}) ToolError)
-    : Type 0 where
-  pub exactly :
-      (name : List ℕ) (parts : List Part)
-      → sheet_asked words ≡ Some name → Spells source.left parts
-      → result ≢ Err OutOfMemory → result ≢ Err ReadFault → result ≢ Err WriteFault
-      → IsOk result ↔ IsReadable parts name
-
--- ---- the steps of a run
-
--- a package in memory, fresh, of the parts that were spelled
-abbrev pub PackageRead : Option (List Part) → Contents → Type 0
-PackageRead spelled held = (spelled ≡ Some held.parts) × (held ≡ closed held.parts 0)
-
-abbrev pub NoPackage : Option (List Part) → ToolError → Type 0
-NoPackage spelled NotAPackage = spelled ≡ None
-NoPackage spelled OutOfMemory = Unit {0}
-NoPackage spelled _ = ⊥
-
-abbrev pub LinesFail : List Part → List ℕ → ToolError → Type 0
-LinesFail parts name (Workbook error) = SheetCause parts name error
-LinesFail parts name OutOfMemory = Unit {0}
-LinesFail parts name _ = ⊥
-
--- the lines were had
-pub record LinesRead (name lines : List ℕ) (old new : SourceState) : Type 0 where
+-- what it works on was had
+pub record PackageFed (command : Command) (parts : List Part) (old new : SourceState) : Type 0 where
   pub faults : new.faults ≡ old.faults
+  pub fed : TellsInput (own_parts command) old → IsFed (own_parts command) parts old new
+
+-- the output of the command was had, and nothing is left of what it reads
+pub record OutputRead (command : Command) (output : List ℕ) (old new : SourceState) : Type 0 where
   pub parts : List Part
-  pub lists : AreLinesOf parts name lines
-  pub whole : old.is_told ≡ true → Spells old.left parts × (new.left ≡ [])
+  pub is_output : IsOutput command parts output
+  pub fed : PackageFed command parts old new
 
 -- the bytes were written
 pub record IsSent (bytes : List ℕ) (old new : SinkState) : Type 0 where
@@ -178,6 +71,93 @@ pub record FrontSent (bytes : List ℕ) (old new : SinkState) : Type 0 where
   pub behind : List ℕ
   pub whole : bytes ≡ front ++ behind
   pub written : old.is_told ≡ true → new.written ≡ old.written ++ front
+
+-- a run that answers Ok
+pub record Succeeds (words : List (List ℕ)) (old new : Streams) : Type 0 where
+  pub command : Command
+  pub asked : command_of words ≡ Some command
+  pub faults : NoFaults old new
+  pub output : List ℕ
+  pub reads : OutputRead command output old.source new.source
+  pub written : old.sink.is_told ≡ true → new.sink.written ≡ old.sink.written ++ output
+
+-- the input is no package
+pub record IsNoPackage (source : SourceState) : Type 0 where
+  pub fits : length source.left ≤ longest_input
+  pub spelled : package_in source.left ≡ None
+
+-- the command works on a package in which this refusal has its cause
+pub record HasOutputCause (command : Command) (source : SourceState) (error : ToolError)
+    : Type 0 where
+  pub parts : List Part
+  pub cause : OutputCause command parts error
+  pub fed : TellsInput (own_parts command) source → GivesParts (own_parts command) source parts
+
+-- why what a command works on was not had
+abbrev pub FeedingFails : Command → SourceState → SourceState → ToolError → Type 0
+FeedingFails command old new ReadFault =
+    (own_parts command ≡ None) × RisesByOne old.faults new.faults
+FeedingFails command old new InputTooLarge =
+    (own_parts command ≡ None) × (new.faults ≡ old.faults)
+    × (old.is_told ≡ true → TookTooMany old new)
+FeedingFails command old new NotAPackage =
+    (own_parts command ≡ None) × (new.faults ≡ old.faults)
+    × (old.is_told ≡ true → IsNoPackage old)
+FeedingFails command old new OutOfMemory = new.faults ≡ old.faults
+FeedingFails command old new _ = ⊥
+
+-- why its output was not had
+abbrev pub ReadingFails : Command → SourceState → SourceState → ToolError → Type 0
+ReadingFails command old new ReadFault = FeedingFails command old new ReadFault
+ReadingFails command old new InputTooLarge = FeedingFails command old new InputTooLarge
+ReadingFails command old new NotAPackage = FeedingFails command old new NotAPackage
+ReadingFails command old new OutOfMemory = new.faults ≡ old.faults
+ReadingFails command old new error = (new.faults ≡ old.faults) × HasOutputCause command old error
+
+-- a command that was refused before anything was written
+pub record RefusesCommand
+    (words : List (List ℕ)) (old new : Streams) (error : ToolError) : Type 0 where
+  pub command : Command
+  pub asked : command_of words ≡ Some command
+  pub sink_faults : new.sink.faults ≡ old.sink.faults
+  pub cause : ReadingFails command old.source new.source error
+
+-- a command whose output was not written whole: what was written is a front of it
+pub record RefusesOutput (words : List (List ℕ)) (old new : Streams) : Type 0 where
+  pub command : Command
+  pub asked : command_of words ≡ Some command
+  pub cause : RisesByOne old.sink.faults new.sink.faults
+  pub output : List ℕ
+  pub reads : OutputRead command output old.source new.source
+  pub front : FrontSent output old.sink new.sink
+
+-- when a run answers each refusal
+abbrev pub Refuses : List (List ℕ) → Streams → Streams → ToolError → Type 0
+Refuses words old new Usage = (command_of words ≡ None) × NoFaults old new
+Refuses words old new WriteFault = RefusesOutput words old new
+Refuses words old new error = RefusesCommand words old new error
+
+-- Of a command on a package of these parts: it answers Ok exactly where the package has an output
+-- for it, unless memory, the source or the sink fails it.
+pub record AnswersExactly
+    (words : List (List ℕ)) (source : SourceState) (result : Result (Unit {0}) ToolError)
+    : Type 0 where
+  pub exactly :
+      (command : Command) (parts : List Part) → command_of words ≡ Some command
+      → TellsInput (own_parts command) source → GivesParts (own_parts command) source parts
+      → result ≢ Err OutOfMemory → result ≢ Err ReadFault → result ≢ Err WriteFault
+      → IsOk result ↔ HasOutput command parts
+
+-- ---- the steps of a run
+
+-- a package in memory, fresh, of the parts that were spelled
+abbrev pub PackageRead : Option (List Part) → Contents → Type 0
+PackageRead spelled held = (spelled ≡ Some held.parts) × (held ≡ closed held.parts 0)
+
+abbrev pub NoPackage : Option (List Part) → ToolError → Type 0
+NoPackage spelled NotAPackage = spelled ≡ None
+NoPackage spelled OutOfMemory = Unit {0}
+NoPackage spelled _ = ⊥
 
 abbrev pub SendFails : List ℕ → SinkState → SinkState → ToolError → Type 0
 SendFails bytes old new WriteFault = RisesByOne old.faults new.faults × FrontSent bytes old new

@@ -1,9 +1,9 @@
 ghost use Rattle.std.specs.Prelude.{◌<◌, length, IfOk, IfErr};
 ghost use Rattle.xlsx_tool.specs.Input.{InputRead, InputFails, PieceRead, PieceFails};
 
-use crate::error::ToolError;
 use crate::source::Source;
 use std::alloc::Global;
+use xlsx_commands::ToolError;
 
 /// The most bytes that an input may have.
 pub const INPUT_LIMIT: usize = 67_108_864;

@@ -1,9 +1,7 @@
 //! Prints what a worksheet of a package holds (docs/FORMAT.md).
 #![tactic(auto)]
 
-mod error;
 mod input;
-mod laws;
 mod program;
 mod run;
 mod sink;
@@ -13,7 +11,6 @@ mod std_forms_tests;
 #[cfg(test)]
 mod tests;
 
-use error::ToolError;
 use program::{answer, ending};
 use sink::StdSink;
 use source::StdSource;
@@ -21,6 +18,7 @@ use std::alloc::Global;
 use std::env::{self, Env};
 use std::io::{self, Input};
 use std::process::ExitCode;
+use xlsx_commands::ToolError;
 
 /// The words behind the program's name.
 fn words_of(rt: &(impl Env + Alloc<A = Global>)) -> Result<Vec<String>, ToolError> {
@@ -49,5 +47,6 @@ fn answer_on(rt: &(impl Env + Alloc<A = Global> + Print + Input)) -> Result<(), 
 }
 
 fn main(rt: HostRuntime) -> ExitCode {
-    ending(&rt, &answer_on(&rt))
+    let answer = answer_on(&rt);
+    ending(rt.alloc(), &answer, &mut StdSink::new(rt.stderr()))
 }

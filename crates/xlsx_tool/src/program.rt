@@ -1,32 +1,46 @@
-ghost use Rattle.std.specs.Prelude.{◌≡◌, ◌≢◌, true, None, Err, option_map, IfErr, OnOk};
+ghost use Rattle.std.specs.Prelude.{◌≡◌, ◌≢◌, true, None, option_map, IfOk, IfErr};
+ghost use Rattle.std.specs.Prelude.{OnOk, string_bytes};
 ghost use Rattle.std.specs.Process.{exit_status};
-ghost use Rattle.xlsx_tool.specs.Program.{page_asked, Prints, CannotPrint, ending_status};
-ghost use Rattle.xlsx_tool.specs.Run.{texts, Streams, AnswersExactly};
-ghost use Rattle.xlsx_tool.specs.declared.error.ToolError.TheVariants.{Usage, WriteFault};
+ghost use Rattle.xlsx_commands.specs.Command.{texts};
+ghost use Rattle.xlsx_tool.specs.Program.{help_text, page_asked, Prints, CannotPrint};
+ghost use Rattle.xlsx_tool.specs.Program.{asks_for_no_input, IsErrorLine, IsOffered, TellsError};
+ghost use Rattle.xlsx_tool.specs.Program.{TellsEnding, ending_status};
+ghost use Rattle.xlsx_tool.specs.Run.{Streams, AnswersExactly};
+ghost use Rattle.xlsx_commands.specs.declared.error.ToolError.TheVariants.{WriteFault};
 
-use crate::error::ToolError;
 use crate::run::{run, send};
 use crate::sink::Sink;
 use crate::source::Source;
-use std::alloc::Global;
-use std::io::Eprint;
+use std::alloc::{AllocError, Global};
 use std::process::ExitCode;
+use xlsx_commands::ToolError;
 
 const HELP: &str = "\
 Usage: xlsx_tool cells NAME < package.json
+       xlsx_tool sheets < package.json
+       xlsx_tool names < package.json
 
-Prints one line for each cell of worksheet NAME with a value, a formula or a
-style: its position, value, formula and fill, with tabs between them.
+cells prints a line for each cell of worksheet NAME with a value, a formula or a
+style: its position, value, formula and fill. sheets prints a line for each
+sheet: its name, type and state. names prints a line for each defined name: the
+name and its text. The fields of a line have tabs between them.
 ";
 
 const VERSION: &str = "xlsx_tool 0.1.0\n";
+
+#[tactic(auto, unfolding(crate::specs::Program::help_text))]
+fn help_page() -> &'static str
+    ensures { result.now ≡ help_text }
+{
+    HELP
+}
 
 /// The page that these words ask for: `--help` or `--version`, alone.
 pub fn page_of(words: &[String]) -> Option<&'static str>
     ensures { option_map (λ page. page.now) result ≡ page_asked (texts words.now) }
 {
     match words {
-        [word] if word.as_str() == "--help" => Some(HELP),
+        [word] if word.as_str() == "--help" => Some(help_page()),
         [word] if word.as_str() == "--version" => Some(VERSION),
         _ => None,
     }
@@ -51,11 +65,11 @@ pub fn answer<S: Source, K: Sink>(
         let old : Streams = record { source = S.state source.old; sink = K.state sink.old } in
         let new : Streams = record { source = S.state source.new; sink = K.state sink.new } in
         IfErr result (CannotPrint (page_asked words) words old new) }
-    ensures unread { result ≡ Err Usage → S.state source.new ≡ S.state source.old }
+    ensures unread { asks_for_no_input (texts words.now) ≡ true
+        → S.state source.new ≡ S.state source.old }
     ensures unwritten { IfErr result (λ e. e ≢ WriteFault → K.state sink.new ≡ K.state sink.old) }
-    ensures exact { let old = S.state source.old in
-        page_asked (texts words.now) ≡ None → old.is_told ≡ true
-        → AnswersExactly (texts words.now) old result }
+    ensures exact { page_asked (texts words.now) ≡ None
+        → AnswersExactly (texts words.now) (S.state source.old) result }
 {
     match page_of(words) {
         Some(page) => send(sink, page.as_bytes()),
@@ -63,15 +77,44 @@ pub fn answer<S: Source, K: Sink>(
     }
 }
 
-/// The status that the program ends with. The text of a refusal goes to standard error before it.
-pub fn ending<E: Eprint>(errors: &E, answer: &Result<(), ToolError>) -> ExitCode
-    ensures { exit_status result ≡ ending_status answer.now }
+/// The text of a refusal, with a line feed behind it.
+fn line_of(alloc: Global, error: &ToolError) -> Result<String, AllocError>
+    ensures { IfOk result (λ line. IsErrorLine error.now (string_bytes line)) }
+{
+    let mut line = error.to_string(alloc)?;
+    line.push_str("\n")?;
+    Ok(line)
+}
+
+/// Hands the bytes to the sink. The status says it too, so a failure of the sink is let go.
+fn offer<K: Sink>(sink: &mut K, bytes: &[u8])
+    ensures { IsOffered bytes.now (K.state sink.old) (K.state sink.new) }
+{
+    let _ = send(sink, bytes);
+}
+
+/// Hands the text of a refusal and a line feed to the sink, or those of `OutOfMemory` where there
+/// is no memory for the text.
+fn tell<K: Sink>(alloc: Global, error: &ToolError, errors: &mut K)
+    ensures { TellsError error.now (K.state errors.old) (K.state errors.new) }
+{
+    match line_of(alloc, error) {
+        Ok(line) => offer(errors, line.as_bytes()),
+        Err(_) => offer(errors, b"out of memory\n"),
+    }
+}
+
+/// The status that the program ends with. Before it the sink of errors is given the text of the
+/// refusal and a line feed, and nothing at Ok. Where there is no memory for the text, that of
+/// `OutOfMemory` stands in its place.
+pub fn ending<K: Sink>(alloc: Global, answer: &Result<(), ToolError>, errors: &mut K) -> ExitCode
+    ensures status { exit_status result ≡ ending_status answer.now }
+    ensures told { TellsEnding answer.now (K.state errors.old) (K.state errors.new) }
 {
     match answer {
         Ok(()) => ExitCode::SUCCESS,
         Err(error) => {
-            // The status says it too, so a failure here is let go.
-            let _ = eprintln!(errors; "{error}");
+            tell(alloc, error, errors);
             ExitCode::from(error.status())
         }
     }

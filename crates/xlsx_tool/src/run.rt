@@ -1,32 +1,22 @@
-ghost use Rattle.std.specs.Prelude.{◌≡◌, ◌≢◌, true, string_bytes, option_map, IfOk, OnOk, IfErr};
-ghost use Rattle.std.specs.Prelude.{Err};
-ghost use Rattle.xlsx_tool.specs.Run.{texts, sheet_asked, Streams, Succeeds, Refuses};
-ghost use Rattle.xlsx_tool.specs.Run.{AnswersExactly, PackageRead, NoPackage, AreLinesOf};
-ghost use Rattle.xlsx_tool.specs.Run.{LinesRead, LinesFail, ReadingFails, IsSent, SendFails};
+ghost use Rattle.std.specs.Prelude.{◌≡◌, ◌≢◌, true, is_some, IfOk, OnOk, IfErr};
+ghost use Rattle.xlsx_commands.specs.Command.{texts, command_meant, command_of, own_parts};
+ghost use Rattle.xlsx_tool.specs.Run.{Streams, Succeeds, Refuses, AnswersExactly, PackageRead};
+ghost use Rattle.xlsx_tool.specs.Run.{NoPackage, PackageFed, FeedingFails, OutputRead, ReadingFails};
+ghost use Rattle.xlsx_tool.specs.Run.{IsSent, SendFails, reads_nothing};
 ghost use Rattle.package_text.specs.PackageText.{package_in, package_of};
-ghost use Rattle.xlsx_tool.specs.declared.error.ToolError.TheVariants.{Usage, WriteFault};
+ghost use Rattle.xlsx_commands.specs.declared.error.ToolError.TheVariants.{WriteFault};
 ghost use Rattle.serde_json.specs.View.{view};
 
-use crate::error::ToolError;
 use crate::input::read_input;
 use crate::sink::Sink;
 use crate::source::Source;
 use package_text::package_from_json;
 use part_events::MemoryPackage;
 use serde_json::Value;
-use sheet_listing::listing_of;
 use std::alloc::Global;
-use xlsx_core::{SheetAnswer, read_sheet, readable_sheets_are_not_refused};
-
-/// The name in the words `cells NAME`.
-fn sheet_asked(words: &[String]) -> Option<&str>
-    ensures { option_map (λ name. name.now) result ≡ sheet_asked (texts words.now) }
-{
-    match words {
-        [word, name] if word.as_str() == "cells" => Some(name.as_str()),
-        _ => None,
-    }
-}
+use xlsx_commands::{
+    Command, ToolError, causes_leave_no_output, command_of, output_of, own_package,
+};
 
 /// The JSON value that the bytes spell.
 fn value_from(alloc: Global, bytes: &[u8]) -> Result<Value, ToolError>
@@ -65,28 +55,45 @@ fn package_from(alloc: Global, bytes: Vec<u8>) -> Result<MemoryPackage, ToolErro
     package_from_value(alloc, &value)
 }
 
-/// The lines of the sheet of this name.
-fn lines_of(alloc: Global, package: MemoryPackage, name: &str) -> Result<String, ToolError>
-    ensures ok { IfOk result (λ out. AreLinesOf «package».parts name.now (string_bytes out)) }
-    ensures err { IfErr result (LinesFail «package».parts name.now) }
-{
-    let SheetAnswer { result, package } = read_sheet(alloc, package, name);
-    // What is read needs the package no more.
-    drop(package);
-    let reading = result?;
-    Ok(listing_of(alloc, &reading.values, &reading.formulas, &reading.styles)?)
-}
-
-/// The lines of the sheet of this name, of the package that the source spells.
-fn lines_from<S: Source>(alloc: Global, source: &mut S, name: &str) -> Result<String, ToolError>
+/// The package that the command works on: its own, or the one that the source spells.
+fn package_for<S: Source>(
+    alloc: Global,
+    command: Command<'_>,
+    source: &mut S,
+) -> Result<MemoryPackage, ToolError>
     ensures ok { let old = S.state source.old in
         let new = S.state source.new in
-        IfOk result (λ out. LinesRead name.now (string_bytes out) old new) }
-    ensures err { IfErr result (ReadingFails name.now (S.state source.old) (S.state source.new)) }
+        IfOk result (λ held. PackageFed (command_meant command.entry) held.parts old new) }
+    ensures err { let old = S.state source.old in
+        let new = S.state source.new in
+        IfErr result (FeedingFails (command_meant command.entry) old new) }
+    ensures unread { is_some (own_parts (command_meant command.entry)) ≡ true
+        → S.state source.new ≡ S.state source.old }
 {
+    if let Some(package) = own_package(alloc, command) {
+        return Ok(package);
+    }
     let bytes = read_input(alloc, source)?;
-    let package = package_from(alloc, bytes)?;
-    lines_of(alloc, package, name)
+    package_from(alloc, bytes)
+}
+
+/// The output of the command on the package that it works on.
+fn output_from<S: Source>(
+    alloc: Global,
+    command: Command<'_>,
+    source: &mut S,
+) -> Result<Vec<u8>, ToolError>
+    ensures ok { let old = S.state source.old in
+        let new = S.state source.new in
+        IfOk result (λ output. OutputRead (command_meant command.entry) output.items old new) }
+    ensures err { let old = S.state source.old in
+        let new = S.state source.new in
+        IfErr result (ReadingFails (command_meant command.entry) old new) }
+    ensures unread { is_some (own_parts (command_meant command.entry)) ≡ true
+        → S.state source.new ≡ S.state source.old }
+{
+    let package = package_for(alloc, command, source)?;
+    output_of(alloc, command, package)
 }
 
 /// Writes the bytes, whole. A failure of the sink is refused as `WriteFault`.
@@ -119,20 +126,21 @@ fn run_command<S: Source, K: Sink>(
         let old : Streams = record { source = S.state source.old; sink = K.state sink.old } in
         let new : Streams = record { source = S.state source.new; sink = K.state sink.new } in
         IfErr result (Refuses words old new) }
-    ensures unread { result ≡ Err Usage → S.state source.new ≡ S.state source.old }
+    ensures unread { reads_nothing (command_of (texts words.now)) ≡ true
+        → S.state source.new ≡ S.state source.old }
     ensures unwritten { IfErr result (λ e. e ≢ WriteFault → K.state sink.new ≡ K.state sink.old) }
 {
-    let Some(name) = sheet_asked(words) else {
+    let Some(command) = command_of(words) else {
         return Err(ToolError::Usage);
     };
-    let lines = lines_from(alloc, source, name)?;
-    send(sink, lines.as_bytes())
+    let output = output_from(alloc, command, source)?;
+    send(sink, &output)
 }
 
-/// Runs the command of these words (docs/FORMAT.md): `cells NAME` reads a package from the source,
-/// and writes the lines of its sheet NAME to the sink.
+/// Runs the command of these words (docs/FORMAT.md): reads the package that it works on from the
+/// source, unless the command has one of its own, and writes its output on that to the sink.
 ///
-/// Answers the refusal with its status otherwise. A run that is refused before the lines are
+/// Answers the refusal with its status otherwise. A run that is refused before the output is
 /// written leaves the sink as it was.
 pub fn run<S: Source, K: Sink>(
     alloc: Global,
@@ -148,11 +156,12 @@ pub fn run<S: Source, K: Sink>(
         let old : Streams = record { source = S.state source.old; sink = K.state sink.old } in
         let new : Streams = record { source = S.state source.new; sink = K.state sink.new } in
         IfErr result (Refuses words old new) }
-    ensures unread { result ≡ Err Usage → S.state source.new ≡ S.state source.old }
+    ensures unread { reads_nothing (command_of (texts words.now)) ≡ true
+        → S.state source.new ≡ S.state source.old }
     ensures unwritten { IfErr result (λ e. e ≢ WriteFault → K.state sink.new ≡ K.state sink.old) }
     ensures exact { let old = S.state source.old in
-        old.is_told ≡ true → AnswersExactly (texts words.now) old result }
+        AnswersExactly (texts words.now) old result }
 {
-    readable_sheets_are_not_refused();
+    causes_leave_no_output();
     run_command(alloc, words, source, sink)
 }

@@ -1,7 +1,6 @@
 //! The forms over a reader and a writer, on readers and writers that are short, fail and end.
 ghost use Rattle.std.specs.Prelude.{◌<◌};
 
-use crate::error::ToolError;
 use crate::program::answer;
 use crate::run::send;
 use crate::sink::{Sink, StdSink};
@@ -10,6 +9,7 @@ use crate::tests::{NUTS, NUTS_LINES, package_of};
 use std::alloc::Global;
 use std::io::{self, Read, Write};
 use std::test::Fail;
+use xlsx_commands::ToolError;
 
 /// Gives its bytes, at most `piece` a call; the call of this number, counted from 0, fails.
 #[derive(Drop)]

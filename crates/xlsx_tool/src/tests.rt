@@ -1,13 +1,14 @@
 ghost use Rattle.std.specs.Prelude.{◌<◌};
 
-use crate::error::ToolError;
 use crate::input::INPUT_LIMIT;
 use crate::program::{answer, ending};
 use crate::sink::MemorySink;
 use crate::source::MemorySource;
+use part_events::XmlFault;
 use std::alloc::Global;
 use std::process::ExitCode;
 use std::test::Fail;
+use xlsx_commands::ToolError;
 use xlsx_error::XlsxError;
 
 /// The front of the types of relationships.
@@ -271,11 +272,49 @@ fn pages_are_printed_where_their_words_stand_alone(rt: HostRuntime) -> Result<()
     Ok(())
 }
 
+/// What an ending wrote to a sink of errors with this much room, and its status.
+fn ending_of(
+    alloc: Global,
+    answer: &Result<(), ToolError>,
+    room: usize,
+) -> Result<(ExitCode, String), Fail> {
+    let mut errors = MemorySink::new(alloc, room, 4, Vec::new(alloc))?;
+    let status = ending(alloc, answer, &mut errors);
+    let written = String::from_str(alloc, std::str::from_utf8(errors.written())?)?;
+    Ok((status, written))
+}
+
 #[test]
-fn an_answer_has_an_ending(rt: HostRuntime) {
-    assert_eq!(rt; ending(&rt, &Ok(())), ExitCode::SUCCESS);
-    assert_eq!(rt;
-        ending(&rt, &Err(ToolError::OutOfMemory)),
-        ExitCode::from(8)
-    );
+fn an_answer_has_an_ending(rt: HostRuntime) -> Result<(), Fail> {
+    let alloc = rt.alloc();
+    let absent = XlsxError::WorksheetNotFound(String::from_str(alloc, "X")?);
+    let no_end = XlsxError::Xml(XmlFault::EndMismatch { at: 7 });
+    for (answer, room, status, written) in [
+        (Ok(()), 100, ExitCode::SUCCESS, ""),
+        (Err(ToolError::Usage), 100, ExitCode::from(2), "usage\n"),
+        (
+            Err(ToolError::OutOfMemory),
+            100,
+            ExitCode::from(8),
+            "out of memory\n",
+        ),
+        (
+            Err(ToolError::Workbook(absent)),
+            100,
+            ExitCode::from(6),
+            "Worksheet 'X' not found\n",
+        ),
+        (
+            Err(ToolError::Workbook(no_end)),
+            15,
+            ExitCode::from(6),
+            "Xml error: end ",
+        ),
+        (Err(ToolError::WriteFault), 0, ExitCode::from(7), ""),
+    ] {
+        let told = ending_of(alloc, &answer, room)?;
+        assert_eq!(rt; told.0, status, "of {written}");
+        assert_eq!(rt; told.1.as_str(), written);
+    }
+    Ok(())
 }

@@ -8,7 +8,7 @@ use Rattle.std.proofs.lemmas.Bool.Decides.{same_from_decides}
 use Rattle.std.proofs.lemmas.Slice.Eq.{bytes_eq-Decides}
 use Rattle.std.proofs.lemmas.Option.{slice_get-map, slice_get_past}
 use Rattle.xlsx_sections.specs.NumberText.{number_text}
-use Rattle.xlsx_sections.specs.Refusal.{lacks_string, wrong_truth}
+use Rattle.xlsx_sections.specs.Refusal.{plain, lacks_string, wrong_truth}
 use Rattle.xlsx_values.specs.Value.{shared_value, truth_value, trimmed_truth, lower_truth}
 
 pub decided : (b : Bool) (text other : List ℕ)
@@ -21,7 +21,7 @@ decided b text other same =
 -- a place past the strings has none
 pub no_string : (strings : List (String Global)) (text : List ℕ) (place : ℕ)
     → (length text == 0) ≡ false → place ≡ unwrap_or (number_text text) 0 → length strings ≤ place
-    → shared_value (map string_bytes strings) text ≡ Err lacks_string
+    → shared_value (map string_bytes strings) text ≡ Err (plain lacks_string)
 no_string strings [] place some is past = absurd (cc)
 no_string strings (b ∷ bs) place some is past =
     let none : slice_get (map string_bytes strings) place ≡ None =
@@ -31,14 +31,14 @@ no_string strings (b ∷ bs) place some is past =
 
 no_truth_trimmed : (written trimmed : List ℕ) → (length trimmed == 0) ≡ false
     → lower_truth (str_to_ascii_lowercase trimmed) ≡ None
-    → trimmed_truth written trimmed ≡ Err (wrong_truth written)
+    → trimmed_truth written trimmed ≡ Err (plain (wrong_truth written))
 no_truth_trimmed written [] some none = absurd (cc)
 no_truth_trimmed written (b ∷ bs) some none = rw none refl
 
 -- a text that names no truth value is refused
 pub no_truth : (text trimmed copy : List ℕ) → trimmed ≡ trim text → copy ≡ text
     → (length trimmed == 0) ≡ false → lower_truth (str_to_ascii_lowercase trimmed) ≡ None
-    → truth_value text ≡ Err (wrong_truth copy)
+    → truth_value text ≡ Err (plain (wrong_truth copy))
 no_truth text trimmed copy is same some none =
     ap (trimmed_truth text) (sym is) ∙ no_truth_trimmed text trimmed some none
-    ∙ ap (λ (written : List ℕ). Err (wrong_truth written)) (sym same)
+    ∙ ap (λ (written : List ℕ). Err (plain (wrong_truth written))) (sym same)

@@ -98,6 +98,6 @@ pub inline_refused : (old new : Reading) (error : XlsxError) → IsReading old
     → ElementReadFails end_in_string inline_value old new error
 inline_refused old new error is fails =
     refused_as (length old.names) old end_in_string (IsInsideRefused string_of)
-    (IsInsideRefused inline_value) new error is (omega arith)
+    (IsInsideRefused inline_value) new error
     (λ refusal refuses. ap (of_joined (λ (written : List ℕ). Ok (value.text written))) refuses)
     fails

@@ -20,7 +20,7 @@ use Rattle.cell_data.specs.declared.value.ExcelDateTimeType.TheVariants as count
 use Rattle.xlsx_sections.specs.Answers.{last_answer, with_three}
 use Rattle.xlsx_sections.specs.ElementText.{element_text}
 use Rattle.xlsx_sections.specs.NumberText.{number_text}
-use Rattle.xlsx_sections.specs.Refusal.{Refusal, lookup_fault, stray_child, lacks_string}
+use Rattle.xlsx_sections.specs.Refusal.{Refusal, plain, lookup_fault, stray_child, lacks_string}
 use Rattle.xlsx_sections.specs.Refusal.{wrong_truth, wrong_error, wrong_number, wrong_type}
 use Rattle.xlsx_sections.specs.Refusal.{in_element}
 use Rattle.xlsx_strings.specs.Strings.{string_of}
@@ -58,7 +58,7 @@ format_of formats style = format_at formats (style_number style)
 
 abbrev pub string_at : List (List ℕ) → ℕ → Result CellValue Refusal
 string_at strings place =
-    if is_some (slice_get strings place) then Ok (value.shared_text place) else Err lacks_string
+    if is_some (slice_get strings place) then Ok (value.shared_text place) else Err (plain lacks_string)
 
 -- The value of the text of a shared string: the place that it names. A text that names none names
 -- the first, and an empty one nothing.
@@ -76,7 +76,7 @@ lower_truth lower =
     else None)))
 
 abbrev pub or_wrong_truth : List ℕ → Option Bool → Result CellValue Refusal
-or_wrong_truth written None = Err (wrong_truth written)
+or_wrong_truth written None = Err (plain (wrong_truth written))
 or_wrong_truth written (Some b) = Ok (value.truth b)
 
 -- the value of a truth value's text, which is told by `written` where it has none
@@ -89,7 +89,7 @@ abbrev pub truth_value : List ℕ → Result CellValue Refusal
 truth_value written = trimmed_truth written (trim written)
 
 abbrev pub or_wrong_error : List ℕ → Option CellErrorType → Result CellValue Refusal
-or_wrong_error written None = Err (wrong_error written)
+or_wrong_error written None = Err (plain (wrong_error written))
 or_wrong_error written (Some error) = Ok (value.failure error)
 
 abbrev pub error_value : List ℕ → Result CellValue Refusal
@@ -103,7 +103,7 @@ formatted is_1904 format.TimeDelta decimal = value.time decimal counts.TimeDelta
 
 abbrev pub or_no_number : Bool → List ℕ → Option CellValue → Result CellValue Refusal
 or_no_number typed written (Some found) = Ok found
-or_no_number true written None = Err (wrong_number written)
+or_no_number true written None = Err (plain (wrong_number written))
 or_no_number false written None = Ok (value.text written)
 
 -- the value of a number's text, which is typed as one, or has no type
@@ -134,7 +134,7 @@ value_of_joined of_error written = Ok value.nothing
 value_of_joined of_text written = Ok (value.text (unescaped written))
 value_of_joined of_date written = Ok (value.iso_time written)
 value_of_joined of_inline written = Ok value.nothing
-value_of_joined (of_unknown typ) written = Err (wrong_type typ)
+value_of_joined (of_unknown typ) written = Err (plain (wrong_type typ))
 
 abbrev pub of_first :
     (List ℕ → Result CellValue Refusal) → Option (List ℕ) → Result CellValue Refusal
@@ -185,7 +185,7 @@ said_value grounds format kind tag inside =
     if is_child (codes "f") tag then Ok None
     else (if is_child (codes "v") tag then value_element grounds format kind inside
     else (if is_child (codes "is") tag then some_value (inline_value inside)
-    else Err stray_child))
+    else Err (plain stray_child)))
 
 abbrev pub child_value :
     Grounds → CellFormat → CellKind → Element → Result (Option CellValue) Refusal
@@ -213,7 +213,7 @@ abbrev pub looked_value :
 looked_value grounds inside (Ok values) =
     with_three (λ position style typ. typed_value grounds inside style typ) (Ok value.nothing)
     values
-looked_value grounds inside (Err fault) = Err (lookup_fault fault)
+looked_value grounds inside (Err fault) = Err (plain (lookup_fault fault))
 
 -- the value of a cell, by its start and what stands in it
 abbrev pub cell_value : Grounds → Tag → List Event → Result CellValue Refusal

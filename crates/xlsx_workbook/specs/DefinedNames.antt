@@ -7,14 +7,14 @@ use Rattle.part_events.specs.Event.{Tag, Event}
 use Rattle.part_events.specs.JoinedText.{joined_text, unknown_entity}
 use Rattle.part_events.specs.Section.{PlacedTag, Element, outermost, is_named}
 use Rattle.xlsx_sections.specs.Answers.{some_answers}
-use Rattle.xlsx_sections.specs.Refusal.{Refusal, lookup_fault, no_character, decoded_at}
+use Rattle.xlsx_sections.specs.Refusal.{Refusal, plain, lookup_fault, no_character, decoded_at}
 use Rattle.xlsx_workbook.specs.Relationships.{some_text}
 
 abbrev pub name_from :
     ℕ → Result (Option (List ℕ)) AttrFault → Result (Option (List ℕ)) Refusal
 name_from behind (Ok (Some name)) = some_text (decoded_at behind name)
 name_from behind (Ok None) = Ok None
-name_from behind (Err fault) = Err (lookup_fault fault)
+name_from behind (Err fault) = Err (plain (lookup_fault fault))
 
 -- the name, decoded, of a start that has one
 abbrev pub name_by : PlacedTag → Result (Option (List ℕ)) Refusal

@@ -9,7 +9,7 @@ use Rattle.part_events.specs.Event.{Event}
 use Rattle.part_events.specs.Section.{PlacedTag, starts_by, is_named}
 use Rattle.xlsx_sections.specs.Answers.{last_answer, with_two, with_three}
 use Rattle.xlsx_sections.specs.PartSection.{PartSection, inside_of, has_end}
-use Rattle.xlsx_sections.specs.Refusal.{Refusal, lookup_fault, unrelated, decoded_at}
+use Rattle.xlsx_sections.specs.Refusal.{Refusal, plain, lookup_fault, unrelated, decoded_at}
 
 -- the starts of relationships in a section
 abbrev pub relationship_starts : List Event → List PlacedTag
@@ -31,7 +31,7 @@ target_from behind (Some typ) (Some target) =
 abbrev pub target_by :
     ℕ → Result (List (Option (List ℕ))) AttrFault → Result (Option (List ℕ)) Refusal
 target_by behind (Ok values) = with_two (target_from behind) (Ok None) values
-target_by behind (Err fault) = Err (lookup_fault fault)
+target_by behind (Err fault) = Err (plain (lookup_fault fault))
 
 -- the target, decoded, of a relationship to an office document
 abbrev pub target_of : PlacedTag → Result (Option (List ℕ)) Refusal
@@ -58,7 +58,7 @@ related_from id (Some own) typ target =
 abbrev pub related_by :
     List ℕ → Result (List (Option (List ℕ))) AttrFault → Result (Option Related) Refusal
 related_by id (Ok values) = Ok (with_three (related_from id) None values)
-related_by id (Err fault) = Err (lookup_fault fault)
+related_by id (Err fault) = Err (plain (lookup_fault fault))
 
 -- what the start says of the relationship of this Id
 abbrev pub related_of : List ℕ → PlacedTag → Result (Option Related) Refusal
@@ -78,7 +78,7 @@ IsTargetRefused s refusal = path_in (inside_of s) ≡ Err refusal
 unfoldable pub IsPathRefused : PartSection → Refusal → Type 0
 IsPathRefused s refusal =
     IsTargetRefused s refusal
-    ⊎ ((refusal ≡ unrelated) × (has_end s ≡ true) × (path_in (inside_of s) ≡ Ok None))
+    ⊎ ((refusal ≡ plain unrelated) × (has_end s ≡ true) × (path_in (inside_of s) ≡ Ok None))
 
 -- why a section gives no relationships
 unfoldable pub AreRelationshipsRefused : PartSection → Refusal → Type 0

@@ -7,7 +7,7 @@ use Rattle.attr_text.specs.declared.fault.AttrFault.{AttrFault}
 use Rattle.part_events.specs.Event.{Tag, Event}
 use Rattle.part_events.specs.Section.{PlacedTag, starts_by, is_named}
 use Rattle.xlsx_sections.specs.Answers.{all_answers, last_answer, with_two}
-use Rattle.xlsx_sections.specs.Refusal.{Refusal, lookup_fault, unknown_state, unrelated}
+use Rattle.xlsx_sections.specs.Refusal.{Refusal, plain, lookup_fault, unknown_state, unrelated}
 use Rattle.xlsx_sections.specs.Refusal.{unknown_type, decoded_at}
 use Rattle.xlsx_workbook.specs.Paths.{sheet_part, last_piece}
 use Rattle.xlsx_workbook.specs.Relationships.{Related}
@@ -40,20 +40,20 @@ type_named text =
 
 abbrev pub typed_sheet :
     List ℕ → SheetVisible → List ℕ → Option SheetType → Result PlacedSheet Refusal
-typed_sheet name state path None = Err (unknown_type path)
+typed_sheet name state path None = Err (plain (unknown_type path))
 typed_sheet name state path (Some typ) =
     Ok (record { name = name; typ = typ; visible = state; path = path })
 
 abbrev pub related_sheet :
     List ℕ → List ℕ → SheetVisible → Option Related → Result PlacedSheet Refusal
-related_sheet folder name state None = Err unrelated
+related_sheet folder name state None = Err (plain unrelated)
 related_sheet folder name state (Some related) =
     typed_sheet name state (sheet_part folder related.target) (type_named (last_piece related.typ))
 
 abbrev pub stated_sheet :
     List ℕ → (List ℕ → Option Related) → List ℕ → List ℕ → List ℕ → Option SheetVisible →
     Result PlacedSheet Refusal
-stated_sheet folder related id written name None = Err (unknown_state written)
+stated_sheet folder related id written name None = Err (plain (unknown_state written))
 stated_sheet folder related id written name (Some state) =
     related_sheet folder name state (related id)
 
@@ -75,8 +75,8 @@ abbrev pub identified_sheet :
     List ℕ → (List ℕ → Option Related) → ℕ → List (Option (List ℕ)) →
     Result (Option (List ℕ)) AttrFault → Result PlacedSheet Refusal
 identified_sheet folder related behind values (Ok id) =
-    with_two (sheet_from folder related behind id) (Err unrelated) values
-identified_sheet folder related behind values (Err fault) = Err (lookup_fault fault)
+    with_two (sheet_from folder related behind id) (Err (plain unrelated)) values
+identified_sheet folder related behind values (Err fault) = Err (plain (lookup_fault fault))
 
 abbrev pub sheet_by :
     List ℕ → (List ℕ → Option Related) → PlacedTag → Result (List (Option (List ℕ))) AttrFault →
@@ -84,7 +84,7 @@ abbrev pub sheet_by :
 sheet_by folder related start (Ok values) =
     identified_sheet folder related start.behind values
     (value_of_local (codes "id") start.tag.attributes)
-sheet_by folder related start (Err fault) = Err (lookup_fault fault)
+sheet_by folder related start (Err fault) = Err (plain (lookup_fault fault))
 
 -- the sheet of a start, in the folder of its workbook and by the workbook's relationships
 abbrev pub sheet_of :
@@ -107,7 +107,7 @@ is_true_text text = bytes_eq text (codes "1") || bytes_eq text (codes "true")
 
 abbrev pub epoch_by : Result (Option (List ℕ)) AttrFault → Result (Option Bool) Refusal
 epoch_by (Ok value) = Ok (option_map is_true_text value)
-epoch_by (Err fault) = Err (lookup_fault fault)
+epoch_by (Err fault) = Err (plain (lookup_fault fault))
 
 -- whether a start says that dates count from 1904
 abbrev pub epoch_of : PlacedTag → Result (Option Bool) Refusal

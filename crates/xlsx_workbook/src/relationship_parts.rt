@@ -1,11 +1,12 @@
-ghost use Rattle.std.specs.Prelude.{◌≡◌, ◌≤◌, ℕ, List, Ok, Some, codes, length, true, option_map};
+ghost use Rattle.std.specs.Prelude.{◌≡◌, ◌≤◌, ℕ, List, Ok, Some, codes, suc, length, true, option_map};
 ghost use Rattle.std.specs.Prelude.{string_bytes, IfOk, OnOk, IfErr, IsSomeAnd};
 ghost use Rattle.part_events.specs.Package.{Uses, event_count};
 ghost use Rattle.part_events.specs.Reading.{reading, open_elements, IsReading, ReadsPart};
-ghost use Rattle.part_events.specs.Walk.{section_ahead, is_closed_ahead};
+ghost use Rattle.part_events.specs.Walk.{section_ahead, is_closed_ahead, section_end};
 ghost use Rattle.xlsx_error.specs.declared.error.XlsxError.TheVariants.{Io};
 ghost use Rattle.xlsx_sections.specs.PartSection.{always, SectionFails, PartFails};
 ghost use Rattle.xlsx_sections.specs.PartSection.{closed_section_of};
+ghost use Rattle.xlsx_sections.specs.SectionEvents.{ReadsToEnd};
 ghost use Rattle.xlsx_workbook.specs.KeptContents.{related_by_id};
 ghost use Rattle.xlsx_workbook.specs.Relationships.{path_in, related_in, IsTargetRefused};
 ghost use Rattle.xlsx_workbook.specs.Relationships.{IsPathRefused, AreRelationshipsRefused};
@@ -34,6 +35,9 @@ fn path_in<P: Package>(
         ReadsPart Io result old new }
     ensures closed { let old = reading (P.state «package».old) cursor.old in
         old.source.is_told ≡ true → OnOk result (is_closed_ahead base old ≡ true) }
+    ensures ends { let old = reading (P.state «package».old) cursor.old in
+        let new = reading (P.state «package».new) cursor.new in
+        old.source.is_told ≡ true → OnOk result (new.at ≡ suc (section_end base old)) }
     ensures path { let old = reading (P.state «package».old) cursor.old in
         old.source.is_told ≡ true →
         IfOk result (λ path. path_in (section_ahead base old) ≡ Ok (option_map string_bytes path)) }
@@ -70,6 +74,9 @@ fn relationships_in<P: Package>(
         ReadsPart Io result old new }
     ensures closed { let old = reading (P.state «package».old) cursor.old in
         old.source.is_told ≡ true → OnOk result (is_closed_ahead base old ≡ true) }
+    ensures ends { let old = reading (P.state «package».old) cursor.old in
+        let new = reading (P.state «package».new) cursor.new in
+        old.source.is_told ≡ true → OnOk result (new.at ≡ suc (section_end base old)) }
     ensures related { let old = reading (P.state «package».old) cursor.old in
         old.source.is_told ≡ true → IfOk result (λ map. (id : List ℕ) →
         related_in (section_ahead base old) id ≡ Ok (related_by_id map id)) }
@@ -107,6 +114,8 @@ pub fn read_path<P: Package>(
     ensures uses { let old = P.state «package».old in
         let new = P.state «package».new in
         Uses (event_count old.parts part.now) Io result old new }
+    ensures to_end { ReadsToEnd (codes "Relationships") part.now result (P.state «package».old)
+        (P.state «package».new) }
     ensures path { let old = P.state «package».old in
         let inside = closed_section_of (codes "Relationships") part.now old.parts in
         old.is_told ≡ true → IfOk result (λ path.
@@ -140,6 +149,8 @@ pub fn read_relationships<P: Package>(
     ensures uses { let old = P.state «package».old in
         let new = P.state «package».new in
         Uses (event_count old.parts part.now) Io result old new }
+    ensures to_end { ReadsToEnd (codes "Relationships") part.now result (P.state «package».old)
+        (P.state «package».new) }
     ensures related { let old = P.state «package».old in
         let inside = closed_section_of (codes "Relationships") part.now old.parts in
         old.is_told ≡ true → IfOk result (λ map. IsSomeAnd inside (λ inside. (id : List ℕ) →

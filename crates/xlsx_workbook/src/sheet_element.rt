@@ -3,7 +3,7 @@ ghost use Rattle.std.specs.Prelude.{string_bytes, IfOk, OnOk, IfErr, MatchResult
 ghost use Rattle.std.specs.Option.{option_copied};
 ghost use Rattle.part_events.specs.Event.{tag_of};
 ghost use Rattle.xlsx_sections.specs.Answers.{and_others, prepended, or_earlier, or_later};
-ghost use Rattle.xlsx_sections.specs.Refusal.{Refusal, ElementFails, lookup_fault, placed_at};
+ghost use Rattle.xlsx_sections.specs.Refusal.{Refusal, plain, ElementFails, lookup_fault, placed_at};
 ghost use Rattle.xlsx_workbook.specs.KeptContents.{relationship_of, related_by_id, sheet_of_entry};
 ghost use Rattle.xlsx_workbook.specs.Sheets.{PlacedSheet, state_named, type_named, sheet_of};
 ghost use Rattle.xlsx_workbook.specs.Sheets.{related_sheet, is_true_text, epoch_of};
@@ -119,7 +119,7 @@ pub fn epoch_of(tag: StartTag<'_>) -> Result<Option<bool>, AttrFault>
     ensures { MatchResult result
         (λ epoch. (behind : ℕ) → epoch_of (placed_at (tag_of tag.entry) behind) ≡ Ok epoch)
         (λ fault. (behind : ℕ) →
-        epoch_of (placed_at (tag_of tag.entry) behind) ≡ Err (lookup_fault fault)) }
+        epoch_of (placed_at (tag_of tag.entry) behind) ≡ Err (plain (lookup_fault fault))) }
 {
     match tag.raw_attr("date1904")? {
         Some(text) => Ok(Some(is_true_text(text))),
@@ -161,7 +161,7 @@ pub fn keep_epoch(kept: &mut Option<bool>, tag: StartTag<'_>) -> Result<(), Attr
         ≡ or_earlier kept.old
         (or_later (epoch_of (placed_at (tag_of tag.entry) behind)) others)) }
     ensures err { IfErr result (λ fault. (behind : ℕ) →
-        epoch_of (placed_at (tag_of tag.entry) behind) ≡ Err (lookup_fault fault)) }
+        epoch_of (placed_at (tag_of tag.entry) behind) ≡ Err (plain (lookup_fault fault))) }
 {
     match epoch_of(tag)? {
         Some(epoch) => *kept = Some(epoch),

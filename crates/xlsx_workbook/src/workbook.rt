@@ -7,11 +7,12 @@ ghost use Rattle.part_events.specs.Package.{Uses, part_of, event_count};
 ghost use Rattle.part_events.specs.Reading.{reading, open_elements, IsReading};
 ghost use Rattle.part_events.specs.Reading.{ReadsPart, Skips, ahead};
 ghost use Rattle.part_events.specs.Section.{content};
-ghost use Rattle.part_events.specs.Walk.{section_ahead, is_closed_ahead};
+ghost use Rattle.part_events.specs.Walk.{section_ahead, is_closed_ahead, section_end};
 ghost use Rattle.xlsx_error.specs.declared.error.XlsxError.TheVariants.{Io, OutOfMemory};
 ghost use Rattle.xlsx_sections.specs.PartSection.{always, KeepsSection, SectionFails};
 ghost use Rattle.xlsx_sections.specs.PartSection.{OptionalPartFails, closed_section_of};
 ghost use Rattle.xlsx_sections.specs.Refusal.{RefusedAt, ElementFails, placed_at};
+ghost use Rattle.xlsx_sections.specs.SectionEvents.{ReadsToEnd};
 ghost use Rattle.xlsx_workbook.specs.DefinedNames.{name_by, is_defined_name};
 ghost use Rattle.xlsx_workbook.specs.KeptContents.{pair_of, related_by_id};
 ghost use Rattle.xlsx_workbook.specs.Workbook.{KeepsSheets, AreSheetsRefused, names_of};
@@ -256,6 +257,9 @@ fn contents_in<P: Package>(
         ReadsPart Io result old new }
     ensures closed { let old = reading (P.state «package».old) cursor.old in
         old.source.is_told ≡ true → OnOk result (is_closed_ahead base old ≡ true) }
+    ensures ends { let old = reading (P.state «package».old) cursor.old in
+        let new = reading (P.state «package».new) cursor.new in
+        old.source.is_told ≡ true → OnOk result (new.at ≡ suc (section_end base old)) }
     ensures contents { let old = reading (P.state «package».old) cursor.old in
         let folder = places.entry.folder.now in
         let related = related_by_id places.entry.relationships.now in
@@ -301,6 +305,8 @@ pub fn read_contents<P: Package>(
     ensures uses { let old = P.state «package».old in
         let new = P.state «package».new in
         Uses (event_count old.parts part.now) Io result old new }
+    ensures to_end { ReadsToEnd (codes "workbook") part.now result (P.state «package».old)
+        (P.state «package».new) }
     ensures contents { let old = P.state «package».old in
         let folder = places.entry.folder.now in
         let related = related_by_id places.entry.relationships.now in

@@ -42,7 +42,6 @@ returns-in-Ok-clause-err g c =
     (PlacedSheetFails name all_wanted grounds path mid new)
     (SheetFails name old new)
     (λ e fails. sheet_fails name path grounds palette old mid new e c.in-Ok.ensures.uses.parts
-    c.in-Ok.ensures.uses.faults
     (λ told. let opened = c.in-Ok.ensures.opens told in
     opens_placed name opened.0 opened.1 opened.2) fails)
     c.into_sheet.ensures.err

@@ -1,65 +1,46 @@
-use Rattle.std.proofs.Common.{ℕ, codes, subst, length}
+use Rattle.std.proofs.Common.{codes}
 use Rattle.std.proofs.lemmas.Result.{err_from_is_err_and}
 use Rattle.part_events.specs.Reading.{reading}
-use Rattle.part_events.specs.Walk.{section_ahead}
 use Rattle.xlsx_error.specs.declared.error.XlsxError.TheVariants.{XmlAttr}
 use Rattle.xlsx_sections.specs.Elements.{IsInsideRefused}
-use Rattle.xlsx_sections.specs.PartSection.{SectionFails, always}
-use Rattle.xlsx_sections.proofs.Kept.{change_further, change_refused}
-use Rattle.xlsx_sections.proofs.SectionsRead.{start_found}
-use Rattle.xlsx_sections.proofs.StartsRead.{behind_start_found, start_refused}
-use Rattle.xlsx_formats.specs.Formattings.{setting_change, settings_of, is_setting}
+use Rattle.xlsx_sections.specs.PartSection.{always}
+use Rattle.xlsx_sections.proofs.StartsSaid.{at_start, own_refused, own_step_refused}
+use Rattle.xlsx_sections.proofs.StartsSaid.{changed_further, changed_refused}
+use Rattle.xlsx_formats.specs.Formattings.{setting_change, settings_of}
 use Rattle.xlsx_formats.proofs.settings.read_settings.Goals as goal
 
 pub returns-in_err-_at-clause-err : goal.returns-in_err-_at-clause-err
 returns-in_err-_at-clause-err g c =
     let old = reading (g.P.Package.state c.args.package.now) c.args.cursor.now in
-    let new = reading (g.P.Package.state c.next_start_among.new.package)
-    c.next_start_among.new.cursor in
-    let refused = IsInsideRefused settings_of in
-    let e = c.in_err-_at.field-0.0 in
+    let new = g.P.Package.state c.next_start_among.new.package in
     let p = err_from_is_err_and c.from_residual.result c.from_residual.ensures.1 in
     rw (p.1, p.2)
-    (subst (λ (n : ℕ). SectionFails (always (codes "xf")) refused n old new e)
-    c.starts.invariant.own
-    (start_refused (codes "xf") refused new e c.starts.invariant.keeps c.in_err-_at.ensures.err))
+    (own_step_refused old (always (codes "xf")) (IsInsideRefused settings_of) new
+    c.in_err-_at.field-0.0 c.starts.invariant.own
+    (c.in_err-_at.ensures.refused old c.starts.invariant.said.keeps))
 
 pub starts-preserved : goal.starts-preserved
 starts-preserved g c =
-    let new = reading (g.P.Package.state c.next_start_among.new.package)
-    c.next_start_among.new.cursor in
-    let stands = rw c.in-Some.is at c.in_ok-_at.ensures.stands in
-    let found = start_found {new = new} is_setting c.start_tag.ensures
-    c.starts.invariant.keeps.section
-    c.in_ok-_at.ensures.reads stands
-    (λ told. rw c.in-Some.is at (c.in_ok-_at.ensures.found told)) in
+    let old = reading (g.P.Package.state c.args.package.now) c.args.cursor.now in
+    let found = at_start _ c.start_tag.ensures
+    (rw c.in-Some.is at (c.in_ok-_at.ensures.step old c.starts.invariant.said.keeps)) in
     record {
-      keeps = behind_start_found is_setting c.in-Some._at c.start_tag.ensures
-          c.starts.invariant.keeps
-          (λ told. rw c.in-Some.is at (c.in_ok-_at.ensures.found told)) found.read;
+      said = changed_further setting_change c.starts.invariant.said found
+          c.in_ok-change_setting.ensures;
       own = c.starts.invariant.own;
-      settings = λ told. change_further setting_change c.starts.settings (found.starts told)
-          (c.in_ok-change_setting.ensures (length (section_ahead c.depth-base.result new)))
-          (c.starts.invariant.settings told);
     }
 
 pub returns-in_err-change_setting-clause-err : goal.returns-in_err-change_setting-clause-err
 returns-in_err-change_setting-clause-err g c =
     let old = reading (g.P.Package.state c.args.package.now) c.args.cursor.now in
-    let new = reading (g.P.Package.state c.next_start_among.new.package)
-    c.next_start_among.new.cursor in
-    let stands = rw c.in-Some.is at c.in_ok-_at.ensures.stands in
-    let found = start_found {new = new} is_setting c.start_tag.ensures
-    c.starts.invariant.keeps.section
-    c.in_ok-_at.ensures.reads stands
-    (λ told. rw c.in-Some.is at (c.in_ok-_at.ensures.found told)) in
-    let refused = IsInsideRefused settings_of in
+    let new = g.P.Package.state c.next_start_among.new.package in
+    let found = at_start _ c.start_tag.ensures
+    (rw c.in-Some.is at (c.in_ok-_at.ensures.step old c.starts.invariant.said.keeps)) in
+    let error = XmlAttr c.in_err-change_setting.field-0.0 in
     let p = err_from_is_err_and c.from_residual-in_err-change_setting.result
     c.from_residual-in_err-change_setting.ensures.1 in
     rw (p.1, p.2)
-    (subst (λ (n : ℕ). SectionFails (always (codes "xf")) refused n old new
-    (XmlAttr c.in_err-change_setting.field-0.0))
+    (own_refused old (always (codes "xf")) (IsInsideRefused settings_of) new error
     c.starts.invariant.own
-    (λ told. change_refused setting_change c.starts.settings (found.starts told)
-    (c.in_err-change_setting.ensures (length (section_ahead c.depth-base.result new)))
-    (c.starts.invariant.settings told)))
+    (changed_refused (always (codes "xf")) setting_change new error c.starts.invariant.said found
+    c.in_err-change_setting.ensures))

@@ -1,9 +1,10 @@
-use Rattle.std.proofs.Common.{ℕ, List, ◌∙◌, subst, string_bytes}
+use Rattle.std.proofs.Common.{◌≡◌, ℕ, List, true, ◌∙◌, subst, string_bytes}
+use Rattle.std.specs.Prelude.{OnOk}
 use Rattle.std.proofs.lemmas.Result.{err_from_is_err_and, IfOk-weaker, IfErr-weaker}
 use Rattle.part_events.specs.Package.{Uses}
 use Rattle.xlsx_error.specs.declared.error.XlsxError.TheVariants.{Io}
 use Rattle.xlsx_open.specs.Opening.{Opening, HoldsOpening, OpensAs, OpeningFails}
-use Rattle.xlsx_open.specs.Opening.{BookOpens, BookFails, book_events}
+use Rattle.xlsx_open.specs.Opening.{BookOpens, BookFails, book_events, TakesBook}
 use Rattle.xlsx_open.proofs.Openings.{root_fails, opens_as, book_fails, opens_package}
 use Rattle.xlsx_open.proofs.opening.open.Goals as goal
 
@@ -20,9 +21,12 @@ returns-clause-uses g c =
     let mid = g.P.Package.state c.read_path.new.package in
     let new = g.P.Package.state c.open_at.new.package in
     opens_package c.open_at.result old mid new (string_bytes c.in_ok-path.path)
-    c.in_ok-path.ensures.uses c.in_ok-path.ensures.path
+    c.in_ok-path.ensures.uses c.in_ok-path.ensures.path c.in_ok-path.ensures.to_end
     (subst (λ (own : List ℕ). Uses (book_events mid.parts own) Io c.open_at.result mid new)
     c.as_str.ensures.value c.open_at.ensures.uses)
+    (subst (λ (own : List ℕ). mid.is_told ≡ true →
+    OnOk c.open_at.result (TakesBook mid.parts own mid.taken new.taken))
+    c.as_str.ensures.value c.open_at.ensures.to_end)
 
 pub returns-clause-opens : goal.returns-clause-opens
 returns-clause-opens g c = λ told.
@@ -52,6 +56,6 @@ returns-clause-err g c =
     let path = string_bytes c.in_ok-path.path in
     let uses = c.in_ok-path.ensures.uses in
     IfErr-weaker c.open_at.result (BookFails c.as_str.result.now mid new) (OpeningFails old new)
-    (λ e fails. book_fails old mid new path e uses.parts uses.faults c.in_ok-path.ensures.path
+    (λ e fails. book_fails old mid new path e uses.parts c.in_ok-path.ensures.path
     (subst (λ (own : List ℕ). BookFails own mid new e) c.as_str.ensures.value fails))
     c.open_at.ensures.err

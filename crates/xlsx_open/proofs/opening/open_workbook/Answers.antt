@@ -108,4 +108,4 @@ returns-in_err-contents-clause-err g c =
     let p = err_from_is_err_and c.from_residual-in_err-contents.result
     c.from_residual-in_err-contents.ensures.1 in
     rw (p.1, p.2)
-    (contents_fail old mid new path related e uses.parts uses.faults has fails)
+    (contents_fail old mid new path related e uses.parts has fails)

@@ -1,8 +1,8 @@
 use Rattle.std.proofs.Common.{ℕ, List, ◌∙◌, subst}
-use Rattle.std.specs.Prelude.{IfOk}
-use Rattle.part_events.specs.Package.{Uses, event_count}
+use Rattle.std.specs.Prelude.{IfOk, OnOk}
+use Rattle.part_events.specs.Package.{Uses, CountsUp, event_count}
 use Rattle.xlsx_error.specs.declared.error.XlsxError.TheVariants.{Io}
-use Rattle.xlsx_theme.specs.ThemePart.{HasTheme}
+use Rattle.xlsx_theme.specs.ThemePart.{HasTheme, TakesTheme}
 use Rattle.xlsx_open.proofs.shared_parts.read_colors.Goals as goal
 
 pub returns-clause-uses : goal.returns-clause-uses
@@ -17,3 +17,11 @@ returns-clause-theme g c = λ told.
     let old = g.P.Package.state c.args.package.now in
     subst (λ (part : List ℕ). IfOk c.read_theme.result (HasTheme old.parts part))
     (c.as_str.ensures.value ∙ c.in_ok-part.ensures) (c.read_theme.ensures.theme told)
+
+pub returns-clause-to_end : goal.returns-clause-to_end
+returns-clause-to_end g c = λ told.
+    let old = g.P.Package.state c.args.package.now in
+    let new = g.P.Package.state c.read_theme.new.package in
+    subst (λ (part : List ℕ). OnOk c.read_theme.result ((count : ℕ)
+    × TakesTheme old.parts part count × CountsUp count old.taken new.taken))
+    (c.as_str.ensures.value ∙ c.in_ok-part.ensures) (c.read_theme.ensures.to_end told)

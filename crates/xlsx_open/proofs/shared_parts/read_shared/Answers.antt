@@ -25,5 +25,5 @@ returns-in_err-style_sheet-clause-err g c =
     let p = err_from_is_err_and c.from_residual-in_err-style_sheet.result
     c.from_residual-in_err-style_sheet.ensures.1 in
     rw (p.1, p.2)
-    (styles_fail old mid new path theme e both.parts both.faults colors
+    (styles_fail old mid new path theme e both.parts colors
     c.in_err-style_sheet.ensures.err)

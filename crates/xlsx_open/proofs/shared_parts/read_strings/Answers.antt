@@ -5,6 +5,7 @@ use Rattle.xlsx_error.specs.declared.error.XlsxError.TheVariants.{Io}
 use Rattle.xlsx_sections.specs.Elements.{IsInsideRefused}
 use Rattle.xlsx_sections.specs.PartSection.{OptionalPartFails}
 use Rattle.xlsx_strings.specs.Strings.{strings_in, end_in_strings, HasStrings}
+use Rattle.xlsx_sections.specs.SectionEvents.{ReadsToEnd}
 use Rattle.xlsx_open.proofs.shared_parts.read_strings.Goals as goal
 
 pub returns-clause-uses : goal.returns-clause-uses
@@ -28,3 +29,10 @@ returns-clause-err g c =
     subst (λ (part : List ℕ). IfErr c.read_shared_strings.result
     (OptionalPartFails (codes "sst") end_in_strings (IsInsideRefused strings_in) part old new))
     (c.as_str.ensures.value ∙ c.in_ok-part.ensures) c.read_shared_strings.ensures.err
+
+pub returns-clause-to_end : goal.returns-clause-to_end
+returns-clause-to_end g c =
+    let old = g.P.Package.state c.args.package.now in
+    let new = g.P.Package.state c.read_shared_strings.new.package in
+    subst (λ (part : List ℕ). ReadsToEnd (codes "sst") part c.read_shared_strings.result old new)
+    (c.as_str.ensures.value ∙ c.in_ok-part.ensures) c.read_shared_strings.ensures.to_end

@@ -6,6 +6,7 @@ use Rattle.xlsx_sections.specs.Elements.{IsInsideRefused}
 use Rattle.xlsx_sections.specs.PartSection.{OptionalPartFails}
 use Rattle.xlsx_formats.specs.Formattings.{style_said}
 use Rattle.xlsx_stylesheet.specs.StyleSheet.{cell_formats_in, end_in_styles, HasStyles}
+use Rattle.xlsx_sections.specs.SectionEvents.{ReadsToEnd}
 use Rattle.xlsx_open.proofs.shared_parts.read_style_sheet.Goals as goal
 
 pub returns-clause-uses : goal.returns-clause-uses
@@ -31,3 +32,10 @@ returns-clause-err g c =
     subst (λ (part : List ℕ). IfErr c.read_styles.result
     (OptionalPartFails (codes "styleSheet") end_in_styles (IsInsideRefused (cell_formats_in theme))
     part old new)) (c.as_str.ensures.value ∙ c.in_ok-part.ensures) c.read_styles.ensures.err
+
+pub returns-clause-to_end : goal.returns-clause-to_end
+returns-clause-to_end g c =
+    let old = g.P.Package.state c.args.package.now in
+    let new = g.P.Package.state c.read_styles.new.package in
+    subst (λ (part : List ℕ). ReadsToEnd (codes "styleSheet") part c.read_styles.result old new)
+    (c.as_str.ensures.value ∙ c.in_ok-part.ensures) c.read_styles.ensures.to_end

@@ -1,9 +1,8 @@
-use Rattle.std.proofs.Common.{◌≡◌, length, true}
+use Rattle.std.proofs.Common.{◌≡◌, length}
 use Rattle.part_events.specs.Reading.{reading}
-use Rattle.part_events.specs.Walk.{section_ahead}
-use Rattle.xlsx_sections.specs.Answers.{or_earlier}
-use Rattle.xlsx_styles.specs.Borders.{color_in}
-use Rattle.xlsx_sections.specs.Elements.{KeepsStarts}
+use Rattle.xlsx_sections.proofs.StartsSaid.{KeepsSaid, last_behind}
+use Rattle.xlsx_styles.specs.Borders.{side_color, color_in}
+use Rattle.xlsx_styles.specs.Colors.{is_color}
 use Rattle.xlsx_styles.proofs.border.read_side_color.Given as goal
 
 abbrev pub invariant-starts : goal.invariant-starts
@@ -11,12 +10,9 @@ invariant-starts g l =
     let old = reading (g.P.Package.state l.fn.package) l.fn.cursor in
     let now = reading (g.P.Package.state l.package) l.cursor in
     record {
-      keeps : KeepsStarts l.base old now;
+      said : KeepsSaid is_color (last_behind (side_color l.theme_colors)) (color_in l.theme_colors)
+          l.base l.color old now;
       own : l.base ≡ length old.names;
-      color :
-          old.source.is_told ≡ true →
-          or_earlier l.color (color_in l.theme_colors (section_ahead l.base now))
-          ≡ color_in l.theme_colors (section_ahead l.base old);
     }
 
 abbrev pub decreases-starts : goal.decreases-starts

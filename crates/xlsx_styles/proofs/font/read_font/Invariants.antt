@@ -1,10 +1,7 @@
-use Rattle.std.proofs.Common.{◌≡◌, length, true}
+use Rattle.std.proofs.Common.{◌≡◌, length}
 use Rattle.part_events.specs.Reading.{reading}
-use Rattle.part_events.specs.Section.{starts_by}
-use Rattle.part_events.specs.Walk.{section_ahead}
-use Rattle.xlsx_sections.specs.Changes.{all_changes}
+use Rattle.xlsx_sections.proofs.StartsSaid.{KeepsSaid, changes_behind}
 use Rattle.xlsx_styles.specs.Fonts.{said_of, font_change, font_of, is_in_font}
-use Rattle.xlsx_sections.specs.Elements.{KeepsStarts}
 use Rattle.xlsx_styles.proofs.font.read_font.Given as goal
 
 abbrev pub invariant-starts : goal.invariant-starts
@@ -12,13 +9,9 @@ invariant-starts g l =
     let old = reading (g.P.Package.state l.fn.package) l.fn.cursor in
     let now = reading (g.P.Package.state l.package) l.cursor in
     record {
-      keeps : KeepsStarts l.base old now;
+      said : KeepsSaid is_in_font (changes_behind (font_change l.theme_colors))
+          (font_of l.theme_colors) l.base (said_of l.font) old now;
       own : l.base ≡ length old.names;
-      font :
-          old.source.is_told ≡ true →
-          all_changes (font_change l.theme_colors)
-          (starts_by is_in_font (section_ahead l.base now)) (said_of l.font)
-          ≡ font_of l.theme_colors (section_ahead l.base old);
     }
 
 abbrev pub decreases-starts : goal.decreases-starts

@@ -6,6 +6,7 @@ use Rattle.part_events.specs.Walk.{IsNextStart}
 use Rattle.part_events.proofs.Onward.{whole_at_end}
 use Rattle.xlsx_sections.proofs.SectionsRead.{start_there}
 use Rattle.xlsx_theme.proofs.ThemeRead.{scheme_found, scheme_says}
+use Rattle.xlsx_theme.proofs.ThemeTaken.{scheme_ended}
 use Rattle.xlsx_theme.proofs.theme_part.read_scheme.Goals as goal
 
 pub returns-in_ok-theme_of-in-Found-clause-theme :
@@ -31,3 +32,14 @@ returns-in_ok-default_theme-in-Ended-clause-theme g c = λ told.
       whole_at_end c.in_ok-next_start.ensures.reads ends.at_end told,
       c.in_ok-default_theme-in-Ended.ensures.theme,
     )
+
+pub returns-in_ok-theme_of-in-Found-clause-ends : goal.returns-in_ok-theme_of-in-Found-clause-ends
+returns-in_ok-theme_of-in-Found-clause-ends g c = λ told.
+    let old = reading (g.P.Package.state c.args.package.now) c.args.cursor.now in
+    let mid = reading (g.P.Package.state c.next_start.new.package) c.next_start.new.self in
+    let next = start_there mid.source.current
+    (λ (tag : Tag). IsNextStart (is_named (codes "clrScheme" ∷ [])) 0 tag old mid)
+    (rw c.in-Found.is at (c.in_ok-next_start.ensures.found told)) in
+    let still = c.in_ok-next_start.ensures.reads.moves.parts.is_told ∙ told in
+    scheme_ended old mid c.requires.reading c.requires.first c.in_ok-next_start.ensures.reads
+    next.2.first c.depth-base.ensures (c.in_ok-slots-in-Found.ensures.reaches still).ends told

@@ -1,9 +1,10 @@
 use Rattle.xlsx_tool.proofs.RunLemmas.{answers}
-use Rattle.xlsx_tool.specs.Run.{Streams, texts}
+use Rattle.xlsx_commands.specs.Command.{texts}
+use Rattle.xlsx_tool.specs.Run.{Streams}
 use Rattle.xlsx_tool.proofs.run.run.Goals as goal
 
 pub returns-clause-exact : goal.returns-clause-exact
-returns-clause-exact g c = λ told. (
+returns-clause-exact g c =
     let call = c.run_command in
     let old : Streams = record {
       source = g.S.Source.state c.args.source.now;
@@ -15,6 +16,5 @@ returns-clause-exact g c = λ told. (
       sink = g.K.Sink.state call.new.sink;
     }
     in
-    let never = c.readable_sheets_are_not_refused.ensures.never in
-    answers never (texts c.args.words.now) old new call.result told call.ensures.ok call.ensures.err
-    )
+    let never = c.causes_leave_no_output.ensures.never in
+    answers never (texts c.args.words.now) old new call.result call.ensures.ok call.ensures.err

@@ -4,7 +4,8 @@ use Rattle.part_events.specs.Reading.{reading}
 use Rattle.part_events.specs.Walk.{section_ahead, is_closed_ahead}
 use Rattle.xlsx_error.specs.declared.error.XlsxError.TheVariants.{RelationshipNotFound}
 use Rattle.xlsx_sections.specs.PartSection.{always, SectionFails}
-use Rattle.xlsx_sections.proofs.Refused.{part_refused, required_part_refused, refused_as}
+use Rattle.xlsx_sections.proofs.Failing.{part_refused, required_part_refused}
+use Rattle.xlsx_sections.proofs.Refused.{refused_as}
 use Rattle.xlsx_workbook.specs.Relationships.{path_in, IsTargetRefused, IsPathRefused}
 use Rattle.xlsx_workbook.proofs.relationship_parts.read_path.Goals as goal
 
@@ -18,14 +19,15 @@ returns-in_err-path-clause-err g c =
     let e = c.in_err-path.field-0.0 in
     let enters = rw c.in-Some.is at c.in_ok-cursor.ensures.enters in
     let here : SectionFails (always name) IsTargetRefused (length mid.names) mid new e =
-    rw (← c.depth-base.ensures) c.in_err-path.ensures.err in
+    subst (λ (n : ℕ). SectionFails (always name) IsTargetRefused n mid new e) c.depth-base.ensures
+    c.in_err-path.ensures.err in
     let p = err_from_is_err_and c.from_residual-in_err-path.result
     c.from_residual-in_err-path.ensures.1 in
     rw (p.1, p.2)
     (required_part_refused name c.args.part.now old new.source (always name) IsPathRefused e
     (part_refused (always name) IsPathRefused new e enters
     (refused_as (length mid.names) mid (always name) IsTargetRefused IsPathRefused new e
-    enters.reading (omega arith) (λ refusal refuses. inl refuses) here)))
+    (λ refusal refuses. inl refuses) here)))
 
 pub returns-clause-err : goal.returns-clause-err
 unfolding IsPathRefused

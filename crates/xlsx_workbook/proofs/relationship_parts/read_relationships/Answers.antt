@@ -2,7 +2,7 @@ use Rattle.std.proofs.Common.{ℕ, codes, subst}
 use Rattle.std.proofs.lemmas.Result.{IfErr-weaker}
 use Rattle.part_events.specs.Reading.{reading}
 use Rattle.xlsx_sections.specs.PartSection.{always, SectionFails, PartFails}
-use Rattle.xlsx_sections.proofs.Refused.{part_refused, required_part_refused}
+use Rattle.xlsx_sections.proofs.Failing.{part_refused, required_part_refused}
 use Rattle.xlsx_workbook.specs.Relationships.{AreRelationshipsRefused}
 use Rattle.xlsx_workbook.proofs.relationship_parts.read_relationships.Goals as goal
 

@@ -8,9 +8,9 @@ use Rattle.part_events.specs.Section.{content}
 use Rattle.part_events.specs.Walk.{inside, section_ahead, TakesLastEnd}
 use Rattle.part_events.proofs.Sections.{goes_on_behind}
 use Rattle.part_events.proofs.Walking.{takes_inside, no_start}
-use Rattle.xlsx_sections.specs.PartSection.{always, Never, StandsAtEvent}
+use Rattle.xlsx_sections.specs.PartSection.{always, Never, StandsAtEvent, section_left}
 use Rattle.xlsx_sections.specs.Refusal.{Refusal}
-use Rattle.xlsx_sections.proofs.Refused.{event_refused, refused_later, refused_outside}
+use Rattle.xlsx_sections.proofs.Refused.{event_refused, refused_in}
 use Rattle.xlsx_sections.proofs.SectionsRead.{event_inside, section_taken}
 use Rattle.xlsx_workbook.specs.DefinedNames.{with_text, behind_in_section}
 use Rattle.xlsx_workbook.specs.KeptContents.{related_by_id}
@@ -40,10 +40,21 @@ returns-in_err-at-clause-err g c =
       c.events.invariant.element.within,
     )) in
     rw (p.1, p.2)
-    (refused_later base old mid ending Never refused new e c.events.invariant.section (λ _. refl)
-    (λ _ refusal never. absurd never)
-    (refused_outside depth base mid (codes "workbook") Never new e
-    (λ _ is_open. lies.open_too is_open) c.in_err-at.ensures.err))
+    (refused_in ending ending Never refused (length lies.others) (section_left depth mid)
+    (section_left base old) new.source e c.events.invariant.section.reads.moves.parts
+    (λ told. record {
+      events = sym (c.events.invariant.section.reads.stays.part told);
+      open_too = λ is_open. sym (c.events.invariant.section.closed told) ∙ lies.open_too is_open;
+      ends = λ _. refl;
+      last = omega (
+        arith,
+        c.events.invariant.section.last told,
+        ap length lies.parts,
+        length-append (content (inside depth mid) (ahead mid)) lies.others,
+      );
+      weaker = λ refusal never. absurd never;
+    })
+    c.in_err-at.ensures.err)
 
 pub returns-in_err-take_event-clause-err : goal.returns-in_err-take_event-clause-err
 returns-in_err-take_event-clause-err g c =

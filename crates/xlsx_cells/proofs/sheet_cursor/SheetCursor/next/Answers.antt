@@ -34,7 +34,6 @@ returns-in_err-found-clause-err g c =
     let cause = refused_as own.base old.reading (end_in_data wants)
     (IsStepRefused NoCell IsMisplaced own.counters)
     (IsStepRefused NoCell (IsCellRefused wants grounds) own.counters) new c.in_err-found.field-0.0
-    going.reading going.within
     (λ refusal is before kept. mark_weaker (λ _ _ none. none) (λ _ _ _ misplaced. inl misplaced)
     before (marks_left own.base old.reading) refusal (is before kept))
     (c.in_err-found.ensures.err (end_in_cell wants)) in

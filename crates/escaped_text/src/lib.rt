@@ -1,0 +1,6 @@
+//! Texts as they are printed: on one line, without tabs (docs/FORMAT.md).
+#![tactic(auto)]
+
+mod escaping;
+
+pub use escaping::push_escaped;

@@ -1,0 +1,374 @@
+ghost use Rattle.std.specs.Prelude.{◌<◌};
+
+use part_events::{
+    FailingPackage, MemoryPackage, Package, PartEvent, StartTag, Step, StreamError, XlReader,
+    XmlFault, children_are_at_depth_one, content_is_by_match, innermost_open_is_by_depth,
+    outermost_is_in_order, whole_is_longest,
+};
+use std::alloc::{AllocError, Global};
+use std::process::Abort;
+use std::test::Fail;
+
+fn start(name: &str) -> PartEvent<'_> {
+    PartEvent::Start(StartTag {
+        name,
+        attributes: "",
+    })
+}
+
+/// A package whose last part has the first events of a list.
+fn held_package(
+    rt: &impl Abort,
+    alloc: Global,
+    name: &str,
+    events: &[PartEvent<'_>],
+    count: u64,
+) -> Result<MemoryPackage, AllocError> {
+    let mut package = MemoryPackage::new(alloc);
+    package.add_part("xl/other.xml")?;
+    package.add_part(name)?;
+    for (place, event) in events.iter().enumerate() {
+        if place as u64 == count {
+            break;
+        }
+        assert!(rt; package.part_count() == 2);
+        package.push_event(*event)?;
+    }
+    Ok(package)
+}
+
+/// The events of a part, up to its end.
+fn count_events<P: Package>(
+    alloc: Global,
+    package: &mut P,
+    name: &str,
+) -> Result<Option<u64>, StreamError> {
+    let Some(mut reader) = XlReader::open(alloc, package, name)? else {
+        return Ok(None);
+    };
+    'events: while reader.next()? {}
+    Ok(Some(reader.at()))
+}
+
+/// Skips the first element of a part.
+fn skip_first<P: Package>(alloc: Global, package: &mut P) -> Result<usize, StreamError> {
+    let Some(mut reader) = XlReader::open(alloc, package, "part")? else {
+        return Ok(9);
+    };
+    if reader.next()? {
+        if let PartEvent::Start(_) = reader.event() {
+            reader.skip_element()?;
+        }
+    }
+    Ok(reader.depth())
+}
+
+/// The text of the first element of a part.
+fn first_text<P: Package>(
+    alloc: Global,
+    package: &mut P,
+    out: &mut String,
+    char_data: bool,
+) -> Result<bool, StreamError> {
+    let Some(mut reader) = XlReader::open(alloc, package, "part")? else {
+        return Ok(false);
+    };
+    if reader.next()? {
+        if let PartEvent::Start(_) = reader.event() {
+            return reader.read_text(out, char_data);
+        }
+    }
+    Ok(false)
+}
+
+/// How many elements of a name stand in the first section, how many children it has, and how it
+/// ended.
+fn count_elements<P: Package>(
+    alloc: Global,
+    package: &mut P,
+    section: &str,
+    name: Option<&str>,
+) -> Result<(u32, Step), StreamError> {
+    let Some(mut reader) = XlReader::open(alloc, package, "part")? else {
+        return Ok((0, Step::Ended));
+    };
+    if reader.next_start(0, &[section])? != Step::Found {
+        return Ok((0, Step::Ended));
+    }
+    let base = reader.depth();
+    let mut count = 0u32;
+    'elements: loop {
+        let found = match name {
+            Some(name) => reader.next_element(base, &["none", name])?,
+            None => reader.next_child(base)?,
+        };
+        if found != Step::Found {
+            return Ok((count, found));
+        }
+        reader.skip_element()?;
+        count = count.saturating_add(1);
+    }
+}
+
+/// How many events stand in the first section of a name, and what came behind them.
+fn count_inside<P: Package>(
+    alloc: Global,
+    package: &mut P,
+    section: &str,
+) -> Result<(u32, Step), StreamError> {
+    let Some(mut reader) = XlReader::open(alloc, package, "part")? else {
+        return Ok((0, Step::Ended));
+    };
+    if reader.next_start(0, &[section])? != Step::Found {
+        return Ok((0, Step::Ended));
+    }
+    let base = reader.depth();
+    let mut count = 0u32;
+    'inside: loop {
+        match reader.next_inside(base)? {
+            Step::Found => count = count.saturating_add(1),
+            last => return Ok((count, last)),
+        }
+    }
+}
+
+#[test]
+fn parts_are_opened_read_and_skipped(rt: HostRuntime) -> Result<(), Fail> {
+    let alloc = rt.alloc();
+    let mut workbook = held_package(
+        &rt,
+        alloc,
+        "xl/workbook.xml",
+        &[start("workbook"), PartEvent::End("workbook")],
+        2,
+    )?;
+    for (name, want) in [
+        ("XL\\Workbook.xml", Some(2)),
+        ("xl/workbook.xml", Some(2)),
+        ("xl/other.xml", Some(0)),
+        ("none", None),
+        ("xl/workbook", None),
+    ] {
+        assert!(rt;
+            count_events(alloc, &mut workbook, name) == Ok(want),
+            "at {name}"
+        );
+    }
+    let element = [
+        start("a"),
+        start("b"),
+        PartEvent::Text("x"),
+        PartEvent::End("b"),
+        start("c"),
+        PartEvent::End("c"),
+        PartEvent::Other,
+        PartEvent::End("a"),
+    ];
+    for cut in 1..8u64 {
+        let mut package = held_package(&rt, alloc, "part", &element, cut)?;
+        assert!(rt;
+            skip_first(alloc, &mut package)
+                == Err(StreamError::Xml(XmlFault::Unclosed { at: cut })),
+            "cut at {cut}"
+        );
+    }
+    let mut package = held_package(&rt, alloc, "part", &element, 8)?;
+    assert!(rt; skip_first(alloc, &mut package) == Ok(0));
+    assert!(rt; package.taken() == 8);
+    let sheet = [
+        start("worksheet"),
+        start("sheetData"),
+        start("row"),
+        start("c"),
+        PartEvent::End("row"),
+    ];
+    let mut package = held_package(&rt, alloc, "part", &sheet, 5)?;
+    assert!(rt;
+        count_events(alloc, &mut package, "part")
+            == Err(StreamError::Xml(XmlFault::EndMismatch { at: 4 }))
+    );
+    for (events, at) in [
+        ([PartEvent::End("a"), PartEvent::Other], 0),
+        ([start("x:a"), PartEvent::End("a")], 1),
+        ([start("a"), PartEvent::End("x:a")], 1),
+    ] {
+        let mut package = held_package(&rt, alloc, "part", &events, 2)?;
+        assert!(rt;
+            count_events(alloc, &mut package, "part")
+                == Err(StreamError::Xml(XmlFault::EndMismatch { at })),
+            "end at {at}"
+        );
+    }
+    Ok(())
+}
+
+#[test]
+fn texts_are_joined(rt: HostRuntime) -> Result<(), Fail> {
+    let alloc = rt.alloc();
+    let written = [
+        start("t"),
+        PartEvent::Text("a\r\nb"),
+        start("i"),
+        PartEvent::EntityRef("amp"),
+        PartEvent::CharData("c\r"),
+        PartEvent::End("i"),
+        PartEvent::Other,
+        PartEvent::Text("d"),
+        PartEvent::End("t"),
+        PartEvent::Text("e"),
+    ];
+    for (taken, char_data, want, text) in [
+        (10, false, Ok(true), ">a\nb&d"),
+        (10, true, Ok(true), ">a\nb&c\nd"),
+        (9, false, Ok(true), ">a\nb&d"),
+        (8, true, Ok(false), ">a\nb&c\nd"),
+        (4, false, Ok(false), ">a\nb&"),
+        (1, false, Ok(false), ">"),
+    ] {
+        let mut package = held_package(&rt, alloc, "part", &written, taken)?;
+        let mut out = String::from_str(alloc, ">")?;
+        assert!(rt;
+            first_text(alloc, &mut package, &mut out, char_data) == want,
+            "{taken} events"
+        );
+        assert!(rt; out.as_str() == text, "{taken} events");
+    }
+    let unknown = [
+        start("t"),
+        PartEvent::Text("a"),
+        PartEvent::EntityRef("nbsp"),
+        PartEvent::Text("b"),
+        PartEvent::End("t"),
+    ];
+    let mut package = held_package(&rt, alloc, "part", &unknown, 5)?;
+    let mut out = String::new(alloc);
+    assert!(rt;
+        first_text(alloc, &mut package, &mut out, false)
+            == Err(StreamError::Xml(XmlFault::Entity { at: 2 }))
+    );
+    assert!(rt; out.as_str() == "a");
+    Ok(())
+}
+
+#[test]
+fn each_refusal_has_its_text(rt: HostRuntime) -> Result<(), Fail> {
+    let alloc = rt.alloc();
+    for (fault, text) in [
+        (XmlFault::EndMismatch { at: 4 }, "end tag mismatch at 4"),
+        (XmlFault::Unclosed { at: 0 }, "unclosed element at 0"),
+        (XmlFault::Entity { at: 12 }, "unknown entity at 12"),
+    ] {
+        let shown = format!(in alloc; "{fault}")?;
+        assert!(rt; shown.as_str() == text, "{text}");
+        let error = StreamError::Xml(fault);
+        let shown = format!(in alloc; "{error}")?;
+        assert!(rt; shown.as_str() == text, "{text}");
+    }
+    for (error, text) in [
+        (StreamError::Io, "the package could not be read"),
+        (StreamError::OutOfMemory, "out of memory"),
+    ] {
+        let shown = format!(in alloc; "{error}")?;
+        assert!(rt; shown.as_str() == text, "{text}");
+    }
+    Ok(())
+}
+
+#[test]
+fn events_of_a_section_are_taken(rt: HostRuntime) -> Result<(), Fail> {
+    let alloc = rt.alloc();
+    let part = [
+        start("a"),
+        start("x:b"),
+        PartEvent::Text("t"),
+        start("b"),
+        PartEvent::End("b"),
+        PartEvent::End("x:b"),
+        PartEvent::Other,
+        PartEvent::End("a"),
+        PartEvent::Other,
+        PartEvent::End("a"),
+    ];
+    for (taken, section, want) in [
+        (9, "a", Ok((6, Step::Closed))),
+        (9, "b", Ok((3, Step::Closed))),
+        (5, "b", Ok((3, Step::Ended))),
+        (2, "b", Ok((0, Step::Ended))),
+        (10, "a", Ok((6, Step::Closed))),
+    ] {
+        let mut package = held_package(&rt, alloc, "part", &part, taken)?;
+        assert!(rt;
+            count_inside(alloc, &mut package, section) == want,
+            "{section} of {taken} events"
+        );
+    }
+    let broken = [start("a"), PartEvent::Other, PartEvent::End("b")];
+    let mut package = held_package(&rt, alloc, "part", &broken, 3)?;
+    assert!(rt;
+        count_inside(alloc, &mut package, "a")
+            == Err(StreamError::Xml(XmlFault::EndMismatch { at: 2 }))
+    );
+    Ok(())
+}
+
+#[test]
+fn elements_are_found_and_planned_calls_fail(rt: HostRuntime) -> Result<(), Fail> {
+    let alloc = rt.alloc();
+    let sheets = [
+        start("workbook"),
+        start("x:sheets"),
+        start("sheet"),
+        start("sheet"),
+        PartEvent::End("sheet"),
+        PartEvent::End("sheet"),
+        start("other"),
+        start("y:sheet"),
+        PartEvent::End("y:sheet"),
+        PartEvent::End("other"),
+        PartEvent::End("x:sheets"),
+        start("sheet"),
+        PartEvent::End("sheet"),
+        PartEvent::End("workbook"),
+    ];
+    for (taken, section, name, want) in [
+        (14, "sheets", Some("sheet"), (2, Step::Closed)),
+        (14, "sheets", None, (2, Step::Closed)),
+        (14, "workbook", Some("sheet"), (3, Step::Closed)),
+        (14, "sheets", Some("y:sheet"), (0, Step::Closed)),
+        (10, "sheets", Some("sheet"), (2, Step::Ended)),
+        (14, "none", Some("sheet"), (0, Step::Ended)),
+    ] {
+        let mut package = held_package(&rt, alloc, "part", &sheets, taken)?;
+        assert!(rt;
+            count_elements(alloc, &mut package, section, name) == Ok(want),
+            "{section} of {taken} events"
+        );
+    }
+
+    for number in 0..16u64 {
+        let inner = held_package(&rt, alloc, "part", &sheets, 14)?;
+        let mut package = FailingPackage::new(inner, vec![in alloc; number, 16]?);
+        let (want, faults) = if number < 15 {
+            (Err(StreamError::Io), 1)
+        } else {
+            (Ok((0, Step::Closed)), 0)
+        };
+        assert!(rt;
+            count_elements(alloc, &mut package, "workbook", Some("none")) == want,
+            "call {number}"
+        );
+        assert!(rt; package.faults() == faults, "call {number}");
+        assert!(rt; package.left() == 0, "call {number}");
+        let mut inner = package.into_inner();
+        assert!(rt;
+            count_events(alloc, &mut inner, "part") == Ok(Some(14)),
+            "call {number}"
+        );
+    }
+    innermost_open_is_by_depth();
+    content_is_by_match();
+    outermost_is_in_order();
+    children_are_at_depth_one();
+    whole_is_longest();
+    Ok(())
+}

@@ -1,0 +1,2 @@
+pub mod OneListing
+pub mod OutputLemmas

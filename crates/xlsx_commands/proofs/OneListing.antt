@@ -1,0 +1,112 @@
+-- A sheet has one listing: two readings of it that say the same have the same lines.
+use Rattle.std.proofs.Common.{◌≡◌, ℕ, List, Bool, true, false, Option, Some, None, map, refl, sym}
+use Rattle.std.proofs.Common.{◌∙◌, ap, if◌then◌else◌}
+use mathlib.Core.Path.{fun_ext}
+use Rattle.std.specs.Prelude.{slice_get, slice_index, option_map, option_and_then}
+use Rattle.std.specs.List.{flat_map}
+use Rattle.std.proofs.lemmas.Option.{slice_get-map}
+use Rattle.cell_refs.specs.Positions.{is_in_area}
+use Rattle.cell_refs.specs.declared.dimensions.Dimensions.{Dimensions}
+use Rattle.part_events.specs.Package.{Part}
+use Rattle.cell_data.specs.CellValue.{CellValue}
+use Rattle.cell_styles.specs.Color.{color_text}
+use Rattle.cell_styles.specs.Fill.{fill_color}
+use Rattle.cell_styles.specs.StyleItems.{styled_in, styled_entry}
+use Rattle.cell_styles.specs.StyleMap.{StyleMap, place_in, style_in, style_at}
+use Rattle.cell_styles.specs.declared.style.Style.{Style}
+use Rattle.xlsx_formats.specs.Formattings.{StyleSaid, style_said}
+use Rattle.xlsx_core.specs.SheetReading.{SayTheSame, ReadsAs}
+use Rattle.xlsx_commands.specs.Outputs.{AreLinesOf}
+use Rattle.sheet_listing.specs.SheetListing.{shown_color, fill_field, line_of, value_placed}
+use Rattle.sheet_listing.specs.SheetListing.{formula_placed, id_placed, used_positions, lines_with}
+use Rattle.sheet_listing.specs.SheetListing.{placed_ids, listing}
+
+-- ---- the fill of a position
+
+-- the fill as it is printed, by what a style says
+abbrev said_field : Option StyleSaid → Option (List ℕ)
+said_field said =
+    option_map color_text (option_and_then (λ (own : StyleSaid).
+    option_and_then (λ fill. shown_color fill.pattern (fill_color fill)) own.fill) said)
+
+field_by_said : (style : Option Style) → fill_field style ≡ said_field (option_map style_said style)
+field_by_said None = refl
+field_by_said (Some style) = refl
+
+tested_by_said : (test : Bool) (one two : Option Style)
+    → option_map style_said one ≡ option_map style_said two
+    → option_map style_said (if test then one else None)
+    ≡ option_map style_said (if test then two else None)
+tested_by_said true one two same = same
+tested_by_said false one two same = refl
+
+style_by_said : (palette other : List Style) (id : ℕ)
+    → map style_said palette ≡ map style_said other
+    → option_map style_said (slice_get palette id) ≡ option_map style_said (slice_get other id)
+style_by_said palette other id same =
+    sym (slice_get-map style_said palette id)
+    ∙ ap (λ (said : List StyleSaid). slice_get said id) same ∙ slice_get-map style_said other id
+
+inside_by_said : (area : Option Dimensions) (one two : StyleMap) (position : ℕ × ℕ)
+    → map style_said one.palette ≡ map style_said two.palette → one.ids ≡ two.ids
+    → option_map style_said (style_in area one position)
+    ≡ option_map style_said (style_in area two position)
+inside_by_said None one two position palette ids = refl
+inside_by_said (Some area) one two position palette ids =
+    let place = place_in area position in
+    tested_by_said (is_in_area area position)
+    (slice_get one.palette (slice_index one.ids place))
+    (slice_get two.palette (slice_index two.ids place))
+    (style_by_said one.palette two.palette (slice_index one.ids place) palette
+    ∙ ap (λ (own : List ℕ). option_map style_said (slice_get two.palette (slice_index own place)))
+    ids)
+
+fill_alike : (one two : StyleMap) → SayTheSame one two → (position : ℕ × ℕ)
+    → fill_field (style_at one position) ≡ fill_field (style_at two position)
+fill_alike one two same position =
+    field_by_said (style_at one position)
+    ∙ ap (λ (area : Option Dimensions). said_field (option_map style_said
+    (style_in area one position))) same.bounds
+    ∙ ap said_field (inside_by_said two.bounds one two position same.palette same.ids)
+    ∙ sym (field_by_said (style_at two position))
+
+-- ---- the lines
+
+lines_by_fill : (values : List ((ℕ × ℕ) × CellValue)) (formulas : List ((ℕ × ℕ) × List ℕ))
+    (ids : List ((ℕ × ℕ) × ℕ)) (one two : ℕ × ℕ → Option Style)
+    → ((position : ℕ × ℕ) → fill_field (one position) ≡ fill_field (two position))
+    → lines_with one values formulas ids ≡ lines_with two values formulas ids
+unfolding lines_with
+lines_by_fill values formulas ids one two same =
+    ap (λ (fill : ℕ × ℕ → Option (List ℕ)). flat_map
+    (λ position. line_of position (value_placed position values) (formula_placed position formulas)
+    (id_placed position ids) (fill position))
+    (used_positions values formulas ids)) (fun_ext same)
+
+listing_alike : (values : List ((ℕ × ℕ) × CellValue)) (formulas : List ((ℕ × ℕ) × List ℕ))
+    (one two : StyleMap) → SayTheSame one two
+    → listing values formulas one ≡ listing values formulas two
+listing_alike values formulas one two same =
+    lines_by_fill values formulas (placed_ids one) (style_at one) (style_at two)
+    (fill_alike one two same)
+    ∙ ap (λ (area : Option Dimensions). lines_with (style_at two) values formulas
+    (map styled_entry (styled_in area one.ids))) same.bounds
+    ∙ ap (λ (ids : List ℕ). lines_with (style_at two) values formulas
+    (map styled_entry (styled_in two.bounds ids))) same.ids
+
+-- the law that a sheet is read in one way gives one listing
+pub one_listing :
+    (parts other : List Part) (name lines others : List ℕ)
+    → ((values more : List ((ℕ × ℕ) × CellValue)) (formulas further : List ((ℕ × ℕ) × List ℕ))
+    (styles again : StyleMap) → ReadsAs parts name values formulas styles
+    → ReadsAs other name more further again
+    → (values ≡ more) × (formulas ≡ further) × SayTheSame styles again)
+    → AreLinesOf parts name lines → AreLinesOf other name others → lines ≡ others
+one_listing parts other name lines others law first second =
+    let same = law first.values second.values first.formulas second.formulas first.styles
+    second.styles first.reads second.reads in
+    first.listed
+    ∙ ap (λ (own : List ((ℕ × ℕ) × CellValue)). listing own first.formulas first.styles) same.0
+    ∙ ap (λ (own : List ((ℕ × ℕ) × List ℕ)). listing second.values own first.styles) same.1
+    ∙ listing_alike second.values second.formulas first.styles second.styles same.2
+    ∙ sym second.listed

@@ -1,0 +1,50 @@
+-- What `sheets` and `names` print of a workbook that opens.
+use Rattle.std.specs.Prelude.{◌≡◌, ℕ, List, codes, map}
+use Rattle.std.specs.List.{flat_map}
+use Rattle.part_events.specs.Package.{Part}
+use Rattle.list_lines.specs.Lines.{sheet_line, name_line}
+use Rattle.xlsx_workbook.specs.KeptContents.{pair_of}
+use Rattle.xlsx_workbook.specs.declared.sheet.Metadata.{Metadata}
+use Rattle.xlsx_workbook.specs.declared.sheet.SheetType.{SheetType}
+use Rattle.xlsx_workbook.specs.declared.sheet.SheetType.TheVariants.{WorkSheet, ChartSheet}
+use Rattle.xlsx_workbook.specs.declared.sheet.SheetType.TheVariants.{DialogSheet}
+use Rattle.xlsx_workbook.specs.declared.sheet.SheetVisible.{SheetVisible}
+use Rattle.xlsx_workbook.specs.declared.sheet.SheetVisible.TheVariants.{Visible, Hidden, VeryHidden}
+use Rattle.xlsx_open.specs.Opening.{Opening, OpensAs, ListedSheet, without_path, listed_sheet}
+
+abbrev pub type_word : SheetType → List ℕ
+type_word WorkSheet = codes "worksheet"
+type_word ChartSheet = codes "chartsheet"
+type_word DialogSheet = codes "dialogsheet"
+
+abbrev pub state_word : SheetVisible → List ℕ
+state_word Visible = codes "visible"
+state_word Hidden = codes "hidden"
+state_word VeryHidden = codes "veryHidden"
+
+-- a line for each sheet, and one for each defined name
+abbrev pub sheet_lines : List ListedSheet → List ℕ
+sheet_lines sheets =
+    flat_map (λ sheet. sheet_line sheet.name (type_word sheet.typ) (state_word sheet.visible)) sheets
+
+abbrev pub name_lines : List (List ℕ × List ℕ) → List ℕ
+name_lines names = flat_map (λ name. name_line name.0 name.1) names
+
+-- the workbook opens, and these are the lines of its sheets
+pub record AreSheetLines (parts : List Part) (lines : List ℕ) : Type 0 where
+  pub opening : Opening
+  pub opens : OpensAs parts opening
+  pub listed : lines ≡ sheet_lines (map without_path opening.sheets)
+
+-- the workbook opens, and these are the lines of its defined names
+pub record AreNameLines (parts : List Part) (lines : List ℕ) : Type 0 where
+  pub opening : Opening
+  pub opens : OpensAs parts opening
+  pub listed : lines ≡ name_lines opening.names
+
+-- the workbook opens, and has these sheets and these names
+pub record HasMetadata (parts : List Part) (metadata : Metadata) : Type 0 where
+  pub opening : Opening
+  pub opens : OpensAs parts opening
+  pub sheets : map listed_sheet metadata.sheets.items ≡ map without_path opening.sheets
+  pub names : map pair_of metadata.names.items ≡ opening.names

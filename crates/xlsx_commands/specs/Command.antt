@@ -1,0 +1,46 @@
+-- The commands that words ask for.
+use Rattle.std.specs.Prelude.{ℕ, List, [], ◌∷◌, Option, Some, None, codes, map, if◌then◌else◌}
+use Rattle.std.specs.Prelude.{String, string_bytes}
+use Rattle.std.specs.Str.{bytes_eq}
+use Rattle.std.specs.declared.alloc.Global.{Global}
+use Rattle.part_events.specs.Package.{Part}
+use Rattle.xlsx_commands.specs.declared.command.Command.{Command as Asked}
+use Rattle.xlsx_commands.specs.declared.command.Command.TheVariants as asked
+
+-- the words as texts
+abbrev pub texts : List (String Global) → List (List ℕ)
+texts words = map string_bytes words
+
+-- what is asked for
+pub data Command : Type 0 where
+  cells : List ℕ → Command
+  sheets : Command
+  names : Command
+
+abbrev pub command_meant : Asked → Command
+command_meant (asked.Cells name) = cells name.now
+command_meant asked.Sheets = sheets
+command_meant asked.Names = names
+
+-- a command of one word
+abbrev pub bare_command : List ℕ → Option Command
+bare_command word =
+    if bytes_eq word (codes "sheets") then Some sheets
+    else (if bytes_eq word (codes "names") then Some names else None)
+
+-- a command of two
+abbrev pub named_command : List ℕ → List ℕ → Option Command
+named_command word name = if bytes_eq word (codes "cells") then Some (cells name) else None
+
+-- the command that words are; no other words are one
+abbrev pub command_of : List (List ℕ) → Option Command
+command_of [] = None
+command_of (word ∷ []) = bare_command word
+command_of (word ∷ name ∷ []) = named_command word name
+command_of (word ∷ name ∷ further ∷ words) = None
+
+-- the parts that a command works on where it reads no input
+unfoldable pub own_parts : Command → Option (List Part)
+own_parts (cells name) = None
+own_parts sheets = None
+own_parts names = None

@@ -1,0 +1,4 @@
+pub mod BookLists
+pub mod Command
+pub mod Outputs
+pub mod Status

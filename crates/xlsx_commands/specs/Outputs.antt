@@ -1,0 +1,58 @@
+-- What each command prints of a package, and why it can't: a row for each command.
+use Rattle.std.specs.Prelude.{◌≡◌, ℕ, List}
+use Rattle.part_events.specs.Package.{Part}
+use Rattle.xlsx_error.specs.declared.error.XlsxError.{XlsxError}
+use Rattle.cell_data.specs.CellValue.{CellValue}
+use Rattle.cell_styles.specs.StyleMap.{StyleMap}
+use Rattle.sheet_listing.specs.SheetListing.{listing}
+use Rattle.xlsx_open.specs.Opening.{OpeningCause}
+use Rattle.xlsx_core.specs.SheetReading.{ReadsAs, SheetCause}
+use Rattle.xlsx_commands.specs.BookLists.{AreSheetLines, AreNameLines}
+use Rattle.xlsx_commands.specs.Command.{Command, cells, sheets, names}
+use Rattle.xlsx_commands.specs.declared.error.ToolError.{ToolError}
+use Rattle.xlsx_commands.specs.declared.error.ToolError.TheVariants.{Workbook, OutOfMemory}
+
+-- these are the lines of the sheet of this name, as it is read from these parts
+pub record AreLinesOf (parts : List Part) (name lines : List ℕ) : Type 0 where
+  pub values : List ((ℕ × ℕ) × CellValue)
+  pub formulas : List ((ℕ × ℕ) × List ℕ)
+  pub styles : StyleMap
+  pub reads : ReadsAs parts name values formulas styles
+  pub listed : lines ≡ listing values formulas styles
+
+-- ---- the rows
+
+-- these bytes are the output of a command on a package of these parts
+unfoldable pub IsOutput : Command → List Part → List ℕ → Type 0
+IsOutput (cells name) parts output = AreLinesOf parts name output
+IsOutput sheets parts output = AreSheetLines parts output
+IsOutput names parts output = AreNameLines parts output
+
+-- why its workbook refuses it
+unfoldable pub WorkbookCause : Command → List Part → XlsxError → Type 0
+WorkbookCause (cells name) parts error = SheetCause parts name error
+WorkbookCause sheets parts error = OpeningCause parts error
+WorkbookCause names parts error = OpeningCause parts error
+
+-- ---- what the rows make
+
+-- the package has an output for this command
+abbrev pub HasOutput : Command → List Part → Type 0
+HasOutput command parts = (output : List ℕ) × IsOutput command parts output
+
+-- why it has none
+abbrev pub OutputCause : Command → List Part → ToolError → Type 0
+OutputCause command parts (Workbook error) = WorkbookCause command parts error
+OutputCause command parts _ = ⊥
+
+-- when a command is refused; want of memory may come at any time
+abbrev pub OutputFails : Command → List Part → ToolError → Type 0
+OutputFails command parts OutOfMemory = Unit {0}
+OutputFails command parts error = OutputCause command parts error
+
+-- when a call on a package in memory is refused that has these causes; want of memory may come at
+-- any time
+abbrev pub CallFails : (XlsxError → Type 0) → ToolError → Type 0
+CallFails cause (Workbook error) = cause error
+CallFails cause OutOfMemory = Unit {0}
+CallFails cause _ = ⊥

@@ -1,0 +1,33 @@
+-- What the program ends with after each refusal: a status and a text.
+use Rattle.std.specs.Prelude.{ℕ, List, codes, Option, Some}
+use Rattle.xlsx_error.specs.XlsxError.{text_of}
+use Rattle.xlsx_error.specs.declared.error.XlsxError.{XlsxError}
+use Rattle.xlsx_error.specs.declared.error.XlsxError.TheVariants as workbook
+use Rattle.xlsx_commands.specs.declared.error.ToolError.{ToolError}
+use Rattle.xlsx_commands.specs.declared.error.ToolError.TheVariants.{Usage, ReadFault, InputTooLarge}
+use Rattle.xlsx_commands.specs.declared.error.ToolError.TheVariants.{NotAPackage, Workbook}
+use Rattle.xlsx_commands.specs.declared.error.ToolError.TheVariants.{WriteFault, OutOfMemory}
+
+-- 0 is success, and 1 is kept for the system
+abbrev pub status_of : ToolError → ℕ
+status_of Usage = 2
+status_of ReadFault = 3
+status_of InputTooLarge = 4
+status_of NotAPackage = 5
+status_of (Workbook error) = 6
+status_of WriteFault = 7
+status_of OutOfMemory = 8
+
+abbrev pub error_text : ToolError → Option (List ℕ)
+error_text Usage = Some (codes "usage")
+error_text ReadFault = Some (codes "read fault")
+error_text InputTooLarge = Some (codes "input too large")
+error_text NotAPackage = Some (codes "not a package")
+error_text (Workbook error) = text_of error
+error_text WriteFault = Some (codes "write fault")
+error_text OutOfMemory = Some (codes "out of memory")
+
+-- what the refusal of a workbook becomes
+abbrev pub of_workbook : XlsxError → ToolError
+of_workbook workbook.OutOfMemory = OutOfMemory
+of_workbook error = Workbook error

@@ -1,0 +1,93 @@
+ghost use Rattle.std.specs.Prelude.{◌≡◌, map, string_bytes, IfOk, IfErr};
+ghost use Rattle.xlsx_workbook.specs.KeptContents.{pair_of};
+ghost use Rattle.xlsx_open.specs.Opening.{listed_sheet, OpeningCause};
+ghost use Rattle.xlsx_commands.specs.BookLists.{type_word, state_word, sheet_lines, name_lines};
+ghost use Rattle.xlsx_commands.specs.BookLists.{AreSheetLines, AreNameLines, HasMetadata};
+ghost use Rattle.xlsx_commands.specs.Outputs.{CallFails};
+
+use crate::error::ToolError;
+use list_lines::{push_name_line, push_sheet_line};
+use part_events::MemoryPackage;
+use std::alloc::{AllocError, Global};
+use xlsx_open::{Metadata, Opened, Sheet, SheetType, SheetVisible, open};
+
+fn type_word(typ: SheetType) -> &'static str
+    ensures { result.now ≡ type_word typ }
+{
+    match typ {
+        SheetType::WorkSheet => "worksheet",
+        SheetType::ChartSheet => "chartsheet",
+        SheetType::DialogSheet => "dialogsheet",
+    }
+}
+
+fn state_word(visible: SheetVisible) -> &'static str
+    ensures { result.now ≡ state_word visible }
+{
+    match visible {
+        SheetVisible::Visible => "visible",
+        SheetVisible::Hidden => "hidden",
+        SheetVisible::VeryHidden => "veryHidden",
+    }
+}
+
+fn lines_of_sheets(alloc: Global, sheets: &[Sheet]) -> Result<String, AllocError>
+    ensures { IfOk result (λ out.
+        string_bytes out ≡ sheet_lines (map listed_sheet sheets.now)) }
+{
+    let mut out = String::new(alloc);
+    for sheet in sheets {
+        let typ = type_word(sheet.typ);
+        push_sheet_line(
+            &mut out,
+            sheet.name.as_str(),
+            typ,
+            state_word(sheet.visible),
+        )?;
+    }
+    Ok(out)
+}
+
+fn lines_of_names(alloc: Global, names: &[(String, String)]) -> Result<String, AllocError>
+    ensures { IfOk result (λ out. string_bytes out ≡ name_lines (map pair_of names.now)) }
+{
+    let mut out = String::new(alloc);
+    for name in names {
+        push_name_line(&mut out, name.0.as_str(), name.1.as_str())?;
+    }
+    Ok(out)
+}
+
+/// The sheets and the defined names of the workbook.
+fn metadata_of(alloc: Global, package: MemoryPackage) -> Result<Metadata, ToolError>
+    ensures ok { IfOk result (HasMetadata «package».parts) }
+    ensures err { IfErr result (CallFails (OpeningCause «package».parts)) }
+{
+    let mut package = package;
+    let opened = open(alloc, &mut package)?;
+    let Opened {
+        metadata,
+        paths: _,
+        shared: _,
+        is_1904: _,
+    } = opened;
+    Ok(metadata)
+}
+
+/// A line for each sheet of the workbook.
+pub fn sheet_lines(alloc: Global, package: MemoryPackage) -> Result<Vec<u8>, ToolError>
+    ensures ok { IfOk result (λ output. AreSheetLines «package».parts output.items) }
+    ensures err { IfErr result (CallFails (OpeningCause «package».parts)) }
+{
+    let metadata = metadata_of(alloc, package)?;
+    Ok(lines_of_sheets(alloc, &metadata.sheets)?.into_bytes())
+}
+
+/// A line for each defined name of the workbook.
+pub fn name_lines(alloc: Global, package: MemoryPackage) -> Result<Vec<u8>, ToolError>
+    ensures ok { IfOk result (λ output. AreNameLines «package».parts output.items) }
+    ensures err { IfErr result (CallFails (OpeningCause «package».parts)) }
+{
+    let metadata = metadata_of(alloc, package)?;
+    Ok(lines_of_names(alloc, &metadata.names)?.into_bytes())
+}

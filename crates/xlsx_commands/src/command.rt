@@ -1,0 +1,45 @@
+ghost use Rattle.std.specs.Prelude.{◌≡◌, option_map};
+ghost use Rattle.xlsx_commands.specs.Command.{texts, command_meant, bare_command, named_command};
+ghost use Rattle.xlsx_commands.specs.Command.{command_of};
+
+/// What the words ask for.
+#[derive(Clone, Copy)]
+pub enum Command<'a> {
+    /// The cells of the worksheet of this name.
+    Cells(&'a str),
+    /// The workbook's sheets.
+    Sheets,
+    /// The workbook's defined names.
+    Names,
+}
+
+fn bare_command(word: &str) -> Option<Command<'_>>
+    ensures { option_map (λ command. command_meant command) result ≡ bare_command word.now }
+{
+    match word {
+        "sheets" => Some(Command::Sheets),
+        "names" => Some(Command::Names),
+        _ => None,
+    }
+}
+
+fn named_command<'a>(word: &str, name: &'a str) -> Option<Command<'a>>
+    ensures { option_map (λ command. command_meant command) result
+        ≡ named_command word.now name.now }
+{
+    match word {
+        "cells" => Some(Command::Cells(name)),
+        _ => None,
+    }
+}
+
+/// The command that the words are.
+pub fn command_of(words: &[String]) -> Option<Command<'_>>
+    ensures { option_map (λ command. command_meant command) result ≡ command_of (texts words.now) }
+{
+    match words {
+        [word] => bare_command(word.as_str()),
+        [word, name] => named_command(word.as_str(), name.as_str()),
+        _ => None,
+    }
+}

@@ -1,0 +1,95 @@
+ghost use Rattle.std.specs.Prelude.{◌≡◌};
+ghost use Rattle.xlsx_commands.specs.Status.{status_of};
+
+use std::alloc::{AllocError, AllocFailed};
+use std::error::Error;
+use std::fmt;
+use xlsx_error::XlsxError;
+
+/// Why the program fails (docs/FORMAT.md).
+#[derive(Debug, PartialEq, Eq, Drop)]
+pub enum ToolError {
+    /// The words are no command.
+    Usage,
+    /// The source failed.
+    ReadFault,
+    /// The input is longer than the limit.
+    InputTooLarge,
+    /// The input spells no package.
+    NotAPackage,
+    /// The workbook can't be opened, or its sheet not be read.
+    Workbook(XlsxError),
+    /// The sink failed; what was written is a front of the output.
+    WriteFault,
+    OutOfMemory,
+}
+
+impl ToolError {
+    /// The status that the program ends with.
+    pub fn status(&self) -> u8
+        ensures { result ≡ status_of self.now }
+    {
+        match self {
+            ToolError::Usage => 2,
+            ToolError::ReadFault => 3,
+            ToolError::InputTooLarge => 4,
+            ToolError::NotAPackage => 5,
+            ToolError::Workbook(_) => 6,
+            ToolError::WriteFault => 7,
+            ToolError::OutOfMemory => 8,
+        }
+    }
+}
+
+impl fmt::Display for ToolError {
+    ghost use Rattle.xlsx_commands.specs.Status.{error_text};
+
+    ghost output = { error_text };
+
+    fn fmt<W: fmt::Write>(&self, f: &mut fmt::Formatter<W>) -> fmt::Result {
+        match self {
+            ToolError::Usage => f.write_str("usage"),
+            ToolError::ReadFault => f.write_str("read fault"),
+            ToolError::InputTooLarge => f.write_str("input too large"),
+            ToolError::NotAPackage => f.write_str("not a package"),
+            ToolError::Workbook(error) => write!(f, "{error}"),
+            ToolError::WriteFault => f.write_str("write fault"),
+            ToolError::OutOfMemory => f.write_str("out of memory"),
+        }
+    }
+}
+
+impl Error for ToolError {}
+
+impl From<AllocError> for ToolError {
+    ghost use Rattle.xlsx_commands.specs.declared.error.ToolError.TheVariants.{OutOfMemory};
+
+    ghost from_gives = { λ _ e. e ≡ OutOfMemory };
+
+    fn from(_refused: AllocError) -> ToolError {
+        ToolError::OutOfMemory
+    }
+}
+
+impl<T: Drop> From<AllocFailed<T>> for ToolError {
+    ghost use Rattle.xlsx_commands.specs.declared.error.ToolError.TheVariants.{OutOfMemory};
+
+    ghost from_gives = { λ _ e. e ≡ OutOfMemory };
+
+    fn from(_refused: AllocFailed<T>) -> ToolError {
+        ToolError::OutOfMemory
+    }
+}
+
+impl From<XlsxError> for ToolError {
+    ghost use Rattle.xlsx_commands.specs.Status.{of_workbook};
+
+    ghost from_gives = { λ refusal e. e ≡ of_workbook refusal };
+
+    fn from(refusal: XlsxError) -> ToolError {
+        match refusal {
+            XlsxError::OutOfMemory => ToolError::OutOfMemory,
+            other => ToolError::Workbook(other),
+        }
+    }
+}

@@ -1,0 +1,50 @@
+ghost use Rattle.std.specs.Prelude.{◌≡◌, ℕ, List};
+ghost use Rattle.part_events.specs.Package.{Part};
+ghost use Rattle.xlsx_open.specs.Opening.{OpensSoundly};
+ghost use Rattle.xlsx_core.specs.Agreement.{HaveSameSheet};
+ghost use Rattle.xlsx_core.specs.SheetReading.{IsReadable};
+ghost use Rattle.xlsx_commands.specs.Command.{Command, cells, sheets, names};
+ghost use Rattle.xlsx_commands.specs.Outputs.{AreLinesOf, IsOutput, OutputCause, HasOutput};
+ghost use Rattle.xlsx_commands.specs.declared.error.ToolError.{ToolError};
+
+use xlsx_core::{readable_sheets_are_not_refused, sheets_are_read_alike, sheets_go_by_their_parts};
+use xlsx_open::openings_have_no_cause_of_a_refusal;
+
+/// A package that has an output for a command has no cause of a refusal of it.
+pub fn causes_leave_no_output()
+    ensures never { (command : Command) (parts : List Part) (output : List ℕ) (error : ToolError) →
+        IsOutput command parts output → OutputCause command parts error → ⊥ }
+{
+    readable_sheets_are_not_refused();
+    openings_have_no_cause_of_a_refusal();
+}
+
+/// A package has an output for `cells NAME` exactly where its sheet NAME is readable.
+pub fn readable_sheets_have_lines()
+    ensures onward { (parts : List Part) (name : List ℕ) →
+        IsReadable parts name → HasOutput (cells name) parts }
+    ensures back { (parts : List Part) (name : List ℕ) →
+        HasOutput (cells name) parts → IsReadable parts name }
+{}
+
+/// A package has an output for `sheets`, and one for `names`, exactly where its workbook opens,
+/// whatever the parts of its sheets hold.
+pub fn workbooks_that_open_have_lists()
+    ensures onward { (parts : List Part) →
+        OpensSoundly parts → HasOutput sheets parts × HasOutput names parts }
+    ensures sheets { (parts : List Part) → HasOutput sheets parts → OpensSoundly parts }
+    ensures names { (parts : List Part) → HasOutput names parts → OpensSoundly parts }
+{}
+
+/// A sheet has one listing, and so have the sheets of two packages that have the same parts where
+/// it is read from.
+pub fn sheets_have_one_listing()
+    ensures one { (parts : List Part) (name lines others : List ℕ) → AreLinesOf parts name lines →
+        AreLinesOf parts name others → lines ≡ others }
+    ensures alike { (parts other : List Part) (name lines others : List ℕ) →
+        HaveSameSheet parts other name → AreLinesOf parts name lines →
+        AreLinesOf other name others → lines ≡ others }
+{
+    sheets_are_read_alike();
+    sheets_go_by_their_parts();
+}

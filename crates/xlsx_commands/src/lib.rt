@@ -1,0 +1,18 @@
+//! The commands: which words ask for one, what each prints of a package, and why it can't
+//! (docs/FORMAT.md).
+#![tactic(auto)]
+
+mod book_lists;
+mod cell_lines;
+mod command;
+mod error;
+mod laws;
+mod output;
+
+pub use command::{Command, command_of};
+pub use error::ToolError;
+pub use laws::{
+    causes_leave_no_output, readable_sheets_have_lines, sheets_have_one_listing,
+    workbooks_that_open_have_lists,
+};
+pub use output::{output_of, own_package};

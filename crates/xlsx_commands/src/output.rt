@@ -1,0 +1,40 @@
+ghost use Rattle.std.specs.Prelude.{◌≡◌, option_map, IfOk, IfErr};
+ghost use Rattle.xlsx_commands.specs.Command.{command_meant, own_parts};
+ghost use Rattle.xlsx_commands.specs.Outputs.{IsOutput, OutputFails};
+
+use crate::book_lists::{name_lines, sheet_lines};
+use crate::cell_lines::cell_lines;
+use crate::command::Command;
+use crate::error::ToolError;
+use part_events::MemoryPackage;
+use std::alloc::Global;
+
+/// The package that a command works on where it reads no input.
+#[tactic(auto, unfolding(crate::specs::Command::own_parts))]
+pub fn own_package(alloc: Global, command: Command<'_>) -> Option<MemoryPackage>
+    ensures { option_map (λ held. held.parts) result ≡ own_parts (command_meant command.entry) }
+{
+    match command {
+        Command::Cells(_) => None,
+        Command::Sheets => None,
+        Command::Names => None,
+    }
+}
+
+/// The output of a command on a package, whole.
+#[tactic(auto, unfolding(crate::specs::Outputs::IsOutput, crate::specs::Outputs::WorkbookCause))]
+pub fn output_of(
+    alloc: Global,
+    command: Command<'_>,
+    package: MemoryPackage,
+) -> Result<Vec<u8>, ToolError>
+    ensures ok { IfOk result (λ output.
+        IsOutput (command_meant command.entry) «package».parts output.items) }
+    ensures err { IfErr result (OutputFails (command_meant command.entry) «package».parts) }
+{
+    match command {
+        Command::Cells(name) => cell_lines(alloc, package, name),
+        Command::Sheets => sheet_lines(alloc, package),
+        Command::Names => name_lines(alloc, package),
+    }
+}
