@@ -159,8 +159,8 @@ pub contents_fail : (old mid new : PackageState) (path : List ℕ) (related : Li
     (AreContentsRefused (folder_of path) related) (workbook_part path) mid new error
     → WorkbookFails path old new error
 contents_fail old mid new path related error same has fails =
-    fails_by_weaker (WorkbookCause old.parts path) (ContentsCause mid.parts path related) new error same
-    (λ told cause. inr (
+    fails_by_weaker (WorkbookCause old.parts path) (ContentsCause mid.parts path related) new error
+    same (λ told cause. inr (
       related,
       has told,
       subst (λ (parts : List Part). ContentsCause parts path related error) same.parts cause,
