@@ -11,11 +11,11 @@ use Rattle.xlsx_cells.specs.Position.{NoCell}
 use Rattle.xlsx_cells.specs.Stream.{Stream, TakesCell}
 use Rattle.xlsx_cells.specs.declared.cell_records.XlsxCellFormula.{XlsxCellFormula}
 
-abbrev pub value_entry : Cell DataRef → (ℕ × ℕ) × CellValue
-value_entry own = (own.pos, value_of_data_ref own.val)
+abbrev pub value_taken_from : Cell DataRef → (ℕ × ℕ) × CellValue
+value_taken_from own = (own.pos, value_of_data_ref own.val)
 
-abbrev pub formula_entry : XlsxCellFormula → (ℕ × ℕ) × CellValue
-formula_entry own = (own.pos, value_of_data_ref own.value)
+abbrev pub formula_taken_from : XlsxCellFormula → (ℕ × ℕ) × CellValue
+formula_taken_from own = (own.pos, value_of_data_ref own.value)
 
 -- two cells were taken, the second with its formula by those kept before both
 pub record TakesBoth

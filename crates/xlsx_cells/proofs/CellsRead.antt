@@ -17,7 +17,7 @@ use Rattle.xlsx_error.specs.declared.error.XlsxError.TheVariants.{OutOfMemory}
 use Rattle.cell_data.specs.CellValue.{value_of_data_ref}
 use Rattle.cell_data.specs.declared.format.CellFormat.{CellFormat}
 use Rattle.xlsx_sections.specs.Elements.{end_outside}
-use Rattle.xlsx_sections.specs.PartSection.{PartSection, SectionFails, inside_of, section_left}
+use Rattle.xlsx_sections.specs.PartSection.{SectionFails, inside_of, section_left}
 use Rattle.xlsx_sections.specs.PartSection.{has_end}
 use Rattle.xlsx_sections.specs.Refusal.{Refusal, in_element, further, events_behind}
 use Rattle.xlsx_sections.proofs.ElementsRead.{IsElementFound, IsElementPassed, own_inside}
@@ -29,7 +29,7 @@ use Rattle.xlsx_formulas.specs.Formula.{FormulaText, formulas_in}
 use Rattle.xlsx_formulas.specs.Kept.{AreMasters, last_seen}
 use Rattle.xlsx_formulas.specs.declared.masters.Masters.{Masters}
 use Rattle.xlsx_sections.proofs.SectionsRead.{same_tag}
-use Rattle.xlsx_cells.specs.Children.{AreChildrenRefused, ReadsFormulas, KeepsMasters, kept_by}
+use Rattle.xlsx_cells.specs.Children.{AreChildrenRefused, ReadsCellFormulas, KeepsMasters, kept_by}
 use Rattle.xlsx_cells.specs.Counting.{AreKept, IsStartRefused, IsRefused}
 use Rattle.xlsx_cells.specs.Ends.{reads_children, kind_of_cell, end_in_child_element}
 use Rattle.xlsx_cells.specs.Ends.{end_in_children, end_in_contents}
@@ -233,7 +233,7 @@ kept_none false old new same = λ earlier are. rw same are
 writes_of : (formulas : Bool) (wants : Wants) (keeps : Bool) (inside : List Event)
     (old new : Masters) (last : Option FormulaText) → wants.formulas ≡ formulas
     → (wants.formulas ≡ true
-    → ReadsFormulas keeps inside old (record { masters = new; last = last }))
+    → ReadsCellFormulas keeps inside old (record { masters = new; last = last }))
     → (wants.formulas ≡ false → new ≡ old) → WritesOf wants keeps inside old new last
 writes_of true wants keeps inside old new last is reads same =
     let all = reads is in
@@ -288,7 +288,7 @@ pub taken_cell : (wants : Wants) (keeps : Bool) (grounds : Grounds) (before : Li
     → old.reading.source.is_told ≡ true → AreMasters earlier old.masters → read.pos ≡ position
     → (wants.values ≡ true → cell_value grounds finds.tag (content 0 (ahead mid))
     ≡ Ok (value_of_data_ref read.value))
-    → (wants.formulas ≡ true → ReadsFormulas keeps (content 0 (ahead mid)) old.masters
+    → (wants.formulas ≡ true → ReadsCellFormulas keeps (content 0 (ahead mid)) old.masters
     (record { masters = masters; last = last_seen read.formula }))
     → (wants.formulas ≡ false → masters ≡ old.masters)
     → (wants.styles ≡ true → id_named finds.tag ≡ Ok read.style_id)

@@ -26,7 +26,7 @@ use Rattle.xlsx_formulas.specs.Kept.{AreMasters}
 use Rattle.xlsx_formulas.specs.declared.masters.Masters.{Masters}
 use Rattle.xlsx_formulas.proofs.Cells.{behind_further, last_further}
 use Rattle.xlsx_cells.specs.Children.{IsNamedAs, IsChildRefused, ChildFails, LastStep}
-use Rattle.xlsx_cells.specs.Children.{StepsFormula, ReadsFormula, ReadsFormulas, KeepsMasters}
+use Rattle.xlsx_cells.specs.Children.{StepsFormula, ReadsFormula, ReadsCellFormulas, KeepsMasters}
 use Rattle.xlsx_cells.specs.Children.{kept_by}
 use Rattle.xlsx_cells.specs.Ends.{reads_children, end_in_child}
 use Rattle.xlsx_cells.specs.declared.children.ChildName.TheVariants.{Formula, Value, Stray}
@@ -164,7 +164,7 @@ formulas_refused has same refuses =
 -- all children were read
 pub formulas_whole : {keeps : Bool} {inside : List Event} {left : List Element} {first : Masters}
     (new : LastStep) → HasWritten keeps (formulas_in inside) left first new.masters new.last
-    → left ≡ [] → ReadsFormulas keeps inside first new
+    → left ≡ [] → ReadsCellFormulas keeps inside first new
 formulas_whole new has none = record {
   written = has.written;
   listed = all_taken child_formula has.written none has.formulas;

@@ -23,12 +23,12 @@ use Rattle.xlsx_sections.proofs.Refused.{refused_later}
 use Rattle.xlsx_sections.proofs.SectionsRead.{keeps_further}
 use Rattle.xlsx_values.specs.Value.{Grounds}
 use Rattle.xlsx_formulas.specs.Formula.{FormulaText, cell_formula, behind_formulas}
-use Rattle.xlsx_cells.specs.CellErrors.{IsCellError, IsStyledError, IsStepError, IsStyledStepError}
+use Rattle.xlsx_cells.specs.CellErrors.{IsCellError, IsStyledError, IsStreamError, IsStyledStreamError}
 use Rattle.xlsx_cells.specs.Counting.{AreKept}
 use Rattle.xlsx_cells.specs.Ends.{end_in_cell, end_in_data}
 use Rattle.xlsx_cells.specs.Finding.{IsMarkRefused, IsStepRefused}
 use Rattle.xlsx_cells.specs.Marks.{Mark, row_start, row_end, cell, is_cell, marks, behind_marks}
-use Rattle.xlsx_cells.specs.Position.{row_named, PassesMarks, NoCell, IsPlaced}
+use Rattle.xlsx_cells.specs.Position.{PassesMarks, NoCell, IsPlaced}
 use Rattle.xlsx_cells.specs.Sheet.{behind_row, answers_from, placed_value, placed_formulas}
 use Rattle.xlsx_cells.specs.Sheet.{values_in, formulas_written, formulas_along, is_nothing}
 use Rattle.xlsx_cells.specs.Sheet.{is_empty, used_values, used_formulas}
@@ -36,7 +36,7 @@ use Rattle.xlsx_cells.specs.SheetPart.{AreDataRefused, DataFails, HoldsValues, H
 use Rattle.xlsx_cells.specs.SheetPart.{LackUnwanted, value_entry, value_entries}
 use Rattle.xlsx_cells.specs.SheetPart.{formula_entry, formula_entries}
 use Rattle.xlsx_cells.specs.Stream.{Stream, StandsBehind, IsGoing, IsCellRefused, IsWritten}
-use Rattle.xlsx_cells.specs.Stream.{TakesCell, NextFails, marks_ahead, data_ahead}
+use Rattle.xlsx_cells.specs.Stream.{TakesCell, NextCellFails, marks_ahead, data_ahead}
 use Rattle.xlsx_cells.specs.Stream.{LacksUnwantedText}
 use Rattle.xlsx_cells.specs.StyleIds.{placed_id, ids_in, HoldsIds}
 use Rattle.xlsx_cells.specs.declared.cell_read.CellText.{CellText}
@@ -361,7 +361,7 @@ pub step_refused : (wants : Wants) (grounds : Grounds) (old mid new : Stream) (e
     → (refusal : Refusal) → ((before : List Mark) → AreKept before mid.counters
     → IsMarkRefused NoCell (IsCellRefused wants grounds) before (marks_ahead mid) refusal)
     → IsMarkRefused IsPlaced (IsCellRefused wants grounds) [] (marks_ahead old) refusal)
-    → NextFails wants grounds mid new.reading error → DataFails wants grounds old new error
+    → NextCellFails wants grounds mid new.reading error → DataFails wants grounds old new error
 step_refused wants grounds old mid new Failed going same keeps weaker fails =
     absurd (let both : true ≡ false = sym fails ∙ going.failed in cc)
 step_refused wants grounds old mid new error going same keeps weaker fails =
@@ -379,14 +379,14 @@ step_refused wants grounds old mid new error going same keeps weaker fails =
 
 -- a step behind which no call was refused doesn't answer that one was
 pub step_error : (wants : Wants) (grounds : Grounds) (mid new : Stream) (error : XlsxError)
-    → IsGoing mid → NextFails wants grounds mid new.reading error → IsStepError error
+    → IsGoing mid → NextCellFails wants grounds mid new.reading error → IsStreamError error
     → IsCellError error
 step_error wants grounds mid new Failed going fails is =
     absurd (let both : true ≡ false = sym fails ∙ going.failed in cc)
 step_error wants grounds mid new error going fails is = is
 
 pub styled_error : (wants : Wants) (grounds : Grounds) (mid new : Stream) (error : XlsxError)
-    → IsGoing mid → NextFails wants grounds mid new.reading error → IsStyledStepError error
+    → IsGoing mid → NextCellFails wants grounds mid new.reading error → IsStyledStreamError error
     → IsStyledError error
 styled_error wants grounds mid new Failed going fails is =
     absurd (let both : true ≡ false = sym fails ∙ going.failed in cc)

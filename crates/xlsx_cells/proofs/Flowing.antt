@@ -23,7 +23,7 @@ use Rattle.xlsx_formulas.proofs.Groups.{formulas_kept}
 use Rattle.xlsx_cells.specs.CellsReader.{EntersCells, IsValued, IsFormula, values_alone}
 use Rattle.xlsx_cells.specs.CellsReader.{formulas_alone, values_and_styles, values_and_formulas}
 use Rattle.xlsx_cells.specs.CellsReader.{IsValuedStyle, IsValuedFormula, IsValuedMetadata}
-use Rattle.xlsx_cells.specs.CellsReader.{some_text}
+use Rattle.xlsx_cells.specs.CellsReader.{written_text}
 use Rattle.xlsx_cells.specs.Counting.{AreKept}
 use Rattle.xlsx_cells.specs.Head.{is_sheet_data, AreDimensions}
 use Rattle.xlsx_cells.specs.Marks.{Mark}
@@ -184,7 +184,7 @@ styled_value_taken read own is takes = record {
 
 pub written_value_taken : {before : List Mark} {earlier : List FormulaText} {old new : Stream}
     {grounds : Grounds} (read : CellText) (formula : Option (String Global))
-    → option_map string_bytes formula ≡ some_text (string_bytes read.text)
+    → option_map string_bytes formula ≡ written_text (string_bytes read.text)
     → TakesCell NoCell before earlier old new (IsWritten values_and_formulas grounds earlier read)
     → TakesCell NoCell before earlier old new (IsValuedFormula grounds earlier
     (record { pos = read.pos; value = read.value; formula = formula }))
@@ -197,7 +197,7 @@ written_value_taken read formula is takes = record {
     placed = takes.holds.placed;
     valued = takes.holds.valued refl;
     listed = takes.holds.listed refl;
-    found = is ∙ ap some_text (takes.holds.found refl);
+    found = is ∙ ap written_text (takes.holds.found refl);
   };
   stands = takes.stands;
 }

@@ -5,7 +5,7 @@ use Rattle.part_events.specs.Event.{Event, start, end}
 use Rattle.part_events.specs.Section.{Element, unclosed}
 use Rattle.xlsx_sections.specs.Refusal.{Refusal}
 use Rattle.xlsx_cells.specs.Finding.{BehindRow, IsMarkRefused, PassesTo, TakesElement, LacksCell}
-use Rattle.xlsx_cells.specs.Finding.{element_and, open_mark}
+use Rattle.xlsx_cells.specs.Finding.{open_mark}
 use Rattle.xlsx_cells.specs.Marks.{Mark, row_start, row_end, cell, is_cell, marks, behind_marks}
 use Rattle.xlsx_cells.specs.Position.{row_named, PassesMarks}
 

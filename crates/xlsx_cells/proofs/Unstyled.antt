@@ -16,12 +16,11 @@ use Rattle.xlsx_formulas.proofs.Groups.{formulas_kept}
 use Rattle.xlsx_cells.specs.CellsReader.{styles_alone}
 use Rattle.xlsx_cells.specs.Counting.{AreKept}
 use Rattle.xlsx_cells.specs.Ends.{end_in_cell, end_in_data}
-use Rattle.xlsx_cells.specs.Finding.{IsMarkRefused, IsStepRefused, IsCutOff, LacksCell, PassesTo}
-use Rattle.xlsx_cells.specs.Finding.{TakesElement}
+use Rattle.xlsx_cells.specs.Finding.{IsStepRefused, IsCutOff, LacksCell, PassesTo}
 use Rattle.xlsx_cells.specs.Marks.{Mark, cell, is_cell, behind_marks}
 use Rattle.xlsx_cells.specs.Position.{NoCell}
 use Rattle.xlsx_cells.specs.Stream.{Stream, StandsBehind, IsGoing, IsCellRefused, IsRead, TakesCell}
-use Rattle.xlsx_cells.specs.Stream.{EndsData, NextFails, marks_ahead, are_closed_ahead, data_ahead}
+use Rattle.xlsx_cells.specs.Stream.{EndsData, NextCellFails, marks_ahead, are_closed_ahead, data_ahead}
 use Rattle.xlsx_cells.specs.StyleIds.{placed_id, IsIdRefused}
 use Rattle.xlsx_cells.specs.StyleSteps.{IsUnstyled, IsStyled, StyledFails}
 use Rattle.xlsx_cells.specs.declared.cell_read.CellRead.{CellRead}
@@ -165,7 +164,7 @@ pub styled_refused : (count : ℕ) (grounds : Grounds) (old mid new : Stream) (e
     → KeepsElements is_cell old.base old.reading mid.reading
     → (old.reading.source.is_told ≡ true → (before : List Mark) (earlier : List FormulaText)
     → StandsBehind before earlier old → HasSkipped count before earlier old mid)
-    → NextFails styles_alone grounds mid new.reading error
+    → NextCellFails styles_alone grounds mid new.reading error
     → StyledFails count old new.reading error
 styled_refused count grounds old mid new Failed first going same keeps skipped fails =
     absurd (let both : true ≡ false = sym fails ∙ going.failed in cc)

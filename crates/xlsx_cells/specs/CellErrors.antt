@@ -61,10 +61,10 @@ IsCellError (ParseFloat written) = ⊤
 IsCellError _ = ⊥
 
 -- those of a step of a stream, which fails from a refusal on
-abbrev pub IsStepError : XlsxError → Type 0
-IsStepError Failed = ⊤
-IsStepError error = IsCellError error
+abbrev pub IsStreamError : XlsxError → Type 0
+IsStreamError Failed = ⊤
+IsStreamError error = IsCellError error
 
-abbrev pub IsStyledStepError : XlsxError → Type 0
-IsStyledStepError Failed = ⊤
-IsStyledStepError error = IsStyledError error
+abbrev pub IsStyledStreamError : XlsxError → Type 0
+IsStyledStreamError Failed = ⊤
+IsStyledStreamError error = IsStyledError error

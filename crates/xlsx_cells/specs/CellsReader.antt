@@ -116,9 +116,9 @@ pub record IsValuedStyle
   pub valued : IsValued grounds own.0 before element kept
   pub styled : id_named element.tag ≡ Ok own.1
 
-abbrev pub some_text : List ℕ → Option (List ℕ)
-some_text [] = None
-some_text (b ∷ bs) = Some (b ∷ bs)
+abbrev pub written_text : List ℕ → Option (List ℕ)
+written_text [] = None
+written_text (b ∷ bs) = Some (b ∷ bs)
 
 -- the position, the value and the formula of a cell, where it isn't empty
 pub record IsValuedFormula
@@ -128,7 +128,7 @@ pub record IsValuedFormula
   pub valued : cell_value grounds element.tag element.inside ≡ Ok (value_of_data_ref own.value)
   pub listed : formulas_in element.inside ≡ Ok kept
   pub found :
-      option_map string_bytes own.formula ≡ some_text (cell_formula earlier own.pos kept)
+      option_map string_bytes own.formula ≡ written_text (cell_formula earlier own.pos kept)
 
 -- the position and the value of a cell, and what its last formula says; its formulas are not kept
 pub record IsValuedMetadata

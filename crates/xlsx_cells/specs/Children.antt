@@ -1,5 +1,5 @@
 -- How the children of a cell are read.
-use Rattle.std.specs.Prelude.{◌≡◌, ◌⊎◌, ℕ, List, [], ◌∷◌, length, true, false, Bool, Option, Some}
+use Rattle.std.specs.Prelude.{◌≡◌, ◌⊎◌, List, [], ◌∷◌, length, true, false, Bool, Option, Some}
 use Rattle.std.specs.Prelude.{None, option_map, Ok, Err, codes}
 use Rattle.std.specs.List.{last_or}
 use Rattle.part_events.specs.Event.{Tag, Event, start}
@@ -100,7 +100,7 @@ pub record ReadsFormula
   pub steps : StepsFormula keeps found old new
 
 -- the formulas of a cell's children were read: the cell writes these
-pub record ReadsFormulas
+pub record ReadsCellFormulas
     (keeps : Bool) (inside : List Event) (old : Masters) (new : LastStep) : Type 0 where
   pub written : List FormulaText
   pub listed : formulas_in inside ≡ Ok written

@@ -2,7 +2,7 @@
 -- dimensions.
 use Rattle.std.specs.Prelude.{◌≡◌, ⊤, ℕ, List, [], ◌∷◌, Bool, false, if◌then◌else◌, codes, Option}
 use Rattle.std.specs.Prelude.{Some, None}
-use Rattle.std.specs.Prelude.{option_map, string_bytes, true, Result, Ok, Err}
+use Rattle.std.specs.Prelude.{option_map, string_bytes, Result, Ok, Err}
 use Rattle.attr_text.specs.Attributes.{value_of, local_name_of}
 use Rattle.attr_text.specs.declared.fault.AttrFault.{AttrFault}
 use Rattle.cell_refs.specs.A1.{area}

@@ -125,8 +125,8 @@ StepFails passes refused wants old new error =
     old.reading new error
     × IsCutOff passes old.counters old.base old.reading error
 
-abbrev pub NextFails : Wants → Grounds → Stream → Reading → XlsxError → Type 0
-NextFails wants grounds old new error =
+abbrev pub NextCellFails : Wants → Grounds → Stream → Reading → XlsxError → Type 0
+NextCellFails wants grounds old new error =
     StepFails NoCell (IsCellRefused wants grounds) wants old new error
 
 -- behind the end of the data and behind a refusal nothing is read

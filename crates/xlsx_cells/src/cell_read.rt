@@ -10,7 +10,7 @@ ghost use Rattle.xlsx_error.specs.declared.error.XlsxError.TheVariants.{Io};
 ghost use Rattle.xlsx_values.specs.Book.{kind_of, grounds_of};
 ghost use Rattle.xlsx_values.specs.Value.{cell_value, value_in, style_number};
 ghost use Rattle.xlsx_formulas.specs.Kept.{last_seen};
-ghost use Rattle.xlsx_cells.specs.Children.{StandsAtElement, ReadsFormulas};
+ghost use Rattle.xlsx_cells.specs.Children.{StandsAtElement, ReadsCellFormulas};
 ghost use Rattle.xlsx_cells.specs.Counting.{IsStartRefused, IsRefused, IsPositionError};
 ghost use Rattle.xlsx_cells.specs.Ends.{kind_of_cell, reads_children};
 ghost use Rattle.xlsx_cells.specs.CellErrors.{IsCellError, IsStyledError};
@@ -152,7 +152,7 @@ pub fn read_cell<P: Package>(
     ensures formula { let old = reading (P.state «package».old) cursor.old in
         old.source.is_told ≡ true → asked.entry.wants.formulas ≡ true → (element : Element) →
         StandsAtElement element old →
-        IfOk result (λ read. ReadsFormulas asked.entry.keeps_masters element.inside masters.old
+        IfOk result (λ read. ReadsCellFormulas asked.entry.keeps_masters element.inside masters.old
         (record { masters = masters.new; last = last_seen read.formula })) }
     ensures same { asked.entry.wants.formulas ≡ false → OnOk result (masters.new ≡ masters.old) }
     ensures styled { let old = reading (P.state «package».old) cursor.old in

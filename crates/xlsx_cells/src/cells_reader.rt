@@ -6,13 +6,13 @@ ghost use Rattle.cell_styles.specs.StyleMap.{is_explicit};
 ghost use Rattle.xlsx_error.specs.declared.error.XlsxError.TheVariants.{Io, Failed};
 ghost use Rattle.xlsx_values.specs.Book.{grounds_of};
 ghost use Rattle.xlsx_formulas.specs.Formula.{FormulaText};
-ghost use Rattle.xlsx_cells.specs.CellErrors.{IsStepError, IsStyledStepError};
-ghost use Rattle.xlsx_cells.specs.CellsReader.{some_text};
+ghost use Rattle.xlsx_cells.specs.CellErrors.{IsStreamError, IsStyledStreamError};
+ghost use Rattle.xlsx_cells.specs.CellsReader.{written_text};
 ghost use Rattle.xlsx_cells.specs.Head.{IsHeadError};
 ghost use Rattle.xlsx_cells.specs.Marks.{Mark};
 ghost use Rattle.xlsx_cells.specs.Position.{NoCell};
 ghost use Rattle.xlsx_cells.specs.Stream.{stream, StandsBehind, IsStreaming, StandsTo, TakesEach};
-ghost use Rattle.xlsx_cells.specs.Stream.{NextFails, RestsAtEnd};
+ghost use Rattle.xlsx_cells.specs.Stream.{NextCellFails, RestsAtEnd};
 
 use crate::cell_read::{CellRead, CellText};
 use crate::cell_records::{XlsxCellFormula, XlsxCellFormulaMetadataRecord};
@@ -29,8 +29,8 @@ use xlsx_formulas::metadata_of;
 use xlsx_values::Book;
 
 /// A text that isn't empty.
-fn some_text(text: String) -> Option<String>
-    ensures { option_map string_bytes result ≡ some_text (string_bytes text) }
+fn written_text(text: String) -> Option<String>
+    ensures { option_map string_bytes result ≡ written_text (string_bytes text) }
 {
     if text.is_empty() {
         return None;
@@ -241,8 +241,8 @@ impl<'a, P: Package> XlsxCellReader<'a, P> {
             TakesEach NoCell (IsValued grounds) before earlier found old new) }
         ensures err { let old = stream_by P.state self.old in
             let new = stream_by P.state self.new in
-            IfErr result (NextFails values_alone (grounds_by self.old) old new.reading) }
-        ensures kind { IfErr result IsStepError }
+            IfErr result (NextCellFails values_alone (grounds_by self.old) old new.reading) }
+        ensures kind { IfErr result IsStreamError }
         ensures after { (stream_by P.state self.old).is_failed ≡ true →
             IsErrAnd result (λ error. error ≡ Failed) }
         ensures failed { (stream_by P.state self.new).is_failed ≡ is_err result }
@@ -286,8 +286,8 @@ impl<'a, P: Package> XlsxCellReader<'a, P> {
             TakesEach NoCell (IsFormula earlier) before earlier found old new) }
         ensures err { let old = stream_by P.state self.old in
             let new = stream_by P.state self.new in
-            IfErr result (NextFails formulas_alone (grounds_by self.old) old new.reading) }
-        ensures kind { IfErr result IsStepError }
+            IfErr result (NextCellFails formulas_alone (grounds_by self.old) old new.reading) }
+        ensures kind { IfErr result IsStreamError }
         ensures after { (stream_by P.state self.old).is_failed ≡ true →
             IsErrAnd result (λ error. error ≡ Failed) }
         ensures failed { (stream_by P.state self.new).is_failed ≡ is_err result }
@@ -328,8 +328,8 @@ impl<'a, P: Package> XlsxCellReader<'a, P> {
             IfOk result (λ found. TakesEach NoCell fact before earlier found old new) }
         ensures err { let old = stream_by P.state self.old in
             let new = stream_by P.state self.new in
-            IfErr result (NextFails values_and_styles (grounds_by self.old) old new.reading) }
-        ensures kind { IfErr result IsStepError }
+            IfErr result (NextCellFails values_and_styles (grounds_by self.old) old new.reading) }
+        ensures kind { IfErr result IsStreamError }
         ensures after { (stream_by P.state self.old).is_failed ≡ true →
             IsErrAnd result (λ error. error ≡ Failed) }
         ensures failed { (stream_by P.state self.new).is_failed ≡ is_err result }
@@ -375,8 +375,8 @@ impl<'a, P: Package> XlsxCellReader<'a, P> {
             IfOk result (λ found. TakesEach NoCell (fact earlier) before earlier found old new) }
         ensures err { let old = stream_by P.state self.old in
             let new = stream_by P.state self.new in
-            IfErr result (NextFails values_and_formulas (grounds_by self.old) old new.reading) }
-        ensures kind { IfErr result IsStepError }
+            IfErr result (NextCellFails values_and_formulas (grounds_by self.old) old new.reading) }
+        ensures kind { IfErr result IsStreamError }
         ensures after { (stream_by P.state self.old).is_failed ≡ true →
             IsErrAnd result (λ error. error ≡ Failed) }
         ensures failed { (stream_by P.state self.new).is_failed ≡ is_err result }
@@ -399,7 +399,7 @@ impl<'a, P: Package> XlsxCellReader<'a, P> {
         Ok(Some(XlsxCellFormula {
             pos,
             value,
-            formula: some_text(text),
+            formula: written_text(text),
         }))
     }
 
@@ -429,8 +429,8 @@ impl<'a, P: Package> XlsxCellReader<'a, P> {
             IfOk result (λ found. TakesEach NoCell fact before earlier found old new) }
         ensures err { let old = stream_by P.state self.old in
             let new = stream_by P.state self.new in
-            IfErr result (NextFails values_and_formulas (grounds_by self.old) old new.reading) }
-        ensures kind { IfErr result IsStepError }
+            IfErr result (NextCellFails values_and_formulas (grounds_by self.old) old new.reading) }
+        ensures kind { IfErr result IsStreamError }
         ensures after { (stream_by P.state self.old).is_failed ≡ true →
             IsErrAnd result (λ error. error ≡ Failed) }
         ensures failed { (stream_by P.state self.new).is_failed ≡ is_err result }
@@ -489,7 +489,7 @@ impl<'a, P: Package> XlsxCellReader<'a, P> {
         ensures err { let old = stream_by P.state self.old in
             let new = stream_by P.state self.new in
             IfErr result (StyledFails (length (styles_held self.old)) old new.reading) }
-        ensures kind { IfErr result IsStyledStepError }
+        ensures kind { IfErr result IsStyledStreamError }
         ensures after { (stream_by P.state self.old).is_failed ≡ true →
             IsErrAnd result (λ error. error ≡ Failed) }
         ensures failed { (stream_by P.state self.new).is_failed ≡ is_err result }

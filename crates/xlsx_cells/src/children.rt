@@ -15,7 +15,7 @@ ghost use Rattle.xlsx_sections.specs.Answers.{or_earlier};
 ghost use Rattle.xlsx_formulas.specs.Kept.{last_seen};
 ghost use Rattle.xlsx_cells.specs.Children.{StandsAtElement, value_kept, IsNamedAs, value_name};
 ghost use Rattle.xlsx_cells.specs.Children.{ChildFails, AreChildrenRefused, LastStep};
-ghost use Rattle.xlsx_cells.specs.Children.{ReadsFormula, ReadsFormulas};
+ghost use Rattle.xlsx_cells.specs.Children.{ReadsFormula, ReadsCellFormulas};
 ghost use Rattle.xlsx_cells.specs.declared.children.ChildName.TheVariants.{Formula};
 ghost use Rattle.xlsx_cells.specs.CellErrors.{IsCellError};
 ghost use Rattle.xlsx_cells.specs.Ends.{reads_children, end_in_children};
@@ -282,7 +282,7 @@ pub fn read_children<P: Package>(
         ≡ or_nothing (Ok (value_kept contents.value))) }
     ensures formula { let old = reading (P.state «package».old) cursor.old in
         old.source.is_told ≡ true → asked.entry.wants.formulas ≡ true →
-        IfOk result (λ contents. ReadsFormulas asked.entry.keeps_masters (content 0 (ahead old))
+        IfOk result (λ contents. ReadsCellFormulas asked.entry.keeps_masters (content 0 (ahead old))
         masters.old (record { masters = masters.new; last = last_seen contents.formula })) }
     ensures same { asked.entry.wants.formulas ≡ false → OnOk result (masters.new ≡ masters.old) }
     ensures unvalued { asked.entry.wants.values ≡ false →

@@ -11,11 +11,11 @@ ghost use Rattle.xlsx_formulas.specs.Formula.{FormulaText};
 ghost use Rattle.xlsx_formulas.specs.Kept.{AreMasters};
 ghost use Rattle.xlsx_cells.specs.Counting.{AreKept};
 ghost use Rattle.xlsx_cells.specs.Ends.{reads_children};
-ghost use Rattle.xlsx_cells.specs.CellErrors.{IsStepError, IsStyledStepError};
+ghost use Rattle.xlsx_cells.specs.CellErrors.{IsStreamError, IsStyledStreamError};
 ghost use Rattle.xlsx_cells.specs.Marks.{Mark};
 ghost use Rattle.xlsx_cells.specs.Position.{NoCell};
 ghost use Rattle.xlsx_cells.specs.Stream.{stream, IsStreaming, StandsBehind, StandsTo, TakesEach};
-ghost use Rattle.xlsx_cells.specs.Stream.{IsRead, IsWritten, NextFails, RestsAtEnd};
+ghost use Rattle.xlsx_cells.specs.Stream.{IsRead, IsWritten, NextCellFails, RestsAtEnd};
 ghost use Rattle.xlsx_cells.specs.Stream.{LacksUnwanted, LacksUnwantedText};
 ghost use Rattle.xlsx_cells.specs.StyleSteps.{IsUnstyled, IsStyled, place_of, StyledFails};
 
@@ -103,10 +103,10 @@ impl SheetCursor {
         ensures err { let old = stream (P.state «package».old) self.old in
             let new = stream (P.state «package».new) self.new in
             IfErr result
-            (NextFails asked.entry.wants (grounds_of asked.entry.book) old new.reading) }
-        ensures kind { IfErr result IsStepError }
+            (NextCellFails asked.entry.wants (grounds_of asked.entry.book) old new.reading) }
+        ensures kind { IfErr result IsStreamError }
         ensures plain { reads_children asked.entry.wants ≡ false →
-            IfErr result IsStyledStepError }
+            IfErr result IsStyledStreamError }
         ensures after { self.old.failed ≡ true → IsErrAnd result (λ error. error ≡ Failed) }
         ensures failed { self.new.failed ≡ is_err result }
     {
@@ -166,10 +166,10 @@ impl SheetCursor {
         ensures err { let old = stream (P.state «package».old) self.old in
             let new = stream (P.state «package».new) self.new in
             IfErr result
-            (NextFails asked.entry.wants (grounds_of asked.entry.book) old new.reading) }
-        ensures kind { IfErr result IsStepError }
+            (NextCellFails asked.entry.wants (grounds_of asked.entry.book) old new.reading) }
+        ensures kind { IfErr result IsStreamError }
         ensures plain { reads_children asked.entry.wants ≡ false →
-            IfErr result IsStyledStepError }
+            IfErr result IsStyledStreamError }
         ensures after { self.old.failed ≡ true → IsErrAnd result (λ error. error ≡ Failed) }
         ensures failed { self.new.failed ≡ is_err result }
     {
@@ -236,7 +236,7 @@ impl SheetCursor {
         ensures err { let old = stream (P.state «package».old) self.old in
             let new = stream (P.state «package».new) self.new in
             IfErr result (StyledFails style_count old new.reading) }
-        ensures kind { IfErr result IsStyledStepError }
+        ensures kind { IfErr result IsStyledStreamError }
         ensures after { self.old.failed ≡ true → IsErrAnd result (λ error. error ≡ Failed) }
         ensures failed { self.new.failed ≡ is_err result }
     {

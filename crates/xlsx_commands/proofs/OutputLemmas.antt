@@ -13,7 +13,7 @@ use Rattle.xlsx_open.specs.Opening.{without_path}
 use Rattle.xlsx_core.specs.SheetReading.{ReadsAs, IsReadable, SheetCause, SheetFails}
 use Rattle.xlsx_commands.specs.BookLists.{sheet_lines, name_lines}
 use Rattle.xlsx_commands.specs.Command.{Command, cells, sheets, names}
-use Rattle.xlsx_commands.specs.Outputs.{IsOutput, WorkbookCause, OutputCause, HasOutput, CallFails}
+use Rattle.xlsx_commands.specs.Outputs.{IsOutput, RefusedWorkbookCause, OutputCause, HasOutput, CallFails}
 use Rattle.xlsx_commands.specs.Status.{of_workbook}
 use Rattle.xlsx_commands.specs.declared.error.ToolError.{ToolError}
 use Rattle.xlsx_commands.specs.declared.error.ToolError.TheVariants.{Workbook}
@@ -103,8 +103,8 @@ OpeningsNever =
 workbook_never :
     SheetsNever → OpeningsNever → (command : Command) (parts : List Part) (output : List ℕ)
     (error : XlsxError)
-    → IsOutput command parts output → WorkbookCause command parts error → ⊥
-unfolding IsOutput WorkbookCause
+    → IsOutput command parts output → RefusedWorkbookCause command parts error → ⊥
+unfolding IsOutput RefusedWorkbookCause
 workbook_never read opened (cells name) parts output error prints cause =
     read parts name prints.values prints.formulas prints.styles error prints.reads cause
 workbook_never read opened sheets parts output error prints cause =

@@ -29,10 +29,10 @@ IsOutput sheets parts output = AreSheetLines parts output
 IsOutput names parts output = AreNameLines parts output
 
 -- why its workbook refuses it
-unfoldable pub WorkbookCause : Command → List Part → XlsxError → Type 0
-WorkbookCause (cells name) parts error = SheetCause parts name error
-WorkbookCause sheets parts error = OpeningCause parts error
-WorkbookCause names parts error = OpeningCause parts error
+unfoldable pub RefusedWorkbookCause : Command → List Part → XlsxError → Type 0
+RefusedWorkbookCause (cells name) parts error = SheetCause parts name error
+RefusedWorkbookCause sheets parts error = OpeningCause parts error
+RefusedWorkbookCause names parts error = OpeningCause parts error
 
 -- ---- what the rows make
 
@@ -42,7 +42,7 @@ HasOutput command parts = (output : List ℕ) × IsOutput command parts output
 
 -- why it has none
 abbrev pub OutputCause : Command → List Part → ToolError → Type 0
-OutputCause command parts (Workbook error) = WorkbookCause command parts error
+OutputCause command parts (Workbook error) = RefusedWorkbookCause command parts error
 OutputCause command parts _ = ⊥
 
 -- when a command is refused; want of memory may come at any time

@@ -22,7 +22,7 @@ pub fn own_package(alloc: Global, command: Command<'_>) -> Option<MemoryPackage>
 }
 
 /// The output of a command on a package, whole.
-#[tactic(auto, unfolding(crate::specs::Outputs::IsOutput, crate::specs::Outputs::WorkbookCause))]
+#[tactic(auto, unfolding(crate::specs::Outputs::IsOutput, crate::specs::Outputs::RefusedWorkbookCause))]
 pub fn output_of(
     alloc: Global,
     command: Command<'_>,

@@ -1,5 +1,5 @@
 -- What the sheets of a workbook share: its strings, its theme and its styles.
-use Rattle.std.specs.Prelude.{◌≡◌, ◌⊎◌, ℕ, ◌+◌, List, map, Bool, true, codes, string_bytes}
+use Rattle.std.specs.Prelude.{◌≡◌, ◌⊎◌, ℕ, ◌+◌, List, map, Bool, codes, string_bytes}
 use Rattle.part_events.specs.Package.{Part, PackageState, CountsUp, part_of, event_count}
 use Rattle.xlsx_error.specs.declared.error.XlsxError.{XlsxError}
 use Rattle.cell_data.specs.declared.format.CellFormat.{CellFormat}

@@ -6,7 +6,7 @@ use Rattle.std.proofs.lemmas.List.{length-append, length-reverse}
 use Rattle.std.specs.Prelude.{reverse, if◌then◌else◌}
 use Rattle.part_events.specs.Event.{Tag, Event, start, end, leaf, IsStartAnd}
 use Rattle.part_events.specs.Nesting.{whole}
-use Rattle.part_events.specs.Reading.{Reading, IsReading, ReadsOn, Skips, IsAtEnd, BreaksAt, ahead}
+use Rattle.part_events.specs.Reading.{Reading, IsReading, ReadsOn, Skips, IsAtEnd, ahead}
 use Rattle.part_events.specs.Reading.{events_of}
 use Rattle.part_events.specs.Section.{Element, content, is_closed, behind, outermost, unclosed}
 use Rattle.part_events.specs.Walk.{inside, element_at, section_ahead, section_behind}
@@ -19,7 +19,7 @@ use Rattle.xlsx_error.specs.declared.error.XlsxError.{XlsxError}
 use Rattle.xlsx_sections.specs.Elements.{KeepsElements, FindsElementIn, end_outside}
 use Rattle.xlsx_sections.specs.Elements.{end_among}
 use Rattle.xlsx_sections.specs.PartSection.{Ending, Refusing, KeepsSection, SectionFails, StandsAtStart}
-use Rattle.xlsx_sections.specs.PartSection.{Never, section_left, last_of, has_end, inside_of}
+use Rattle.xlsx_sections.specs.PartSection.{Never, section_left, has_end, inside_of}
 use Rattle.xlsx_sections.specs.Refusal.{Refusal, further, events_behind}
 pub use Rattle.xlsx_sections.specs.Steps.{IsElementFound}
 use Rattle.xlsx_sections.specs.Steps.{StepsToElement}

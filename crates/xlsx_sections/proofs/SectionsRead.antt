@@ -12,8 +12,8 @@ use Rattle.part_events.specs.Reading.{Reading, IsReading, ReadsOn, IsTracked, Is
 use Rattle.part_events.specs.Reading.{TakesEvent, StepsAhead, ahead, events_of}
 use Rattle.part_events.specs.Section.{behind, starts_by}
 use Rattle.part_events.specs.Section.{behind_start, is_named}
-use Rattle.part_events.specs.Walk.{inside, section_ahead, is_closed_ahead, behind_section}
-use Rattle.part_events.specs.Walk.{section_end, TakesInside, IsNextStart}
+use Rattle.part_events.specs.Walk.{inside, section_ahead, is_closed_ahead}
+use Rattle.part_events.specs.Walk.{TakesInside, IsNextStart}
 use Rattle.part_events.proofs.Nested.{whole_split}
 use Rattle.part_events.proofs.Onward.{reads_further}
 use Rattle.part_events.proofs.Walking.{takes_inside}

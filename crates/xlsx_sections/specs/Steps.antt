@@ -1,5 +1,5 @@
 -- What a step in a section comes to, for every place from which the section was kept up to here.
-use Rattle.std.specs.Prelude.{◌≡◌, ℕ, suc, ◌+◌, ◌<◌, ◌≤◌, List, [], ◌∷◌, length, Bool, true}
+use Rattle.std.specs.Prelude.{◌≡◌, ℕ, suc, ◌+◌, ◌<◌, ◌≤◌, [], ◌∷◌, length, Bool, true}
 use Rattle.std.specs.Prelude.{Option, Some, None}
 use Rattle.part_events.specs.Event.{Tag, Event, IsStartAnd}
 use Rattle.part_events.specs.Reading.{Reading, TakesEvent, StepsAhead}

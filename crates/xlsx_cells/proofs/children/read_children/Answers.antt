@@ -1,12 +1,11 @@
 use Rattle.std.proofs.Common.{◌≡◌, ℕ, true, Some, None, refl, ◌∙◌, ap, subst, inl, inr, arith}
 use Rattle.std.proofs.Common.{codes, string_bytes}
 use Rattle.std.proofs.lemmas.Result.{err_from_is_err_and}
-use Rattle.part_events.specs.Event.{Tag}
 use Rattle.part_events.specs.Reading.{reading, ahead}
 use Rattle.part_events.specs.Section.{content, is_any}
 use Rattle.part_events.specs.Walk.{inside, element_at}
 use Rattle.xlsx_sections.specs.Elements.{end_outside, FindsElementIn}
-use Rattle.xlsx_sections.specs.PartSection.{Never, SectionFails, StandsAtStart}
+use Rattle.xlsx_sections.specs.PartSection.{Never, SectionFails}
 use Rattle.xlsx_sections.specs.Refusal.{in_element}
 use Rattle.xlsx_sections.proofs.ElementsRead.{IsElementFound, IsElementPassed, element_there}
 use Rattle.xlsx_sections.proofs.ElementsRead.{element_passed, element_refused, own_inside}
@@ -15,7 +14,7 @@ use Rattle.xlsx_sections.proofs.Refused.{refused_later}
 use Rattle.xlsx_values.specs.Book.{kind_of, grounds_of}
 use Rattle.xlsx_values.specs.Value.{child_value, said_value, or_nothing}
 use Rattle.xlsx_formulas.specs.Kept.{last_seen}
-use Rattle.xlsx_cells.specs.Children.{StandsAtElement, LastStep, ReadsFormulas}
+use Rattle.xlsx_cells.specs.Children.{StandsAtElement, LastStep, ReadsCellFormulas}
 use Rattle.xlsx_cells.specs.Children.{value_kept}
 use Rattle.xlsx_cells.specs.Children.{IsChildRefused, AreChildrenRefused}
 use Rattle.xlsx_cells.specs.Ends.{end_in_child, end_in_child_element, end_in_children}
@@ -161,6 +160,6 @@ returns-clause-formula g c = λ told wanted.
       last = last_seen c.children.latest.formula;
     } in
     let none : inside base old ≡ 0 = omega (arith, now.base) in
-    subst (λ (n : ℕ). ReadsFormulas c.args.asked.keeps_masters (content n (ahead old))
+    subst (λ (n : ℕ). ReadsCellFormulas c.args.asked.keeps_masters (content n (ahead old))
     c.args.masters.now behind) none
     (formulas_whole behind (now.formulas told wanted) closes.elements)

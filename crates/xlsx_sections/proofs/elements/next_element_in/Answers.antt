@@ -1,7 +1,7 @@
 use Rattle.std.proofs.Common.{◌≡◌, List, length, map, arith, ap, sym, ◌∙◌, subst}
 use Rattle.part_events.specs.Event.{Event}
 use Rattle.part_events.specs.Nesting.{whole}
-use Rattle.part_events.specs.Section.{is_named, is_any}
+use Rattle.part_events.specs.Section.{is_named}
 use Rattle.part_events.proofs.Onward.{whole_at_end}
 use Rattle.xlsx_sections.specs.Elements.{end_outside}
 use Rattle.xlsx_sections.proofs.ElementsRead.{element_step_found}

@@ -2,8 +2,7 @@ use Rattle.std.proofs.Common.{◌≡◌, ◌-◌, List, Some, true, ◌∙◌, r
 use Rattle.std.proofs.lemmas.Result.{err_from_is_err_and}
 use Rattle.part_events.specs.Reading.{reading}
 use Rattle.part_events.specs.Walk.{element_at}
-use Rattle.xlsx_error.specs.declared.error.XlsxError.TheVariants.{Failed}
-use Rattle.xlsx_sections.proofs.ElementsRead.{IsElementFound, IsElementPassed, keeps_none}
+use Rattle.xlsx_sections.proofs.ElementsRead.{IsElementFound, keeps_none}
 use Rattle.xlsx_sections.proofs.ElementsRead.{element_there, element_found, element_passed}
 use Rattle.xlsx_sections.proofs.ElementsRead.{element_refused}
 use Rattle.xlsx_sections.proofs.Refused.{refused_as}
@@ -17,7 +16,7 @@ use Rattle.xlsx_cells.specs.Marks.{Mark, is_cell}
 use Rattle.xlsx_cells.specs.Position.{NoCell}
 use Rattle.xlsx_cells.specs.Stream.{stream, IsGoing, IsContentRefused, IsCellRefused}
 use Rattle.xlsx_cells.proofs.CellsRead.{found_cell_refused, found_cell_cut, taken_cell}
-use Rattle.xlsx_cells.proofs.Flowing.{is_going, never_rests}
+use Rattle.xlsx_cells.proofs.Flowing.{is_going}
 use Rattle.xlsx_cells.proofs.Fronts.{mark_weaker}
 use Rattle.xlsx_cells.proofs.Refusing.{step_fails}
 use Rattle.xlsx_cells.proofs.sheet_cursor.SheetCursor.next.Goals as goal
