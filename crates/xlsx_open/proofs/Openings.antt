@@ -64,9 +64,14 @@ leaves_then less first second = record {
   taken = λ told. omega (arith, less, first.taken told, second.taken (first.parts.is_told ∙ told));
 }
 
-pub counts_then : {few more most old mid new : ℕ} → few + more ≡ most → CountsUp few old mid
-    → CountsUp more mid new → CountsUp most old new
-counts_then sum first second = omega (arith, sum, first, second)
+-- what a call takes behind another one, whatever it answers
+pub uses_behind : {A E : Type 0} (fault : E) (result : Result A E) (few more most : ℕ)
+    (old mid new : PackageState) → few + more ≤ most → UsesPackage few old mid
+    → Uses more fault result mid new → Uses most fault result old new
+uses_behind fault (Ok value) few more most old mid new less first second =
+    uses_then less first second
+uses_behind fault (Err error) few more most old mid new less first second =
+    leaves_then less first second
 
 -- the sheets of entries, and the paths of their parts
 pub sheets_listed : (entries : List SheetEntry)
@@ -159,8 +164,8 @@ pub contents_fail : (old mid new : PackageState) (path : List ℕ) (related : Li
     (AreContentsRefused (folder_of path) related) (workbook_part path) mid new error
     → WorkbookFails path old new error
 contents_fail old mid new path related error same has fails =
-    fails_by_weaker (WorkbookCause old.parts path) (ContentsCause mid.parts path related) new error same
-    (λ told cause. inr (
+    fails_by_weaker (WorkbookCause old.parts path) (ContentsCause mid.parts path related) new error
+    same (λ told cause. inr (
       related,
       has told,
       subst (λ (parts : List Part). ContentsCause parts path related error) same.parts cause,
@@ -238,7 +243,9 @@ opens_package (Ok value) old mid new path first found ends second taken =
       to_end = λ told. let book : TakesBook old.parts path mid.taken new.taken =
           subst (λ (parts : List Part). TakesBook parts path mid.taken new.taken) first.parts.parts
           (taken (first.parts.is_told ∙ told)) in
-          (path, found told, (book.0, book.1, counts_then refl (ends told) book.2));
+          let related = ends told in
+          let beside = book.2 in
+          (path, found told, (book.0, book.1, omega (arith, related, beside)));
     }
 opens_package (Err error) old mid new path first found ends second taken =
     let both : LeavesPackage

@@ -92,6 +92,7 @@ faulty_theme parts path events error theme there cause is =
     ∙ faulty_section events (behind_start (is_named (codes "clrScheme" ∷ [])) (whole events)) error
     cause in
     record {
-      colors = is.colors ∙ ap (λ (own : Option (List Color)). unwrap_or own default_theme) (sym none);
+      colors = is.colors
+          ∙ ap (λ (own : Option (List Color)). unwrap_or own default_theme) (sym none);
       defaulted = is.defaulted ∙ ap is_none (sym none);
     }

@@ -1,7 +1,7 @@
 -- The colors of a workbook's theme, by the events of its part.
 use Rattle.std.specs.Prelude.{◌≡◌, ◌≤◌, ℕ, List, [], ◌∷◌, length, Bool, true, false, codes}
-use Rattle.std.specs.Prelude.{Option, None, Some, Result, Ok, Err, unwrap_or, is_none, option_and_then}
-use Rattle.std.specs.Prelude.{MatchOption, IsOkAnd}
+use Rattle.std.specs.Prelude.{Option, None, Some, Result, Ok, Err, unwrap_or, is_none}
+use Rattle.std.specs.Prelude.{option_and_then, MatchOption, IsOkAnd}
 use Rattle.std.specs.Option.{option_map_or}
 use Rattle.part_events.specs.Event.{Event}
 use Rattle.part_events.specs.Nesting.{whole}

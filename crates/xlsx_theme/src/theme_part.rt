@@ -3,11 +3,11 @@ ghost use Rattle.part_events.specs.Package.{Uses, CountsUp, event_count};
 ghost use Rattle.part_events.specs.Reader.{reading_by, SamePackage};
 ghost use Rattle.part_events.specs.Reading.{reading, IsReading, ReadsPart, ahead, events_of};
 ghost use Rattle.xlsx_error.specs.declared.error.XlsxError.TheVariants.{Io};
+ghost use Rattle.xlsx_sections.specs.Failing.{SoundFails};
+ghost use Rattle.xlsx_sections.specs.SectionEvents.{section_events};
 ghost use Rattle.xlsx_theme.specs.ColorScheme.{numbered_colors, IsSchemeError};
 ghost use Rattle.xlsx_theme.specs.ThemePart.{IsThemeOf, IsTheme, HasTheme, SaysTheme};
 ghost use Rattle.xlsx_theme.specs.ThemePart.{behind_scheme, ReadThemeFails, TakesTheme};
-ghost use Rattle.xlsx_sections.specs.Failing.{SoundFails};
-ghost use Rattle.xlsx_sections.specs.SectionEvents.{section_events};
 
 use crate::color_scheme::{numbered, read_slots};
 use cell_styles::Color;

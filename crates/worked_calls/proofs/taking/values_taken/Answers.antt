@@ -1,10 +1,12 @@
-use Rattle.std.proofs.Common.{◌≡◌, Some, refl, ◌∙◌, Ok, ◌∷◌, [], subst}
+use Rattle.std.proofs.Common.{◌≡◌, ℕ, List, Ok, ◌∷◌, [], map, refl, sym, ap, ◌∙◌, subst}
+use Rattle.cell_data.specs.CellValue.{CellValue}
 use Rattle.std.proofs.lemmas.List.{map-append}
 use Rattle.xlsx_values.specs.Value.{Grounds, cell_value}
 use Rattle.xlsx_cells.specs.CellsReader.{stream_by, grounds_by, IsValued}
 use Rattle.xlsx_cells.specs.Position.{NoCell}
 use Rattle.xlsx_cells.specs.Stream.{PassesCell, TakesCell, EndsData}
-use Rattle.xlsx_cells.proofs.WholeReadings.{values_none, values_further, values_whole}
+use Rattle.xlsx_cells.proofs.WholeReadings.{HasValues, values_none, values_further}
+use Rattle.xlsx_cells.proofs.WholeReadings.{values_whole}
 use Rattle.worked_calls.specs.Taking.{value_entry}
 use Rattle.worked_calls.proofs.taking.values_taken.Goals as goal
 
@@ -15,7 +17,8 @@ cells-init g c =
       hold = refl;
       still = λ told. told;
       going = c.requires.going;
-      taken = λ told. values_none (grounds_by c.args.reader.now) old c.requires.fresh;
+      taken = λ told.
+          rw c.new-cells.ensures.items (values_none (grounds_by c.args.reader.now) old c.requires.fresh);
     }
 
 pub cells-preserved : goal.cells-preserved
@@ -36,7 +39,10 @@ cells-preserved g c =
           (IsValued (grounds_by c.cells.reader) own) =
           rw c.in-Some.is at (c.in_ok-cell.ensures.takes (now.still told) been.before been.earlier
           been.stands) in
-          rw (c.in_ok-push.ensures, map-append value_entry c.cells.cells.items (own ∷ []))
+          subst (λ (entries : List ((ℕ × ℕ) × CellValue)). HasValues
+          (grounds_by c.args.reader.now) old new entries)
+          (sym (ap (map value_entry) c.in_ok-push.ensures.items
+          ∙ map-append value_entry c.cells.cells.items (own ∷ [])))
           (values_further (value_entry own) been takes
           (λ before element kept is. (
             is.placed,
@@ -45,13 +51,15 @@ cells-preserved g c =
           )));
     }
 
-pub returns-clause-values : goal.returns-clause-values
-returns-clause-values g c = λ told.
-    let mid = stream_by g.P.Package.state c.cells.reader in
-    let new = stream_by g.P.Package.state c.next_cell.new.self in
-    let now = c.cells.invariant in
-    let been = now.taken told in
-    let ends : EndsData NoCell been.before mid new = rw c.in_default.is at
-    (c.in_ok-cell.ensures.takes (now.still told) been.before been.earlier been.stands)
-    now.going.done in
-    values_whole been ends
+pub returns : goal.returns
+returns g c = record {
+  values = λ told.
+      let mid = stream_by g.P.Package.state c.cells.reader in
+      let new = stream_by g.P.Package.state c.next_cell.new.self in
+      let now = c.cells.invariant in
+      let been = now.taken told in
+      let ends : EndsData NoCell been.before mid new = rw c.in_default.is at
+      (c.in_ok-cell.ensures.takes (now.still told) been.before been.earlier been.stands)
+      now.going.done in
+      values_whole been ends;
+}

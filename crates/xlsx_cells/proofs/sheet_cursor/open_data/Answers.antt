@@ -31,8 +31,8 @@ returns-clause-enters g c =
     (sym c.new-sheet.ensures.cursor)
     (data_entered opened (placed c.enter_data.new.cursor)
     (section_entered c.if-not-branch.false c.open.ensures.keeps c.in_ok-open.ensures.counts
-    c.in_ok-open.ensures.opens entered.ensures.reads entered.ensures.element
-    entered.ensures.found)
+    c.in_ok-open.ensures.opens c.new-cursor.ensures.start entered.ensures.reads
+    entered.ensures.element entered.ensures.found)
     c.new-sheet.ensures.base c.new-sheet.ensures.counters c.new-sheet.ensures.masters
     c.new-sheet.ensures.done c.new-sheet.ensures.failed
     (λ told. (opening told).past) (λ told. entered.ensures.reads.stays.part (still told))

@@ -1,17 +1,18 @@
 use Rattle.std.proofs.Common.{◌≡◌, ℕ, List, [], true, false, None, Ok, refl, sym, ◌∙◌, ap, subst}
-use Rattle.std.proofs.Common.{codes}
+use Rattle.std.proofs.Common.{codes, arith}
 use Rattle.std.proofs.lemmas.Result.{err_from_is_err_and}
 use Rattle.std.specs.Prelude.{IsSomeAnd}
-use Rattle.part_events.specs.Package.{Part, part_of}
+use Rattle.part_events.specs.Package.{Part, UsesPackage, LeavesPackage, part_of, event_count}
+use Rattle.xlsx_error.specs.declared.error.XlsxError.TheVariants.{Io}
 use Rattle.xlsx_sections.specs.PartSection.{always, closed_section_of, OptionalPartFails}
 use Rattle.xlsx_workbook.specs.KeptContents.{related_by_id}
-use Rattle.xlsx_workbook.specs.Paths.{folder_of, workbook_part}
+use Rattle.xlsx_workbook.specs.Paths.{folder_of, workbook_part, relationships_part}
 use Rattle.xlsx_workbook.specs.Relationships.{related_in}
 use Rattle.xlsx_workbook.specs.Workbook.{IsContents, AreContentsRefused}
 use Rattle.xlsx_open.specs.Opening.{HasRelationships}
 use Rattle.xlsx_open.specs.SharedParts.{shared_said}
 use Rattle.xlsx_open.proofs.Openings.{opening_of, holds_contents, has_contents, has_nothing}
-use Rattle.xlsx_open.proofs.Openings.{contents_fail}
+use Rattle.xlsx_open.proofs.Openings.{contents_fail, leaves_then}
 use Rattle.xlsx_open.proofs.opening.open_workbook.Goals as goal
 
 pub returns-in-Some-clause-opened : goal.returns-in-Some-clause-opened
@@ -109,3 +110,22 @@ returns-in_err-contents-clause-err g c =
     c.from_residual-in_err-contents.ensures.1 in
     rw (p.1, p.2)
     (contents_fail old mid new path related e uses.parts has fails)
+
+pub returns-in_err-contents-clause-uses : goal.returns-in_err-contents-clause-uses
+returns-in_err-contents-clause-uses g c =
+    let old = g.P.Package.state c.args.package.now in
+    let mid = g.P.Package.state c.read_relationships.new.package in
+    let new = g.P.Package.state c.read_contents.new.package in
+    let path = c.args.path.now in
+    let e = c.in_err-contents.field-0.0 in
+    let first : UsesPackage (event_count old.parts (relationships_part path)) old mid =
+    subst (λ (part : List ℕ). UsesPackage (event_count old.parts part) old mid)
+    (c.as_str.ensures.value ∙ c.in_ok-part.ensures) c.in_ok-relationships.ensures.uses in
+    let second : LeavesPackage (event_count old.parts (workbook_part path)) Io mid new e =
+    subst (λ (parts : List Part). LeavesPackage (event_count parts (workbook_part path)) Io mid new e)
+    first.parts.parts
+    (subst (λ (part : List ℕ). LeavesPackage (event_count mid.parts part) Io mid new e)
+    (c.as_str-2.ensures.value ∙ c.in_ok-part-2.ensures) c.in_err-contents.ensures.uses) in
+    let p = err_from_is_err_and c.from_residual-in_err-contents.result
+    c.from_residual-in_err-contents.ensures.1 in
+    rw (p.1, p.2) (leaves_then (omega arith) first second)

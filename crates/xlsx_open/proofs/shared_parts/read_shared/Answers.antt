@@ -1,9 +1,10 @@
-use Rattle.std.proofs.Common.{◌≡◌, ◌+◌, List, true, arith, ap, ◌∙◌}
+use Rattle.std.proofs.Common.{◌≡◌, ◌+◌, List, true, arith, ap, ◌∙◌, subst}
 use Rattle.std.proofs.lemmas.Result.{err_from_is_err_and}
-use Rattle.part_events.specs.Package.{Part, UsesPackage, event_count}
+use Rattle.part_events.specs.Package.{Part, UsesPackage, LeavesPackage, event_count}
+use Rattle.xlsx_error.specs.declared.error.XlsxError.TheVariants.{Io}
 use Rattle.xlsx_theme.specs.ThemePart.{theme_colors}
-use Rattle.xlsx_workbook.specs.Paths.{strings_part, theme_part}
-use Rattle.xlsx_open.proofs.Openings.{uses_then, styles_fail}
+use Rattle.xlsx_workbook.specs.Paths.{strings_part, theme_part, styles_part}
+use Rattle.xlsx_open.proofs.Openings.{uses_then, leaves_then, styles_fail}
 use Rattle.xlsx_open.proofs.shared_parts.read_shared.Goals as goal
 
 pub returns-in_err-style_sheet-clause-err : goal.returns-in_err-style_sheet-clause-err
@@ -27,3 +28,25 @@ returns-in_err-style_sheet-clause-err g c =
     rw (p.1, p.2)
     (styles_fail old mid new path theme e both.parts colors
     c.in_err-style_sheet.ensures.err)
+
+pub returns-in_err-style_sheet-clause-uses : goal.returns-in_err-style_sheet-clause-uses
+returns-in_err-style_sheet-clause-uses g c =
+    let old = g.P.Package.state c.args.package.now in
+    let first = g.P.Package.state c.read_strings.new.package in
+    let mid = g.P.Package.state c.read_colors.new.package in
+    let new = g.P.Package.state c.read_style_sheet.new.package in
+    let path = c.args.path.now in
+    let e = c.in_err-style_sheet.field-0.0 in
+    let strings = c.in_ok-strings.ensures.uses in
+    let theme : UsesPackage (event_count old.parts (theme_part path)) first mid =
+    subst (λ (parts : List Part). UsesPackage (event_count parts (theme_part path)) first mid)
+    strings.parts.parts c.in_ok-theme.ensures.uses in
+    let both : UsesPackage
+    (event_count old.parts (strings_part path) + event_count old.parts (theme_part path)) old mid =
+    uses_then (omega arith) strings theme in
+    let styles : LeavesPackage (event_count old.parts (styles_part path)) Io mid new e =
+    subst (λ (parts : List Part). LeavesPackage (event_count parts (styles_part path)) Io mid new e)
+    both.parts.parts c.in_err-style_sheet.ensures.uses in
+    let p = err_from_is_err_and c.from_residual-in_err-style_sheet.result
+    c.from_residual-in_err-style_sheet.ensures.1 in
+    rw (p.1, p.2) (leaves_then (omega arith) both styles)

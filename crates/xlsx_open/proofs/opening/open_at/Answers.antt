@@ -1,0 +1,20 @@
+use Rattle.std.proofs.Common.{List, arith, subst}
+use Rattle.part_events.specs.Package.{Part, Uses}
+use Rattle.xlsx_error.specs.declared.error.XlsxError.TheVariants.{Io}
+use Rattle.xlsx_open.specs.Opening.{workbook_events, book_events}
+use Rattle.xlsx_open.specs.SharedParts.{shared_events}
+use Rattle.xlsx_open.proofs.Openings.{uses_behind}
+use Rattle.xlsx_open.proofs.opening.open_at.Goals as goal
+
+pub returns-clause-uses : goal.returns-clause-uses
+returns-clause-uses g c =
+    let old = g.P.Package.state c.args.package.now in
+    let mid = g.P.Package.state c.read_shared.new.package in
+    let new = g.P.Package.state c.open_workbook.new.package in
+    let path = c.args.path.now in
+    let result = c.open_workbook.result in
+    let first = c.in_ok-shared.ensures.uses in
+    uses_behind Io result (shared_events old.parts path) (workbook_events old.parts path)
+    (book_events old.parts path) old mid new (omega arith) first
+    (subst (λ (parts : List Part). Uses (workbook_events parts path) Io result mid new)
+    first.parts.parts c.open_workbook.ensures.uses)
