@@ -1,6 +1,6 @@
 -- The sheet of a workbook that opens, and refusals that are handed on.
 use Rattle.std.proofs.Common.{◌≡◌, ℕ, List, [], ◌∷◌, Bool, true, map, refl, sym, ◌∙◌, ap, subst}
-use Rattle.std.proofs.Common.{inr, Option, Some, None, String, Global, string_bytes}
+use Rattle.std.proofs.Common.{inl, inr, Option, Some, None, String, Global, string_bytes}
 use Rattle.std.specs.Prelude.{if◌then◌else◌, IsSomeAnd}
 use Rattle.std.specs.Str.{bytes_eq}
 use Rattle.part_events.specs.Event.{Event}
@@ -16,7 +16,8 @@ use Rattle.xlsx_workbook.specs.Sheets.{PlacedSheet}
 use Rattle.xlsx_workbook.specs.declared.sheet.Metadata.{Metadata}
 use Rattle.xlsx_workbook.specs.declared.sheet.Sheet.{Sheet}
 use Rattle.xlsx_open.specs.Opening.{Opening, ListedSheet, listed_sheet, without_path}
-use Rattle.xlsx_open.specs.Opening.{HoldsOpening, OpensAs}
+use Rattle.xlsx_open.specs.Opening.{HoldsOpening, OpensAs, OpeningCause, OpeningFails}
+use Rattle.xlsx_open.specs.Opening.{IsOpeningError}
 use Rattle.xlsx_open.specs.SharedParts.{SharedSaid}
 use Rattle.xlsx_open.specs.declared.shared_parts.SharedParts.{SharedParts}
 use Rattle.xlsx_core.specs.Opened.{path_listed}
@@ -25,7 +26,7 @@ use Rattle.xlsx_core.specs.SheetReading.{path_named, events_at, events_named, gr
 use Rattle.xlsx_core.specs.SheetReading.{opened_grounds, all_wanted, HoldsSheet, IsPaletteOf}
 use Rattle.xlsx_core.specs.SheetReading.{ReadsAs}
 use Rattle.xlsx_core.specs.SheetReading.{SheetFails, PlacedSheetFails}
-use Rattle.xlsx_sections.proofs.Failing.{fails_by_weaker}
+use Rattle.xlsx_sections.proofs.Failing.{fails_by_weaker, same_parts}
 
 some_of : {A : Type 0} (o : Option A) (fact : A → Type 0) → IsSomeAnd o fact → (x : A)
     × (o ≡ Some x) × fact x
@@ -142,6 +143,14 @@ placed_cause name path grounds palette parts error here cause =
       found = there.1;
       cause = there.2;
     })
+
+-- a workbook that can't be opened refuses each of its sheets
+pub opening_fails : (name : List ℕ) (old new : PackageState) (error : XlsxError)
+    → IsOpeningError error → OpeningFails old new error → SheetFails name old new error
+opening_fails name old new (WorksheetNotFound asked) is fails = absurd is
+opening_fails name old new error is fails =
+    fails_by_weaker (SheetCause old.parts name) (OpeningCause old.parts) new error (same_parts old)
+    (λ told cause. inl cause) fails
 
 pub sheet_fails : (name : List ℕ) (path : Option (List ℕ)) (grounds : Grounds)
     (palette : List Style) (old mid new : PackageState) (error : XlsxError) → SameParts old mid

@@ -4,7 +4,7 @@ use Rattle.xlsx_core.specs.Opened.{path_listed}
 use Rattle.xlsx_core.specs.SheetReading.{all_wanted, grounds_with, value_pairs, formula_pairs}
 use Rattle.xlsx_core.specs.SheetReading.{ReadsAs}
 use Rattle.xlsx_core.specs.SheetReading.{ReadsPlaced, SheetFails, PlacedSheetFails}
-use Rattle.xlsx_core.proofs.SheetsRead.{opens_placed, reads_as, sheet_fails}
+use Rattle.xlsx_core.proofs.SheetsRead.{opens_placed, reads_as, sheet_fails, opening_fails}
 use Rattle.xlsx_core.proofs.sheet_reading.read_sheet.Goals as goal
 
 pub returns-in-Ok-clause-reading : goal.returns-in-Ok-clause-reading
@@ -45,3 +45,9 @@ returns-in-Ok-clause-err g c =
     (λ told. let opened = c.in-Ok.ensures.opens told in
     opens_placed name opened.0 opened.1 opened.2) fails)
     c.into_sheet.ensures.err
+
+pub returns-in-Err-clause-err : goal.returns-in-Err-clause-err
+returns-in-Err-clause-err g c =
+    opening_fails c.args.name.now (g.P.Package.state c.args.package)
+    (g.P.Package.state c.in-Err.field-0.package) c.in-Err.field-0.error c.in-Err.ensures.kind
+    c.in-Err.ensures.err
