@@ -1,1 +1,2 @@
+pub mod FloatsBeside
 pub mod PackageTextLemmas

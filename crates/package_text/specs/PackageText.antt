@@ -1,12 +1,12 @@
 -- The package that a JSON value spells.
-use Rattle.std.specs.Prelude.{◌≡◌, ◌++◌, ℕ, ◌==◌, List, [], ◌∷◌, Bool, true, false}
+use Rattle.std.specs.Prelude.{◌≡◌, ◌||◌, ◌++◌, ℕ, ◌==◌, List, [], ◌∷◌, Bool, true, false}
 use Rattle.std.specs.Prelude.{if◌then◌else◌}
 use Rattle.std.specs.Prelude.{Option, Some, None, option_map, option_and_then, codes}
 use Rattle.std.specs.Str.{bytes_eq, is_utf8}
-use Rattle.serde_json.specs.Data.{Data, Items, no_items, item}
+use Rattle.serde_json.specs.Data.{Data, object, Items, no_items, item, Members, no_members, member}
 use Rattle.serde_json.specs.Find.{get, as_array, as_str, as_number, as_u64}
 use Rattle.serde_json.specs.Read.{read}
-use Rattle.serde_json.specs.Written.{has_float}
+use Rattle.serde_json.specs.Written.{has_float, members_have_float}
 use Rattle.part_events.specs.Event.{Event, start, end, leaf, text, char_data, entity_ref, other}
 use Rattle.part_events.specs.Memory.{Contents, closed}
 use Rattle.part_events.specs.Package.{Part}
@@ -76,6 +76,42 @@ package_of value =
 -- the package that bytes spell, as JSON in UTF-8
 unfoldable pub package_in : List ℕ → Option (List Part)
 package_in bytes = if is_utf8 bytes then option_and_then package_of (read bytes) else None
+
+-- ---- the steps of reading it
+--
+-- Events are texts alone. So numbers are looked for beside the events of a part, and beside the
+-- parts, and each event is looked at once.
+
+-- whether a number of these members, at any depth, is no integer of 64 bits, where the first member
+-- of this key is left aside
+abbrev pub members_have_float_beside : List ℕ → Members → Bool
+members_have_float_beside key no_members = false
+members_have_float_beside key (member own value members) =
+    if bytes_eq key own then members_have_float members
+    else has_float value || members_have_float_beside key members
+
+abbrev pub has_float_beside : List ℕ → Data → Bool
+has_float_beside key (object members) = members_have_float_beside key members
+has_float_beside key value = has_float value
+
+abbrev pub part_beside : Data → Option Part
+part_beside value =
+    if has_float_beside (codes "events") value then None else part_in value
+
+abbrev pub parts_beside : Items → Option (List Part)
+parts_beside no_items = Some []
+parts_beside (item value rest) =
+    option_and_then (λ part. option_map (λ parts. part ∷ parts) (parts_beside rest))
+    (part_beside value)
+
+unfoldable pub package_beside : Data → Option (List Part)
+package_beside value =
+    let number = option_and_then as_number (get (codes "version") value) in
+    let version = option_and_then as_u64 number in
+    let found = option_and_then as_array (get (codes "parts") value) in
+    let parts = option_and_then parts_beside found in
+    if has_float_beside (codes "parts") value then None
+    else (if is_version_1 version then parts else None)
 
 -- what adding a value to a package in memory as a part does, and when it is none
 abbrev pub AppendsPart : Option Part → Contents → Contents → Bool → Type 0

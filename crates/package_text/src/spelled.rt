@@ -5,7 +5,9 @@ ghost use Rattle.serde_json.specs.Written.{has_float, items_have_float, members_
 ghost use Rattle.part_events.specs.Event.{event_of};
 ghost use Rattle.part_events.specs.Memory.{closed};
 ghost use Rattle.package_text.specs.PackageText.{event_of_texts, event_in, events_in};
-ghost use Rattle.package_text.specs.PackageText.{package_of, named_part, part_in, AppendsPart};
+ghost use Rattle.package_text.specs.PackageText.{package_of, named_part, members_have_float_beside};
+ghost use Rattle.package_text.specs.PackageText.{has_float_beside, part_beside, package_beside};
+ghost use Rattle.package_text.specs.PackageText.{AppendsPart};
 
 use part_events::{MemoryPackage, PartEvent, StartTag};
 use serde_json::{Map, Value};
@@ -46,6 +48,31 @@ fn members_have_float(members: &Map<String, Value>) -> bool
         }
     }
     false
+}
+
+/// The same of the members of an object, the first of this key left aside.
+fn members_have_float_beside(members: &Map<String, Value>, key: &str) -> bool
+    ensures { result ≡ members_have_float_beside key.now (members_view members.now.entries) }
+{
+    let mut is_passed = false;
+    for (own, member) in members.iter() {
+        if !is_passed && key == own.as_str() {
+            is_passed = true;
+        } else if has_float(member) {
+            return true;
+        }
+    }
+    false
+}
+
+/// The same of the value, where of an object its first member of this key is left aside.
+fn has_float_beside(value: &Value, key: &str) -> bool
+    ensures { result ≡ has_float_beside key.now (view value.now) }
+{
+    match value {
+        Value::Object(members) => members_have_float_beside(members, key),
+        _ => has_float(value),
+    }
 }
 
 fn event_from(value: &Value) -> Option<PartEvent<'_>>
@@ -113,11 +140,16 @@ fn push_part_of(
     Ok(true)
 }
 
-/// Appends the part that the value spells. Answers false where it spells none.
+/// Appends the part that the value spells. Answers false where it spells none, or has a number that
+/// is no integer of 64 bits.
 fn push_part(package: &mut MemoryPackage, value: &Value) -> Result<bool, AllocError>
-    ensures { let part = part_in (view value.now) in
+    ensures { let part = part_beside (view value.now) in
         IfOk result (AppendsPart part «package».old «package».new) }
 {
+    // Events have no numbers, so that they are looked at once.
+    if has_float_beside(value, "events") {
+        return Ok(false);
+    }
     let Some(name) = value.get("name").and_then(Value::as_str) else {
         return Ok(false);
     };
@@ -127,14 +159,14 @@ fn push_part(package: &mut MemoryPackage, value: &Value) -> Result<bool, AllocEr
     push_part_of(package, name, events)
 }
 
-/// The package that a JSON value spells (docs/FORMAT.md), or None where it spells none.
-#[tactic(auto, unfolding(crate::specs::PackageText::package_of))]
-pub fn package_from_json(alloc: Global, value: &Value) -> Result<Option<MemoryPackage>, AllocError>
-    ensures value { let spelled = package_of (view value.now) in
+/// The package that a JSON value spells, by numbers that stand beside its parts and their events.
+#[tactic(auto, unfolding(crate::specs::PackageText::package_beside))]
+fn package_beside(alloc: Global, value: &Value) -> Result<Option<MemoryPackage>, AllocError>
+    ensures value { let spelled = package_beside (view value.now) in
         IfOk result (λ found. option_map (λ held. held.parts) found ≡ spelled) }
     ensures fresh { IfOk result (λ found. IfSome found (λ held. held ≡ closed held.parts 0)) }
 {
-    if has_float(value) || value.get("version").and_then(Value::as_u64) != Some(1) {
+    if has_float_beside(value, "parts") || value.get("version").and_then(Value::as_u64) != Some(1) {
         return Ok(None);
     }
     let Some(parts) = value.get("parts").and_then(Value::as_array) else {
@@ -147,4 +179,14 @@ pub fn package_from_json(alloc: Global, value: &Value) -> Result<Option<MemoryPa
         }
     }
     Ok(Some(package))
+}
+
+/// The package that a JSON value spells (docs/FORMAT.md), or None where it spells none.
+#[tactic(auto, using(crate::proofs::FloatsBeside::checked_beside))]
+pub fn package_from_json(alloc: Global, value: &Value) -> Result<Option<MemoryPackage>, AllocError>
+    ensures value { let spelled = package_of (view value.now) in
+        IfOk result (λ found. option_map (λ held. held.parts) found ≡ spelled) }
+    ensures fresh { IfOk result (λ found. IfSome found (λ held. held ≡ closed held.parts 0)) }
+{
+    package_beside(alloc, value)
 }

@@ -2,11 +2,11 @@ use Rattle.std.proofs.Common.{◌≡◌, ◌++◌, drop}
 use Rattle.std.specs.Option.{option_map}
 use Rattle.serde_json.specs.View.{items_view}
 use Rattle.part_events.specs.Memory.{closed}
-use Rattle.package_text.specs.PackageText.{parts_in}
-use Rattle.package_text.proofs.spelled.package_from_json.Given as goal
+use Rattle.package_text.specs.PackageText.{parts_beside}
+use Rattle.package_text.proofs.spelled.package_beside.Given as goal
 
 abbrev pub invariant-loop-part : goal.invariant-loop-part
 invariant-loop-part l =
     (l.«package» ≡ closed l.«package».parts 0)
-    × (let left = parts_in (items_view (drop l.part-index l.part-items)) in
-    option_map (λ rest. l.«package».parts ++ rest) left ≡ parts_in (items_view l.part-items))
+    × (let left = parts_beside (items_view (drop l.part-index l.part-items)) in
+    option_map (λ rest. l.«package».parts ++ rest) left ≡ parts_beside (items_view l.part-items))
