@@ -84,6 +84,16 @@ POSITIONS = [
     ("no letters", '<c r="1"/>', refused("Range is missing the expected column component.")),
     ("a row past the last", '<row r="1048577"/>', refused("row number overflow")),
     (
+        "a cell that has no position, behind the last column and before a cell without one",
+        '<c r="XFD1"/><c r="?"/><c/>',
+        refused("Expecting alphanumeric character, got 3F"),
+    ),
+    (
+        "a row that is refused, behind the last row",
+        '<row r="1048576"/><row x/><c/>',
+        refused("Xml attribute error: expected '=' at 1"),
+    ),
+    (
         "a position with marks of a held reference",
         '<row><c r="$A$1"/></row>',
         refused("Expecting alphanumeric character, got 24"),
