@@ -3,9 +3,11 @@
 #![tactic(auto)]
 
 mod counting;
+mod in_memory;
 mod taking;
 
 pub use counting::formula_count;
+pub use in_memory::{cells_in_memory, part_in_memory, sheet_in_memory};
 pub use taking::{formulas_taken, two_taken, values_taken};
 
 #[cfg(test)]
