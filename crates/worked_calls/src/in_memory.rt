@@ -1,6 +1,6 @@
 //! A package in memory has no faults, so that no call that lends it answers `Io`.
 
-ghost use Rattle.std.specs.Prelude.{◌≡◌, ⊥, IsOk, IfErr};
+ghost use Rattle.std.specs.Prelude.{◌≡◌, IsOk, IfErr};
 ghost use Rattle.part_events.specs.Reader as xml_reader;
 ghost use Rattle.part_events.specs.Reading.{IsReading};
 ghost use Rattle.part_events.specs.Memory.{state_of};

@@ -19,7 +19,7 @@ fn push_strings(out: &mut String, found: Result<Vec<String>, XlsxError>) -> Resu
 }
 
 /// What a case shows, the part of shared strings, and what is read of it.
-const STRINGS: [(&str, &str, &str); 9] = [
+const STRINGS: [(&str, &str, &str); 10] = [
     (
         "texts are joined, and blanks at their ends cut unless they are kept",
         r#"<sst count="9"><x:si><r><t>Hi </t></r><t xml:space="preserve"> you</t><rPh><t>no</t></rPh></x:si></sst>"#,
@@ -30,6 +30,11 @@ const STRINGS: [(&str, &str, &str); 9] = [
         "escapes are undone behind the blanks, line ends read, and a return by its number cut",
         "<sst><si><t space=\"preserve\">\r\n_x0041_\r\nb<!data><!amp>_x000D_\u{b}\t<!#13></t></si></sst>",
         "A\nbx&\r\u{b};",
+    ),
+    (
+        "an escaped blank at the end is kept",
+        "<sst><si><t> a_x0020_ </t></si></sst>",
+        "a ;",
     ),
     (
         "an escaped escape is undone once",

@@ -249,10 +249,7 @@ impl<P: Package> Xlsx<P> {
     ///
     /// Fails with `WorksheetNotFound` where no sheet has the name or the first such sheet has no
     /// part, with `NotAWorksheet` where its part is none, and else as `XlsxCellReader::new`.
-    pub fn enter_worksheet(
-        &mut self,
-        name: &str,
-    ) -> Result<(SheetCursor, Dimensions), XlsxError>
+    pub fn enter_worksheet(&mut self, name: &str) -> Result<(SheetCursor, Dimensions), XlsxError>
         ensures keeps { SameParts (P.state self.old.package) (P.state self.new.package) }
         ensures rest { KeepsWorkbook self.old self.new }
         ensures enters { let new = P.state self.new.package in
