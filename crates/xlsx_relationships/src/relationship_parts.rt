@@ -7,10 +7,10 @@ ghost use Rattle.xlsx_error.specs.declared.error.XlsxError.TheVariants.{Io};
 ghost use Rattle.xlsx_sections.specs.PartSection.{always, SectionFails, PartFails};
 ghost use Rattle.xlsx_sections.specs.PartSection.{closed_section_of};
 ghost use Rattle.xlsx_sections.specs.SectionEvents.{ReadsToEnd};
-ghost use Rattle.xlsx_workbook.specs.KeptContents.{related_by_id};
-ghost use Rattle.xlsx_workbook.specs.Relationships.{path_in, related_in, IsTargetRefused};
-ghost use Rattle.xlsx_workbook.specs.Relationships.{IsPathRefused, AreRelationshipsRefused};
-ghost use Rattle.xlsx_workbook.specs.WorkbookErrors.{IsWorkbookError};
+ghost use Rattle.xlsx_relationships.specs.KeptRelationships.{related_by_id};
+ghost use Rattle.xlsx_relationships.specs.Relationships.{path_in, related_in, IsTargetRefused};
+ghost use Rattle.xlsx_relationships.specs.Relationships.{IsPathRefused, AreRelationshipsRefused};
+ghost use Rattle.xlsx_relationships.specs.RelationshipErrors.{IsRelationshipsError};
 
 use crate::relationships::{Relationship, keep_relationship, keep_target};
 use part_events::{Cursor, Package};
@@ -21,7 +21,7 @@ use xlsx_sections::{enter_part, next_start_in, start_tag};
 
 /// The path of the workbook, in a section of relationships whose element is number `base` of the
 /// open ones.
-#[tactic(auto, using(crate::proofs::WorkbookErrors::relationships_step))]
+#[tactic(auto, using(crate::proofs::RelationshipErrors::relationships_step))]
 fn path_in<P: Package>(
     alloc: Global,
     package: &mut P,
@@ -44,7 +44,7 @@ fn path_in<P: Package>(
     ensures err { let old = reading (P.state «package».old) cursor.old in
         let new = reading (P.state «package».new) cursor.new in
         IfErr result (SectionFails (always (codes "Relationships")) IsTargetRefused base old new) }
-    ensures kind { IfErr result IsWorkbookError }
+    ensures kind { IfErr result IsRelationshipsError }
 {
     let mut path = None;
     'starts: while let Some(at) = next_start_in(
@@ -60,7 +60,7 @@ fn path_in<P: Package>(
 }
 
 /// The relationships of such a section, by their Ids.
-#[tactic(auto, using(crate::proofs::WorkbookErrors::relationships_step))]
+#[tactic(auto, using(crate::proofs::RelationshipErrors::relationships_step))]
 fn relationships_in<P: Package>(
     alloc: Global,
     package: &mut P,
@@ -84,7 +84,7 @@ fn relationships_in<P: Package>(
         let new = reading (P.state «package».new) cursor.new in
         let ending = always (codes "Relationships") in
         IfErr result (SectionFails ending AreRelationshipsRefused base old new) }
-    ensures kind { IfErr result IsWorkbookError }
+    ensures kind { IfErr result IsRelationshipsError }
 {
     let mut map = BTreeMap::new(alloc);
     'starts: while let Some(_at) = next_start_in(
@@ -105,7 +105,7 @@ fn relationships_in<P: Package>(
 /// relationship to an office document has a target. A part that has no section `Relationships`, or
 /// ends in it, is `XmlEof("Relationships")`. Such a target with a reference without a character is
 /// `Xml(Entity)` with the number of its start, counted from 0.
-#[tactic(auto, using(crate::proofs::WorkbookErrors::relationships_step))]
+#[tactic(auto, using(crate::proofs::RelationshipErrors::relationships_step))]
 pub fn read_path<P: Package>(
     alloc: Global,
     package: &mut P,
@@ -124,7 +124,7 @@ pub fn read_path<P: Package>(
         let new = P.state «package».new in
         let name = codes "Relationships" in
         IfErr result (PartFails name (always name) IsPathRefused part.now old new) }
-    ensures kind { IfErr result IsWorkbookError }
+    ensures kind { IfErr result IsRelationshipsError }
 {
     let Some(mut cursor) = enter_part(alloc, package, part, "Relationships")? else {
         return Err(XlsxError::FileNotFound(String::from_str(alloc, part)?));
@@ -140,7 +140,7 @@ pub fn read_path<P: Package>(
 ///
 /// Fails with `FileNotFound` where there is no such part. A part that has no section
 /// `Relationships`, or ends in it, is `XmlEof("Relationships")`.
-#[tactic(auto, using(crate::proofs::WorkbookErrors::relationships_step))]
+#[tactic(auto, using(crate::proofs::RelationshipErrors::relationships_step))]
 pub fn read_relationships<P: Package>(
     alloc: Global,
     package: &mut P,
@@ -159,7 +159,7 @@ pub fn read_relationships<P: Package>(
         let new = P.state «package».new in
         let name = codes "Relationships" in
         IfErr result (PartFails name (always name) AreRelationshipsRefused part.now old new) }
-    ensures kind { IfErr result IsWorkbookError }
+    ensures kind { IfErr result IsRelationshipsError }
 {
     let Some(mut cursor) = enter_part(alloc, package, part, "Relationships")? else {
         return Err(XlsxError::FileNotFound(String::from_str(alloc, part)?));

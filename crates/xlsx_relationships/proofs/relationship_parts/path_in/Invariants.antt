@@ -3,8 +3,8 @@ use Rattle.part_events.specs.Reading.{reading}
 use Rattle.part_events.specs.Walk.{section_ahead}
 use Rattle.xlsx_sections.specs.Answers.{or_earlier}
 use Rattle.xlsx_sections.specs.PartSection.{KeepsSection}
-use Rattle.xlsx_workbook.specs.Relationships.{path_in}
-use Rattle.xlsx_workbook.proofs.relationship_parts.path_in.Given as goal
+use Rattle.xlsx_relationships.specs.Relationships.{path_in}
+use Rattle.xlsx_relationships.proofs.relationship_parts.path_in.Given as goal
 
 abbrev pub invariant-starts : goal.invariant-starts
 invariant-starts g l =

@@ -3,8 +3,8 @@ use Rattle.std.proofs.lemmas.Result.{IfErr-weaker}
 use Rattle.part_events.specs.Reading.{reading}
 use Rattle.xlsx_sections.specs.PartSection.{always, SectionFails, PartFails}
 use Rattle.xlsx_sections.proofs.Failing.{part_refused, required_part_refused}
-use Rattle.xlsx_workbook.specs.Relationships.{AreRelationshipsRefused}
-use Rattle.xlsx_workbook.proofs.relationship_parts.read_relationships.Goals as goal
+use Rattle.xlsx_relationships.specs.Relationships.{AreRelationshipsRefused}
+use Rattle.xlsx_relationships.proofs.relationship_parts.read_relationships.Goals as goal
 
 pub returns-clause-err : goal.returns-clause-err
 returns-clause-err g c =

@@ -3,9 +3,9 @@ use Rattle.part_events.specs.Reading.{reading}
 use Rattle.part_events.specs.Walk.{section_ahead}
 use Rattle.xlsx_sections.specs.Answers.{or_earlier}
 use Rattle.xlsx_sections.specs.PartSection.{KeepsSection}
-use Rattle.xlsx_workbook.specs.KeptContents.{related_by_id}
-use Rattle.xlsx_workbook.specs.Relationships.{related_in}
-use Rattle.xlsx_workbook.proofs.relationship_parts.relationships_in.Given as goal
+use Rattle.xlsx_relationships.specs.KeptRelationships.{related_by_id}
+use Rattle.xlsx_relationships.specs.Relationships.{related_in}
+use Rattle.xlsx_relationships.proofs.relationship_parts.relationships_in.Given as goal
 
 abbrev pub invariant-starts : goal.invariant-starts
 invariant-starts g l =

@@ -1,7 +1,7 @@
 use Rattle.std.proofs.Common.{Some, None, ◌∙◌, arith}
 use Rattle.std.proofs.lemmas.Str.Pattern.{rfind_char}
-use Rattle.xlsx_workbook.proofs.Pieces.{last_piece-none, last_piece-last}
-use Rattle.xlsx_workbook.proofs.paths.last_piece.Goals as goal
+use Rattle.xlsx_relationships.proofs.Pieces.{last_piece-none, last_piece-last}
+use Rattle.xlsx_relationships.proofs.paths.last_piece.Goals as goal
 
 pub returns-in-Some : goal.returns-in-Some
 returns-in-Some c =

@@ -11,9 +11,9 @@ use Rattle.xlsx_sections.specs.Refusal.{Refusal, placed_at}
 use Rattle.xlsx_sections.proofs.Kept.{last_further, last_refused}
 use Rattle.xlsx_sections.proofs.Refused.{event_refused}
 use Rattle.xlsx_sections.proofs.SectionsRead.{start_found}
-use Rattle.xlsx_workbook.specs.KeptContents.{related_by_id}
-use Rattle.xlsx_workbook.specs.Relationships.{related_by, related_of, AreRelationshipsRefused}
-use Rattle.xlsx_workbook.proofs.relationship_parts.relationships_in.Goals as goal
+use Rattle.xlsx_relationships.specs.KeptRelationships.{related_by_id}
+use Rattle.xlsx_relationships.specs.Relationships.{related_by, related_of, AreRelationshipsRefused}
+use Rattle.xlsx_relationships.proofs.relationship_parts.relationships_in.Goals as goal
 
 -- a lookup is refused whichever Id is asked for
 by_lookup : (id : List ℕ) (found : Result (List (Option (List ℕ))) AttrFault) (refusal : Refusal)

@@ -6,9 +6,9 @@ ghost use Rattle.part_events.specs.Event.{tag_of};
 ghost use Rattle.xlsx_error.specs.declared.error.XlsxError.TheVariants.{OutOfMemory};
 ghost use Rattle.xlsx_sections.specs.Answers.{or_earlier};
 ghost use Rattle.xlsx_sections.specs.Refusal.{ElementFails, placed_at};
-ghost use Rattle.xlsx_workbook.specs.KeptContents.{relationship_of, related_by_id};
-ghost use Rattle.xlsx_workbook.specs.Relationships.{is_office_document, target_of, related_of};
-ghost use Rattle.xlsx_workbook.specs.WorkbookErrors.{IsWorkbookError};
+ghost use Rattle.xlsx_relationships.specs.KeptRelationships.{relationship_of, related_by_id};
+ghost use Rattle.xlsx_relationships.specs.Relationships.{is_office_document, target_of, related_of};
+ghost use Rattle.xlsx_relationships.specs.RelationshipErrors.{IsRelationshipsError};
 
 use attr_text::{RawAttributes, get_attrs};
 use part_events::StartTag;
@@ -30,13 +30,13 @@ fn is_office_document(typ: &str) -> bool
     typ.as_bytes().ends_with(b"/relationships/officeDocument")
 }
 
-#[tactic(auto, using(crate::proofs::WorkbookErrors::decoding))]
+#[tactic(auto, using(crate::proofs::RelationshipErrors::decoding))]
 fn office_target(alloc: Global, tag: StartTag<'_>, at: u64) -> Result<Option<String>, XlsxError>
     ensures ok { IfOk result (λ target. (behind : ℕ) →
         target_of (placed_at (tag_of tag.entry) behind) ≡ Ok (option_map string_bytes target)) }
     ensures err { IfErr result (λ error. (behind : ℕ) →
         ElementFails (target_of (placed_at (tag_of tag.entry) behind)) at behind error) }
-    ensures kind { IfErr result IsWorkbookError }
+    ensures kind { IfErr result IsRelationshipsError }
 {
     let (typ, target) = get_attrs!(tag, "Type" => typ, "Target" => target)?;
     match (typ, target) {
@@ -61,7 +61,7 @@ pub fn keep_target(
         ≡ Ok (option_map string_bytes kept.new)) }
     ensures err { IfErr result (λ error. (behind : ℕ) →
         ElementFails (target_of (placed_at (tag_of tag.entry) behind)) at behind error) }
-    ensures kind { IfErr result IsWorkbookError }
+    ensures kind { IfErr result IsRelationshipsError }
 {
     if let Some(target) = office_target(alloc, tag, at)? {
         *kept = Some(target);
@@ -118,7 +118,7 @@ pub fn keep_relationship(
         ≡ Ok (related_by_id map.new id)) }
     ensures err { IfErr result (λ error. (id : List ℕ) (at behind : ℕ) →
         ElementFails (related_of id (placed_at (tag_of tag.entry) behind)) at behind error) }
-    ensures kind { IfErr result IsWorkbookError }
+    ensures kind { IfErr result IsRelationshipsError }
 {
     let (id, typ, target) = get_attrs!(tag, "Id" => id, "Type" => typ, "Target" => target)?;
     let Some(id) = id else {

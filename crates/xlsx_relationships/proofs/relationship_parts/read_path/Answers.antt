@@ -6,8 +6,8 @@ use Rattle.xlsx_error.specs.declared.error.XlsxError.TheVariants.{RelationshipNo
 use Rattle.xlsx_sections.specs.PartSection.{always, SectionFails}
 use Rattle.xlsx_sections.proofs.Failing.{part_refused, required_part_refused}
 use Rattle.xlsx_sections.proofs.Refused.{refused_as}
-use Rattle.xlsx_workbook.specs.Relationships.{path_in, IsTargetRefused, IsPathRefused}
-use Rattle.xlsx_workbook.proofs.relationship_parts.read_path.Goals as goal
+use Rattle.xlsx_relationships.specs.Relationships.{path_in, IsTargetRefused, IsPathRefused}
+use Rattle.xlsx_relationships.proofs.relationship_parts.read_path.Goals as goal
 
 pub returns-in_err-path-clause-err : goal.returns-in_err-path-clause-err
 unfolding IsPathRefused

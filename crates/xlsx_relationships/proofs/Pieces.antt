@@ -5,7 +5,7 @@ use Rattle.std.proofs.Common.{sym, ap, ◌∙◌, arith, ne_eqb, length-drop}
 use Rattle.std.specs.List.{suffix_len}
 use Rattle.std.proofs.lemmas.List.Sums.{suffix_len_is}
 use Rattle.std.specs.Option.{option_copied}
-use Rattle.xlsx_workbook.specs.Paths.{is_slash, behind_slash, last_piece, front_pieces}
+use Rattle.xlsx_relationships.specs.Paths.{is_slash, behind_slash, last_piece, front_pieces}
 
 abbrev is_other : ℕ → Bool
 is_other byte = not (is_slash byte)

@@ -1,9 +1,9 @@
 use Rattle.std.proofs.Common.{◌≡◌, ◌+◌, take, Some, None, ◌∙◌, arith}
 use Rattle.std.specs.List.{slice_range}
 use Rattle.std.proofs.lemmas.Str.Pattern.{rfind_char}
-use Rattle.xlsx_workbook.proofs.Pieces.{last_piece-none, last_piece-last, front_pieces-none}
-use Rattle.xlsx_workbook.proofs.Pieces.{front_pieces-last}
-use Rattle.xlsx_workbook.proofs.paths.front_pieces.Goals as goal
+use Rattle.xlsx_relationships.proofs.Pieces.{last_piece-none, last_piece-last, front_pieces-none}
+use Rattle.xlsx_relationships.proofs.Pieces.{front_pieces-last}
+use Rattle.xlsx_relationships.proofs.paths.front_pieces.Goals as goal
 
 pub returns-in-Some : goal.returns-in-Some
 returns-in-Some c =

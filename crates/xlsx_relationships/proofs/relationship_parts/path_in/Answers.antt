@@ -9,8 +9,8 @@ use Rattle.xlsx_sections.specs.Refusal.{Refusal, placed_at}
 use Rattle.xlsx_sections.proofs.Kept.{last_further, last_refused}
 use Rattle.xlsx_sections.proofs.Refused.{event_refused}
 use Rattle.xlsx_sections.proofs.SectionsRead.{start_found}
-use Rattle.xlsx_workbook.specs.Relationships.{target_of, IsTargetRefused}
-use Rattle.xlsx_workbook.proofs.relationship_parts.path_in.Goals as goal
+use Rattle.xlsx_relationships.specs.Relationships.{target_of, IsTargetRefused}
+use Rattle.xlsx_relationships.proofs.relationship_parts.path_in.Goals as goal
 
 pub starts-preserved : goal.starts-preserved
 starts-preserved g c =
