@@ -1,0 +1,37 @@
+-- The texts of a workbook's properties as they are kept.
+use Rattle.std.specs.Prelude.{ℕ, List, Option, option_map, string_bytes}
+use Rattle.std.specs.BTreeMap.{get_by_text}
+use Rattle.xlsx_properties.specs.declared.property.Property.{Property}
+use Rattle.xlsx_properties.specs.declared.property.Property.TheVariants.{Creator, LastModifiedBy}
+use Rattle.xlsx_properties.specs.declared.property.Property.TheVariants.{Created, Modified, Title}
+use Rattle.xlsx_properties.specs.declared.property.Property.TheVariants.{Subject, Description}
+use Rattle.xlsx_properties.specs.declared.property.Property.TheVariants.{Keywords, Category}
+use Rattle.xlsx_properties.specs.declared.property.Property.TheVariants.{ContentStatus, Revision}
+use Rattle.xlsx_properties.specs.declared.property.Property.TheVariants.{Version, Application}
+use Rattle.xlsx_properties.specs.declared.property.Property.TheVariants.{AppVersion, Company}
+use Rattle.xlsx_properties.specs.declared.property.Property.TheVariants.{Template, Manager}
+use Rattle.xlsx_properties.specs.declared.workbook_properties.WorkbookProperties.{WorkbookProperties}
+
+-- the text of a property
+abbrev pub held : Property → WorkbookProperties → Option (List ℕ)
+held Creator kept = option_map string_bytes kept.creator
+held LastModifiedBy kept = option_map string_bytes kept.last_modified_by
+held Created kept = option_map string_bytes kept.created
+held Modified kept = option_map string_bytes kept.modified
+held Title kept = option_map string_bytes kept.title
+held Subject kept = option_map string_bytes kept.subject
+held Description kept = option_map string_bytes kept.description
+held Keywords kept = option_map string_bytes kept.keywords
+held Category kept = option_map string_bytes kept.category
+held ContentStatus kept = option_map string_bytes kept.content_status
+held Revision kept = option_map string_bytes kept.revision
+held Version kept = option_map string_bytes kept.version
+held Application kept = option_map string_bytes kept.application
+held AppVersion kept = option_map string_bytes kept.app_version
+held Company kept = option_map string_bytes kept.company
+held Template kept = option_map string_bytes kept.template
+held Manager kept = option_map string_bytes kept.manager
+
+-- the text that a user's own name has
+abbrev pub custom_held : List ℕ → WorkbookProperties → Option (List ℕ)
+custom_held name kept = option_map string_bytes (get_by_text kept.custom_properties name)
