@@ -13,8 +13,9 @@ use Rattle.xlsx_theme.specs.ThemePart.{own_colors, theme_colors}
 use Rattle.xlsx_stylesheet.specs.StyleSheet.{cell_formats_in, AreStyles, HasStyles}
 use Rattle.xlsx_strings.specs.Strings.{strings_in}
 use Rattle.xlsx_workbook.specs.Paths.{workbook_part, relationships_part, strings_part, theme_part}
-use Rattle.xlsx_workbook.specs.Paths.{styles_part, folder_of}
-use Rattle.xlsx_workbook.specs.Relationships.{path_in, related_in}
+use Rattle.xlsx_relationships.specs.Paths.{folder_of}
+use Rattle.xlsx_workbook.specs.Paths.{styles_part}
+use Rattle.xlsx_relationships.specs.Relationships.{path_in, related_in}
 use Rattle.xlsx_open.specs.Opening.{Opening, HasPath, OpensAs, HasNothing, IsOpening}
 use Rattle.xlsx_open.specs.SharedParts.{SharedSaid, HasShared}
 use Rattle.xlsx_core.specs.Agreement.{HaveSamePart, HaveSameBook, HaveSameSheet}

@@ -28,9 +28,10 @@ use Rattle.xlsx_cells.specs.Sheet.{formulas_along}
 use Rattle.xlsx_cells.specs.SheetPart.{SheetPartCause, IsSoundSheet}
 use Rattle.xlsx_cells.specs.StyleIds.{ids_in}
 use Rattle.xlsx_cells.proofs.SoundSheet.{no_part_cause}
-use Rattle.xlsx_workbook.specs.Paths.{folder_of, workbook_part, strings_part, theme_part}
+use Rattle.xlsx_relationships.specs.Paths.{folder_of}
+use Rattle.xlsx_workbook.specs.Paths.{workbook_part, strings_part, theme_part}
 use Rattle.xlsx_workbook.specs.Paths.{styles_part}
-use Rattle.xlsx_workbook.specs.Relationships.{Related}
+use Rattle.xlsx_relationships.specs.Relationships.{Related}
 use Rattle.xlsx_workbook.specs.Sheets.{PlacedSheet}
 use Rattle.xlsx_open.specs.Opening.{Opening, HasRelationships, HasWorkbook, IsOpening, OpensAs}
 use Rattle.xlsx_open.specs.Opening.{HasNothing, OpeningCause}

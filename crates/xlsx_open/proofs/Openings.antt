@@ -17,9 +17,10 @@ use Rattle.xlsx_sections.specs.SectionEvents.{section_events_of}
 use Rattle.xlsx_theme.specs.ThemePart.{theme_colors}
 use Rattle.xlsx_stylesheet.specs.StyleSheet.{cell_formats_in, end_in_styles}
 use Rattle.xlsx_workbook.specs.KeptContents.{pair_of, sheet_of_entry}
-use Rattle.xlsx_workbook.specs.Paths.{folder_of, workbook_part, theme_part}
+use Rattle.xlsx_relationships.specs.Paths.{folder_of}
+use Rattle.xlsx_workbook.specs.Paths.{workbook_part, theme_part}
 use Rattle.xlsx_workbook.specs.Paths.{styles_part}
-use Rattle.xlsx_workbook.specs.Relationships.{Related, IsPathRefused}
+use Rattle.xlsx_relationships.specs.Relationships.{Related, IsPathRefused}
 use Rattle.xlsx_workbook.specs.Sheets.{PlacedSheet}
 use Rattle.xlsx_workbook.specs.Workbook.{IsContents, AreContentsRefused}
 use Rattle.xlsx_workbook.specs.declared.sheet.Metadata.{Metadata}

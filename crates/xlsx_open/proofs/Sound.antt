@@ -15,10 +15,11 @@ use Rattle.xlsx_sections.proofs.Sound.{is_sound_part, no_optional_cause, no_part
 use Rattle.xlsx_theme.specs.ThemePart.{theme_colors}
 use Rattle.xlsx_stylesheet.proofs.Sound.{no_styles_cause}
 use Rattle.xlsx_strings.proofs.Sound.{no_strings_cause}
-use Rattle.xlsx_workbook.specs.Paths.{folder_of, workbook_part, relationships_part, strings_part}
+use Rattle.xlsx_relationships.specs.Paths.{folder_of}
+use Rattle.xlsx_workbook.specs.Paths.{workbook_part, relationships_part, strings_part}
 use Rattle.xlsx_workbook.specs.Paths.{theme_part, styles_part}
-use Rattle.xlsx_workbook.specs.Relationships.{Related, path_in, related_in, IsTargetRefused}
-use Rattle.xlsx_workbook.specs.Relationships.{IsPathRefused, AreRelationshipsRefused}
+use Rattle.xlsx_relationships.specs.Relationships.{Related, path_in, related_in, IsTargetRefused}
+use Rattle.xlsx_relationships.specs.Relationships.{IsPathRefused, AreRelationshipsRefused}
 use Rattle.xlsx_workbook.specs.Workbook.{AreContentsRefused}
 use Rattle.xlsx_open.specs.Opening.{Opening, HasPath, HasRelationships, HasWorkbook, HasNothing}
 use Rattle.xlsx_open.specs.Opening.{IsOpening, OpensAs, OpensSoundly, OpeningCause, ContentsCause}

@@ -21,10 +21,11 @@ use Rattle.xlsx_stylesheet.specs.StylesErrors.{IsStylesEnd}
 use Rattle.xlsx_strings.specs.Strings.{IsStringsEnd}
 use Rattle.xlsx_workbook.specs.DefinedNames.{names_in}
 use Rattle.xlsx_workbook.specs.KeptContents.{pair_of}
-use Rattle.xlsx_workbook.specs.Paths.{folder_of, workbook_part, relationships_part}
+use Rattle.xlsx_relationships.specs.Paths.{folder_of}
+use Rattle.xlsx_workbook.specs.Paths.{workbook_part, relationships_part}
 use Rattle.xlsx_workbook.specs.Paths.{theme_part}
-use Rattle.xlsx_workbook.specs.Relationships.{Related, path_in, related_in, IsPathRefused}
-use Rattle.xlsx_workbook.specs.Relationships.{AreRelationshipsRefused}
+use Rattle.xlsx_relationships.specs.Relationships.{Related, path_in, related_in, IsPathRefused}
+use Rattle.xlsx_relationships.specs.Relationships.{AreRelationshipsRefused}
 use Rattle.xlsx_workbook.specs.Sheets.{PlacedSheet, sheets_in, epoch_in}
 use Rattle.xlsx_workbook.specs.Workbook.{AreContentsRefused}
 use Rattle.xlsx_workbook.specs.declared.sheet.Sheet.{Sheet}

@@ -13,10 +13,8 @@ use crate::shared_parts::{SharedParts, read_shared};
 use part_events::Package;
 use std::alloc::{AllocError, Global};
 use xlsx_error::XlsxError;
-use xlsx_workbook::{
-    Metadata, SheetPlaces, WorkbookContents, file_of, folder_of, joined, read_contents, read_path,
-    read_relationships,
-};
+use xlsx_relationships::{folder_of, joined, read_path, read_relationships};
+use xlsx_workbook::{Metadata, SheetPlaces, WorkbookContents, file_of, read_contents};
 
 fn workbook_part(alloc: Global, path: &str) -> Result<String, AllocError>
     ensures { IfOk result (λ part. string_bytes part ≡ workbook_part path.now) }

@@ -8,7 +8,7 @@ use Rattle.part_events.specs.JoinedText.{joined_text, unknown_entity}
 use Rattle.part_events.specs.Section.{PlacedTag, Element, outermost, is_named}
 use Rattle.xlsx_sections.specs.Answers.{some_answers}
 use Rattle.xlsx_sections.specs.Refusal.{Refusal, plain, lookup_fault, no_character, decoded_at}
-use Rattle.xlsx_workbook.specs.Relationships.{some_text}
+use Rattle.xlsx_relationships.specs.Relationships.{some_text}
 
 abbrev pub name_from :
     ℕ → Result (Option (List ℕ)) AttrFault → Result (Option (List ℕ)) Refusal

@@ -1,7 +1,6 @@
 pub mod DefinedNames
 pub mod KeptContents
 pub mod Paths
-pub mod Relationships
 pub mod Sheets
 pub mod Workbook
 pub mod WorkbookErrors

@@ -9,8 +9,9 @@ use Rattle.part_events.specs.Section.{PlacedTag, starts_by, is_named}
 use Rattle.xlsx_sections.specs.Answers.{all_answers, last_answer, with_two}
 use Rattle.xlsx_sections.specs.Refusal.{Refusal, plain, lookup_fault, unknown_state, unrelated}
 use Rattle.xlsx_sections.specs.Refusal.{unknown_type, decoded_at}
-use Rattle.xlsx_workbook.specs.Paths.{sheet_part, last_piece}
-use Rattle.xlsx_workbook.specs.Relationships.{Related}
+use Rattle.xlsx_relationships.specs.Paths.{last_piece}
+use Rattle.xlsx_workbook.specs.Paths.{sheet_part}
+use Rattle.xlsx_relationships.specs.Relationships.{Related}
 use Rattle.xlsx_workbook.specs.declared.sheet.SheetType.{SheetType}
 use Rattle.xlsx_workbook.specs.declared.sheet.SheetType.TheVariants.{WorkSheet, ChartSheet}
 use Rattle.xlsx_workbook.specs.declared.sheet.SheetType.TheVariants.{DialogSheet}

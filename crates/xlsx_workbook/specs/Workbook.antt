@@ -12,7 +12,7 @@ use Rattle.xlsx_sections.specs.PartSection.{PartSection, inside_of}
 use Rattle.xlsx_sections.specs.Refusal.{Refusal}
 use Rattle.xlsx_workbook.specs.DefinedNames.{with_text, is_defined_name, names_in}
 use Rattle.xlsx_workbook.specs.KeptContents.{pair_of, sheet_of_entry}
-use Rattle.xlsx_workbook.specs.Relationships.{Related}
+use Rattle.xlsx_relationships.specs.Relationships.{Related}
 use Rattle.xlsx_workbook.specs.Sheets.{PlacedSheet, sheets_in, epoch_in}
 use Rattle.xlsx_workbook.specs.declared.workbook.WorkbookContents.{WorkbookContents}
 

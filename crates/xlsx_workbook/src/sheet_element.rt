@@ -4,19 +4,20 @@ ghost use Rattle.std.specs.Option.{option_copied};
 ghost use Rattle.part_events.specs.Event.{tag_of};
 ghost use Rattle.xlsx_sections.specs.Answers.{and_others, prepended, or_earlier, or_later};
 ghost use Rattle.xlsx_sections.specs.Refusal.{Refusal, plain, ElementFails, lookup_fault, placed_at};
-ghost use Rattle.xlsx_workbook.specs.KeptContents.{relationship_of, related_by_id, sheet_of_entry};
+ghost use Rattle.xlsx_relationships.specs.KeptRelationships.{relationship_of, related_by_id};
+ghost use Rattle.xlsx_workbook.specs.KeptContents.{sheet_of_entry};
 ghost use Rattle.xlsx_workbook.specs.Sheets.{PlacedSheet, state_named, type_named, sheet_of};
 ghost use Rattle.xlsx_workbook.specs.Sheets.{related_sheet, is_true_text, epoch_of};
 ghost use Rattle.xlsx_workbook.specs.WorkbookErrors.{IsWorkbookError};
 
-use crate::paths::{last_piece, sheet_part};
-use crate::relationships::{Relationship, find_relationship, text_or};
+use crate::paths::sheet_part;
 use crate::sheet::{Sheet, SheetEntry, SheetType, SheetVisible};
 use attr_text::{AttrFault, RawAttributes, get_attrs};
 use part_events::StartTag;
 use std::alloc::Global;
 use std::collections::BTreeMap;
 use xlsx_error::XlsxError;
+use xlsx_relationships::{Relationship, find_relationship, last_piece, text_or};
 use xlsx_sections::decode_at;
 
 fn state_named(text: &str) -> Option<SheetVisible>

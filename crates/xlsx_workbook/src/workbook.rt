@@ -13,14 +13,14 @@ ghost use Rattle.xlsx_sections.specs.PartSection.{always, KeepsSection, SectionF
 ghost use Rattle.xlsx_sections.specs.PartSection.{OptionalPartFails, closed_section_of};
 ghost use Rattle.xlsx_sections.specs.Refusal.{RefusedAt, ElementFails, placed_at};
 ghost use Rattle.xlsx_sections.specs.SectionEvents.{ReadsToEnd};
+ghost use Rattle.xlsx_relationships.specs.KeptRelationships.{related_by_id};
 ghost use Rattle.xlsx_workbook.specs.DefinedNames.{name_by, is_defined_name};
-ghost use Rattle.xlsx_workbook.specs.KeptContents.{pair_of, related_by_id};
+ghost use Rattle.xlsx_workbook.specs.KeptContents.{pair_of};
 ghost use Rattle.xlsx_workbook.specs.Workbook.{KeepsSheets, AreSheetsRefused, names_of};
 ghost use Rattle.xlsx_workbook.specs.Workbook.{TextRefused, KeepsName, IsNameRefused};
 ghost use Rattle.xlsx_workbook.specs.Workbook.{is_name_start, IsContents, AreContentsRefused};
 ghost use Rattle.xlsx_workbook.specs.WorkbookErrors.{IsWorkbookError};
 
-use crate::relationships::Relationship;
 use crate::sheet::SheetEntry;
 use crate::sheet_element::{keep_epoch, push_sheet};
 use attr_text::{RawAttributes, TextFault};
@@ -28,6 +28,7 @@ use part_events::{Cursor, Package, PartEvent, StartTag, XmlFault, push_text};
 use std::alloc::Global;
 use std::collections::BTreeMap;
 use xlsx_error::XlsxError;
+use xlsx_relationships::Relationship;
 use xlsx_sections::{decode_at, enter_part, next_event_in};
 
 /// What was read of a workbook's section.

@@ -5,9 +5,10 @@ use Rattle.std.specs.Prelude.{IsSomeAnd}
 use Rattle.part_events.specs.Package.{Part, UsesPackage, LeavesPackage, part_of, event_count}
 use Rattle.xlsx_error.specs.declared.error.XlsxError.TheVariants.{Io}
 use Rattle.xlsx_sections.specs.PartSection.{always, closed_section_of, OptionalPartFails}
-use Rattle.xlsx_workbook.specs.KeptContents.{related_by_id}
-use Rattle.xlsx_workbook.specs.Paths.{folder_of, workbook_part, relationships_part}
-use Rattle.xlsx_workbook.specs.Relationships.{related_in}
+use Rattle.xlsx_relationships.specs.KeptRelationships.{related_by_id}
+use Rattle.xlsx_relationships.specs.Paths.{folder_of}
+use Rattle.xlsx_workbook.specs.Paths.{workbook_part, relationships_part}
+use Rattle.xlsx_relationships.specs.Relationships.{related_in}
 use Rattle.xlsx_workbook.specs.Workbook.{IsContents, AreContentsRefused}
 use Rattle.xlsx_open.specs.Opening.{HasRelationships}
 use Rattle.xlsx_open.specs.SharedParts.{shared_said}

@@ -2,7 +2,7 @@ use Rattle.std.proofs.Common.{◌≡◌, true}
 use Rattle.part_events.specs.Reading.{reading}
 use Rattle.part_events.specs.Walk.{section_ahead}
 use Rattle.xlsx_sections.specs.PartSection.{KeepsSection}
-use Rattle.xlsx_workbook.specs.KeptContents.{related_by_id}
+use Rattle.xlsx_relationships.specs.KeptRelationships.{related_by_id}
 use Rattle.xlsx_workbook.proofs.Contents.{KeepsContents}
 use Rattle.xlsx_workbook.proofs.workbook.contents_in.Given as goal
 

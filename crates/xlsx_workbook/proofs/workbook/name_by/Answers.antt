@@ -3,8 +3,8 @@ use Rattle.std.proofs.lemmas.Result.{err_from_is_err_and}
 use Rattle.part_events.specs.Event.{tag_of}
 use Rattle.xlsx_sections.specs.Refusal.{placed_at, decoded_at}
 use Rattle.xlsx_workbook.specs.DefinedNames.{name_by}
-use Rattle.xlsx_workbook.specs.Relationships.{some_text}
-use Rattle.xlsx_workbook.proofs.WorkbookErrors.{some_text_fails}
+use Rattle.xlsx_relationships.specs.Relationships.{some_text}
+use Rattle.xlsx_relationships.proofs.RelationshipErrors.{some_text_fails}
 use Rattle.xlsx_workbook.proofs.workbook.name_by.Goals as goal
 
 pub returns-in_err-decode_at-in-Some-clause-err : goal.returns-in_err-decode_at-in-Some-clause-err

@@ -13,7 +13,7 @@ use Rattle.xlsx_sections.specs.Refusal.{Refusal}
 use Rattle.xlsx_sections.proofs.Refused.{event_refused, refused_in}
 use Rattle.xlsx_sections.proofs.SectionsRead.{event_inside, section_taken}
 use Rattle.xlsx_workbook.specs.DefinedNames.{with_text, behind_in_section}
-use Rattle.xlsx_workbook.specs.KeptContents.{related_by_id}
+use Rattle.xlsx_relationships.specs.KeptRelationships.{related_by_id}
 use Rattle.xlsx_workbook.specs.Workbook.{AreSheetsRefused, IsNameRefused}
 use Rattle.xlsx_workbook.proofs.Contents.{sheets_further, refused_earlier, event_taken}
 use Rattle.xlsx_workbook.proofs.Contents.{joins_further, unknown_first, text_refused, no_sheet}

@@ -4,7 +4,7 @@ use Rattle.part_events.specs.Reading.{reading, ahead}
 use Rattle.part_events.specs.Section.{content, behind}
 use Rattle.part_events.specs.Walk.{section_ahead, behind_section}
 use Rattle.xlsx_sections.specs.PartSection.{KeepsSection}
-use Rattle.xlsx_workbook.specs.KeptContents.{related_by_id}
+use Rattle.xlsx_relationships.specs.KeptRelationships.{related_by_id}
 use Rattle.xlsx_workbook.specs.Workbook.{KeepsSheets, names_of}
 use Rattle.xlsx_workbook.proofs.Contents.{JoinsText}
 use Rattle.xlsx_workbook.proofs.workbook.read_name.Given as goal

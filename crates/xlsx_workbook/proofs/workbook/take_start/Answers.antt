@@ -3,7 +3,7 @@ use Rattle.std.proofs.lemmas.Result.{err_from_is_err_and, IfErr-weaker}
 use Rattle.part_events.specs.Event.{Event, start, tag_of}
 use Rattle.xlsx_sections.specs.Refusal.{RefusedAt, ElementFails, placed_at}
 use Rattle.xlsx_sections.proofs.Refused.{refused_at_weaker}
-use Rattle.xlsx_workbook.specs.KeptContents.{related_by_id}
+use Rattle.xlsx_relationships.specs.KeptRelationships.{related_by_id}
 use Rattle.xlsx_workbook.specs.Sheets.{is_sheet, is_properties, sheet_of, epoch_in}
 use Rattle.xlsx_workbook.specs.Workbook.{AreSheetsRefused}
 use Rattle.xlsx_workbook.proofs.Contents.{sheet_refused, epoch_refused}

@@ -1,0 +1,2 @@
+pub mod MergeErrors
+pub mod MergedCells

@@ -1,0 +1,3 @@
+pub mod SaidRead
+pub mod StartLists
+pub mod WholeRead

@@ -1,0 +1,2 @@
+pub mod PartSaid
+pub mod WholePart

@@ -1,0 +1,6 @@
+//! Parts that are read whole, and sections that a part may lack.
+#![tactic(auto)]
+
+mod parts;
+
+pub use parts::{find_section, next_event_of_part, next_start_of_part, open_part};

@@ -1,0 +1,52 @@
+use Rattle.std.proofs.Common.{◌≡◌, None, Ok, refl, true, ℕ, inl, inr, subst, arith, codes, length}
+use Rattle.std.proofs.lemmas.Result.{err_from_is_err_and}
+use Rattle.part_events.specs.Reading.{reading}
+use Rattle.part_events.specs.Walk.{section_ahead, is_closed_ahead}
+use Rattle.xlsx_error.specs.declared.error.XlsxError.TheVariants.{RelationshipNotFound}
+use Rattle.xlsx_sections.specs.PartSection.{always, SectionFails}
+use Rattle.xlsx_sections.proofs.Failing.{part_refused, required_part_refused}
+use Rattle.xlsx_sections.proofs.Refused.{refused_as}
+use Rattle.xlsx_relationships.specs.Relationships.{path_in, IsTargetRefused, IsPathRefused}
+use Rattle.xlsx_relationships.proofs.relationship_parts.read_path.Goals as goal
+
+pub returns-in_err-path-clause-err : goal.returns-in_err-path-clause-err
+unfolding IsPathRefused
+returns-in_err-path-clause-err g c =
+    let name = codes "Relationships" in
+    let old = g.P.Package.state c.args.package.now in
+    let mid = reading (g.P.Package.state c.enter_part.new.package) c.in-Some.cursor in
+    let new = reading (g.P.Package.state c.path_in.new.package) c.path_in.new.cursor in
+    let e = c.in_err-path.field-0.0 in
+    let enters = rw c.in-Some.is at c.in_ok-cursor.ensures.enters in
+    let here : SectionFails (always name) IsTargetRefused (length mid.names) mid new e =
+    subst (λ (n : ℕ). SectionFails (always name) IsTargetRefused n mid new e) c.depth-base.ensures
+    c.in_err-path.ensures.err in
+    let p = err_from_is_err_and c.from_residual-in_err-path.result
+    c.from_residual-in_err-path.ensures.1 in
+    rw (p.1, p.2)
+    (required_part_refused name c.args.part.now old new.source (always name) IsPathRefused e
+    (part_refused (always name) IsPathRefused new e enters
+    (refused_as (length mid.names) mid (always name) IsTargetRefused IsPathRefused new e
+    (λ refusal refuses. inl refuses) here)))
+
+pub returns-clause-err : goal.returns-clause-err
+unfolding IsPathRefused
+returns-clause-err g c =
+    let name = codes "Relationships" in
+    let old = g.P.Package.state c.args.package.now in
+    let mid = reading (g.P.Package.state c.enter_part.new.package) c.in-Some.cursor in
+    let new = reading (g.P.Package.state c.path_in.new.package) c.path_in.new.cursor in
+    let enters = rw c.in-Some.is at c.in_ok-cursor.ensures.enters in
+    let here : SectionFails (always name) IsPathRefused (length mid.names) mid new
+    RelationshipNotFound = λ told.
+    inr (
+      refl,
+      subst (λ (n : ℕ). is_closed_ahead n mid
+          ≡ true) c.depth-base.ensures (c.in_ok-path.ensures.closed told),
+      subst (λ (n : ℕ). path_in (section_ahead n mid)
+          ≡ Ok None) c.depth-base.ensures (rw c.in-None.is at (c.in_ok-path.ensures.path told)),
+    )
+    in
+    required_part_refused name c.args.part.now old new.source (always name) IsPathRefused
+    RelationshipNotFound
+    (part_refused (always name) IsPathRefused new RelationshipNotFound enters here)

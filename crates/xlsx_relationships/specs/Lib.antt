@@ -1,0 +1,4 @@
+pub mod KeptRelationships
+pub mod Paths
+pub mod RelationshipErrors
+pub mod Relationships

@@ -1,0 +1,132 @@
+ghost use Rattle.std.specs.Prelude.{◌≡◌, ℕ, List, Ok, Some, option_map, unwrap_or, string_bytes};
+ghost use Rattle.std.specs.Prelude.{if◌then◌else◌, IfOk, OnOk, IfErr};
+ghost use Rattle.std.specs.Option.{option_copied};
+ghost use Rattle.std.specs.Str.{bytes_eq};
+ghost use Rattle.part_events.specs.Event.{tag_of};
+ghost use Rattle.xlsx_error.specs.declared.error.XlsxError.TheVariants.{OutOfMemory};
+ghost use Rattle.xlsx_sections.specs.Answers.{or_earlier};
+ghost use Rattle.xlsx_sections.specs.Refusal.{ElementFails, placed_at};
+ghost use Rattle.xlsx_relationships.specs.KeptRelationships.{relationship_of, related_by_id};
+ghost use Rattle.xlsx_relationships.specs.Relationships.{is_office_document, target_of, related_of};
+ghost use Rattle.xlsx_relationships.specs.RelationshipErrors.{IsRelationshipsError};
+
+use attr_text::{RawAttributes, get_attrs};
+use part_events::StartTag;
+use std::alloc::Global;
+use std::collections::BTreeMap;
+use xlsx_error::XlsxError;
+use xlsx_sections::decode_at;
+
+/// What a relationship leads to, and its type, both as written.
+#[derive(Debug, Drop)]
+pub struct Relationship {
+    pub target: String,
+    pub typ: String,
+}
+
+fn is_office_document(typ: &str) -> bool
+    ensures { result ≡ is_office_document typ.now }
+{
+    typ.as_bytes().ends_with(b"/relationships/officeDocument")
+}
+
+#[tactic(auto, using(crate::proofs::RelationshipErrors::decoding))]
+fn office_target(alloc: Global, tag: StartTag<'_>, at: u64) -> Result<Option<String>, XlsxError>
+    ensures ok { IfOk result (λ target. (behind : ℕ) →
+        target_of (placed_at (tag_of tag.entry) behind) ≡ Ok (option_map string_bytes target)) }
+    ensures err { IfErr result (λ error. (behind : ℕ) →
+        ElementFails (target_of (placed_at (tag_of tag.entry) behind)) at behind error) }
+    ensures kind { IfErr result IsRelationshipsError }
+{
+    let (typ, target) = get_attrs!(tag, "Type" => typ, "Target" => target)?;
+    match (typ, target) {
+        (Some(typ), Some(target)) if is_office_document(typ) => {
+            Ok(Some(decode_at(alloc, target, at)?))
+        }
+        _ => Ok(None),
+    }
+}
+
+/// Keeps the target, decoded, of a relationship to an office document, in place of an earlier one.
+/// The start is event number `at` of its part.
+pub fn keep_target(
+    alloc: Global,
+    kept: &mut Option<String>,
+    tag: StartTag<'_>,
+    at: u64,
+) -> Result<(), XlsxError>
+    ensures ok { OnOk result ((behind : ℕ) →
+        or_earlier (option_map string_bytes kept.old)
+        (target_of (placed_at (tag_of tag.entry) behind))
+        ≡ Ok (option_map string_bytes kept.new)) }
+    ensures err { IfErr result (λ error. (behind : ℕ) →
+        ElementFails (target_of (placed_at (tag_of tag.entry) behind)) at behind error) }
+    ensures kind { IfErr result IsRelationshipsError }
+{
+    if let Some(target) = office_target(alloc, tag, at)? {
+        *kept = Some(target);
+    }
+    Ok(())
+}
+
+/// The value of a lookup, or another text where there is none.
+pub fn text_or<'a>(value: Option<&'a str>, other: &'a str) -> &'a str
+    ensures { result.now ≡ unwrap_or (option_copied value.entry) other.now }
+{
+    match value {
+        Some(text) => text,
+        None => other,
+    }
+}
+
+#[tactic(auto, using(std::proofs::lemmas::Map::Text::text_keys))]
+fn put(
+    map: &mut BTreeMap<String, Relationship>,
+    id: String,
+    relationship: Relationship,
+) -> Result<(), XlsxError>
+    ensures ok { OnOk result ((q : List ℕ) →
+        related_by_id map.new q
+        ≡ (if bytes_eq q (string_bytes id) then Some (relationship_of relationship)
+        else related_by_id map.old q)) }
+    ensures err { IfErr result (λ e. e ≡ OutOfMemory) }
+{
+    map.insert(id, relationship)?;
+    Ok(())
+}
+
+/// The relationship that is kept for an Id.
+pub fn find_relationship<'m>(
+    map: &'m BTreeMap<String, Relationship>,
+    id: &str,
+) -> Option<&'m Relationship>
+    ensures { option_map relationship_of (option_copied result) ≡ related_by_id map.now id.now }
+{
+    map.get(id)
+}
+
+/// Keeps the relationship of a start by its Id, in place of an earlier one. One without Id is
+/// passed over.
+pub fn keep_relationship(
+    alloc: Global,
+    map: &mut BTreeMap<String, Relationship>,
+    tag: StartTag<'_>,
+) -> Result<(), XlsxError>
+    ensures ok { OnOk result ((id : List ℕ) (behind : ℕ) →
+        or_earlier (related_by_id map.old id)
+        (related_of id (placed_at (tag_of tag.entry) behind))
+        ≡ Ok (related_by_id map.new id)) }
+    ensures err { IfErr result (λ error. (id : List ℕ) (at behind : ℕ) →
+        ElementFails (related_of id (placed_at (tag_of tag.entry) behind)) at behind error) }
+    ensures kind { IfErr result IsRelationshipsError }
+{
+    let (id, typ, target) = get_attrs!(tag, "Id" => id, "Type" => typ, "Target" => target)?;
+    let Some(id) = id else {
+        return Ok(());
+    };
+    let relationship = Relationship {
+        target: String::from_str(alloc, text_or(target, ""))?,
+        typ: String::from_str(alloc, text_or(typ, ""))?,
+    };
+    put(map, String::from_str(alloc, id)?, relationship)
+}
