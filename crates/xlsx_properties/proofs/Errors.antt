@@ -3,10 +3,10 @@ use Rattle.part_events.specs.declared.fault.XmlFault.TheVariants.{EndMismatch, E
 use Rattle.xlsx_error.specs.declared.error.XlsxError.{XlsxError}
 use Rattle.xlsx_error.specs.declared.error.XlsxError.TheVariants.{OutOfMemory, Io, Xml}
 use Rattle.xlsx_sections.specs.Refusal.{IsDecodeError}
+use Rattle.xlsx_parts.specs.WholePart.{IsBreakError}
 use Rattle.xlsx_properties.specs.Errors.{IsPropertyError}
-use Rattle.xlsx_properties.specs.WholePart.{IsWalkError}
 
-pub step_error : (error : XlsxError) → IsWalkError error → IsPropertyError error
+pub step_error : (error : XlsxError) → IsBreakError error → IsPropertyError error
 step_error OutOfMemory is = tt
 step_error Io is = tt
 step_error (Xml (EndMismatch at)) is = tt

@@ -1,3 +1,4 @@
+pub mod CustomKept
 pub mod Errors
+pub mod EventsSaid
 pub mod TextsKept
-pub mod WholePart

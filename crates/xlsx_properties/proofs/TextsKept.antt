@@ -171,10 +171,3 @@ said_at_end listed wanted None = refl
 said_at_end listed wanted (Some own) =
     ap (λ (said : Option (List ℕ)). or_later (Ok said) (Ok None))
     (either_way (is_same wanted own.property) None)
-
--- what is refused behind what was kept is refused
-pub later_refused : (kept : Option (List ℕ)) (answer : Result (Option (List ℕ)) Refusal)
-    (refusal : Refusal) → or_earlier kept answer ≡ Err refusal → answer ≡ Err refusal
-later_refused kept (Ok None) refusal is = absurd (cc)
-later_refused kept (Ok (Some text)) refusal is = absurd (cc)
-later_refused kept (Err own) refusal is = is

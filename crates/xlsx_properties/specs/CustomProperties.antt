@@ -1,5 +1,5 @@
 -- The properties that users named (ECMA-376 part 1, section 22.3).
-use Rattle.std.specs.Prelude.{◌≡◌, ℕ, List, [], ◌∷◌, ◌++◌, length, Bool, ◌&&◌, false, not}
+use Rattle.std.specs.Prelude.{ℕ, List, [], ◌∷◌, ◌++◌, length, Bool, ◌&&◌, false, not}
 use Rattle.std.specs.Prelude.{if◌then◌else◌, codes, Option, Some, None, is_none, Result, Ok, Err}
 use Rattle.std.specs.Str.{bytes_eq}
 use Rattle.part_events.specs.Event.{Tag, Event, start, end, leaf}
@@ -72,7 +72,3 @@ custom_from name property takes (leaf kind ∷ events) =
 -- what a part says of a name
 abbrev pub custom_in : List ℕ → List Event → Result (Option (List ℕ)) Refusal
 custom_in name events = custom_from name None false events
-
--- a part is refused by its properties, whichever is asked for
-abbrev pub AreCustomRefused : List Event → Refusal → Type 0
-AreCustomRefused events refusal = (name : List ℕ) → custom_in name events ≡ Err refusal

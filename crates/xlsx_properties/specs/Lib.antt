@@ -1,6 +1,8 @@
+pub mod CustomProperties
 pub mod Errors
 pub mod Kept
+pub mod Names
 pub mod Open
 pub mod Property
 pub mod PropertyTexts
-pub mod WholePart
+pub mod Said

@@ -73,11 +73,6 @@ property_in listed wanted (start tag ∷ events) =
 property_in listed wanted (end name ∷ events) = property_in listed wanted events
 property_in listed wanted (leaf kind ∷ events) = property_in listed wanted events
 
--- a part is refused by its properties, whichever is asked for
-abbrev pub ArePropertiesRefused : Listed → List Event → Refusal → Type 0
-ArePropertiesRefused listed events refusal =
-    (wanted : Property) → property_in listed wanted events ≡ Err refusal
-
 -- the property whose start was taken last, with its text so far
 pub record OpenText : Type 0 where
   pub property : Property

@@ -2,11 +2,12 @@
 //! section 11, and part 1, section 22.2), and those that users named (section 22.3).
 #![tactic(auto)]
 
+mod custom_part;
 mod event_text;
+mod open_custom;
 mod open_property;
 mod property;
 mod property_part;
-mod whole_part;
 mod workbook_properties;
 
 pub use property::Property;

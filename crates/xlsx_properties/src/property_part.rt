@@ -2,19 +2,19 @@ ghost use Rattle.std.specs.Prelude.{◌≡◌, length, true, Ok, OnOk, IfErr};
 ghost use Rattle.part_events.specs.Reading.{reading, events_of, IsReading, ReadsPart};
 ghost use Rattle.xlsx_error.specs.declared.error.XlsxError.TheVariants.{Io};
 ghost use Rattle.xlsx_sections.specs.Answers.{or_earlier};
-ghost use Rattle.xlsx_sections.specs.Failing.{FailsBy};
+ghost use Rattle.xlsx_parts.specs.WholePart.{WholePartFails};
 ghost use Rattle.xlsx_properties.specs.Errors.{IsPropertyError};
 ghost use Rattle.xlsx_properties.specs.Kept.{held};
-ghost use Rattle.xlsx_properties.specs.PropertyTexts.{listed_in, property_in, ArePropertiesRefused};
-ghost use Rattle.xlsx_properties.specs.WholePart.{WholePartCause};
+ghost use Rattle.xlsx_properties.specs.PropertyTexts.{listed_in, property_in};
+ghost use Rattle.xlsx_properties.specs.Said.{AreRefused};
 ghost use Rattle.xlsx_properties.specs.declared.property.Property.{Property};
 
 use crate::open_property::{PropertyPart, take_event};
-use crate::whole_part::next_event_of_part;
 use crate::workbook_properties::WorkbookProperties;
 use part_events::{Cursor, Package};
 use std::alloc::Global;
 use xlsx_error::XlsxError;
+use xlsx_parts::next_event_of_part;
 
 /// Reads a part of which nothing was taken to its end, and gives the properties the texts that it
 /// says, of each the last. A reference without a character behind a listed start is `Xml(Entity)`
@@ -43,8 +43,8 @@ pub(crate) fn read_texts<P: Package>(
     ensures custom { properties.new.custom_properties ≡ properties.old.custom_properties }
     ensures err { let old = reading (P.state «package».old) cursor.old in
         let new = reading (P.state «package».new) cursor.new in
-        let refused = ArePropertiesRefused (listed_in part) in
-        IfErr result (FailsBy (WholePartCause refused (events_of old)) old.source new.source) }
+        let refused = AreRefused (property_in (listed_in part)) in
+        IfErr result (WholePartFails refused old new.source) }
     ensures kind { IfErr result IsPropertyError }
 {
     let mut started = None;

@@ -1,14 +1,16 @@
-ghost use Rattle.std.specs.Prelude.{◌≡◌, Some, None, string_bytes, option_map, if◌then◌else◌, IfOk};
-ghost use Rattle.std.specs.Prelude.{[]};
+ghost use Rattle.std.specs.Prelude.{◌≡◌, Some, None, string_bytes, option_map, if◌then◌else◌};
+ghost use Rattle.std.specs.Prelude.{[], ℕ, List, OnOk, IfErr};
+ghost use Rattle.std.specs.Str.{bytes_eq};
+ghost use Rattle.xlsx_error.specs.declared.error.XlsxError.TheVariants.{OutOfMemory};
 ghost use Rattle.std.specs.Option.{option_copied};
 ghost use Rattle.xlsx_properties.specs.Property.{is_same};
-ghost use Rattle.xlsx_properties.specs.Kept.{held};
+ghost use Rattle.xlsx_properties.specs.Kept.{held, custom_held};
 ghost use Rattle.xlsx_properties.specs.declared.property.Property.{Property};
 
 use crate::property::Property;
-use std::alloc::{AllocError, Global};
+use std::alloc::Global;
 use std::collections::BTreeMap;
-use std::marker::Model;
+use xlsx_error::XlsxError;
 
 /// What a workbook says of itself: who made it, when, and what users added by names of their own.
 #[derive(Debug, Drop)]
@@ -116,5 +118,18 @@ impl WorkbookProperties {
             Property::Template => self.template = text,
             Property::Manager => self.manager = text,
         }
+    }
+
+    /// Gives a name of the users' own this text, in place of an earlier one.
+    #[tactic(auto, using(std::proofs::lemmas::Map::Text::text_keys))]
+    pub(crate) fn keep(&mut self, name: String, text: String) -> Result<(), XlsxError>
+        ensures ok { OnOk result ((own : List ℕ) → custom_held own self.new
+            ≡ (if bytes_eq own (string_bytes name) then Some (string_bytes text)
+            else custom_held own self.old)) }
+        ensures held { (own : Property) → held own self.new ≡ held own self.old }
+        ensures err { IfErr result (λ error. error ≡ OutOfMemory) }
+    {
+        self.custom_properties.insert(name, text)?;
+        Ok(())
     }
 }

@@ -1,11 +1,10 @@
-use Rattle.std.proofs.Common.{◌≡◌, true}
-use Rattle.part_events.specs.Reading.{reading, ahead}
-use Rattle.xlsx_sections.specs.Answers.{or_earlier}
+use Rattle.std.proofs.Common.{◌≡◌}
+use Rattle.part_events.specs.Reading.{reading}
 use Rattle.xlsx_properties.specs.Kept.{held}
 use Rattle.xlsx_properties.specs.Open.{open_in}
 use Rattle.xlsx_properties.specs.PropertyTexts.{listed_in, property_in, continued}
-use Rattle.xlsx_properties.specs.WholePart.{Walks}
 use Rattle.xlsx_properties.specs.declared.property.Property.{Property}
+use Rattle.xlsx_properties.proofs.EventsSaid.{KeepsEvents}
 use Rattle.xlsx_properties.proofs.property_part.read_texts.Given as goal
 
 abbrev pub invariant-events : goal.invariant-events
@@ -14,12 +13,9 @@ invariant-events g l =
     let now = reading (g.P.Package.state l.package) l.cursor in
     let listed = listed_in l.fn.part in
     record {
-      walks : Walks old now;
-      said :
-          old.source.is_told ≡ true → (wanted : Property) →
-          or_earlier (held wanted l.properties)
-          (continued listed wanted (open_in l.started) (ahead now))
-          ≡ or_earlier (held wanted l.fn.properties) (property_in listed wanted (ahead old));
+      keeps : KeepsEvents (λ (wanted : Property). held wanted l.fn.properties)
+      (λ (wanted : Property). held wanted l.properties) (property_in listed)
+      (λ (wanted : Property). continued listed wanted (open_in l.started)) old now;
       custom : l.properties.custom_properties ≡ l.fn.properties.custom_properties;
     }
 
