@@ -9,7 +9,7 @@ use Rattle.part_events.specs.Walk.{section_ahead}
 use Rattle.part_events.specs.declared.fault.XmlFault.TheVariants.{EndMismatch}
 use Rattle.xlsx_error.specs.declared.error.XlsxError.{XlsxError}
 use Rattle.xlsx_error.specs.declared.error.XlsxError.TheVariants.{OutOfMemory, Io, Xml}
-use Rattle.xlsx_sections.specs.Answers.{or_earlier}
+use Rattle.xlsx_sections.specs.Answers.{or_earlier, or_later}
 use Rattle.xlsx_sections.specs.PartSection.{KeepsSection, last_of, section_left}
 use Rattle.xlsx_sections.specs.Refusal.{Refusal, RefusedAs, RefusedAt}
 use Rattle.xlsx_sections.specs.Steps.{IsEventInside}
@@ -105,3 +105,21 @@ events_ended {before = before} {now = now} {saying = saying} {following = follow
     (sym all ∙ sym (begins told).ahead)
     ∙ sym (keeps.said told key)
     ∙ ap (or_earlier (now key)) (ap (following key) ends ∙ none key)
+
+-- what two parts say, the second behind the first
+pub said_later : {A : Type 0} (first second : Result (Option A) Refusal) (kept last : Option A)
+    → or_earlier None first ≡ Ok kept → or_earlier kept second ≡ Ok last
+    → or_later first second ≡ Ok last
+said_later (Ok None) second kept last one two =
+    let none : kept ≡ None = cc in
+    ap (λ (own : Option _). or_earlier own second) (sym none) ∙ two
+said_later (Ok (Some a)) second kept last one two =
+    let some : kept ≡ Some a = cc in
+    ap (λ (own : Option _). or_earlier own second) (sym some) ∙ two
+said_later (Err refusal) second kept last one two = absurd (cc)
+
+pub none_earlier : {A : Type 0} (answer : Result (Option A) Refusal) (last : Option A)
+    → or_earlier None answer ≡ Ok last → answer ≡ Ok last
+none_earlier (Ok None) last is = is
+none_earlier (Ok (Some a)) last is = is
+none_earlier (Err refusal) last is = absurd (cc)

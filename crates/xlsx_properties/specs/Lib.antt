@@ -3,6 +3,7 @@ pub mod Errors
 pub mod Kept
 pub mod Names
 pub mod Open
+pub mod Parts
 pub mod Property
 pub mod PropertyTexts
 pub mod Said

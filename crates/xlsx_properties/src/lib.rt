@@ -8,7 +8,9 @@ mod open_custom;
 mod open_property;
 mod property;
 mod property_part;
+mod read;
 mod workbook_properties;
 
 pub use property::Property;
+pub use read::read_properties;
 pub use workbook_properties::WorkbookProperties;

@@ -1,5 +1,5 @@
 ghost use Rattle.std.specs.Prelude.{◌≡◌, Some, None, string_bytes, option_map, if◌then◌else◌};
-ghost use Rattle.std.specs.Prelude.{[], ℕ, List, OnOk, IfErr};
+ghost use Rattle.std.specs.Prelude.{ℕ, List, OnOk, IfErr};
 ghost use Rattle.std.specs.Str.{bytes_eq};
 ghost use Rattle.xlsx_error.specs.declared.error.XlsxError.TheVariants.{OutOfMemory};
 ghost use Rattle.std.specs.Option.{option_copied};
@@ -39,7 +39,7 @@ impl WorkbookProperties {
     /// No properties.
     pub fn new(alloc: Global) -> WorkbookProperties
         ensures none { (own : Property) → held own result ≡ None }
-        ensures no_custom { result.custom_properties.entries ≡ [] }
+        ensures no_custom { (name : List ℕ) → custom_held name result ≡ None }
     {
         WorkbookProperties {
             creator: None,

@@ -49,6 +49,13 @@ returns-clause-ends g c = λ told.
     (c.in_ok-at.ensures.step old c.events.invariant.keeps.keeps)) told in
     ends.0.1
 
+pub returns-clause-whole : goal.returns-clause-whole
+returns-clause-whole g c = λ told.
+    let old = reading (g.P.Package.state c.args.package.now) c.args.cursor.now in
+    let ends = (rw c.in_default.is at
+    (c.in_ok-at.ensures.step old c.events.invariant.keeps.keeps)) told in
+    ends.0.0
+
 pub returns-clause-said : goal.returns-clause-said
 returns-clause-said g c = λ told.
     let old = reading (g.P.Package.state c.args.package.now) c.args.cursor.now in
