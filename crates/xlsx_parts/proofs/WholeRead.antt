@@ -117,8 +117,7 @@ part_ended {first = first} {old = old} {new = new} before reads ended told =
     let tracked = reads.stays.reading.tracked last in
     let own : events_of new ≡ reverse new.source.past =
     ap (λ (rest : List Event). reverse new.source.past ++ rest) ended.rest
-    ∙ append-nil (reverse new.source.past) in
-    (
+    ∙ append-nil (reverse new.source.past) in (
       subst (λ (all : List Event). whole all ≡ all) (before.stays.part told)
           (whole_at_end reads ended still),
       omega (
