@@ -1,7 +1,8 @@
 -- Which refusals of the layers below are refusals of properties.
 use Rattle.part_events.specs.declared.fault.XmlFault.TheVariants.{EndMismatch, Entity}
 use Rattle.xlsx_error.specs.declared.error.XlsxError.{XlsxError}
-use Rattle.xlsx_error.specs.declared.error.XlsxError.TheVariants.{OutOfMemory, Io, Xml}
+use Rattle.xlsx_error.specs.declared.error.XlsxError.TheVariants.{OutOfMemory, Io, Xml, XmlAttr}
+use Rattle.xlsx_sections.specs.Names.{IsNameError}
 use Rattle.xlsx_sections.specs.Refusal.{IsDecodeError}
 use Rattle.xlsx_parts.specs.WholePart.{IsBreakError}
 use Rattle.xlsx_properties.specs.Errors.{IsPropertyError}
@@ -16,3 +17,9 @@ pub decode_error : (error : XlsxError) → IsDecodeError error → IsPropertyErr
 decode_error OutOfMemory is = tt
 decode_error (Xml (Entity at)) is = tt
 decode_error _ is = absurd is
+
+pub name_error : (error : XlsxError) → IsNameError error → IsPropertyError error
+name_error OutOfMemory is = tt
+name_error (Xml (Entity at)) is = tt
+name_error (XmlAttr fault) is = tt
+name_error _ is = absurd is

@@ -7,7 +7,7 @@ use Rattle.part_events.specs.JoinedText.{event_text, is_unknown}
 use Rattle.part_events.specs.Section.{is_named}
 use Rattle.xlsx_sections.specs.Answers.{or_earlier}
 use Rattle.xlsx_sections.specs.Refusal.{Refusal, no_character, placed_at}
-use Rattle.xlsx_properties.specs.Names.{name_by}
+use Rattle.xlsx_sections.specs.Names.{name_by}
 
 abbrev pub is_property : Tag → Bool
 is_property tag = is_named (codes "property" ∷ []) tag

@@ -1,7 +1,6 @@
 pub mod CustomProperties
 pub mod Errors
 pub mod Kept
-pub mod Names
 pub mod Open
 pub mod Parts
 pub mod Property

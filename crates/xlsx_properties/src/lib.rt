@@ -3,7 +3,6 @@
 #![tactic(auto)]
 
 mod custom_part;
-mod event_text;
 mod open_custom;
 mod open_property;
 mod property;

@@ -1,26 +1,24 @@
 ghost use Rattle.std.specs.Prelude.{◌≡◌, ◌∷◌, ℕ, List, length, Ok, Err, true, false};
-ghost use Rattle.std.specs.Prelude.{if◌then◌else◌, option_map, string_bytes, OnOk, IfOk, IfErr};
+ghost use Rattle.std.specs.Prelude.{option_map, string_bytes, OnOk, IfErr};
 ghost use Rattle.std.specs.Option.{option_or};
 ghost use Rattle.part_events.specs.Event.{Event, event_of, tag_of, start, end};
 ghost use Rattle.part_events.specs.JoinedText.{is_unknown};
 ghost use Rattle.xlsx_error.specs.declared.error.XlsxError.TheVariants.{OutOfMemory};
 ghost use Rattle.xlsx_sections.specs.Answers.{or_earlier};
-ghost use Rattle.xlsx_sections.specs.Refusal.{RefusedAt, ElementFails, placed_at, no_character};
+ghost use Rattle.xlsx_sections.specs.Refusal.{RefusedAt, no_character};
 ghost use Rattle.xlsx_properties.specs.CustomProperties.{custom_from, text_named, behind_leaf};
 ghost use Rattle.xlsx_properties.specs.CustomProperties.{is_taken, ends_property, opened};
 ghost use Rattle.xlsx_properties.specs.Errors.{IsPropertyError};
 ghost use Rattle.xlsx_properties.specs.Kept.{held, custom_held};
-ghost use Rattle.xlsx_properties.specs.Names.{name_by};
 ghost use Rattle.xlsx_properties.specs.Open.{custom_in_place, custom_behind};
 ghost use Rattle.xlsx_properties.specs.declared.property.Property.{Property};
 
-use crate::event_text::push_text_at;
 use crate::workbook_properties::WorkbookProperties;
-use attr_text::{RawAttributes, local_name};
+use attr_text::local_name;
 use part_events::{PartEvent, StartTag};
 use std::alloc::Global;
 use xlsx_error::XlsxError;
-use xlsx_sections::decode_at;
+use xlsx_sections::{name_by, push_text_at};
 
 /// A property that users named, whose end is still to come, with its text so far.
 #[derive(Drop)]
@@ -35,21 +33,6 @@ pub(crate) struct CustomPlace {
     pub(crate) started: Option<OpenCustom>,
     /// Whether the texts that come next count.
     pub(crate) takes: bool,
-}
-
-/// The name of a start, decoded, which is event number `at` of its part.
-#[tactic(auto, using(crate::proofs::Errors::decode_error))]
-fn name_by(alloc: Global, tag: StartTag<'_>, at: u64) -> Result<Option<String>, XlsxError>
-    ensures ok { IfOk result (λ name. (behind : ℕ) →
-        name_by (placed_at (tag_of tag.entry) behind) ≡ Ok (option_map string_bytes name)) }
-    ensures err { IfErr result (λ error. (behind : ℕ) →
-        ElementFails (name_by (placed_at (tag_of tag.entry) behind)) at behind error) }
-    ensures kind { IfErr result IsPropertyError }
-{
-    match tag.raw_attr("name")? {
-        Some(name) => Ok(Some(decode_at(alloc, name, at)?)),
-        None => Ok(None),
-    }
 }
 
 fn opened(alloc: Global, name: Option<String>) -> Option<OpenCustom>

@@ -11,12 +11,12 @@ ghost use Rattle.xlsx_properties.specs.PropertyTexts.{continued, with_text};
 ghost use Rattle.xlsx_properties.specs.Open.{open_in};
 ghost use Rattle.xlsx_properties.specs.declared.property.Property.{Property};
 
-use crate::event_text::push_text_at;
 use crate::property::{Property, core_property, program_property};
 use crate::workbook_properties::WorkbookProperties;
 use part_events::{PartEvent, StartTag};
 use std::alloc::Global;
 use xlsx_error::XlsxError;
+use xlsx_sections::push_text_at;
 
 /// A part whose elements give properties by their names.
 #[derive(Clone, Copy)]

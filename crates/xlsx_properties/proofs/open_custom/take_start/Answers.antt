@@ -4,7 +4,7 @@ use Rattle.part_events.specs.Event.{tag_of, start}
 use Rattle.xlsx_sections.specs.Refusal.{Refusal, placed_at}
 use Rattle.xlsx_sections.proofs.Refused.{refused_at_weaker}
 use Rattle.xlsx_properties.specs.CustomProperties.{is_property}
-use Rattle.xlsx_properties.specs.Names.{name_by}
+use Rattle.xlsx_sections.specs.Names.{name_by}
 use Rattle.xlsx_properties.specs.Open.{custom_behind, custom_in_place}
 use Rattle.xlsx_properties.proofs.CustomKept.{name_refused}
 use Rattle.xlsx_properties.proofs.open_custom.take_start.Goals as goal

@@ -2,9 +2,9 @@ use Rattle.std.proofs.Common.{◌≡◌, rules}
 use Rattle.std.proofs.lemmas.Result.{err_from_is_err_and}
 use Rattle.part_events.specs.Event.{tag_of}
 use Rattle.xlsx_sections.specs.Refusal.{placed_at, decoded_at}
-use Rattle.xlsx_properties.specs.Names.{some_text, name_by}
-use Rattle.xlsx_properties.proofs.CustomKept.{some_text_fails}
-use Rattle.xlsx_properties.proofs.open_custom.name_by.Goals as goal
+use Rattle.xlsx_sections.specs.Names.{some_text, name_by}
+use Rattle.xlsx_sections.proofs.TextsRead.{some_text_fails}
+use Rattle.xlsx_sections.proofs.decode.name_by.Goals as goal
 
 pub returns-in_err-decode_at-in-Some-clause-err : goal.returns-in_err-decode_at-in-Some-clause-err
 returns-in_err-decode_at-in-Some-clause-err c =
