@@ -1,6 +1,7 @@
 -- The texts of a workbook's properties as they are kept.
-use Rattle.std.specs.Prelude.{ℕ, List, Option, option_map, string_bytes}
+use Rattle.std.specs.Prelude.{ℕ, List, map, Option, option_map, string_bytes, String}
 use Rattle.std.specs.BTreeMap.{get_by_text}
+use Rattle.std.specs.declared.alloc.Global.{Global}
 use Rattle.xlsx_properties.specs.declared.property.Property.{Property}
 use Rattle.xlsx_properties.specs.declared.property.Property.TheVariants.{Creator, LastModifiedBy}
 use Rattle.xlsx_properties.specs.declared.property.Property.TheVariants.{Created, Modified, Title}
@@ -35,3 +36,10 @@ held Manager kept = option_map string_bytes kept.manager
 -- the text that a user's own name has
 abbrev pub custom_held : List ℕ → WorkbookProperties → Option (List ℕ)
 custom_held name kept = option_map string_bytes (get_by_text kept.custom_properties name)
+
+abbrev pub texts_of : String Global × String Global → List ℕ × List ℕ
+texts_of entry = (string_bytes entry.0, string_bytes entry.1)
+
+-- the names that users gave, with their texts, in the order of the names
+abbrev pub custom_texts : WorkbookProperties → List (List ℕ × List ℕ)
+custom_texts kept = map texts_of kept.custom_properties.entries

@@ -1,14 +1,14 @@
 ghost use Rattle.std.specs.Prelude.{◌≡◌, Some, None, string_bytes, option_map, if◌then◌else◌};
-ghost use Rattle.std.specs.Prelude.{ℕ, List, OnOk, IfErr};
+ghost use Rattle.std.specs.Prelude.{ℕ, List, OnOk, IfOk, IfErr};
 ghost use Rattle.std.specs.Str.{bytes_eq};
 ghost use Rattle.xlsx_error.specs.declared.error.XlsxError.TheVariants.{OutOfMemory};
 ghost use Rattle.std.specs.Option.{option_copied};
 ghost use Rattle.xlsx_properties.specs.Property.{is_same};
-ghost use Rattle.xlsx_properties.specs.Kept.{held, custom_held};
+ghost use Rattle.xlsx_properties.specs.Kept.{held, custom_held, custom_texts};
 ghost use Rattle.xlsx_properties.specs.declared.property.Property.{Property};
 
 use crate::property::Property;
-use std::alloc::Global;
+use std::alloc::{AllocError, Global};
 use std::collections::BTreeMap;
 use xlsx_error::XlsxError;
 
@@ -131,5 +131,52 @@ impl WorkbookProperties {
     {
         self.custom_properties.insert(name, text)?;
         Ok(())
+    }
+
+    /// Takes the texts of another one's properties, but for those that users named.
+    fn copy_texts(&mut self, alloc: Global, source: &WorkbookProperties) -> Result<(), AllocError>
+        ensures held { OnOk result ((own : Property) → held own self.new ≡ held own source.now) }
+    {
+        self.creator = copied(alloc, &source.creator)?;
+        self.last_modified_by = copied(alloc, &source.last_modified_by)?;
+        self.created = copied(alloc, &source.created)?;
+        self.modified = copied(alloc, &source.modified)?;
+        self.title = copied(alloc, &source.title)?;
+        self.subject = copied(alloc, &source.subject)?;
+        self.description = copied(alloc, &source.description)?;
+        self.keywords = copied(alloc, &source.keywords)?;
+        self.category = copied(alloc, &source.category)?;
+        self.content_status = copied(alloc, &source.content_status)?;
+        self.revision = copied(alloc, &source.revision)?;
+        self.version = copied(alloc, &source.version)?;
+        self.application = copied(alloc, &source.application)?;
+        self.app_version = copied(alloc, &source.app_version)?;
+        self.company = copied(alloc, &source.company)?;
+        self.template = copied(alloc, &source.template)?;
+        self.manager = copied(alloc, &source.manager)?;
+        Ok(())
+    }
+
+    /// A copy in memory of its own.
+    pub fn clone_in(&self, alloc: Global) -> Result<WorkbookProperties, AllocError>
+        ensures held { IfOk result (λ copy. (own : Property) →
+            held own copy ≡ held own self.now) }
+        ensures custom { IfOk result (λ copy.
+            custom_texts copy ≡ custom_texts self.now) }
+    {
+        let mut copy = WorkbookProperties::new(alloc);
+        copy.copy_texts(alloc, self)?;
+        copy.custom_properties = self.custom_properties.clone()?;
+        Ok(copy)
+    }
+}
+
+fn copied(alloc: Global, text: &Option<String>) -> Result<Option<String>, AllocError>
+    ensures { IfOk result (λ copy.
+        option_map string_bytes copy ≡ option_map string_bytes text.now) }
+{
+    match text {
+        Some(text) => Ok(Some(String::from_str(alloc, text.as_str())?)),
+        None => Ok(None),
     }
 }
