@@ -18,10 +18,10 @@ use cell_styles::Color;
 use part_events::Package;
 use std::alloc::{AllocError, Global};
 use xlsx_error::XlsxError;
+use xlsx_relationships::{folder_of, joined};
 use xlsx_strings::read_shared_strings;
 use xlsx_stylesheet::{StyleSheet, read_styles};
 use xlsx_theme::{ThemeColors, read_theme};
-use xlsx_relationships::{folder_of, joined};
 
 fn strings_part(alloc: Global, path: &str) -> Result<String, AllocError>
     ensures { IfOk result (λ part. string_bytes part ≡ strings_part path.now) }
