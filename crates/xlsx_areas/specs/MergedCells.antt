@@ -1,5 +1,6 @@
 -- The merged cells of a sheet (ECMA-376 part 1, section 18.3.1.55).
-use Rattle.std.specs.Prelude.{ℕ, List, [], ◌∷◌, Bool, if◌then◌else◌, codes, Option, Some, None, Result}
+use Rattle.std.specs.Prelude.{ℕ, List, [], ◌∷◌, Bool, if◌then◌else◌, codes, Option, Some, None}
+use Rattle.std.specs.Prelude.{Result}
 use Rattle.std.specs.Prelude.{Ok, Err, option_and_then}
 use Rattle.attr_text.specs.Attributes.{value_of}
 use Rattle.cell_refs.specs.A1.{area}

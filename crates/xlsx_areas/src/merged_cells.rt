@@ -1,4 +1,5 @@
-ghost use Rattle.std.specs.Prelude.{◌≡◌, ◌≤◌, ◌++◌, ℕ, List, [], suc, length, true, Some, Ok, Result};
+ghost use Rattle.std.specs.Prelude.{◌≡◌, ◌≤◌, ◌++◌, ℕ, List, [], suc, length, true, Some, Ok};
+ghost use Rattle.std.specs.Prelude.{Result};
 ghost use Rattle.std.specs.Prelude.{IfOk, OnOk, IfErr, option_to_list};
 ghost use Rattle.cell_refs.specs.declared.dimensions.Dimensions.{Dimensions};
 ghost use Rattle.part_events.specs.Event.{tag_of};
@@ -101,9 +102,7 @@ pub fn merges_in<P: Package>(
 /// A part that ends before is `XmlEof("")`, and an end that breaks the nesting is
 /// `Xml(EndMismatch)` with its number in the part, counted from 0. Attributes that end in a fault
 /// and have no `ref` are `XmlAttr`, and a `ref` that names no area has the refusal of its text.
-pub fn read_merge_cells<P: Package>(
-    xml: &mut XlReader<'_, P>,
-) -> Result<Vec<Dimensions>, XlsxError>
+pub fn read_merge_cells<P: Package>(xml: &mut XlReader<'_, P>) -> Result<Vec<Dimensions>, XlsxError>
     requires reading { IsReading (reading_by P.state xml.old) }
     requires element { IsAtElement (reading_by P.state xml.old) }
     ensures same_package { SamePackage xml.old xml.new }

@@ -101,13 +101,21 @@ fn all_regions<P: Package>(
     ensures kind { IfErr result IsRegionsError }
 {
     let mut regions = Vec::new(alloc);
+    let mut left = sheets;
     let mut rest = paths;
-    for sheet in sheets {
-        let Some((path, others)) = rest.split_first() else {
+    'sheets: while let Some((sheet, others)) = left.split_first() {
+        let Some((path, more)) = rest.split_first() else {
             return Ok(regions);
         };
-        read_sheet_regions(alloc, package, &mut regions, sheet.name.as_str(), path.as_str())?;
-        rest = others;
+        read_sheet_regions(
+            alloc,
+            package,
+            &mut regions,
+            sheet.name.as_str(),
+            path.as_str(),
+        )?;
+        left = others;
+        rest = more;
     }
     Ok(regions)
 }
