@@ -72,6 +72,11 @@ pub record IsReading (r : Reading) : Type 0 where
   pub fits : r.at + r.source.left < 2 ^ 64
   pub tracked : r.source.is_told ≡ true → IsTracked r
 
+-- the reader stands at the start of an element, and may be read on
+pub record IsReadingElement (r : Reading) : Type 0 where
+  pub reading : IsReading r
+  pub element : IsAtElement r
+
 -- the package stands before the first event of its part, or no part is open
 pub record IsAtStart (source : PackageState) : Type 0 where
   pub past : source.is_told ≡ true → source.past ≡ []
@@ -208,6 +213,17 @@ pub record Skips (old new : Reading) : Type 0 where
   pub closed : is_closed 0 (ahead old) ≡ true
   pub size : new.at ≡ old.at + suc (length (content 0 (ahead old)))
   pub ahead : ahead new ≡ behind 0 (ahead old)
+
+-- an element was read to its end
+pub record PassesElement (old new : Reading) : Type 0 where
+  pub reads : ReadsOn old new
+  pub depth : length old.names ≡ suc (length new.names)
+  pub skips : old.source.is_told ≡ true → Skips old new
+
+-- what a call keeps that reads an element to its end, by its answer
+abbrev pub ReadsElement : {A E : Type 0} → E → Result A E → Reading → Reading → Type 0
+ReadsElement fault result old new =
+    MatchResult result (λ _. PassesElement old new) (LeavesPart fault old new)
 
 -- when an element can't be skipped
 abbrev pub SkipFails : Reading → Reading → StreamError → Type 0

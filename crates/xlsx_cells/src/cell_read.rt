@@ -1,9 +1,7 @@
-ghost use Rattle.std.specs.Prelude.{◌≡◌, suc, length, List, true, false, Ok, Err, IfOk, OnOk};
-ghost use Rattle.std.specs.Prelude.{IfErr};
+ghost use Rattle.std.specs.Prelude.{◌≡◌, List, true, false, Ok, Err, IfOk, OnOk, IfErr};
 ghost use Rattle.std.specs.Option.{option_copied, unwrap_or};
 ghost use Rattle.part_events.specs.Event.{Event, tag_of};
-ghost use Rattle.part_events.specs.Reading.{reading, open_elements, IsReading, IsAtElement};
-ghost use Rattle.part_events.specs.Reading.{ReadsPart, Skips};
+ghost use Rattle.part_events.specs.Reading.{reading, IsReadingElement, ReadsElement};
 ghost use Rattle.part_events.specs.Section.{Element};
 ghost use Rattle.cell_data.specs.CellValue.{value_of_data_ref};
 ghost use Rattle.xlsx_error.specs.declared.error.XlsxError.TheVariants.{Io};
@@ -133,16 +131,10 @@ pub fn read_cell<P: Package>(
     pos: (u32, u32),
     masters: &mut Masters,
 ) -> Result<CellRead, XlsxError>
-    requires reading { IsReading (reading (P.state «package».old) cursor.old) }
-    requires element { IsAtElement (reading (P.state «package».old) cursor.old) }
+    requires element { IsReadingElement (reading (P.state «package».old) cursor.old) }
     ensures reads { let old = reading (P.state «package».old) cursor.old in
         let new = reading (P.state «package».new) cursor.new in
-        ReadsPart Io result old new }
-    ensures depth { OnOk result
-        (length (open_elements cursor.old) ≡ suc (length (open_elements cursor.new))) }
-    ensures skips { let old = reading (P.state «package».old) cursor.old in
-        let new = reading (P.state «package».new) cursor.new in
-        old.source.is_told ≡ true → OnOk result (Skips old new) }
+        ReadsElement Io result old new }
     ensures pos { IfOk result (λ read. read.pos ≡ pos) }
     ensures value { let old = reading (P.state «package».old) cursor.old in
         let value = cell_value (grounds_of asked.entry.book) in

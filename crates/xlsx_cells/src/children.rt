@@ -1,8 +1,6 @@
-ghost use Rattle.std.specs.Prelude.{◌≡◌, suc, length, true, false, Ok, IfOk, OnOk, IfErr};
-ghost use Rattle.std.specs.Prelude.{codes, None};
+ghost use Rattle.std.specs.Prelude.{◌≡◌, length, true, false, Ok, IfOk, OnOk, IfErr, codes, None};
 ghost use Rattle.part_events.specs.Event.{tag_of, start};
-ghost use Rattle.part_events.specs.Reading.{reading, open_elements, IsReading, IsAtElement};
-ghost use Rattle.part_events.specs.Reading.{ReadsPart, Skips, ahead};
+ghost use Rattle.part_events.specs.Reading.{reading, IsReadingElement, ReadsElement, ahead};
 ghost use Rattle.part_events.specs.Section.{Element, content};
 ghost use Rattle.cell_data.specs.CellValue.{value_of_data_ref};
 ghost use Rattle.xlsx_error.specs.declared.error.XlsxError.TheVariants.{Io};
@@ -97,16 +95,10 @@ fn keep_formula<P: Package>(
     masters: &mut Masters,
     last: &mut Option<xlsx_formulas::Formula>,
 ) -> Result<(), XlsxError>
-    requires reading { IsReading (reading (P.state «package».old) cursor.old) }
-    requires element { IsAtElement (reading (P.state «package».old) cursor.old) }
+    requires element { IsReadingElement (reading (P.state «package».old) cursor.old) }
     ensures reads { let old = reading (P.state «package».old) cursor.old in
         let new = reading (P.state «package».new) cursor.new in
-        ReadsPart Io result old new }
-    ensures depth { OnOk result
-        (length (open_elements cursor.old) ≡ suc (length (open_elements cursor.new))) }
-    ensures skips { let old = reading (P.state «package».old) cursor.old in
-        let new = reading (P.state «package».new) cursor.new in
-        old.source.is_told ≡ true → OnOk result (Skips old new) }
+        ReadsElement Io result old new }
     ensures formula { let old = reading (P.state «package».old) cursor.old in
         let before : LastStep = record { masters = masters.old; last = last_seen last.old } in
         let after : LastStep = record { masters = masters.new; last = last_seen last.new } in
@@ -145,16 +137,10 @@ fn keep_value<P: Package>(
     is_inline: bool,
     value: &mut Option<DataRef>,
 ) -> Result<(), XlsxError>
-    requires reading { IsReading (reading (P.state «package».old) cursor.old) }
-    requires element { IsAtElement (reading (P.state «package».old) cursor.old) }
+    requires element { IsReadingElement (reading (P.state «package».old) cursor.old) }
     ensures reads { let old = reading (P.state «package».old) cursor.old in
         let new = reading (P.state «package».new) cursor.new in
-        ReadsPart Io result old new }
-    ensures depth { OnOk result
-        (length (open_elements cursor.old) ≡ suc (length (open_elements cursor.new))) }
-    ensures skips { let old = reading (P.state «package».old) cursor.old in
-        let new = reading (P.state «package».new) cursor.new in
-        old.source.is_told ≡ true → OnOk result (Skips old new) }
+        ReadsElement Io result old new }
     ensures value { let old = reading (P.state «package».old) cursor.old in
         let said = said_value (grounds_of asked.entry.book) start.now.format
         (kind_of start.now.typ) in
@@ -196,17 +182,11 @@ fn read_child<P: Package>(
     masters: &mut Masters,
     latest: &mut CellContents,
 ) -> Result<(), XlsxError>
-    requires reading { IsReading (reading (P.state «package».old) cursor.old) }
-    requires element { IsAtElement (reading (P.state «package».old) cursor.old) }
+    requires element { IsReadingElement (reading (P.state «package».old) cursor.old) }
     requires wanted { reads_children asked.wants ≡ true }
     ensures reads { let old = reading (P.state «package».old) cursor.old in
         let new = reading (P.state «package».new) cursor.new in
-        ReadsPart Io result old new }
-    ensures depth { OnOk result
-        (length (open_elements cursor.old) ≡ suc (length (open_elements cursor.new))) }
-    ensures skips { let old = reading (P.state «package».old) cursor.old in
-        let new = reading (P.state «package».new) cursor.new in
-        old.source.is_told ≡ true → OnOk result (Skips old new) }
+        ReadsElement Io result old new }
     ensures value { let old = reading (P.state «package».old) cursor.old in
         let said = said_value (grounds_of asked.entry.book) start.now.format
         (kind_of start.now.typ) in
@@ -263,17 +243,11 @@ pub fn read_children<P: Package>(
     start: &CellStart,
     masters: &mut Masters,
 ) -> Result<CellContents, XlsxError>
-    requires reading { IsReading (reading (P.state «package».old) cursor.old) }
-    requires element { IsAtElement (reading (P.state «package».old) cursor.old) }
+    requires element { IsReadingElement (reading (P.state «package».old) cursor.old) }
     requires wanted { reads_children asked.wants ≡ true }
     ensures reads { let old = reading (P.state «package».old) cursor.old in
         let new = reading (P.state «package».new) cursor.new in
-        ReadsPart Io result old new }
-    ensures depth { OnOk result
-        (length (open_elements cursor.old) ≡ suc (length (open_elements cursor.new))) }
-    ensures skips { let old = reading (P.state «package».old) cursor.old in
-        let new = reading (P.state «package».new) cursor.new in
-        old.source.is_told ≡ true → OnOk result (Skips old new) }
+        ReadsElement Io result old new }
     ensures value { let old = reading (P.state «package».old) cursor.old in
         let value = value_in (grounds_of asked.entry.book) start.now.format
         (kind_of start.now.typ) in

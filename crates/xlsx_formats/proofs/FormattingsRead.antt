@@ -1,10 +1,10 @@
 -- How a cell format is made of its start and of what is set in it.
 use Rattle.std.proofs.Common.{◌≡◌, ℕ, List, Option, Some, None, Result, Ok, refl, sym, ◌∙◌, ap}
-use Rattle.std.proofs.Common.{subst, codes, length, get_or, arith}
+use Rattle.std.proofs.Common.{subst, codes, length, get_or}
 use Rattle.std.specs.Prelude.{IsOkAnd}
 use Rattle.attr_text.specs.Attributes.{lookup}
 use Rattle.part_events.specs.Event.{Tag, Event}
-use Rattle.part_events.specs.Reading.{Reading, IsReading}
+use Rattle.part_events.specs.Reading.{Reading}
 use Rattle.part_events.specs.declared.fault.XmlFault.TheVariants.{EndMismatch}
 use Rattle.xlsx_error.specs.declared.error.XlsxError.{XlsxError}
 use Rattle.xlsx_error.specs.declared.error.XlsxError.TheVariants.{OutOfMemory, Io, Xml, XmlAttr}
@@ -108,11 +108,11 @@ names_fail said tag own old new error same is fails =
 
 -- what is set in it is refused
 pub settings_fail : (P : List (Option (List ℕ)) → Type 0) (said : NamedSaid) (tag own : Tag)
-    (old new : Reading) (error : XlsxError) → tag ≡ own → IsReading old
+    (old new : Reading) (error : XlsxError) → tag ≡ own
     → IsOkAnd (lookup formatting_keys own.attributes) P
     → ElementReadFails (always (codes "xf")) settings_of old new error
     → ElementReadFails (always (codes "xf")) (formatting_of said tag) old new error
-settings_fail P said tag own old new error same is names fails =
+settings_fail P said tag own old new error same names fails =
     let found = ok_found P (lookup formatting_keys own.attributes) names in
     refused_as (length old.names) old (always (codes "xf")) (IsInsideRefused settings_of)
     (IsInsideRefused (formatting_of said tag)) new error

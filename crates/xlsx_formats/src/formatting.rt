@@ -1,10 +1,9 @@
-ghost use Rattle.std.specs.Prelude.{◌≡◌, ◌^◌, ℕ, List, [], ◌∷◌, suc, codes, length, true, Result};
-ghost use Rattle.std.specs.Prelude.{Ok, Err, IfOk, OnOk, IfErr, MatchResult, IsOkAnd};
+ghost use Rattle.std.specs.Prelude.{◌≡◌, ◌^◌, ℕ, List, [], ◌∷◌, codes, true, Result};
+ghost use Rattle.std.specs.Prelude.{Ok, Err, IfOk, IfErr, MatchResult, IsOkAnd};
 ghost use Rattle.std.specs.Option.{option_copied, option_or, unwrap_or};
 ghost use Rattle.attr_text.specs.Attributes.{lookup};
 ghost use Rattle.part_events.specs.Event.{Tag, start, tag_of};
-ghost use Rattle.part_events.specs.Reading.{reading, open_elements, IsReading, IsAtElement};
-ghost use Rattle.part_events.specs.Reading.{ReadsPart, Skips, ahead};
+ghost use Rattle.part_events.specs.Reading.{reading, IsReadingElement, ReadsElement, ahead};
 ghost use Rattle.part_events.specs.Section.{content};
 ghost use Rattle.cell_data.specs.NumberFormat.{builtin_code};
 ghost use Rattle.xlsx_error.specs.declared.error.XlsxError.TheVariants.{Io};
@@ -15,10 +14,9 @@ ghost use Rattle.xlsx_styles.specs.Errors.{IsPlainError};
 ghost use Rattle.xlsx_styles.specs.Texts.{number_below};
 ghost use Rattle.xlsx_formats.specs.FormatCodes.{WrittenFormat, code_kept, AreCodes};
 ghost use Rattle.xlsx_formats.specs.Formattings.{NamedSaid, numbered, format_named};
-ghost use Rattle.xlsx_formats.specs.Formattings.{number_format_named};
-ghost use Rattle.xlsx_formats.specs.Formattings.{formatting_keys, formatting_named, no_settings};
-ghost use Rattle.xlsx_formats.specs.Formattings.{formatting_by, formatting_of, formatting_said};
-ghost use Rattle.xlsx_formats.specs.Formattings.{named_said};
+ghost use Rattle.xlsx_formats.specs.Formattings.{number_format_named, formatting_keys};
+ghost use Rattle.xlsx_formats.specs.Formattings.{formatting_named, no_settings, formatting_by};
+ghost use Rattle.xlsx_formats.specs.Formattings.{formatting_of, formatting_said, named_said};
 
 use crate::format_codes::FormatCodes;
 use crate::settings::{Settings, read_settings};
@@ -183,16 +181,10 @@ pub fn read_format<P: Package>(
     cursor: &mut Cursor,
     lists: &NamedLists<'_>,
 ) -> Result<Formatting, XlsxError>
-    requires reading { IsReading (reading (P.state «package».old) cursor.old) }
-    requires element { IsAtElement (reading (P.state «package».old) cursor.old) }
+    requires element { IsReadingElement (reading (P.state «package».old) cursor.old) }
     ensures reads { let old = reading (P.state «package».old) cursor.old in
         let new = reading (P.state «package».new) cursor.new in
-        ReadsPart Io result old new }
-    ensures depth { OnOk result
-        (length (open_elements cursor.old) ≡ suc (length (open_elements cursor.new))) }
-    ensures skips { let old = reading (P.state «package».old) cursor.old in
-        let new = reading (P.state «package».new) cursor.new in
-        old.source.is_told ≡ true → OnOk result (Skips old new) }
+        ReadsElement Io result old new }
     ensures formatting { let old = reading (P.state «package».old) cursor.old in
         old.source.is_told ≡ true → IfOk result (λ formatting.
         (tag : Tag) (formats : List WrittenFormat) → start tag ≡ old.source.current →

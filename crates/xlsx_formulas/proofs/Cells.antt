@@ -1,5 +1,5 @@
 -- The formulas that a cell writes, and the last of them.
-use Rattle.std.proofs.Common.{◌≡◌, ℕ, List, [], ◌∷◌, ◌++◌, Option, Some, None, refl, ◌∙◌}
+use Rattle.std.proofs.Common.{◌≡◌, ℕ, List, [], ◌∷◌, ◌++◌, Option, Some, None, refl}
 use Rattle.std.specs.List.{last_or}
 use Rattle.xlsx_formulas.specs.Formula.{FormulaText, Sharing, own, master, derived, formula_by}
 use Rattle.xlsx_formulas.specs.Formula.{behind_formulas, cell_formula, formula_of_last}

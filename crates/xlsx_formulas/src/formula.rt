@@ -1,7 +1,6 @@
-ghost use Rattle.std.specs.Prelude.{◌≡◌, ℕ, suc, length, codes, true, Ok, Err, IfOk, OnOk, IfErr};
+ghost use Rattle.std.specs.Prelude.{◌≡◌, ℕ, codes, true, Ok, Err, IfOk, IfErr};
 ghost use Rattle.part_events.specs.Event.{Tag, start, tag_of};
-ghost use Rattle.part_events.specs.Reading.{reading, open_elements, ahead};
-ghost use Rattle.part_events.specs.Reading.{IsReading, IsAtElement, ReadsPart, Skips};
+ghost use Rattle.part_events.specs.Reading.{reading, ahead, IsReadingElement, ReadsElement};
 ghost use Rattle.part_events.specs.Section.{content};
 ghost use Rattle.xlsx_error.specs.declared.error.XlsxError.TheVariants.{Io};
 ghost use Rattle.xlsx_sections.specs.Elements.{ElementReadFails};
@@ -77,16 +76,10 @@ pub fn read_formula<P: Package>(
     package: &mut P,
     cursor: &mut Cursor,
 ) -> Result<Formula, XlsxError>
-    requires reading { IsReading (reading (P.state «package».old) cursor.old) }
-    requires element { IsAtElement (reading (P.state «package».old) cursor.old) }
+    requires element { IsReadingElement (reading (P.state «package».old) cursor.old) }
     ensures reads { let old = reading (P.state «package».old) cursor.old in
         let new = reading (P.state «package».new) cursor.new in
-        ReadsPart Io result old new }
-    ensures depth { OnOk result
-        (length (open_elements cursor.old) ≡ suc (length (open_elements cursor.new))) }
-    ensures skips { let old = reading (P.state «package».old) cursor.old in
-        let new = reading (P.state «package».new) cursor.new in
-        old.source.is_told ≡ true → OnOk result (Skips old new) }
+        ReadsElement Io result old new }
     ensures formula { let old = reading (P.state «package».old) cursor.old in
         let inside = content 0 (ahead old) in
         old.source.is_told ≡ true → (tag : Tag) → start tag ≡ old.source.current →

@@ -6,11 +6,12 @@ use Rattle.std.proofs.lemmas.List.{length-append, length-reverse}
 use Rattle.std.specs.Prelude.{reverse, if◌then◌else◌}
 use Rattle.part_events.specs.Event.{Tag, Event, start, end, leaf, IsStartAnd}
 use Rattle.part_events.specs.Nesting.{whole}
-use Rattle.part_events.specs.Reading.{Reading, IsReading, ReadsOn, Skips, IsAtEnd, ahead}
-use Rattle.part_events.specs.Reading.{events_of}
+use Rattle.part_events.specs.Reading.{Reading, IsReading, ReadsOn, Skips, PassesElement, IsAtEnd}
+use Rattle.part_events.specs.Reading.{ahead, events_of}
 use Rattle.part_events.specs.Section.{Element, content, is_closed, behind, outermost, unclosed}
 use Rattle.part_events.specs.Walk.{inside, element_at, section_ahead, section_behind}
-use Rattle.part_events.specs.Walk.{is_closed_ahead, behind_section, IsNextElement, StandsAt, FindsElement}
+use Rattle.part_events.specs.Walk.{is_closed_ahead, behind_section, IsNextElement, StandsAt}
+use Rattle.part_events.specs.Walk.{FindsElement}
 use Rattle.part_events.specs.declared.walk.Step.TheVariants.{Found}
 use Rattle.part_events.proofs.Nested.{whole_split}
 use Rattle.part_events.proofs.Onward.{reads_nothing}
@@ -18,8 +19,8 @@ use Rattle.part_events.proofs.Sections.{GoesOnBehind, goes_on_behind}
 use Rattle.xlsx_error.specs.declared.error.XlsxError.{XlsxError}
 use Rattle.xlsx_sections.specs.Elements.{KeepsElements, FindsElementIn, end_outside}
 use Rattle.xlsx_sections.specs.Elements.{end_among}
-use Rattle.xlsx_sections.specs.PartSection.{Ending, Refusing, KeepsSection, SectionFails, StandsAtStart}
-use Rattle.xlsx_sections.specs.PartSection.{Never, section_left, has_end, inside_of}
+use Rattle.xlsx_sections.specs.PartSection.{Ending, Refusing, KeepsSection, SectionFails}
+use Rattle.xlsx_sections.specs.PartSection.{StandsAtStart, Never, section_left, has_end, inside_of}
 use Rattle.xlsx_sections.specs.Refusal.{Refusal, further, events_behind}
 pub use Rattle.xlsx_sections.specs.Steps.{IsElementFound}
 use Rattle.xlsx_sections.specs.Steps.{StepsToElement}
@@ -173,33 +174,32 @@ pub record IsElementPassed
       ≡ element_at base tag new ∷ outermost wanted (section_ahead base after)
 
 pub element_passed : {base place : ℕ} {tag : Tag} {first old new after : Reading}
-    {wanted : Tag → Bool} → IsElementFound wanted base tag place first old new → ReadsOn new after
-    → length new.names ≡ suc (length after.names) → (new.source.is_told ≡ true → Skips new after)
-    → IsElementPassed wanted base tag first old new after
+    {wanted : Tag → Bool} → IsElementFound wanted base tag place first old new
+    → PassesElement new after → IsElementPassed wanted base tag first old new after
 element_passed {base = base} {tag = tag} {first = first} {old = old} {new = new} {after =
-    after} {wanted = wanted} found reads names skips =
+    after} {wanted = wanted} found passes =
     let still : first.source.is_told ≡ true → new.source.is_told ≡ true =
     λ told. found.read.reads.moves.parts.is_told ∙ told in
     let way = goes_on base new found.deep in
     let left : new.source.is_told ≡ true → section_ahead base after ≡ section_behind base new =
-    λ told. ap (λ (n : ℕ). content n (ahead after)) (omega (arith, names))
-    ∙ ap (content (inside base new - 1)) (skips told).ahead in
+    λ told. ap (λ (n : ℕ). content n (ahead after)) (omega (arith, passes.depth))
+    ∙ ap (content (inside base new - 1)) (passes.skips told).ahead in
     let closed : new.source.is_told ≡ true → is_closed_ahead base after ≡ is_closed_ahead base new =
-    λ told. ap (λ (n : ℕ). is_closed n (ahead after)) (omega (arith, names))
-    ∙ ap (is_closed (inside base new - 1)) (skips told).ahead ∙ sym way.closed in
+    λ told. ap (λ (n : ℕ). is_closed n (ahead after)) (omega (arith, passes.depth))
+    ∙ ap (is_closed (inside base new - 1)) (passes.skips told).ahead ∙ sym way.closed in
     let behind_it : new.source.is_told ≡ true → behind_section base after
     ≡ behind_section base new =
-    λ told. ap (λ (n : ℕ). behind n (ahead after)) (omega (arith, names))
-    ∙ ap (behind (inside base new - 1)) (skips told).ahead ∙ sym way.left in
+    λ told. ap (λ (n : ℕ). behind n (ahead after)) (omega (arith, passes.depth))
+    ∙ ap (behind (inside base new - 1)) (passes.skips told).ahead ∙ sym way.left in
     record {
       keeps = record {
-        section = section_further found.read reads (omega (arith, names, found.deep))
+        section = section_further found.read passes.reads (omega (arith, passes.depth, found.deep))
             (λ told. (
               closed told,
               omega (
                 arith,
-                way.size (skips told).closed,
-                (skips told).size,
+                way.size (passes.skips told).closed,
+                (passes.skips told).size,
                 ap length (left told),
               ),
             ));
@@ -207,7 +207,7 @@ element_passed {base = base} {tag = tag} {first = first} {old = old} {new = new}
             let next = found.next told in
             ap (unclosed wanted) (left (still told))
             ∙ sym (ap (λ (b : Bool). if b then unclosed wanted (section_behind base new) else Some
-            (element_at base tag new)) (skips (still told)).closed)
+            (element_at base tag new)) (passes.skips (still told)).closed)
             ∙ sym next.unclosed ∙ found.before.unclosed told;
         behind = λ told.
             behind_it (still told) ∙ way.left ∙ sym (found.next told).behind
@@ -276,7 +276,8 @@ element_refused {base = base} {tag = tag} {first = first} {new = new} {wanted = 
 
 -- the step to the next element is refused, and so is the section
 pub step_refused : {base : ℕ} {first mid : Reading} {wanted : Tag → Bool} (name : List ℕ)
-    (inner : Element → Option (List ℕ)) (before : Refusing) (new : Reading) (error : XlsxError) → KeepsElements wanted base first mid
+    (inner : Element → Option (List ℕ)) (before : Refusing) (new : Reading) (error : XlsxError)
+    → KeepsElements wanted base first mid
     → SectionFails (end_among wanted name inner) Never base mid new error
     → SectionFails (end_among wanted name inner) before base first new error
 step_refused {base = base} {first = first} {mid = mid} {wanted =

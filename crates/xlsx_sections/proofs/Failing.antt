@@ -1,5 +1,5 @@
 -- How the cause of a refusal is handed on, from a call to one that makes it.
-use Rattle.std.proofs.Common.{◌≡◌, true, List, Option, refl, ◌∙◌, arith, ℕ, length, inr}
+use Rattle.std.proofs.Common.{◌≡◌, true, List, refl, ◌∙◌, arith, ℕ, length, inr}
 use Rattle.part_events.specs.Package.{PackageState, SameParts, part_of}
 use Rattle.part_events.specs.Reading.{Reading}
 use Rattle.xlsx_error.specs.declared.error.XlsxError.{XlsxError}
@@ -12,8 +12,9 @@ use Rattle.xlsx_sections.specs.PartSection.{PartCause, PartFails, section_left}
 -- A call is refused for a cause that stands behind what was read. A fault of the package and want
 -- of memory need none.
 pub fails_by_weaker : {old mid : PackageState} (before after : XlsxError → Type 0)
-    (new : PackageState) (error : XlsxError) → SameParts old mid → (old.is_told ≡ true → after error → before error)
-    → FailsBy after mid new error → FailsBy before old new error
+    (new : PackageState) (error : XlsxError) → SameParts old mid
+    → (old.is_told ≡ true → after error → before error) → FailsBy after mid new error
+    → FailsBy before old new error
 fails_by_weaker before after new Io same weaker fails = omega (arith, same.faults, fails)
 fails_by_weaker before after new OutOfMemory same weaker fails = tt
 fails_by_weaker before after new error same weaker fails = λ told.
@@ -30,8 +31,8 @@ pub part_refused : {name path : List ℕ} {old : PackageState} {mid : Reading} (
 part_refused {name = name} {path = path} {old = old} {mid = mid} ending refused new error enters
     fails =
     fails_by_weaker (OptionalPartCause name ending refused (part_of old.parts path))
-    (SectionCause ending refused (section_left (length mid.names) mid)) new.source error enters.parts
-    (λ told cause. rw (enters.part told, enters.section told) cause) fails
+    (SectionCause ending refused (section_left (length mid.names) mid)) new.source error
+    enters.parts (λ told cause. rw (enters.part told, enters.section told) cause) fails
 
 -- so is a part that has to be there
 pub required_part_refused : (name path : List ℕ) (old new : PackageState) (ending : Ending)

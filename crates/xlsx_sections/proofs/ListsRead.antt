@@ -1,8 +1,8 @@
 -- How a list is read element by element.
-use Rattle.std.proofs.Common.{◌≡◌, ℕ, suc, List, [], ◌∷◌, ◌++◌, length, true, Bool, Option, Result}
+use Rattle.std.proofs.Common.{◌≡◌, ℕ, List, [], ◌∷◌, ◌++◌, length, true, Bool, Option, Result}
 use Rattle.std.proofs.Common.{Ok, sym, ◌∙◌, ap, subst}
 use Rattle.part_events.specs.Event.{Tag, Event}
-use Rattle.part_events.specs.Reading.{Reading, ReadsOn, Skips, ahead}
+use Rattle.part_events.specs.Reading.{Reading, PassesElement, ahead}
 use Rattle.part_events.specs.Section.{Element, content}
 use Rattle.part_events.specs.Walk.{section_ahead, element_at}
 use Rattle.xlsx_error.specs.declared.error.XlsxError.{XlsxError}
@@ -91,13 +91,12 @@ own_element_refused {first = first} {wanted = wanted} {meaning = meaning} name i
 pub list_element_added : {A : Type 0} {base place : ℕ} {tag : Tag} {first old new after : Reading}
     {wanted : Tag → Bool} {meaning : Tag → List Event → Result A Refusal} {before kept : List A}
     (own : A) → KeepsList wanted meaning base before kept first old
-    → IsElementFound wanted base tag place first old new → ReadsOn new after
-    → length new.names ≡ suc (length after.names) → (new.source.is_told ≡ true → Skips new after)
+    → IsElementFound wanted base tag place first old new → PassesElement new after
     → (new.source.is_told ≡ true → meaning tag (content 0 (ahead new)) ≡ Ok own)
     → KeepsList wanted meaning base before (kept ++ own ∷ []) first after
 list_element_added {base = base} {tag = tag} {new = new} {meaning = meaning} {kept =
-    kept} own list found reads depth skips says =
-    let passed = element_passed found reads depth skips in
+    kept} own list found passes says =
+    let passed = element_passed found passes in
     record {
       keeps = passed.keeps;
       said = λ told. all_further (element_said meaning) kept own (passed.elements told)

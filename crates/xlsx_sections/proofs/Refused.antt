@@ -1,5 +1,5 @@
 -- How a refusal passes from an event or an element to the section in which it lies.
-use Rattle.std.proofs.Common.{◌≡◌, ℕ, suc, ◌+◌, List, true, false, Option, Some, None, refl}
+use Rattle.std.proofs.Common.{◌≡◌, ℕ, suc, ◌+◌, true, false, Option, Some, None, refl}
 use Rattle.std.proofs.Common.{◌∙◌, sym, subst, arith, ap}
 use Rattle.std.specs.Prelude.{IsSomeAnd}
 use Rattle.part_events.specs.Package.{PackageState, SameParts}
@@ -68,8 +68,8 @@ pub some_refusal : (last : ℕ) (refused : Refusal → Type 0) (error : XlsxErro
 some_refusal last refused (Xml (Entity at)) (behind, place, refuses) =
     (no_character behind, refuses)
 some_refusal last refused error cause =
-    let own = plain_refusal {refused = λ plain_one. refused (plain plain_one)} (plain_told error) cause
-    in
+    let own =
+    plain_refusal {refused = λ plain_one. refused (plain plain_one)} (plain_told error) cause in
     (plain own.0, own.1)
 
 pub never_refused : (last : ℕ) (refused : Refusal → Type 0) (error : XlsxError)
@@ -105,8 +105,8 @@ cause_outside {after = after} {before = before} {more = more} {inner = inner} {o
     lies.weaker lies.last cause
 
 pub refused_in : {old mid : PackageState} (first second : Ending) (after before : Refusing)
-    (more : ℕ) (inner outer : PartSection) (new : PackageState) (error : XlsxError) → SameParts old mid
-    → (old.is_told ≡ true → LiesIn first second after before more inner outer)
+    (more : ℕ) (inner outer : PartSection) (new : PackageState) (error : XlsxError)
+    → SameParts old mid → (old.is_told ≡ true → LiesIn first second after before more inner outer)
     → FailsBy (SectionCause first after inner) mid new error
     → FailsBy (SectionCause second before outer) old new error
 refused_in first second after before more inner outer new error same lies fails =

@@ -1,6 +1,6 @@
 -- What the starts of a section say is kept start by start.
-use Rattle.std.proofs.Common.{◌≡◌, ℕ, suc, ◌+◌, List, ◌∷◌, length, Bool, true, Result, Err, ap}
-use Rattle.std.proofs.Common.{Ok, Option, None, ◌∙◌, sym, subst}
+use Rattle.std.proofs.Common.{◌≡◌, ℕ, List, ◌∷◌, length, Bool, true, Result, Err, ap}
+use Rattle.std.proofs.Common.{Ok, Option, ◌∙◌, sym, subst}
 use Rattle.part_events.specs.Event.{Tag, Event, start, IsStartAnd}
 use Rattle.part_events.specs.Package.{PackageState}
 use Rattle.part_events.specs.Reading.{Reading}

@@ -1,8 +1,8 @@
 ghost use Rattle.std.specs.Prelude.{◌≡◌, ◌≤◌, ◌++◌, List, ℕ, suc, length, map, true, Ok, Option};
 ghost use Rattle.std.specs.Prelude.{option_map, string_bytes, IfOk, OnOk, IfErr, OnErr};
 ghost use Rattle.part_events.specs.JoinedText.{joined_text, IsFrontOf, PutsFront};
-ghost use Rattle.part_events.specs.Reading.{Reading, reading, open_elements, IsReading, IsAtElement};
-ghost use Rattle.part_events.specs.Reading.{ReadsPart, Skips, ahead};
+ghost use Rattle.part_events.specs.Reading.{Reading, reading, open_elements, IsReading};
+ghost use Rattle.part_events.specs.Reading.{IsReadingElement, ReadsElement, ReadsPart, ahead};
 ghost use Rattle.part_events.specs.Section.{Element, content, is_any, is_named};
 ghost use Rattle.xlsx_error.specs.declared.error.XlsxError.TheVariants.{Io};
 ghost use Rattle.xlsx_sections.specs.Elements.{end_among, named_end, ElementReadFails};
@@ -132,16 +132,10 @@ pub fn read_element_text<P: Package>(
     char_data: bool,
     name: &'static str,
 ) -> Result<(), XlsxError>
-    requires reading { IsReading (reading (P.state «package».old) cursor.old) }
-    requires element { IsAtElement (reading (P.state «package».old) cursor.old) }
+    requires element { IsReadingElement (reading (P.state «package».old) cursor.old) }
     ensures reads { let old = reading (P.state «package».old) cursor.old in
         let new = reading (P.state «package».new) cursor.new in
-        ReadsPart Io result old new }
-    ensures depth { OnOk result (length (open_elements cursor.old)
-        ≡ suc (length (open_elements cursor.new))) }
-    ensures skips { let old = reading (P.state «package».old) cursor.old in
-        let new = reading (P.state «package».new) cursor.new in
-        old.source.is_told ≡ true → OnOk result (Skips old new) }
+        ReadsElement Io result old new }
     ensures text { let old = reading (P.state «package».old) cursor.old in
         let inside = content 0 (ahead old) in
         let text = joined_text char_data inside in
@@ -208,16 +202,10 @@ pub fn skip_element_in<P: Package>(
     cursor: &mut Cursor,
     name: Option<&'static str>,
 ) -> Result<(), XlsxError>
-    requires reading { IsReading (reading (P.state «package».old) cursor.old) }
-    requires element { IsAtElement (reading (P.state «package».old) cursor.old) }
+    requires element { IsReadingElement (reading (P.state «package».old) cursor.old) }
     ensures reads { let old = reading (P.state «package».old) cursor.old in
         let new = reading (P.state «package».new) cursor.new in
-        ReadsPart Io result old new }
-    ensures depth { OnOk result (length (open_elements cursor.old)
-        ≡ suc (length (open_elements cursor.new))) }
-    ensures skips { let old = reading (P.state «package».old) cursor.old in
-        let new = reading (P.state «package».new) cursor.new in
-        old.source.is_told ≡ true → OnOk result (Skips old new) }
+        ReadsElement Io result old new }
     ensures err { let old = reading (P.state «package».old) cursor.old in
         let new = reading (P.state «package».new) cursor.new in
         let ending = named_end (option_map (λ n. n.now) name.entry) in

@@ -1,11 +1,10 @@
-ghost use Rattle.std.specs.Prelude.{◌≡◌, ◌==◌, ◌++◌, List, ℕ, suc, codes, length, true, Ok};
+ghost use Rattle.std.specs.Prelude.{◌≡◌, ◌==◌, ◌++◌, List, ℕ, codes, true, Ok};
 ghost use Rattle.std.specs.Prelude.{string_bytes, IfOk, OnOk, OnErr, IfErr};
 ghost use Rattle.std.specs.List.{list_any};
 ghost use Rattle.attr_text.specs.Text.{unescaped};
 ghost use Rattle.part_events.specs.Event.{Tag, start, tag_of};
 ghost use Rattle.part_events.specs.JoinedText.{IsFrontOf};
-ghost use Rattle.part_events.specs.Reading.{reading, open_elements, IsReading, IsAtElement};
-ghost use Rattle.part_events.specs.Reading.{ReadsPart, Skips, ahead};
+ghost use Rattle.part_events.specs.Reading.{reading, IsReadingElement, ReadsElement, ahead};
 ghost use Rattle.part_events.specs.Section.{content};
 ghost use Rattle.xlsx_error.specs.declared.error.XlsxError.TheVariants.{Io};
 ghost use Rattle.xlsx_sections.specs.Elements.{ElementReadFails};
@@ -84,16 +83,10 @@ fn read_text<P: Package>(
     out: &mut String,
     scratch: &mut String,
 ) -> Result<(), XlsxError>
-    requires reading { IsReading (reading (P.state «package».old) cursor.old) }
-    requires element { IsAtElement (reading (P.state «package».old) cursor.old) }
+    requires element { IsReadingElement (reading (P.state «package».old) cursor.old) }
     ensures reads { let old = reading (P.state «package».old) cursor.old in
         let new = reading (P.state «package».new) cursor.new in
-        ReadsPart Io result old new }
-    ensures depth { OnOk result
-        (length (open_elements cursor.old) ≡ suc (length (open_elements cursor.new))) }
-    ensures skips { let old = reading (P.state «package».old) cursor.old in
-        let new = reading (P.state «package».new) cursor.new in
-        old.source.is_told ≡ true → OnOk result (Skips old new) }
+        ReadsElement Io result old new }
     ensures text { let old = reading (P.state «package».old) cursor.old in
         old.source.is_told ≡ true → OnOk result ((tag : Tag) → start tag ≡ old.source.current →
         (text : List ℕ) × (text_within tag (content 0 (ahead old)) ≡ Ok text)
@@ -121,16 +114,10 @@ fn read_piece<P: Package>(
     out: &mut String,
     scratch: &mut String,
 ) -> Result<(), XlsxError>
-    requires reading { IsReading (reading (P.state «package».old) cursor.old) }
-    requires element { IsAtElement (reading (P.state «package».old) cursor.old) }
+    requires element { IsReadingElement (reading (P.state «package».old) cursor.old) }
     ensures reads { let old = reading (P.state «package».old) cursor.old in
         let new = reading (P.state «package».new) cursor.new in
-        ReadsPart Io result old new }
-    ensures depth { OnOk result
-        (length (open_elements cursor.old) ≡ suc (length (open_elements cursor.new))) }
-    ensures skips { let old = reading (P.state «package».old) cursor.old in
-        let new = reading (P.state «package».new) cursor.new in
-        old.source.is_told ≡ true → OnOk result (Skips old new) }
+        ReadsElement Io result old new }
     ensures text { let old = reading (P.state «package».old) cursor.old in
         old.source.is_told ≡ true → OnOk result ((tag : Tag) → start tag ≡ old.source.current →
         (text : List ℕ) × (piece_of tag (content 0 (ahead old)) ≡ Ok text)
@@ -163,16 +150,10 @@ pub fn read_string<P: Package>(
     out: &mut String,
     scratch: &mut String,
 ) -> Result<(), XlsxError>
-    requires reading { IsReading (reading (P.state «package».old) cursor.old) }
-    requires element { IsAtElement (reading (P.state «package».old) cursor.old) }
+    requires element { IsReadingElement (reading (P.state «package».old) cursor.old) }
     ensures reads { let old = reading (P.state «package».old) cursor.old in
         let new = reading (P.state «package».new) cursor.new in
-        ReadsPart Io result old new }
-    ensures depth { OnOk result
-        (length (open_elements cursor.old) ≡ suc (length (open_elements cursor.new))) }
-    ensures skips { let old = reading (P.state «package».old) cursor.old in
-        let new = reading (P.state «package».new) cursor.new in
-        old.source.is_told ≡ true → OnOk result (Skips old new) }
+        ReadsElement Io result old new }
     ensures text { let old = reading (P.state «package».old) cursor.old in
         old.source.is_told ≡ true → OnOk result ((text : List ℕ)
         × (string_of (content 0 (ahead old)) ≡ Ok text)

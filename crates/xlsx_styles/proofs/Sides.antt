@@ -1,5 +1,5 @@
 -- How a side of a border is refused.
-use Rattle.std.proofs.Common.{◌≡◌, List, Ok, codes, length, sym, ◌∙◌, ap, arith}
+use Rattle.std.proofs.Common.{◌≡◌, List, Ok, codes, length, sym, ◌∙◌, ap}
 use Rattle.part_events.specs.Event.{Tag, start}
 use Rattle.part_events.specs.Reading.{Reading, IsReading}
 use Rattle.xlsx_error.specs.declared.error.XlsxError.{XlsxError}

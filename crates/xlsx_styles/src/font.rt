@@ -1,9 +1,7 @@
-ghost use Rattle.std.specs.Prelude.{◌≡◌, ℕ, suc, codes, length, true, Ok, IfOk};
-ghost use Rattle.std.specs.Prelude.{OnOk, IfErr};
+ghost use Rattle.std.specs.Prelude.{◌≡◌, ℕ, codes, true, Ok, IfOk, OnOk, IfErr};
 ghost use Rattle.attr_text.specs.Attributes.{value_of};
 ghost use Rattle.part_events.specs.Event.{tag_of};
-ghost use Rattle.part_events.specs.Reading.{reading, open_elements, IsReading, IsAtElement};
-ghost use Rattle.part_events.specs.Reading.{ReadsPart, Skips, ahead};
+ghost use Rattle.part_events.specs.Reading.{reading, IsReadingElement, ReadsElement, ahead};
 ghost use Rattle.part_events.specs.Section.{content};
 ghost use Rattle.xlsx_error.specs.declared.error.XlsxError.TheVariants.{Io};
 ghost use Rattle.xlsx_sections.specs.Elements.{ElementReadFails};
@@ -73,16 +71,10 @@ pub fn read_font<P: Package>(
     cursor: &mut Cursor,
     theme_colors: &[Color],
 ) -> Result<Font, XlsxError>
-    requires reading { IsReading (reading (P.state «package».old) cursor.old) }
-    requires element { IsAtElement (reading (P.state «package».old) cursor.old) }
+    requires element { IsReadingElement (reading (P.state «package».old) cursor.old) }
     ensures reads { let old = reading (P.state «package».old) cursor.old in
         let new = reading (P.state «package».new) cursor.new in
-        ReadsPart Io result old new }
-    ensures depth { OnOk result
-        (length (open_elements cursor.old) ≡ suc (length (open_elements cursor.new))) }
-    ensures skips { let old = reading (P.state «package».old) cursor.old in
-        let new = reading (P.state «package».new) cursor.new in
-        old.source.is_told ≡ true → OnOk result (Skips old new) }
+        ReadsElement Io result old new }
     ensures font { let old = reading (P.state «package».old) cursor.old in
         old.source.is_told ≡ true →
         IfOk result (λ font. font_of theme_colors.now (content 0 (ahead old)) ≡ Ok (said_of font)) }

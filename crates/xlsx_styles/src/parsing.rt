@@ -1,6 +1,6 @@
-ghost use Rattle.std.specs.Prelude.{◌≡◌, suc, codes, length, true, Ok, IfOk, OnOk, IfErr};
+ghost use Rattle.std.specs.Prelude.{◌≡◌, codes, true, Ok, IfOk, IfErr};
 ghost use Rattle.part_events.specs.Reader.{reading_by, SamePackage};
-ghost use Rattle.part_events.specs.Reading.{IsReading, IsAtElement, ReadsPart, Skips, ahead};
+ghost use Rattle.part_events.specs.Reading.{ahead, IsReadingElement, ReadsElement};
 ghost use Rattle.part_events.specs.Section.{content};
 ghost use Rattle.xlsx_error.specs.declared.error.XlsxError.TheVariants.{Io};
 ghost use Rattle.xlsx_sections.specs.Elements.{ElementReadFails};
@@ -27,16 +27,10 @@ pub fn parse_font<P: Package>(
     xml: &mut XlReader<'_, P>,
     theme_colors: &[Color],
 ) -> Result<Font, XlsxError>
-    requires reading { IsReading (reading_by P.state xml.old) }
-    requires element { IsAtElement (reading_by P.state xml.old) }
+    requires element { IsReadingElement (reading_by P.state xml.old) }
     ensures same_package { SamePackage xml.old xml.new }
-    ensures reads { ReadsPart Io result (reading_by P.state xml.old) (reading_by P.state xml.new) }
-    ensures depth { let old = reading_by P.state xml.old in
-        let new = reading_by P.state xml.new in
-        OnOk result (length old.names ≡ suc (length new.names)) }
-    ensures skips { let old = reading_by P.state xml.old in
-        let new = reading_by P.state xml.new in
-        old.source.is_told ≡ true → OnOk result (Skips old new) }
+    ensures reads { let old = reading_by P.state xml.old in
+        ReadsElement Io result old (reading_by P.state xml.new) }
     ensures font { let old = reading_by P.state xml.old in
         old.source.is_told ≡ true →
         IfOk result (λ font. font_of theme_colors.now (content 0 (ahead old)) ≡ Ok (said_of font)) }
@@ -57,16 +51,10 @@ pub fn parse_fill<P: Package>(
     xml: &mut XlReader<'_, P>,
     theme_colors: &[Color],
 ) -> Result<Fill, XlsxError>
-    requires reading { IsReading (reading_by P.state xml.old) }
-    requires element { IsAtElement (reading_by P.state xml.old) }
+    requires element { IsReadingElement (reading_by P.state xml.old) }
     ensures same_package { SamePackage xml.old xml.new }
-    ensures reads { ReadsPart Io result (reading_by P.state xml.old) (reading_by P.state xml.new) }
-    ensures depth { let old = reading_by P.state xml.old in
-        let new = reading_by P.state xml.new in
-        OnOk result (length old.names ≡ suc (length new.names)) }
-    ensures skips { let old = reading_by P.state xml.old in
-        let new = reading_by P.state xml.new in
-        old.source.is_told ≡ true → OnOk result (Skips old new) }
+    ensures reads { let old = reading_by P.state xml.old in
+        ReadsElement Io result old (reading_by P.state xml.new) }
     ensures fill { let old = reading_by P.state xml.old in
         old.source.is_told ≡ true →
         IfOk result (λ fill. fill_of theme_colors.now (content 0 (ahead old)) ≡ Ok fill) }
@@ -91,16 +79,10 @@ pub fn parse_border<P: Package>(
     diagonal_up: bool,
     theme_colors: &[Color],
 ) -> Result<Borders, XlsxError>
-    requires reading { IsReading (reading_by P.state xml.old) }
-    requires element { IsAtElement (reading_by P.state xml.old) }
+    requires element { IsReadingElement (reading_by P.state xml.old) }
     ensures same_package { SamePackage xml.old xml.new }
-    ensures reads { ReadsPart Io result (reading_by P.state xml.old) (reading_by P.state xml.new) }
-    ensures depth { let old = reading_by P.state xml.old in
-        let new = reading_by P.state xml.new in
-        OnOk result (length old.names ≡ suc (length new.names)) }
-    ensures skips { let old = reading_by P.state xml.old in
-        let new = reading_by P.state xml.new in
-        old.source.is_told ≡ true → OnOk result (Skips old new) }
+    ensures reads { let old = reading_by P.state xml.old in
+        ReadsElement Io result old (reading_by P.state xml.new) }
     ensures borders { let old = reading_by P.state xml.old in
         old.source.is_told ≡ true → IfOk result (λ borders.
         border_of theme_colors.now diagonal_down diagonal_up (content 0 (ahead old))

@@ -1,11 +1,11 @@
 -- How the lists of a section of styles are read one by one.
-use Rattle.std.proofs.Common.{◌≡◌, ℕ, suc, List, length, true, false, Result}
-use Rattle.std.proofs.Common.{Ok, Err, refl, sym, ◌∙◌, ap, subst, inl, inr, codes, arith}
+use Rattle.std.proofs.Common.{◌≡◌, ℕ, List, length, true, false, Result}
+use Rattle.std.proofs.Common.{Ok, Err, refl, sym, ◌∙◌, ap, subst, inl, inr, codes}
 use Rattle.std.specs.Prelude.{IsOkAnd, IfErr}
 use Rattle.std.proofs.lemmas.Bool.{cases_Bool}
 use Rattle.std.proofs.lemmas.Result.{MatchResult-weaker}
 use Rattle.part_events.specs.Event.{Tag, Event, start}
-use Rattle.part_events.specs.Reading.{Reading, IsReading, ReadsOn, Skips, ahead}
+use Rattle.part_events.specs.Reading.{Reading, PassesElement, ahead}
 use Rattle.part_events.specs.Section.{content, outermost}
 use Rattle.part_events.specs.Walk.{section_ahead, element_at}
 use Rattle.xlsx_error.specs.declared.error.XlsxError.{XlsxError}
@@ -64,14 +64,13 @@ lists_refused {theme = theme} {base = base} {tag = tag} {new = new} {lists =
 pub lists_lengthened : {theme : List Color} {base place : ℕ} {tag : Tag}
     {first old new after : Reading} {lists longer : StyleLists}
     → KeepsLists theme base lists first old
-    → IsElementFound is_style_list base tag place first old new → ReadsOn new after
-    → length new.names ≡ suc (length after.names) → (new.source.is_told ≡ true → Skips new after)
+    → IsElementFound is_style_list base tag place first old new → PassesElement new after
     → (new.source.is_told ≡ true → (formats : List WrittenFormat) → AreCodes formats lists.codes
     → IsListRead theme tag lists longer (content 0 (ahead new)) formats)
     → KeepsLists theme base longer first after
 lists_lengthened {theme = theme} {base = base} {tag = tag} {first = first} {new = new} {lists =
-    lists} {longer = longer} kept found reads depth skips read =
-    let passed = element_passed found reads depth skips in
+    lists} {longer = longer} kept found passes read =
+    let passed = element_passed found passes in
     let here = element_at base tag new in
     elim (cases_Bool first.source.is_told) [
       | inl is ↦
@@ -96,12 +95,12 @@ lists_lengthened {theme = theme} {base = base} {tag = tag} {first = first} {new 
 -- a list that is refused refuses the element that it is
 pub list_fails : {A : Type 0} {kind : StyleList} (theme : List Color) (said : ListsSaid)
     (place : List A → ListsSaid) (kept : List A) (meaning : List Event → Result (List A) Refusal)
-    (tag : Tag) (old new : Reading) (error : XlsxError) → IsReading old → kind ≡ list_of tag
+    (tag : Tag) (old new : Reading) (error : XlsxError) → kind ≡ list_of tag
     → ((inside : List Event)
     → list_read theme kind said inside ≡ with_list place (prepended kept (meaning inside)))
     → ElementReadFails (list_end kind) meaning old new error
     → ElementReadFails (list_end (list_of tag)) (list_read theme (list_of tag) said) old new error
-list_fails {A = A} {kind = kind} theme said place kept meaning tag old new error is named same
+list_fails {A = A} {kind = kind} theme said place kept meaning tag old new error named same
     fails =
     subst (λ (kind : StyleList).
     ElementReadFails (list_end kind) (list_read theme kind said) old new error) named
@@ -142,7 +141,7 @@ list_there is named here there =
 pub arm_refused : {A T : Type 0} {kind found : StyleList} {own : Tag} {event : Event}
     (theme : List Color) (lists : StyleLists) (place : ListsSaid → List A → ListsSaid)
     (kept : ListsSaid → List A) (meaning : List Event → Result (List A) Refusal)
-    (old new : Reading) (result : Result T XlsxError) → IsReading old → found ≡ kind
+    (old new : Reading) (result : Result T XlsxError) → found ≡ kind
     → found ≡ list_of own → start own ≡ event → ((said : ListsSaid) (inside : List Event)
     → list_read theme kind said inside
     ≡ with_list (place said) (prepended (kept said) (meaning inside)))
@@ -150,9 +149,9 @@ pub arm_refused : {A T : Type 0} {kind found : StyleList} {own : Tag} {event : E
     → IfErr result (λ error. (tag : Tag) (formats : List WrittenFormat) → start tag ≡ event
     → AreCodes formats lists.codes → ElementReadFails (list_end (list_of tag))
     (list_read theme (list_of tag) (lists_said formats lists)) old new error)
-arm_refused theme lists place kept meaning old new result is found named here same refused =
+arm_refused theme lists place kept meaning old new result found named here same refused =
     MatchResult-weaker result refused (λ _ holds. holds)
     (λ error fails tag formats there are.
     let said = lists_said formats lists in
-    list_fails theme said (place said) (kept said) meaning tag old new error is
+    list_fails theme said (place said) (kept said) meaning tag old new error
     (list_there found named here there) (same said) fails)

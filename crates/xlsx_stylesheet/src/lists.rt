@@ -1,10 +1,9 @@
-ghost use Rattle.std.specs.Prelude.{◌≡◌, List, [], ◌∷◌, suc, codes, length, map, true, Ok};
+ghost use Rattle.std.specs.Prelude.{◌≡◌, List, [], ◌∷◌, codes, map, true, Ok};
 ghost use Rattle.std.specs.Prelude.{Err, IfOk, OnOk, IfErr, MatchResult};
 ghost use Rattle.std.specs.Option.{option_copied};
 ghost use Rattle.attr_text.specs.Attributes.{lookup};
 ghost use Rattle.part_events.specs.Event.{Tag, start, tag_of};
-ghost use Rattle.part_events.specs.Reading.{reading, open_elements, IsReading, IsAtElement};
-ghost use Rattle.part_events.specs.Reading.{ReadsPart, Skips, ahead};
+ghost use Rattle.part_events.specs.Reading.{reading, IsReadingElement, ReadsElement, ahead};
 ghost use Rattle.part_events.specs.Section.{content};
 ghost use Rattle.xlsx_error.specs.declared.error.XlsxError.TheVariants.{Io};
 ghost use Rattle.xlsx_sections.specs.Answers.{prepended};
@@ -38,16 +37,10 @@ pub fn read_fonts<P: Package>(
     theme_colors: &[Color],
     fonts: &mut Vec<Font>,
 ) -> Result<(), XlsxError>
-    requires reading { IsReading (reading (P.state «package».old) cursor.old) }
-    requires element { IsAtElement (reading (P.state «package».old) cursor.old) }
+    requires element { IsReadingElement (reading (P.state «package».old) cursor.old) }
     ensures reads { let old = reading (P.state «package».old) cursor.old in
         let new = reading (P.state «package».new) cursor.new in
-        ReadsPart Io result old new }
-    ensures depth { OnOk result
-        (length (open_elements cursor.old) ≡ suc (length (open_elements cursor.new))) }
-    ensures skips { let old = reading (P.state «package».old) cursor.old in
-        let new = reading (P.state «package».new) cursor.new in
-        old.source.is_told ≡ true → OnOk result (Skips old new) }
+        ReadsElement Io result old new }
     ensures fonts { let old = reading (P.state «package».old) cursor.old in
         let inside = content 0 (ahead old) in
         old.source.is_told ≡ true → OnOk result
@@ -73,16 +66,10 @@ pub fn read_fills<P: Package>(
     theme_colors: &[Color],
     fills: &mut Vec<Fill>,
 ) -> Result<(), XlsxError>
-    requires reading { IsReading (reading (P.state «package».old) cursor.old) }
-    requires element { IsAtElement (reading (P.state «package».old) cursor.old) }
+    requires element { IsReadingElement (reading (P.state «package».old) cursor.old) }
     ensures reads { let old = reading (P.state «package».old) cursor.old in
         let new = reading (P.state «package».new) cursor.new in
-        ReadsPart Io result old new }
-    ensures depth { OnOk result
-        (length (open_elements cursor.old) ≡ suc (length (open_elements cursor.new))) }
-    ensures skips { let old = reading (P.state «package».old) cursor.old in
-        let new = reading (P.state «package».new) cursor.new in
-        old.source.is_told ≡ true → OnOk result (Skips old new) }
+        ReadsElement Io result old new }
     ensures fills { let old = reading (P.state «package».old) cursor.old in
         let inside = content 0 (ahead old) in
         old.source.is_told ≡ true → OnOk result
@@ -124,16 +111,10 @@ fn read_one_border<P: Package>(
     cursor: &mut Cursor,
     theme_colors: &[Color],
 ) -> Result<Borders, XlsxError>
-    requires reading { IsReading (reading (P.state «package».old) cursor.old) }
-    requires element { IsAtElement (reading (P.state «package».old) cursor.old) }
+    requires element { IsReadingElement (reading (P.state «package».old) cursor.old) }
     ensures reads { let old = reading (P.state «package».old) cursor.old in
         let new = reading (P.state «package».new) cursor.new in
-        ReadsPart Io result old new }
-    ensures depth { OnOk result
-        (length (open_elements cursor.old) ≡ suc (length (open_elements cursor.new))) }
-    ensures skips { let old = reading (P.state «package».old) cursor.old in
-        let new = reading (P.state «package».new) cursor.new in
-        old.source.is_told ≡ true → OnOk result (Skips old new) }
+        ReadsElement Io result old new }
     ensures borders { let old = reading (P.state «package».old) cursor.old in
         old.source.is_told ≡ true → IfOk result (λ borders. (tag : Tag) →
         start tag ≡ old.source.current →
@@ -156,16 +137,10 @@ pub fn read_borders<P: Package>(
     theme_colors: &[Color],
     borders: &mut Vec<Borders>,
 ) -> Result<(), XlsxError>
-    requires reading { IsReading (reading (P.state «package».old) cursor.old) }
-    requires element { IsAtElement (reading (P.state «package».old) cursor.old) }
+    requires element { IsReadingElement (reading (P.state «package».old) cursor.old) }
     ensures reads { let old = reading (P.state «package».old) cursor.old in
         let new = reading (P.state «package».new) cursor.new in
-        ReadsPart Io result old new }
-    ensures depth { OnOk result
-        (length (open_elements cursor.old) ≡ suc (length (open_elements cursor.new))) }
-    ensures skips { let old = reading (P.state «package».old) cursor.old in
-        let new = reading (P.state «package».new) cursor.new in
-        old.source.is_told ≡ true → OnOk result (Skips old new) }
+        ReadsElement Io result old new }
     ensures borders { let old = reading (P.state «package».old) cursor.old in
         let inside = content 0 (ahead old) in
         old.source.is_told ≡ true → OnOk result
@@ -198,16 +173,10 @@ pub fn read_formats<P: Package>(
     lists: &NamedLists<'_>,
     formattings: &mut Vec<Formatting>,
 ) -> Result<(), XlsxError>
-    requires reading { IsReading (reading (P.state «package».old) cursor.old) }
-    requires element { IsAtElement (reading (P.state «package».old) cursor.old) }
+    requires element { IsReadingElement (reading (P.state «package».old) cursor.old) }
     ensures reads { let old = reading (P.state «package».old) cursor.old in
         let new = reading (P.state «package».new) cursor.new in
-        ReadsPart Io result old new }
-    ensures depth { OnOk result
-        (length (open_elements cursor.old) ≡ suc (length (open_elements cursor.new))) }
-    ensures skips { let old = reading (P.state «package».old) cursor.old in
-        let new = reading (P.state «package».new) cursor.new in
-        old.source.is_told ≡ true → OnOk result (Skips old new) }
+        ReadsElement Io result old new }
     ensures formattings { let old = reading (P.state «package».old) cursor.old in
         let inside = content 0 (ahead old) in
         old.source.is_told ≡ true → OnOk result ((formats : List WrittenFormat) →

@@ -1,8 +1,8 @@
 ghost use Rattle.std.specs.Prelude.{◌≡◌, ◌≤◌, List, suc, codes, length, true, Ok, IfOk, OnOk};
 ghost use Rattle.std.specs.Prelude.{IfErr};
 ghost use Rattle.part_events.specs.Event.{Tag, start, tag_of};
-ghost use Rattle.part_events.specs.Reading.{reading, open_elements, IsReading, IsAtElement};
-ghost use Rattle.part_events.specs.Reading.{ReadsPart, Skips, ahead};
+ghost use Rattle.part_events.specs.Reading.{reading, open_elements, IsReading, IsReadingElement};
+ghost use Rattle.part_events.specs.Reading.{ReadsElement, ReadsPart, ahead};
 ghost use Rattle.part_events.specs.Section.{content};
 ghost use Rattle.part_events.specs.Walk.{section_ahead, is_closed_ahead, section_end};
 ghost use Rattle.xlsx_error.specs.declared.error.XlsxError.TheVariants.{Io};
@@ -69,16 +69,10 @@ fn read_list<P: Package>(
     theme_colors: &[Color],
     lists: &mut StyleLists,
 ) -> Result<(), XlsxError>
-    requires reading { IsReading (reading (P.state «package».old) cursor.old) }
-    requires element { IsAtElement (reading (P.state «package».old) cursor.old) }
+    requires element { IsReadingElement (reading (P.state «package».old) cursor.old) }
     ensures reads { let old = reading (P.state «package».old) cursor.old in
         let new = reading (P.state «package».new) cursor.new in
-        ReadsPart Io result old new }
-    ensures depth { OnOk result
-        (length (open_elements cursor.old) ≡ suc (length (open_elements cursor.new))) }
-    ensures skips { let old = reading (P.state «package».old) cursor.old in
-        let new = reading (P.state «package».new) cursor.new in
-        old.source.is_told ≡ true → OnOk result (Skips old new) }
+        ReadsElement Io result old new }
     ensures lists { let old = reading (P.state «package».old) cursor.old in
         let inside = content 0 (ahead old) in
         old.source.is_told ≡ true → OnOk result ((tag : Tag) (formats : List WrittenFormat) →

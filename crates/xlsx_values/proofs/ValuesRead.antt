@@ -3,7 +3,7 @@ use Rattle.std.proofs.Common.{◌≡◌, ℕ, ◌+◌, ◌-◌, ◌<◌, List, [
 use Rattle.std.proofs.Common.{Err, sym, ◌∙◌, ap, arith, codes}
 use Rattle.part_events.specs.Event.{Event}
 use Rattle.part_events.specs.Nesting.{starts_in, ends_in}
-use Rattle.part_events.specs.Reading.{Reading, IsReading, IsAtElement, ahead}
+use Rattle.part_events.specs.Reading.{Reading, IsReadingElement, ahead}
 use Rattle.part_events.specs.Section.{content}
 use Rattle.part_events.specs.Walk.{section_ahead, TakesInside}
 use Rattle.part_events.specs.declared.fault.XmlFault.TheVariants.{EndMismatch, Unclosed, Entity}
@@ -65,38 +65,37 @@ some_past [] n same some = absurd (omega (arith, same, some))
 some_past (event ∷ past) n same some = omega arith
 
 -- the start of an element was taken
-started : (old : Reading) → IsReading old → IsAtElement old → old.source.is_told ≡ true
-    → 0 < old.at
-started old is element told =
-    let tracked = is.tracked told in
+started : (old : Reading) → IsReadingElement old → old.source.is_told ≡ true → 0 < old.at
+started old is told =
+    let tracked = is.reading.tracked told in
     omega (
       arith,
       tracked.at,
-      some_past old.source.past (length old.names) tracked.depth (is.element element),
+      some_past old.source.past (length old.names) tracked.depth (is.reading.element is.element),
     )
 
 -- the joined text of the element at whose start a reader stood has no value
 pub joined_refused : (kind : CellKind) (old new : Reading) (text : List ℕ) (error : XlsxError)
-    → IsReading old → IsAtElement old
+    → IsReadingElement old
     → (old.source.is_told ≡ true → element_text false (content 0 (ahead old)) ≡ Ok text)
     → ((at behind : ℕ) → ElementFails (value_of_joined kind text) at behind error)
     → ElementReadFails (always (codes "v")) (joined_value kind) old new error
-joined_refused kind old new text error is element read fails =
+joined_refused kind old new text error is read fails =
     let inside = content 0 (ahead old) in
     event_refused (length old.names) (old.at - 1) (length inside) old (always (codes "v"))
     (λ (refusal : Refusal). value_of_joined kind text ≡ Err refusal)
     (IsInsideRefused (joined_value kind)) new error
-    (λ told. omega (arith, started old is element told, ap length (own_inside old)))
+    (λ told. omega (arith, started old is told, ap length (own_inside old)))
     (λ told refusal refuses.
     ap (joined_value kind) (own_inside old) ∙ ap (of_joined (value_of_joined kind)) (read told)
     ∙ refuses)
     (fails (old.at - 1) (length inside))
 
 -- the string of an element can't be read, and neither can it as a value
-pub inline_refused : (old new : Reading) (error : XlsxError) → IsReading old
+pub inline_refused : (old new : Reading) (error : XlsxError)
     → ElementReadFails end_in_string string_of old new error
     → ElementReadFails end_in_string inline_value old new error
-inline_refused old new error is fails =
+inline_refused old new error fails =
     refused_as (length old.names) old end_in_string (IsInsideRefused string_of)
     (IsInsideRefused inline_value) new error
     (λ refusal refuses. ap (of_joined (λ (written : List ℕ). Ok (value.text written))) refuses)

@@ -1,7 +1,5 @@
-ghost use Rattle.std.specs.Prelude.{◌≡◌, suc, length, true, Ok, Some, codes, option_map};
-ghost use Rattle.std.specs.Prelude.{IfOk, OnOk, IfErr};
-ghost use Rattle.part_events.specs.Reading.{reading, open_elements, IsReading, IsAtElement};
-ghost use Rattle.part_events.specs.Reading.{ReadsPart, Skips, ahead};
+ghost use Rattle.std.specs.Prelude.{◌≡◌, true, Ok, Some, codes, option_map, IfOk, IfErr};
+ghost use Rattle.part_events.specs.Reading.{reading, IsReadingElement, ReadsElement, ahead};
 ghost use Rattle.part_events.specs.Section.{content};
 ghost use Rattle.cell_data.specs.CellValue.{value_of_data_ref};
 ghost use Rattle.xlsx_error.specs.declared.error.XlsxError.TheVariants.{Io};
@@ -10,8 +8,7 @@ ghost use Rattle.xlsx_sections.specs.PartSection.{always};
 ghost use Rattle.xlsx_strings.specs.Strings.{end_in_string, IsStringError};
 ghost use Rattle.xlsx_values.specs.Book.{kind_of, grounds_of, IsValueError};
 ghost use Rattle.xlsx_values.specs.Value.{first_event_value, joined_value, value_element};
-ghost use Rattle.xlsx_values.specs.Value.{inline_value};
-ghost use Rattle.xlsx_values.specs.Value.{end_in_first, end_in_value};
+ghost use Rattle.xlsx_values.specs.Value.{inline_value, end_in_first, end_in_value};
 
 use crate::book::Book;
 use crate::text_value::{value_of_event, value_of_joined};
@@ -33,16 +30,10 @@ fn read_first<P: Package>(
     format: CellFormat,
     typ: &CellType,
 ) -> Result<DataRef, XlsxError>
-    requires reading { IsReading (reading (P.state «package».old) cursor.old) }
-    requires element { IsAtElement (reading (P.state «package».old) cursor.old) }
+    requires element { IsReadingElement (reading (P.state «package».old) cursor.old) }
     ensures reads { let old = reading (P.state «package».old) cursor.old in
         let new = reading (P.state «package».new) cursor.new in
-        ReadsPart Io result old new }
-    ensures depth { OnOk result
-        (length (open_elements cursor.old) ≡ suc (length (open_elements cursor.new))) }
-    ensures skips { let old = reading (P.state «package».old) cursor.old in
-        let new = reading (P.state «package».new) cursor.new in
-        old.source.is_told ≡ true → OnOk result (Skips old new) }
+        ReadsElement Io result old new }
     ensures value { let old = reading (P.state «package».old) cursor.old in
         let answer = first_event_value (grounds_of book.entry) format (kind_of typ.now) in
         old.source.is_told ≡ true → IfOk result (λ own.
@@ -72,16 +63,10 @@ fn read_joined<P: Package>(
     cursor: &mut Cursor,
     typ: &CellType,
 ) -> Result<DataRef, XlsxError>
-    requires reading { IsReading (reading (P.state «package».old) cursor.old) }
-    requires element { IsAtElement (reading (P.state «package».old) cursor.old) }
+    requires element { IsReadingElement (reading (P.state «package».old) cursor.old) }
     ensures reads { let old = reading (P.state «package».old) cursor.old in
         let new = reading (P.state «package».new) cursor.new in
-        ReadsPart Io result old new }
-    ensures depth { OnOk result
-        (length (open_elements cursor.old) ≡ suc (length (open_elements cursor.new))) }
-    ensures skips { let old = reading (P.state «package».old) cursor.old in
-        let new = reading (P.state «package».new) cursor.new in
-        old.source.is_told ≡ true → OnOk result (Skips old new) }
+        ReadsElement Io result old new }
     ensures value { let old = reading (P.state «package».old) cursor.old in
         old.source.is_told ≡ true → IfOk result (λ own.
         joined_value (kind_of typ.now) (content 0 (ahead old)) ≡ Ok (value_of_data_ref own)) }
@@ -115,16 +100,10 @@ pub fn read_value<P: Package>(
     format: CellFormat,
     typ: &CellType,
 ) -> Result<Option<DataRef>, XlsxError>
-    requires reading { IsReading (reading (P.state «package».old) cursor.old) }
-    requires element { IsAtElement (reading (P.state «package».old) cursor.old) }
+    requires element { IsReadingElement (reading (P.state «package».old) cursor.old) }
     ensures reads { let old = reading (P.state «package».old) cursor.old in
         let new = reading (P.state «package».new) cursor.new in
-        ReadsPart Io result old new }
-    ensures depth { OnOk result
-        (length (open_elements cursor.old) ≡ suc (length (open_elements cursor.new))) }
-    ensures skips { let old = reading (P.state «package».old) cursor.old in
-        let new = reading (P.state «package».new) cursor.new in
-        old.source.is_told ≡ true → OnOk result (Skips old new) }
+        ReadsElement Io result old new }
     ensures value { let old = reading (P.state «package».old) cursor.old in
         let answer = value_element (grounds_of book.entry) format (kind_of typ.now) in
         old.source.is_told ≡ true → IfOk result (λ found.
@@ -165,16 +144,10 @@ pub fn read_inline<P: Package>(
     package: &mut P,
     cursor: &mut Cursor,
 ) -> Result<DataRef, XlsxError>
-    requires reading { IsReading (reading (P.state «package».old) cursor.old) }
-    requires element { IsAtElement (reading (P.state «package».old) cursor.old) }
+    requires element { IsReadingElement (reading (P.state «package».old) cursor.old) }
     ensures reads { let old = reading (P.state «package».old) cursor.old in
         let new = reading (P.state «package».new) cursor.new in
-        ReadsPart Io result old new }
-    ensures depth { OnOk result
-        (length (open_elements cursor.old) ≡ suc (length (open_elements cursor.new))) }
-    ensures skips { let old = reading (P.state «package».old) cursor.old in
-        let new = reading (P.state «package».new) cursor.new in
-        old.source.is_told ≡ true → OnOk result (Skips old new) }
+        ReadsElement Io result old new }
     ensures value { let old = reading (P.state «package».old) cursor.old in
         old.source.is_told ≡ true → IfOk result (λ own.
         inline_value (content 0 (ahead old)) ≡ Ok (value_of_data_ref own)) }

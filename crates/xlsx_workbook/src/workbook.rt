@@ -4,8 +4,8 @@ ghost use Rattle.std.specs.Prelude.{string_bytes, IfOk, OnOk, IfErr, MatchOption
 ghost use Rattle.part_events.specs.Event.{Event, start, tag_of, event_of};
 ghost use Rattle.part_events.specs.JoinedText.{event_text, is_unknown};
 ghost use Rattle.part_events.specs.Package.{Uses, part_of, event_count};
-ghost use Rattle.part_events.specs.Reading.{reading, open_elements, IsReading};
-ghost use Rattle.part_events.specs.Reading.{ReadsPart, Skips, ahead};
+ghost use Rattle.part_events.specs.Reading.{reading, open_elements, IsReading, ReadsElement};
+ghost use Rattle.part_events.specs.Reading.{ReadsPart, ahead};
 ghost use Rattle.part_events.specs.Section.{content};
 ghost use Rattle.part_events.specs.Walk.{section_ahead, is_closed_ahead, section_end};
 ghost use Rattle.xlsx_error.specs.declared.error.XlsxError.TheVariants.{Io, OutOfMemory};
@@ -191,15 +191,10 @@ fn read_name<P: Package>(
     requires within { base < length (open_elements cursor.old) }
     ensures reads { let old = reading (P.state «package».old) cursor.old in
         let new = reading (P.state «package».new) cursor.new in
-        ReadsPart Io result old new }
+        ReadsElement Io result old new }
     ensures section { let old = reading (P.state «package».old) cursor.old in
         let new = reading (P.state «package».new) cursor.new in
         OnOk result (KeepsSection base old new) }
-    ensures depth { OnOk result (length (open_elements cursor.old)
-        ≡ suc (length (open_elements cursor.new))) }
-    ensures skips { let old = reading (P.state «package».old) cursor.old in
-        let new = reading (P.state «package».new) cursor.new in
-        old.source.is_told ≡ true → OnOk result (Skips old new) }
     ensures sheets { let old = reading (P.state «package».old) cursor.old in
         let new = reading (P.state «package».new) cursor.new in
         let folder = places.entry.folder.now in

@@ -1,5 +1,5 @@
-use Rattle.std.proofs.Common.{◌≡◌, ℕ, true, Some, None, refl, ◌∙◌, ap, subst, inl, inr, arith}
-use Rattle.std.proofs.Common.{codes, string_bytes}
+use Rattle.std.proofs.Common.{◌≡◌, ℕ, true, None, refl, ◌∙◌, ap, subst, inl, inr, arith}
+use Rattle.std.proofs.Common.{codes}
 use Rattle.std.proofs.lemmas.Result.{err_from_is_err_and}
 use Rattle.part_events.specs.Reading.{reading, ahead}
 use Rattle.part_events.specs.Section.{content, is_any}
@@ -60,8 +60,7 @@ children-preserved g c =
     let tag = there.0 in
     let found : IsElementFound is_any base tag place old mid at = there.2 in
     let passed : IsElementPassed is_any base tag old mid at after =
-    element_passed found c.in_ok-read_child.ensures.reads c.in_ok-read_child.ensures.depth
-    c.in_ok-read_child.ensures.skips in
+    element_passed found c.in_ok-read_child.ensures.reads in
     let still : old.source.is_told ≡ true → at.source.is_told ≡ true =
     λ told. found.read.reads.moves.parts.is_told ∙ told in
     let element = element_at base tag at in

@@ -34,7 +34,7 @@ returns-in_err-alignment-clause-err g c =
     rw (p.1, p.2) (λ tag said current.
     settings_fail (λ (texts : List (Option (List ℕ))).
     named ≡ formatting_named (code_kept lists.codes.now) (named_said [] lists) texts no_settings)
-    said tag own old new e (same_tag (current ∙ sym c.start_tag.ensures)) c.requires.reading
+    said tag own old new e (same_tag (current ∙ sym c.start_tag.ensures))
     (c.in_ok-formatting.ensures.ok []) c.in_err-alignment.ensures.err)
 
 pub returns-clause-formatting : goal.returns-clause-formatting

@@ -33,7 +33,7 @@ starts-init g c =
     let old = reading (g.P.Package.state c.args.package.now) c.args.cursor.now in
     let base = c.depth-base.result in
     record {
-      keeps = starts_none base old c.requires.reading (omega (arith, c.depth-base.ensures));
+      keeps = starts_none base old c.requires.element.reading (omega (arith, c.depth-base.ensures));
       own = c.depth-base.ensures;
       codes_kept = λ _. keeps_no_code (starts_by is_number_format (section_ahead base old))
           c.args.kept.now;

@@ -1,4 +1,4 @@
-use Rattle.std.proofs.Common.{◌≡◌, List, length, map, arith, ap, sym, ◌∙◌, subst}
+use Rattle.std.proofs.Common.{◌≡◌, List, map, arith, ap, sym, ◌∙◌, subst}
 use Rattle.part_events.specs.Event.{Event}
 use Rattle.part_events.specs.Nesting.{whole}
 use Rattle.part_events.specs.Section.{is_named}
@@ -17,8 +17,8 @@ returns-in-Ended-clause-err g c = λ inner told.
 pub returns-in-Found-clause-step : goal.returns-in-Found-clause-step
 returns-in-Found-clause-step g c = λ first keeps.
     let stands = rw c.in-Found.is at c.in_ok-next_element.ensures.stands in
-    element_step_found (is_named (map (λ name. name.now) c.args.names.now)) (omega (arith, stands.3, c.at.ensures))
-    c.in_ok-next_element.ensures.reads stands
+    element_step_found (is_named (map (λ name. name.now) c.args.names.now))
+    (omega (arith, stands.3, c.at.ensures)) c.in_ok-next_element.ensures.reads stands
     (λ told. rw c.in-Found.is at (c.in_ok-next_element.ensures.found told)) first keeps
 
 pub returns-in-Ended-clause-refused : goal.returns-in-Ended-clause-refused

@@ -38,8 +38,12 @@ returns-then-not-branch-clause-front g c = λ told.
       text = (c.in_ok-read_text.ensures.text told).text;
     }
 
-pub returns-clause-skips : goal.returns-clause-skips
-returns-clause-skips g c = λ told.
-    let text = c.in_ok-read_text.ensures.text told in
-    skips_element c.requires.reading c.in_ok-read_text.ensures.reads told
-    (text.closed ∙ c.if-not-branch.false) text.ahead
+pub returns-clause-reads : goal.returns-clause-reads
+returns-clause-reads g c = record {
+  reads = c.in_ok-read_text.ensures.reads;
+  depth = c.in_ok-read_text.ensures.depth c.if-not-branch.false;
+  skips = λ told.
+      let text = c.in_ok-read_text.ensures.text told in
+      skips_element c.requires.element.reading c.in_ok-read_text.ensures.reads told
+      (text.closed ∙ c.if-not-branch.false) text.ahead;
+}

@@ -48,7 +48,6 @@ strings-preserved g c =
     subst (λ (more : List (List ℕ)). KeepsList is_string string_said c.args.base [] more old after)
     (sym c.in_ok-push_text.ensures)
     (list_element_added own c.strings.invariant next.2 c.in_ok-read_string.ensures.reads
-    c.in_ok-read_string.ensures.depth c.in_ok-read_string.ensures.skips
     (λ told.
     let text = c.in_ok-read_string.ensures.text told in
     text.1 ∙ ap (λ (own : List ℕ). let answer : Result (List ℕ) Refusal = Ok own in answer)

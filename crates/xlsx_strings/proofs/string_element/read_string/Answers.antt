@@ -30,8 +30,7 @@ pieces-preserved g c =
     in
     let next = element_there {new = new} c.in-Some.is c.pieces.invariant.keeps
     c.in_ok-_at.ensures.reads c.in_ok-_at.ensures.stands c.in_ok-_at.ensures.found in
-    let passed = element_passed {new = new} next.2 c.in_ok-read_piece.ensures.reads
-    c.in_ok-read_piece.ensures.depth c.in_ok-read_piece.ensures.skips in
+    let passed = element_passed {new = new} next.2 c.in_ok-read_piece.ensures.reads in
     record {
       keeps = passed.keeps;
       own = c.pieces.invariant.own;

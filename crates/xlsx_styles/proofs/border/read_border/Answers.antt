@@ -42,8 +42,7 @@ sides-preserved g c =
     let found = element_found is_side c.start_tag.ensures c.sides.invariant.keeps
     c.in_ok-_at.ensures.reads stands
     (λ told. rw c.in-Some.is at (c.in_ok-_at.ensures.found told)) in
-    let passed = element_passed found c.in_ok-border.ensures.reads
-    c.in_ok-border.ensures.depth c.in_ok-border.ensures.skips in
+    let passed = element_passed found c.in_ok-border.ensures.reads in
     record {
       keeps = passed.keeps;
       own = c.sides.invariant.own;

@@ -46,7 +46,6 @@ borders-preserved g c =
       list = rw c.in_ok-push.ensures.items
           (list_element_added {new = new} c.in_ok-read_one_border.field-0 c.borders.invariant.list
           next.2
-          c.in_ok-read_one_border.ensures.reads c.in_ok-read_one_border.ensures.depth
-          c.in_ok-read_one_border.ensures.skips
+          c.in_ok-read_one_border.ensures.reads
           (λ told. c.in_ok-read_one_border.ensures.borders told next.0 next.1));
     }

@@ -44,6 +44,5 @@ fills-preserved g c =
       own = c.fills.invariant.own;
       list = rw c.in_ok-push.ensures.items
           (list_element_added {new = new} c.in_ok-read_fill.field-0 c.fills.invariant.list next.2
-          c.in_ok-read_fill.ensures.reads c.in_ok-read_fill.ensures.depth
-          c.in_ok-read_fill.ensures.skips c.in_ok-read_fill.ensures.fill);
+          c.in_ok-read_fill.ensures.reads c.in_ok-read_fill.ensures.fill);
     }

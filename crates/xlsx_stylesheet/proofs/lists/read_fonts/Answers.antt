@@ -48,6 +48,5 @@ fonts-preserved g c =
           (rw (map-append said_of c.fonts.fonts.items (c.in_ok-read_font.field-0 ∷ []))
           (list_element_added {new = new} (said_of c.in_ok-read_font.field-0)
           c.fonts.invariant.list next.2
-          c.in_ok-read_font.ensures.reads c.in_ok-read_font.ensures.depth
-          c.in_ok-read_font.ensures.skips c.in_ok-read_font.ensures.font));
+          c.in_ok-read_font.ensures.reads c.in_ok-read_font.ensures.font));
     }

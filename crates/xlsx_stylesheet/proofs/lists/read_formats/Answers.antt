@@ -44,8 +44,7 @@ formats-preserved g c =
     let next = element_there {new = new} c.in-Some.is c.formats.invariant.keeps
     c.in_ok-_at.ensures.reads
     c.in_ok-_at.ensures.stands c.in_ok-_at.ensures.found in
-    let passed = element_passed {new = new} next.2 c.in_ok-read_format.ensures.reads
-    c.in_ok-read_format.ensures.depth c.in_ok-read_format.ensures.skips in
+    let passed = element_passed {new = new} next.2 c.in_ok-read_format.ensures.reads in
     record {
       keeps = passed.keeps;
       own = c.formats.invariant.own;
@@ -54,7 +53,6 @@ formats-preserved g c =
           (c.in_ok-read_format.field-0 ∷ []))
           (list_element_added {new = new} (formatting_said c.in_ok-read_format.field-0)
           (c.formats.invariant.formattings formats are) next.2
-          c.in_ok-read_format.ensures.reads c.in_ok-read_format.ensures.depth
-          c.in_ok-read_format.ensures.skips
+          c.in_ok-read_format.ensures.reads
           (λ told. c.in_ok-read_format.ensures.formatting told next.0 formats next.1 are)));
     }

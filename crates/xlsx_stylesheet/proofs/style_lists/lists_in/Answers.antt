@@ -37,5 +37,4 @@ lists-preserved g c =
     let next = element_there {new = new} c.in-Some.is c.lists.invariant.keeps
     c.in_ok-_at.ensures.reads c.in_ok-_at.ensures.stands c.in_ok-_at.ensures.found in
     lists_lengthened c.lists.invariant next.2 c.in_ok-read_list.ensures.reads
-    c.in_ok-read_list.ensures.depth c.in_ok-read_list.ensures.skips
     (λ told formats are. c.in_ok-read_list.ensures.lists told next.0 formats next.1 are)

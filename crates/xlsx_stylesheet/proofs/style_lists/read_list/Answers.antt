@@ -34,7 +34,7 @@ returns-in-NumberFormats-clause-err g c =
     let new = reading (g.P.Package.state c.read_number_formats.new.package)
     c.read_number_formats.new.cursor in
     arm_refused c.args.theme_colors.now c.args.lists.now with_formats (λ said. said.named.formats)
-    formats_written old new c.read_number_formats.result c.requires.reading c.in-NumberFormats.is
+    formats_written old new c.read_number_formats.result c.in-NumberFormats.is
     c.list_of.ensures c.start_tag.ensures (λ _ _. refl) c.read_number_formats.ensures.err
 
 pub returns-in-Fonts-clause-lists : goal.returns-in-Fonts-clause-lists
@@ -51,7 +51,7 @@ returns-in-Fonts-clause-err g c =
     let old = reading (g.P.Package.state c.args.package.now) c.args.cursor.now in
     let new = reading (g.P.Package.state c.read_fonts.new.package) c.read_fonts.new.cursor in
     arm_refused c.args.theme_colors.now c.args.lists.now with_fonts (λ said. said.named.fonts)
-    (fonts_in c.args.theme_colors.now) old new c.read_fonts.result c.requires.reading c.in-Fonts.is
+    (fonts_in c.args.theme_colors.now) old new c.read_fonts.result c.in-Fonts.is
     c.list_of.ensures c.start_tag.ensures (λ _ _. refl) c.read_fonts.ensures.err
 
 pub returns-in-Fills-clause-lists : goal.returns-in-Fills-clause-lists
@@ -68,7 +68,7 @@ returns-in-Fills-clause-err g c =
     let old = reading (g.P.Package.state c.args.package.now) c.args.cursor.now in
     let new = reading (g.P.Package.state c.read_fills.new.package) c.read_fills.new.cursor in
     arm_refused c.args.theme_colors.now c.args.lists.now with_fills (λ said. said.named.fills)
-    (fills_in c.args.theme_colors.now) old new c.read_fills.result c.requires.reading c.in-Fills.is
+    (fills_in c.args.theme_colors.now) old new c.read_fills.result c.in-Fills.is
     c.list_of.ensures c.start_tag.ensures (λ _ _. refl) c.read_fills.ensures.err
 
 pub returns-in-Borders-clause-lists : goal.returns-in-Borders-clause-lists
@@ -85,7 +85,7 @@ returns-in-Borders-clause-err g c =
     let old = reading (g.P.Package.state c.args.package.now) c.args.cursor.now in
     let new = reading (g.P.Package.state c.read_borders.new.package) c.read_borders.new.cursor in
     arm_refused c.args.theme_colors.now c.args.lists.now with_borders (λ said. said.named.borders)
-    (borders_in c.args.theme_colors.now) old new c.read_borders.result c.requires.reading c.in-Borders.is
+    (borders_in c.args.theme_colors.now) old new c.read_borders.result c.in-Borders.is
     c.list_of.ensures c.start_tag.ensures (λ _ _. refl) c.read_borders.ensures.err
 
 pub returns-in-Formats-clause-lists : goal.returns-in-Formats-clause-lists
@@ -115,6 +115,6 @@ returns-in-Formats-clause-err g c =
     (λ error fails tag formats there are.
     let said = lists_said formats c.args.lists.now in
     list_fails c.args.theme_colors.now said (with_formattings said) said.formattings
-    (formattings_in said.named) tag old new error c.requires.reading
+    (formattings_in said.named) tag old new error
     (list_there c.in-Formats.is c.list_of.ensures c.start_tag.ensures there) (λ _. refl)
     (fails formats are))

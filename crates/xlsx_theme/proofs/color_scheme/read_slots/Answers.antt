@@ -26,8 +26,7 @@ slots-preserved g c =
     c.in_ok-_at.ensures.stands c.in_ok-_at.ensures.found in
     rw c.in_ok-push.ensures.items
     (list_element_added {new = new} c.in_ok-read_slot.field-0 c.slots.invariant next.2
-    c.in_ok-read_slot.ensures.reads c.in_ok-read_slot.ensures.depth
-    c.in_ok-read_slot.ensures.skips c.in_ok-read_slot.ensures.color)
+    c.in_ok-read_slot.ensures.reads c.in_ok-read_slot.ensures.color)
 
 pub returns-in_err-read_slot-clause-err : goal.returns-in_err-read_slot-clause-err
 returns-in_err-read_slot-clause-err g c =

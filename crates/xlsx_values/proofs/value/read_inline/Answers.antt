@@ -9,5 +9,5 @@ returns-in_err-read_string-clause-err g c =
     let new = reading (g.P.Package.state c.read_string.new.package) c.read_string.new.cursor in
     let p = err_from_is_err_and c.from_residual.result c.from_residual.ensures.1 in
     rw (p.1, p.2)
-    (inline_refused old new c.in_err-read_string.field-0.0 c.requires.reading
+    (inline_refused old new c.in_err-read_string.field-0.0
     c.in_err-read_string.ensures.err)

@@ -24,5 +24,5 @@ returns-clause-err g c =
     IfErr-weaker c.value_of_joined.result
     (λ e. (at behind : ℕ) → ElementFails (value_of_joined kind text) at behind e)
     (ElementReadFails (always (codes "v")) (joined_value kind) old new)
-    (λ e fails. joined_refused kind old new text e c.requires.reading c.requires.element read fails)
+    (λ e fails. joined_refused kind old new text e c.requires.element read fails)
     c.value_of_joined.ensures.err

@@ -116,12 +116,12 @@ events-preserved-in-Continue-branch-5 g c =
     let starts = rw c.in-Some-name_start.is at c.name_start.ensures in
     let tag = tag_of c.in-Some-name_start.tag in
     let out : inside base later ≡ inside base new - 1 =
-    omega (arith, c.in_ok-read_name.ensures.depth) in
+    omega (arith, c.in_ok-read_name.ensures.reads.depth) in
     record {
       section = keeps_further step.read c.in_ok-read_name.ensures.section;
       keeps = λ told.
           let still = step.read.reads.moves.parts.is_told ∙ told in
-          let skipped = c.in_ok-read_name.ensures.skips still in
+          let skipped = c.in_ok-read_name.ensures.reads.skips still in
           let left : section_ahead base later ≡ section_behind base new =
           rw (out, skipped.ahead) refl in
           let next = name_next base tag mid new step.takes (step.steps told) (sym starts.0

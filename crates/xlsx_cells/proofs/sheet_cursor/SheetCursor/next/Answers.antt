@@ -99,14 +99,13 @@ returns-clause-takes g c = λ told before earlier behind.
     element_found is_cell there.current
     (keeps_none is_cell base old.reading going.reading going.within) c.in_ok-found.ensures.reads
     stands.0 (λ told. rw c.in-Some.is at (c.in_ok-found.ensures.element told)) in
-    let passed = element_passed found c.in_ok-read.ensures.reads c.in_ok-read.ensures.depth
-    c.in_ok-read.ensures.skips in
+    let passed = element_passed found c.in_ok-read.ensures.reads in
     let element = element_at base tag mid in
     let stand : StandsAtElement element mid = record { tag = there.current; inside = refl } in
     let told_mid = found.read.reads.moves.parts.is_told ∙ told in
     taken_cell wants c.args.asked.keeps_masters (grounds_of c.args.asked.book) before earlier pos
     old mid new c.find_cell.new.counters c.read_cell.new.masters c.in_ok-read.read there passed
-    found.deep (c.in_ok-read.ensures.skips told_mid).closed told behind.masters
+    found.deep (c.in_ok-read.ensures.reads.skips told_mid).closed told behind.masters
     c.in_ok-read.ensures.pos
     (λ wanted. c.in_ok-read.ensures.value told_mid wanted element stand)
     (λ wanted. c.in_ok-read.ensures.formula told_mid wanted element stand)
@@ -127,8 +126,7 @@ returns-clause-stands g c =
     let there = element_there refl (keeps_none is_cell base old going.reading going.within)
     c.in_ok-found.ensures.reads stands.0 (λ told. rw c.in-Some.is at
     (c.in_ok-found.ensures.element told)) in
-    let passed = element_passed there.2 c.in_ok-read.ensures.reads c.in_ok-read.ensures.depth
-    c.in_ok-read.ensures.skips in
+    let passed = element_passed there.2 c.in_ok-read.ensures.reads in
     let placed = c.in_ok-read.ensures.pos in record {
       going = going;
       goes_on = record {
@@ -138,7 +136,8 @@ returns-clause-stands g c =
         failed = refl;
       };
       base = refl;
-      further = omega (arith, stands.0.3, stands.0.4, c.in_ok-read.ensures.reads.moves.forward);
+      further =
+          omega (arith, stands.0.3, stands.0.4, c.in_ok-read.ensures.reads.reads.moves.forward);
       elements = passed.keeps;
       row = rw placed stands.1;
       column = rw placed stands.2;
