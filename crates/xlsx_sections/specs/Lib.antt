@@ -6,7 +6,6 @@ pub mod Elements
 pub mod Failing
 pub mod NumberText
 pub mod PartSection
-pub mod Placed
 pub mod Refusal
 pub mod SectionEvents
 pub mod Steps
