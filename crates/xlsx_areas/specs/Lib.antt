@@ -1,2 +1,3 @@
 pub mod MergeErrors
 pub mod MergedCells
+pub mod Regions

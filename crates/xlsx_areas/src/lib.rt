@@ -4,6 +4,8 @@
 
 mod merged_cells;
 mod merged_parts;
+mod regions;
 
 pub use merged_cells::read_merge_cells;
 pub use merged_parts::{read_merges, read_merges_or_none, read_regions};
+pub use regions::{MergedRegion, MergedRegions, read_sheet_regions};

@@ -1,10 +1,11 @@
-ghost use Rattle.std.specs.Prelude.{◌≡◌, ◌≤◌, ◌++◌, ℕ, List, [], suc, length, true, Some, Ok, Result};
+ghost use Rattle.std.specs.Prelude.{◌≡◌, ◌≤◌, ◌++◌, ℕ, List, [], suc, length, true, Some, Ok};
+ghost use Rattle.std.specs.Prelude.{Result};
 ghost use Rattle.std.specs.Prelude.{IfOk, OnOk, IfErr, option_to_list};
 ghost use Rattle.cell_refs.specs.declared.dimensions.Dimensions.{Dimensions};
 ghost use Rattle.part_events.specs.Event.{tag_of};
 ghost use Rattle.part_events.specs.Reader.{reading_by, SamePackage};
-ghost use Rattle.part_events.specs.Reading.{reading, open_elements, IsReading, IsAtElement};
-ghost use Rattle.part_events.specs.Reading.{ReadsPart, Skips, ahead, events_of};
+ghost use Rattle.part_events.specs.Reading.{reading, open_elements, IsReading};
+ghost use Rattle.part_events.specs.Reading.{ReadsPart, IsReadingElement, ReadsElement, ahead, events_of};
 ghost use Rattle.part_events.specs.Section.{content};
 ghost use Rattle.part_events.specs.Walk.{section_ahead};
 ghost use Rattle.xlsx_error.specs.declared.error.XlsxError.TheVariants.{Io};
@@ -101,19 +102,11 @@ pub fn merges_in<P: Package>(
 /// A part that ends before is `XmlEof("")`, and an end that breaks the nesting is
 /// `Xml(EndMismatch)` with its number in the part, counted from 0. Attributes that end in a fault
 /// and have no `ref` are `XmlAttr`, and a `ref` that names no area has the refusal of its text.
-pub fn read_merge_cells<P: Package>(
-    xml: &mut XlReader<'_, P>,
-) -> Result<Vec<Dimensions>, XlsxError>
-    requires reading { IsReading (reading_by P.state xml.old) }
-    requires element { IsAtElement (reading_by P.state xml.old) }
+pub fn read_merge_cells<P: Package>(xml: &mut XlReader<'_, P>) -> Result<Vec<Dimensions>, XlsxError>
+    requires element { IsReadingElement (reading_by P.state xml.old) }
     ensures same_package { SamePackage xml.old xml.new }
-    ensures reads { ReadsPart Io result (reading_by P.state xml.old) (reading_by P.state xml.new) }
-    ensures depth { let old = reading_by P.state xml.old in
-        let new = reading_by P.state xml.new in
-        OnOk result (length old.names ≡ suc (length new.names)) }
-    ensures skips { let old = reading_by P.state xml.old in
-        let new = reading_by P.state xml.new in
-        old.source.is_told ≡ true → OnOk result (Skips old new) }
+    ensures reads { let old = reading_by P.state xml.old in
+        ReadsElement Io result old (reading_by P.state xml.new) }
     ensures merges { let old = reading_by P.state xml.old in
         old.source.is_told ≡ true →
         IfOk result (λ areas. merges_in (content 0 (ahead old)) ≡ Ok areas.items) }

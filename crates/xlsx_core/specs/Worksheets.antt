@@ -50,13 +50,18 @@ grounds_of_book xlsx =
 abbrev pub palette_of_book : {P : Type 0} → Xlsx P → List Style
 palette_of_book xlsx = xlsx.shared.style_sheet.styles.items
 
--- a call keeps all of a workbook but its package
-pub record KeepsWorkbook {P : Type 0} (old new : Xlsx P) : Type 0 where
+-- a call keeps what a workbook was opened as, and its header row
+pub record KeepsBook {P : Type 0} (old new : Xlsx P) : Type 0 where
   pub metadata : new.metadata ≡ old.metadata
   pub paths : new.paths ≡ old.paths
   pub shared : new.shared ≡ old.shared
   pub is_1904 : new.is_1904 ≡ old.is_1904
   pub header_row : new.header_row ≡ old.header_row
+
+-- a call keeps all of a workbook but its package
+pub record KeepsWorkbook {P : Type 0} (old new : Xlsx P) : Type 0 where
+  pub book : KeepsBook old new
+  pub lists : new.lists ≡ old.lists
 
 -- another header row, and all else as it was
 pub record SetsHeaderRow {P : Type 0} (header : HeaderRow) (old new : Xlsx P) : Type 0 where
@@ -66,6 +71,7 @@ pub record SetsHeaderRow {P : Type 0} (header : HeaderRow) (old new : Xlsx P) : 
   pub shared : new.shared ≡ old.shared
   pub is_1904 : new.is_1904 ≡ old.is_1904
   pub header_row : new.header_row ≡ header
+  pub lists : new.lists ≡ old.lists
 
 -- the head of a sheet's part is sound, and its data are this section, which is closed
 pub record HasSheetData (events : List Event) (section : PartSection) : Type 0 where

@@ -2,6 +2,8 @@
 #![tactic(auto)]
 
 mod laws;
+mod lists;
+mod merges;
 mod placed_sheet;
 mod ranges;
 mod sheet_reading;
@@ -11,6 +13,7 @@ mod xlsx;
 pub use laws::{readable_sheets_are_not_refused, sheets_are_read_alike, sheets_go_by_their_parts};
 pub use sheet_reading::{SheetAnswer, SheetReading, read_sheet};
 pub use xlsx::{OpenFailure, Xlsx};
+pub use xlsx_areas::{MergedRegion, MergedRegions};
 pub use xlsx_cells::{SheetCursor, XlsxCellFormula, XlsxCellFormulaMetadataRecord, XlsxCellReader};
 pub use xlsx_error::XlsxError;
 pub use xlsx_formulas::XlsxFormulaMetadata;

@@ -1,3 +1,4 @@
+pub mod ManySaid
 pub mod SaidRead
 pub mod StartLists
 pub mod WholeRead

@@ -45,13 +45,15 @@ returns-in_err-push_merge-clause-err g c =
 pub returns-clause-ends : goal.returns-clause-ends
 returns-clause-ends g c = λ told.
     let old = reading (g.P.Package.state c.args.package.now) c.args.cursor.now in
-    let ends = (rw c.in_default.is at (c.in_ok-_at.ensures.step old c.starts.invariant.keeps)) told in
+    let ends = (rw c.in_default.is at
+    (c.in_ok-_at.ensures.step old c.starts.invariant.keeps)) told in
     ends.0.1
 
 pub returns-clause-regions : goal.returns-clause-regions
 returns-clause-regions g c = λ told.
     let old = reading (g.P.Package.state c.args.package.now) c.args.cursor.now in
-    let ends = (rw c.in_default.is at (c.in_ok-_at.ensures.step old c.starts.invariant.keeps)) told in
+    let ends = (rw c.in_default.is at
+    (c.in_ok-_at.ensures.step old c.starts.invariant.keeps)) told in
     let begins = begins_part old c.requires.reading c.requires.first told in
     whole_there merges_in ends.0.0
     (subst (λ (events : List Event). merges_in events ≡ Ok c.starts.areas.items) begins.ahead
