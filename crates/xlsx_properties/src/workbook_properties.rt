@@ -163,6 +163,8 @@ impl WorkbookProperties {
             held own copy ≡ held own self.now) }
         ensures custom { IfOk result (λ copy.
             custom_texts copy ≡ custom_texts self.now) }
+        ensures named { IfOk result (λ copy. (name : List ℕ) →
+            custom_held name copy ≡ custom_held name self.now) }
     {
         let mut copy = WorkbookProperties::new(alloc);
         copy.copy_texts(alloc, self)?;
