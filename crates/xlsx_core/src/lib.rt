@@ -5,6 +5,7 @@ mod laws;
 mod lists;
 mod merges;
 mod placed_sheet;
+mod properties;
 mod ranges;
 mod sheet_reading;
 mod worksheets;
@@ -18,3 +19,4 @@ pub use xlsx_cells::{SheetCursor, XlsxCellFormula, XlsxCellFormulaMetadataRecord
 pub use xlsx_error::XlsxError;
 pub use xlsx_formulas::XlsxFormulaMetadata;
 pub use xlsx_open::{Metadata, Sheet, SheetType, SheetVisible};
+pub use xlsx_properties::{Property, WorkbookProperties};

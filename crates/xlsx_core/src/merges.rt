@@ -254,6 +254,7 @@ impl<P: Package> Xlsx<P> {
             (HoldsRegions old.parts (sheets_of_book self.old))) }
         ensures faults { OnOk result
             ((P.state self.new.package).faults ≡ (P.state self.old.package).faults) }
+        ensures properties { self.new.lists.properties ≡ self.old.lists.properties }
         ensures unchanged { OnErr result (KeepsWorkbook self.old self.new) }
         ensures err { IfErr result (RegionsFail (sheets_of_book self.old)
             (P.state self.old.package) (P.state self.new.package)) }

@@ -61,7 +61,8 @@ impl<P: Package> Xlsx<P> {
             × HoldsOpening xlsx.metadata xlsx.paths.items xlsx.shared xlsx.is_1904 opening
             × OpensAs old.parts opening) }
         ensures header_row { IfOk result (λ xlsx. xlsx.header_row ≡ FirstNonEmptyRow) }
-        ensures lists { IfOk result (λ xlsx. xlsx.lists.regions ≡ None) }
+        ensures regions { IfOk result (λ xlsx. xlsx.lists.regions ≡ None) }
+        ensures properties { IfOk result (λ xlsx. xlsx.lists.properties ≡ None) }
         ensures err { IfErr result (λ failure.
             OpeningFails (P.state «package») (P.state failure.package) failure.error) }
         ensures kind { IfErr result (λ failure. IsOpeningError failure.error) }

@@ -1,5 +1,5 @@
 -- The texts of a workbook's properties as they are kept.
-use Rattle.std.specs.Prelude.{ℕ, List, map, Option, option_map, string_bytes, String}
+use Rattle.std.specs.Prelude.{◌≡◌, ℕ, List, map, Option, option_map, string_bytes, String}
 use Rattle.std.specs.BTreeMap.{get_by_text}
 use Rattle.std.specs.declared.alloc.Global.{Global}
 use Rattle.xlsx_properties.specs.declared.property.Property.{Property}
@@ -43,3 +43,9 @@ texts_of entry = (string_bytes entry.0, string_bytes entry.1)
 -- the names that users gave, with their texts, in the order of the names
 abbrev pub custom_texts : WorkbookProperties → List (List ℕ × List ℕ)
 custom_texts kept = map texts_of kept.custom_properties.entries
+
+-- these properties have the same texts
+pub record AreSame (one other : WorkbookProperties) : Type 0 where
+  pub held : (own : Property) → held own one ≡ held own other
+  pub custom : custom_texts one ≡ custom_texts other
+  pub named : (name : List ℕ) → custom_held name one ≡ custom_held name other
