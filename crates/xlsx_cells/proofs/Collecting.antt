@@ -280,9 +280,9 @@ no_entries entry [] is = refl
 no_entries entry (own ∷ cells) is = absurd (cc)
 
 -- what isn't wanted of one cell more leaves nothing
-pub unwanted_further : (wants : Wants) (count : ℕ)
-    (values more_values : List (Cell DataRef)) (formulas more_formulas : List (Cell (String Global)))
-    (ids more_ids : List StyledCell) (read : CellText) → LackUnwanted wants values formulas ids
+pub unwanted_further : (wants : Wants) (count : ℕ) (values more_values : List (Cell DataRef))
+    (formulas more_formulas : List (Cell (String Global))) (ids more_ids : List StyledCell)
+    (read : CellText) → LackUnwanted wants values formulas ids
     → LacksUnwantedText wants read
     → value_entries more_values
     ≡ value_entries values ++ used_values ((read.pos, value_of_data_ref read.value) ∷ [])

@@ -15,7 +15,8 @@ use Rattle.xlsx_cells.specs.Marks.{Mark, cell, marks, behind_marks}
 use Rattle.xlsx_cells.specs.Position.{cell_position, NoCell}
 use Rattle.xlsx_cells.specs.Sheet.{answers_from, placed_value, values_in}
 use Rattle.xlsx_cells.specs.SheetPart.{value_entry}
-use Rattle.xlsx_cells.specs.Stream.{Stream, StandsBehind, TakesCell, EndsData, marks_ahead, data_ahead}
+use Rattle.xlsx_cells.specs.Stream.{Stream, StandsBehind, TakesCell, EndsData, marks_ahead}
+use Rattle.xlsx_cells.specs.Stream.{data_ahead}
 use Rattle.xlsx_cells.specs.WholeReadings.{TakesAll, formula_value_entry}
 use Rattle.xlsx_cells.specs.declared.cell_records.XlsxCellFormula.{XlsxCellFormula}
 use Rattle.xlsx_cells.proofs.Collecting.{answer_kept, answers_whole, answers_passed, no_answers}

@@ -235,7 +235,8 @@ one_reading parts name values others formulas more styles again first second =
     let styles = styles_of_alike first.palette second.palette one.ids
     (first.named ∙ shared.styles ∙ sym second.named) in (
       one.valued
-          ∙ ap (λ (own : List (List ℕ)). last_of_each (with_texts own (used_values one.all))) shared.strings
+          ∙ ap (λ (own : List (List ℕ)).
+          last_of_each (with_texts own (used_values one.all))) shared.strings
           ∙ ap (λ (all : List ((ℕ × ℕ) × CellValue)).
           last_of_each (with_texts second.opening.shared.strings (used_values all))) both.0
           ∙ sym two.valued,

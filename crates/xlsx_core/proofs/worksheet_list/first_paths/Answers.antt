@@ -1,9 +1,8 @@
-use Rattle.std.proofs.Common.{rules, ◌≡◌, ◌∷◌, ◌-◌, ◌<◌, ◌≤◌, ℕ, List, length, drop, None, refl, sym}
-use Rattle.std.proofs.Common.{◌∙◌, ap, arith, subst, String, Global, string_bytes, Option}
+use Rattle.std.proofs.Common.{◌≡◌, ◌∷◌, ◌-◌, drop, None, refl, sym, ◌∙◌, ap, arith}
+use Rattle.std.proofs.Common.{string_bytes}
 use Rattle.std.specs.Option.{option_copied}
 use Rattle.std.specs.BTreeMap.{get_by_text}
 use Rattle.xlsx_workbook.specs.declared.sheet.Sheet.{Sheet}
-use Rattle.xlsx_core.specs.Opened.{path_listed}
 use Rattle.xlsx_core.proofs.SheetsListed.{none_behind, first_further, drop_from}
 use Rattle.xlsx_core.proofs.worksheet_list.first_paths.Goals as goal
 

@@ -1,16 +1,13 @@
-use Rattle.std.proofs.Common.{rules, ◌≡◌, ◌∷◌, ◌+◌, ℕ, List, [], drop, length, refl, sym, ◌∙◌, ap, subst}
-use Rattle.std.proofs.Common.{append-nil, String, Global, string_bytes, arith, Option}
+use Rattle.std.proofs.Common.{◌≡◌, ◌∷◌, ◌+◌, ℕ, List, [], drop, refl, ◌∙◌, subst, append-nil}
+use Rattle.std.proofs.Common.{string_bytes, arith, Option}
 use Rattle.std.specs.Prelude.{MatchOption}
 use Rattle.std.proofs.lemmas.List.{drop_all}
 use Rattle.std.specs.Option.{option_copied}
 use Rattle.part_events.specs.Package.{Part}
-use Rattle.cell_data.specs.declared.range.Range.{Range}
-use Rattle.cell_data.specs.declared.value.Data.{Data}
 use Rattle.xlsx_error.specs.declared.error.XlsxError.{XlsxError}
 use Rattle.xlsx_values.specs.Book.{grounds_of}
 use Rattle.xlsx_cells.specs.CellsReader.{values_alone}
-use Rattle.xlsx_workbook.specs.declared.sheet.Sheet.{Sheet}
-use Rattle.xlsx_core.specs.Listing.{AreListed, IsLeftOut, IsPutBehind}
+use Rattle.xlsx_core.specs.Listing.{AreListed, IsPutBehind}
 use Rattle.xlsx_core.specs.Opened.{path_listed}
 use Rattle.xlsx_core.specs.Worksheets.{ReadsValues, RangeCause}
 use Rattle.xlsx_core.proofs.SheetsListed.{listed_further, drop_from}
@@ -47,7 +44,8 @@ sheets-preserved g c =
           subst (reads_at name (place name)) now.keeps.parts
           (subst (λ (there : Option (List ℕ)). reads_at name there mid.parts) path
           (own.reads (now.keeps.is_told ∙ told))) in
-          let reads : reads_at (string_bytes sheet.name) (place (string_bytes sheet.name)) old.parts =
+          let reads : reads_at (string_bytes sheet.name) (place (string_bytes sheet.name))
+          old.parts =
           subst (λ (text : List ℕ). reads_at text (place text) old.parts) named read in
           let put : MatchOption range (c.put_behind.new.listed.items ≡ c.sheets.listed.items)
           (IsPutBehind (string_bytes sheet.name) c.sheets.listed.items
