@@ -5,7 +5,7 @@
 #[cfg(test)]
 mod answers;
 #[cfg(test)]
-mod cut_tests;
+mod fault_tests;
 #[cfg(test)]
 mod list_tests;
 #[cfg(test)]
@@ -14,8 +14,6 @@ mod opening_tests;
 mod reader_tests;
 #[cfg(test)]
 mod sales_tests;
-#[cfg(test)]
-mod string_tests;
 #[cfg(test)]
 mod style_tests;
 #[cfg(test)]

@@ -16,5 +16,7 @@ pub use laws::{
 };
 pub use sheet_reading::{SheetAnswer, SheetReading, read_sheet};
 pub use xlsx::{OpenFailure, Xlsx};
+pub use xlsx_cells::{SheetCursor, XlsxCellFormula, XlsxCellFormulaMetadataRecord, XlsxCellReader};
 pub use xlsx_error::XlsxError;
+pub use xlsx_formulas::XlsxFormulaMetadata;
 pub use xlsx_open::{Metadata, Sheet, SheetType, SheetVisible};
