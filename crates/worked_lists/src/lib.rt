@@ -4,3 +4,5 @@
 
 #[cfg(test)]
 mod merge_tests;
+#[cfg(test)]
+mod property_tests;
