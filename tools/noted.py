@@ -64,6 +64,14 @@ def package_of(parts):
     return json.dumps({"version": 1, "parts": each}).encode()
 
 
+def package_cut(part, count):
+    """That of the smallest workbook with the first events of a part in front."""
+    name, markup = part
+    package = json.loads(package_with())
+    front = {"name": name, "events": events_of(markup)[:count]}
+    return json.dumps({"version": 1, "parts": [front, *package["parts"]]}).encode()
+
+
 def package_with(*parts):
     """That of the smallest workbook with these parts in front."""
     return package_of([*parts, *SMALLEST])

@@ -222,6 +222,17 @@ FORMULAS = [
         "B2\t-\t=D4\t-\nC2\t-\t=D3\t-\n",
     ),
     (
+        "the own text of a derived formula is dropped, also without a master",
+        '<row><c><f t="shared" si="9">Z9</f><v>1</v></c></row>',
+        "A1\tn:1\t-\t-\n",
+    ),
+    (
+        "a master behind another formula of its cell",
+        '<row><c r="A1"><f>Z1</f><f t="shared" si="0" ref="A1:A2">B1</f></c></row>'
+        '<row><c r="A2"><f t="shared" si="0"/></c></row>',
+        "A1\t-\t=B1\t-\nA2\t-\t=B2\t-\n",
+    ),
+    (
         "a formula of an array stands in its cell alone",
         '<row r="1"><c r="A1"><f t="array" ref="A1:A3">B1:B3*2</f></c></row>',
         "A1\t-\t=B1:B3*2\t-\n",

@@ -15,6 +15,8 @@ from noted import (
     STRINGS_NAME,
     WORKBOOK,
     WORKBOOK_NAME,
+    events_of,
+    package_cut,
     package_of,
     package_with,
     refused,
@@ -175,6 +177,91 @@ PACKAGES = [
 ]
 
 
+# A sheet with a formula, a text, a number, a string in its cell, and values and dimensions beside.
+LONG_SHEET = (
+    '<worksheet><dimension ref="A1"></dimension><sheetData><row r="1"><c r="A1" t="str"><f>B1</f>'
+    '<v>nut</v></c><c r="B1"><v>1</v></c><c r="C1" t="inlineStr"><is><t>a</t></is></c></row>'
+    '</sheetData></worksheet>'
+)
+LONG_STRINGS = "<sst><x:si><r><t>a</t></r><rPh><t>b</t></rPh></x:si></sst>"
+
+
+def ends_in(name):
+    return refused(f"Unexpected end of xml, expecting '</{name}>'")
+
+
+NO_DATA = refused("Expecting a worksheet, got worksheet")
+IN_DATA, IN_CELL, IN_FORMULA, IN_VALUE, IN_TEXT, BESIDE_TEXT = (
+    ends_in(name) for name in ("sheetData", "c", "f", "v", "t", "")
+)
+LONG_LINES = "A1\ts:nut\t=B1\t-\nB1\tn:1\t-\t-\nC1\ts:a\t-\t-\n"
+NUT = "A1\ts:nut\t-\t-\n"
+
+# A part, and what is told of the sheet with none of the part's events, with its first, and so on.
+ENDS = [
+    (
+        (SHEET_NAME, LONG_SHEET),
+        [ends_in("worksheet")] + 3 * [NO_DATA] + 2 * [IN_DATA]
+        + [IN_CELL, IN_FORMULA, IN_FORMULA, IN_CELL, IN_VALUE, IN_VALUE, IN_CELL, IN_DATA]
+        + [IN_CELL, IN_VALUE]
+        + [refused("Xml error: unclosed element at 16", "Unexpected end of xml, expecting '</c>'")]
+        + [IN_CELL, IN_DATA, IN_CELL, BESIDE_TEXT, IN_TEXT, IN_TEXT, BESIDE_TEXT, IN_CELL]
+        + 2 * [IN_DATA] + 2 * [LONG_LINES],
+    ),
+    (
+        (STRINGS_NAME, LONG_STRINGS),
+        2 * [ends_in("sst")] + 2 * [BESIDE_TEXT] + 2 * [IN_TEXT] + 7 * [BESIDE_TEXT]
+        + [ends_in("sst"), NUT],
+    ),
+    (WORKBOOK, 6 * [ends_in("workbook")] + [NUT]),
+    (ROOT, 4 * [ends_in("Relationships")] + [NUT]),
+    (RELATIONSHIPS, 4 * [ends_in("Relationships")] + [NUT]),
+]
+
+# What a case shows, the part of shared strings, and the lines of cells that name the first three.
+STRINGS = [
+    (
+        "texts are joined, and blanks at their ends cut unless they are kept",
+        '<sst count="9"><x:si><r><t>Hi </t></r><t xml:space="preserve"> you</t>'
+        '<rPh><t>no</t></rPh></x:si></sst>',
+        ["Hi you"],
+    ),
+    ("an empty string", "<sst><si/><si><t/></si><si><t>c</t></si></sst>", ["", "", "c"]),
+    (
+        "escapes are undone behind the blanks, line ends read, and a return by its number cut",
+        '<sst><si><t space="preserve">\r\n_x0041_\r\nb<!data><!amp>_x000D_\v\t<!#13></t></si></sst>',
+        ["A\\nbx&\\r\v"],
+    ),
+    ("an escaped blank at the end is kept", "<sst><si><t> a_x0020_ </t></si></sst>", ["a "]),
+    (
+        "an escaped escape is undone once",
+        "<sst><si><t>_x005F_x0041_</t></si></sst>",
+        ["_x0041_"],
+    ),
+    (
+        "what stands behind the section isn't read",
+        "<sst><si><t>a</t></si></sst><si><t>b</t></si></x>",
+        ["a"],
+    ),
+    (
+        "strings before the section don't count",
+        "<si><t>b</t></si><sst><si><t>a</t></si></sst>",
+        ["a"],
+    ),
+    (
+        "a reference without a character in a text, behind one in a pronunciation",
+        "<sst><si><rPh><!nbsp></rPh><t><!nbsp></t></si></sst>",
+        refused("Xml error: unknown entity at 6"),
+    ),
+    (
+        "attributes of a text that end in a fault",
+        "<sst><si><t a=b/></si></sst>",
+        refused("Xml attribute error: unquoted value at 3"),
+    ),
+    ("no section", "<x/>", ends_in("sst")),
+]
+
+
 class Sheets(unittest.TestCase):
     def check(self, package, name, wanted, shown):
         for build in BUILDS:
@@ -188,6 +275,21 @@ class Sheets(unittest.TestCase):
     def test_the_first_part_of_a_name_is_read(self):
         for part, name, wanted in FRONTS:
             self.check(package_with(part), name, wanted, f"{name} with {part}")
+
+    def test_the_end_of_a_part_is_told_by_the_innermost_element(self):
+        for part, answers in ENDS:
+            self.assertEqual(len(events_of(part[1])) + 1, len(answers))
+            for count, wanted in enumerate(answers):
+                self.check(package_cut(part, count), "S", wanted, f"{count} of {part[0]}")
+
+    def test_strings_are_joined_trimmed_and_unescaped(self):
+        for shown, strings, wanted in STRINGS:
+            texts = wanted if isinstance(wanted[0], str) else []
+            named = [(f"{'ABC'[place]}1", text) for place, text in enumerate(texts)]
+            cells = "".join(f'<c t="s"><v>{place}</v></c>' for place in range(len(texts)))
+            lines = "".join(f"{cell}\ts:{text}\t-\t-\n" for cell, text in named)
+            package = package_with((STRINGS_NAME, strings), (SHEET_NAME, with_data(cells)))
+            self.check(package, "S", lines if texts else wanted, shown)
 
     def test_the_first_sheet_of_a_name_counts(self):
         for parts, name, wanted in PACKAGES:

@@ -2,6 +2,7 @@ pub mod Event
 pub mod Failing
 pub mod StreamFaults
 pub mod JoinedText
+pub mod Lending
 pub mod Memory
 pub mod NestingLaws
 pub mod OpenNames

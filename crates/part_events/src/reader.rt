@@ -40,9 +40,11 @@ impl<P: Package, C: Drop> Drop for XlReader<'_, P, C> {
 }
 
 impl<'a, P: Package> XlReader<'a, P> {
+    ghost use Rattle.part_events.specs.Lending.{LentFails};
     ghost use Rattle.part_events.specs.Reader.{reading_by, held_package, SamePackage};
 
-    /// Opens the part of this name. Answers None where there is none. Its only refusal is `Io`.
+    /// Opens the part of this name. Answers None where there is none. Its only refusal is `Io`, and
+    /// that of a package whose count of faults can rise.
     ///
     /// A caller who has to know what became of the package without a reader calls
     /// `package.open(name)`, then `over`.
@@ -62,6 +64,7 @@ impl<'a, P: Package> XlReader<'a, P> {
         ensures alloc { IfOk result (λ found. IfSome found
             (λ reader. (reading_by P.state reader).alloc ≡ alloc)) }
         ensures err { IfErr result (λ error. error ≡ Io) }
+        ensures fault { IfErr result (LentFails Io P.state (P.state «package».old)) }
     {
         if !package.open(name)? {
             return Ok(None);

@@ -1,6 +1,6 @@
 //! The parts of the smallest workbook, and packages of them.
 
-use crate::markup::{Part, add_front};
+use crate::markup::{Part, package_of};
 use part_events::MemoryPackage;
 use std::alloc::{AllocError, Global};
 use xlsx_error::XlsxError;
@@ -47,24 +47,9 @@ pub const SHEET_MARKUP: &str =
 /// The sheet's part.
 pub const SHEET: Part<'static> = (SHEET_NAME, SHEET_MARKUP);
 
-/// The minimal package with the first events of this part in front. Markup that `events_of` refuses
-/// is refused.
-pub fn package_cut(
-    alloc: Global,
-    part: Part<'_>,
-    count: usize,
-) -> Result<MemoryPackage, XlsxError> {
-    let mut package = MemoryPackage::new(alloc);
-    add_front(&mut package, alloc, part, count)?;
-    for other in [ROOT, RELATIONSHIPS, WORKBOOK, SHEET] {
-        add_front(&mut package, alloc, other, usize::MAX)?;
-    }
-    Ok(package)
-}
-
 /// The minimal package with this part in front. Markup that `events_of` refuses is refused.
 pub fn package_with(alloc: Global, part: Part<'_>) -> Result<MemoryPackage, XlsxError> {
-    package_cut(alloc, part, usize::MAX)
+    package_of(alloc, &[part, ROOT, RELATIONSHIPS, WORKBOOK, SHEET])
 }
 
 /// The part of a sheet with these data.

@@ -3,10 +3,14 @@
 #![tactic(auto)]
 
 mod counting;
+mod in_memory;
 mod taking;
+mod whole_cells;
 
 pub use counting::formula_count;
+pub use in_memory::{cells_in_memory, part_in_memory, sheet_in_memory};
 pub use taking::{formulas_taken, two_taken, values_taken};
+pub use whole_cells::full_cells;
 
 #[cfg(test)]
 mod tests;

@@ -1,6 +1,8 @@
-use crate::formula_count;
+use crate::{formula_count, full_cells};
+use cell_data::CellFormat;
 use std::test::Fail;
 use test_packages::{SHEET_NAME, package_with, sheet_part};
+use xlsx_values::Book;
 
 #[test]
 fn formulas_are_counted_by_their_positions(rt: HostRuntime) -> Result<(), Fail> {
@@ -16,5 +18,22 @@ fn formulas_are_counted_by_their_positions(rt: HostRuntime) -> Result<(), Fail> 
         let package = package_with(alloc, (SHEET_NAME, sheet.as_str()))?;
         assert_eq!(rt; formula_count(alloc, package, "S")?, want);
     }
+    Ok(())
+}
+
+#[test]
+fn full_cells_are_counted_in_one_pass(rt: HostRuntime) -> Result<(), Fail> {
+    let alloc = rt.alloc();
+    let data =
+        r#"<c s="1"><f>B1</f><v>1</v></c><c s="1"><f>B1</f></c><c s="1"><v>1</v></c><c><f>B1</f><v>1</v></c>"#;
+    let sheet = sheet_part(alloc, data)?;
+    let mut package = package_with(alloc, (SHEET_NAME, sheet.as_str()))?;
+    let book = Book {
+        strings: &[],
+        formats: &[CellFormat::Other, CellFormat::Other],
+        is_1904: false,
+    };
+    assert_eq!(rt; full_cells(alloc, &mut package, SHEET_NAME, book)?, 1);
+    assert_eq!(rt; full_cells(alloc, &mut package, "none", book)?, 0);
     Ok(())
 }

@@ -5,7 +5,7 @@ ghost use Rattle.part_events.specs.Package.{SameParts};
 ghost use Rattle.xlsx_cells.specs.CellsReader.{stream_by};
 ghost use Rattle.xlsx_cells.specs.Stream.{IsStreaming};
 
-use crate::answers::push_value;
+use crate::answers::{assert_answer, push_value};
 use cell_data::{Cell, CellFormat, DataRef};
 use cell_styles::Style;
 use part_events::{FailingPackage, Package, XlReader};
@@ -380,8 +380,9 @@ const MASTER_AND_MORE: &str =
 /// A type that isn't known, and a formula of a group without index.
 const BOTH_AT_FAULT: &str = r#"<c r="A1" t="x"><f t="shared"/><v>1</v></c>"#;
 
-/// What a case shows, the data of a sheet, what a reader of them is asked for, and its answers.
-const MIXED: [(&str, &str, &[Call], &str); 24] = [
+/// What a case shows, the data of a sheet, what a reader of them is asked for, and its answers,
+/// where several may come between marks `|`.
+const MIXED: [(&str, &str, &[Call], &str); 27] = [
     (
         "metadata keep no master",
         TWO_MASTERS,
@@ -506,6 +507,18 @@ const MIXED: [(&str, &str, &[Call], &str); 24] = [
         "Unexpected(\"si attribute is mandatory if it is shared\");Failed;",
     ),
     (
+        "either is told where both are asked for",
+        BOTH_AT_FAULT,
+        &[Call::ValueAndFormula, Call::Value],
+        "CellTAttribute(\"x\");Failed;|Unexpected(\"si attribute is mandatory if it is shared\");Failed;",
+    ),
+    (
+        "and beside the metadata",
+        BOTH_AT_FAULT,
+        &[Call::Metadata, Call::Value],
+        "CellTAttribute(\"x\");Failed;|Unexpected(\"si attribute is mandatory if it is shared\");Failed;",
+    ),
+    (
         "neither is at fault for a style id",
         BOTH_AT_FAULT,
         &[Call::StyleId],
@@ -521,6 +534,12 @@ const MIXED: [(&str, &str, &[Call], &str); 24] = [
         "the same beside the value",
         r#"<c r="A1" s="1" t=x/>"#,
         &[Call::ValueAndStyleId, Call::ValueAndFormula],
+        "XmlAttr(UnquotedValue(16));Failed;",
+    ),
+    (
+        "the same beside the value and its formula",
+        r#"<c r="A1" s="1" t=x/>"#,
+        &[Call::ValueAndFormula, Call::Formula],
         "XmlAttr(UnquotedValue(16));Failed;",
     ),
     (
@@ -544,13 +563,13 @@ fn calls_are_mixed(rt: HostRuntime) -> Result<(), Fail> {
         let sheet = sheet_part(alloc, data)?;
         let mut package = package_of(alloc, &[(SHEET_NAME, sheet.as_str())])?;
         let found = told(alloc, &mut package, calls)?;
-        assert_eq!(rt; found.as_str(), wanted, "{shown}");
+        assert_answer(&rt, found.as_str(), wanted, shown);
     }
     Ok(())
 }
 
 /// The first events of a sheet, what a reader of them is asked for twice, and its answers.
-const FRONTS: [(&str, Call, &str); 26] = [
+const FRONTS: [(&str, Call, &str); 29] = [
     (
         "<chartsheet/>",
         Call::Value,
@@ -562,6 +581,11 @@ const FRONTS: [(&str, Call, &str); 26] = [
         "XmlEof(\"worksheet\")",
     ),
     ("<dimension/>", Call::Value, "UnexpectedNode(\"dimension\")"),
+    (
+        "<chartsheet><dimension>",
+        Call::Value,
+        "UnexpectedNode(\"dimension\")",
+    ),
     (
         r#"<sheetData><c r="A1">"#,
         Call::Value,
@@ -590,6 +614,8 @@ const FRONTS: [(&str, Call, &str); 26] = [
     ),
     ("<sheetData><c><f>", Call::Metadata, "XmlEof(\"f\");Failed;"),
     ("<sheetData><c><f>", Call::StyleId, "XmlEof(\"c\");Failed;"),
+    ("<sheetData><c><v>", Call::Value, "XmlEof(\"v\");Failed;"),
+    ("<sheetData><c><v>", Call::StyleId, "XmlEof(\"c\");Failed;"),
     (
         "<sheetData><c><v>",
         Call::ValueAndStyleId,

@@ -1,5 +1,6 @@
 ghost use Rattle.std.specs.Prelude.{◌≡◌, List, map, string_bytes, true, false, is_err};
 ghost use Rattle.std.specs.Prelude.{IfOk, IfErr, IfSome, IsErrAnd, length, option_map, slice_get};
+ghost use Rattle.part_events.specs.Lending.{LentFails};
 ghost use Rattle.part_events.specs.Reader as xml_reader;
 ghost use Rattle.part_events.specs.Reading.{ReadsPart, IsReading};
 ghost use Rattle.cell_styles.specs.StyleMap.{is_explicit};
@@ -108,6 +109,7 @@ impl<'a, P: Package> XlsxCellReader<'a, P> {
         ensures enters { IfOk result (λ reader. EntersCells (area_held reader)
             (xml_reader.reading_by P.state xml.entry) (stream_by P.state reader)) }
         ensures err { IfErr result (EnterCellsFails (xml_reader.reading_by P.state xml.entry)) }
+        ensures fault { IfErr result (LentFails Io P.state (P.state xml.entry.package.now)) }
         ensures kind { IfErr result IsHeadError }
     {
         let (package, mut cursor) = xml.into_parts();

@@ -14,5 +14,7 @@ pub use laws::{readable_sheets_are_not_refused, sheets_are_read_alike, sheets_go
 pub use sheet_reading::{SheetAnswer, SheetReading, read_sheet};
 pub use xlsx::{OpenFailure, Xlsx};
 pub use xlsx_areas::{MergedRegion, MergedRegions};
+pub use xlsx_cells::{SheetCursor, XlsxCellFormula, XlsxCellFormulaMetadataRecord, XlsxCellReader};
 pub use xlsx_error::XlsxError;
+pub use xlsx_formulas::XlsxFormulaMetadata;
 pub use xlsx_open::{Metadata, Sheet, SheetType, SheetVisible};

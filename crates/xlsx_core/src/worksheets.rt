@@ -1,11 +1,14 @@
 ghost use Rattle.std.specs.Prelude.{◌≡◌, true, false, length, IfOk, OnOk, IfErr, IsSomeAnd};
+ghost use Rattle.part_events.specs.Lending.{LentFails};
 ghost use Rattle.part_events.specs.Package.{SameParts, KeepsFaults};
 ghost use Rattle.xlsx_error.specs.declared.error.XlsxError.TheVariants.{Io};
 ghost use Rattle.xlsx_cells.specs.CellsReader.{values_alone, formulas_alone, area_held, stream_by};
 ghost use Rattle.xlsx_cells.specs.CellsReader.{grounds_by, styles_held, styles_alone};
 ghost use Rattle.xlsx_cells.specs.Ends.{reads_children};
 ghost use Rattle.xlsx_cells.specs.SheetPart.{value_entries, formula_entries, LieInSheet};
+ghost use Rattle.xlsx_cells.specs.Stream.{stream, IsStreaming};
 ghost use Rattle.xlsx_core.specs.SheetReading.{all_wanted, events_at, PlacedSheetFails};
+ghost use Rattle.xlsx_core.specs.SheetReading.{PlacedHeadFails};
 ghost use Rattle.xlsx_core.specs.SheetReading.{IsPlacedHeadError, IsPlacedError, ReadsPlaced};
 ghost use Rattle.xlsx_core.specs.Worksheets.{path_of, grounds_of_book, KeepsWorkbook, HoldsWanted};
 ghost use Rattle.xlsx_core.specs.Worksheets.{AnswersCells, ReadsValues, ReadsFormulas, RangeFails};
@@ -17,9 +20,10 @@ use crate::ranges::{copied_style_range, formula_range, ranges_of, value_range};
 use crate::sheet_reading::SheetAnswer;
 use crate::xlsx::Xlsx;
 use cell_data::{Data, Range};
+use cell_refs::Dimensions;
 use cell_styles::StyleRange;
 use part_events::Package;
-use xlsx_cells::{Asked, SheetCells, Wants, XlsxCellReader};
+use xlsx_cells::{Asked, SheetCells, SheetCursor, Wants, XlsxCellReader};
 use xlsx_error::XlsxError;
 use xlsx_values::Book;
 
@@ -239,11 +243,63 @@ impl<P: Package> Xlsx<P> {
         Ok(copied_style_range(self.alloc, found.style_ids, styles)?)
     }
 
-    /// A reader of the cells of the first sheet of this name, which stands behind the start of its
-    /// data (18.3.1.80) and has taken nothing of them.
+    /// Enters the data of the first sheet of this name (18.3.1.80), and answers where reading stands
+    /// behind their start, and the sheet's dimensions. The workbook is lent for this call alone, so
+    /// its clauses say what a refusal leaves. `resume_worksheet` goes on from there.
     ///
     /// Fails with `WorksheetNotFound` where no sheet has the name or the first such sheet has no
     /// part, with `NotAWorksheet` where its part is none, and else as `XlsxCellReader::new`.
+    pub fn enter_worksheet(&mut self, name: &str) -> Result<(SheetCursor, Dimensions), XlsxError>
+        ensures keeps { SameParts (P.state self.old.package) (P.state self.new.package) }
+        ensures rest { KeepsWorkbook self.old self.new }
+        ensures enters { let new = P.state self.new.package in
+            IfOk result (λ entered. EntersSheet (path_of self.old name.now) entered.1
+            (P.state self.old.package) (stream new entered.0)) }
+        ensures err { IfErr result (PlacedHeadFails name.now (path_of self.old name.now)
+            (P.state self.old.package) (P.state self.new.package)) }
+        ensures counts { IfErr result
+            (KeepsFaults Io (P.state self.old.package) (P.state self.new.package)) }
+        ensures kind { IfErr result (IsPlacedHeadError name.now) }
+    {
+        let path = path_named(&self.metadata.sheets, &self.paths, name);
+        open_placed(self.alloc, &mut self.package, path, name)
+    }
+
+    /// A reader of the cells of a sheet of this workbook with these dimensions, that goes on where
+    /// reading stands.
+    pub fn resume_worksheet<'a>(
+        &'a mut self,
+        sheet: SheetCursor,
+        dimensions: Dimensions,
+    ) -> XlsxCellReader<'a, P>
+        requires { IsStreaming (stream (P.state self.old.package) sheet) }
+        ensures grounds { grounds_by result ≡ grounds_of_book self.old }
+        ensures styles { styles_held result ≡ palette_of_book self.old }
+        ensures dimensions { area_held result ≡ dimensions }
+        ensures stream { stream_by P.state result ≡ stream (P.state self.old.package) sheet }
+    {
+        let is_1904 = self.is_1904;
+        let Xlsx {
+            package,
+            shared,
+            ..
+        } = self;
+        XlsxCellReader::resume(
+            package,
+            &shared.strings,
+            &shared.style_sheet.formats,
+            &shared.style_sheet.styles,
+            is_1904,
+            sheet,
+            dimensions,
+        )
+    }
+
+    /// A reader of the cells of the first sheet of this name, which stands behind the start of its
+    /// data and has taken nothing of them: `enter_worksheet` and then `resume_worksheet`. Whoever
+    /// has to know what a refusal leaves makes these two calls.
+    ///
+    /// It is refused as `enter_worksheet` is.
     pub fn worksheet_cells_reader<'a>(
         &'a mut self,
         name: &str,
@@ -254,24 +310,10 @@ impl<P: Package> Xlsx<P> {
         ensures styles { IfOk result (λ reader. styles_held reader ≡ palette_of_book self.old) }
         ensures err { IfErr result (ReaderFails name.now (path_of self.old name.now)
             (P.state self.old.package)) }
+        ensures fault { IfErr result (LentFails Io P.state (P.state self.old.package)) }
         ensures kind { IfErr result (IsPlacedHeadError name.now) }
     {
-        let path = path_named(&self.metadata.sheets, &self.paths, name);
-        let (sheet, dimensions) = open_placed(self.alloc, &mut self.package, path, name)?;
-        let is_1904 = self.is_1904;
-        let Xlsx {
-            package,
-            shared,
-            ..
-        } = self;
-        Ok(XlsxCellReader::resume(
-            package,
-            &shared.strings,
-            &shared.style_sheet.formats,
-            &shared.style_sheet.styles,
-            is_1904,
-            sheet,
-            dimensions,
-        ))
+        let (sheet, dimensions) = self.enter_worksheet(name)?;
+        Ok(self.resume_worksheet(sheet, dimensions))
     }
 }

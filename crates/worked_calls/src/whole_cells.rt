@@ -1,0 +1,53 @@
+//! All that a cell has, in one pass.
+
+ghost use Rattle.std.specs.Prelude.{◌≡◌, OnOk, IfErr};
+ghost use Rattle.part_events.specs.Package.{SameParts, KeepsFaults};
+ghost use Rattle.xlsx_error.specs.declared.error.XlsxError.TheVariants.{Io};
+
+use cell_data::DataRef;
+use part_events::Package;
+use std::alloc::Global;
+use xlsx_cells::{Asked, CellRead, Wants, open_data};
+use xlsx_error::XlsxError;
+use xlsx_values::Book;
+
+/// Whether a cell has a value, a formula and a style other than the first.
+fn is_full(cell: &CellRead) -> bool {
+    !matches!(cell.value, DataRef::Empty) && cell.formula.is_some() && 0 < cell.style_id
+}
+
+/// How many cells of the part at this path have all that a cell can have. A path without a part has
+/// none. The package is lent for this call alone, so it is known what a refusal leaves.
+pub fn full_cells<P: Package>(
+    alloc: Global,
+    package: &mut P,
+    path: &str,
+    book: Book<'_>,
+) -> Result<u64, XlsxError>
+    ensures keeps { SameParts (P.state «package».old) (P.state «package».new) }
+    ensures faults { OnOk result ((P.state «package».new).faults ≡ (P.state «package».old).faults) }
+    ensures counts { IfErr result
+        (KeepsFaults Io (P.state «package».old) (P.state «package».new)) }
+{
+    let Some((sheet, _)) = open_data(alloc, package, path)? else {
+        return Ok(0);
+    };
+    let mut sheet = sheet;
+    let asked = Asked {
+        wants: Wants {
+            values: true,
+            formulas: true,
+            styles: true,
+        },
+        book,
+        style_count: book.formats.len(),
+        keeps_masters: false,
+    };
+    let mut count = 0u64;
+    'cells: while let Some(cell) = sheet.next(package, asked)? {
+        if is_full(&cell) {
+            count = count.saturating_add(1);
+        }
+    }
+    Ok(count)
+}
