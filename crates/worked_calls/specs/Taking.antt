@@ -1,6 +1,5 @@
 -- What callers take of a sheet's cells.
-use Rattle.std.specs.Prelude.{ℕ, List, ◌∷◌}
-use Rattle.cell_data.specs.CellValue.{CellValue, value_of_data_ref}
+use Rattle.std.specs.Prelude.{List, ◌∷◌}
 use Rattle.cell_data.specs.declared.cell.Cell.{Cell}
 use Rattle.cell_data.specs.declared.value.DataRef.{DataRef}
 use Rattle.xlsx_values.specs.Value.{Grounds}
@@ -10,12 +9,6 @@ use Rattle.xlsx_cells.specs.Marks.{Mark, cell, behind_marks}
 use Rattle.xlsx_cells.specs.Position.{NoCell}
 use Rattle.xlsx_cells.specs.Stream.{Stream, TakesCell}
 use Rattle.xlsx_cells.specs.declared.cell_records.XlsxCellFormula.{XlsxCellFormula}
-
-abbrev pub value_taken_from : Cell DataRef → (ℕ × ℕ) × CellValue
-value_taken_from own = (own.pos, value_of_data_ref own.val)
-
-abbrev pub formula_taken_from : XlsxCellFormula → (ℕ × ℕ) × CellValue
-formula_taken_from own = (own.pos, value_of_data_ref own.value)
 
 -- two cells were taken, the second with its formula by those kept before both
 pub record TakesBoth
