@@ -298,8 +298,10 @@ fn merged_cells_go_by_the_names_of_sheets(rt: HostRuntime) -> Result<(), Fail> {
     let told = regions_told(alloc, &mut xlsx)?;
     assert_eq!(rt; told.as_str(), "S(0,0)-(0,0)S(0,1)-(0,1)");
     assert!(rt; xlsx.merged_regions_loaded());
-    assert_eq!(rt; xlsx.merged_regions_by_sheet("S").count(), 2);
-    assert_eq!(rt; xlsx.merged_regions_by_sheet("T").count(), 0);
+    if xlsx.merged_regions_loaded() {
+        assert_eq!(rt; xlsx.merged_regions_by_sheet("S").count(), 2);
+        assert_eq!(rt; xlsx.merged_regions_by_sheet("T").count(), 0);
+    }
     Ok(())
 }
 

@@ -16,7 +16,7 @@ returns-in-Ok-ranges_of-clause-reads g c = λ told.
     let old = g.P.Package.state c.args.self.package in
     let cells = c.in-Ok.cells in
     let own = c.in-Ok-ranges_of in
-    let kept = c.in-Ok.ensures.rest.shared in
+    let kept = c.in-Ok.ensures.rest.book.shared in
     let values = value_entries cells.values.items in
     held_at (grounds_of_book c.args.self) (palette_of_book c.args.self)
     (events_at (path_of c.args.self c.args.name.now) old.parts) values
