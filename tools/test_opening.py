@@ -1,5 +1,5 @@
-"""Tries the built program on workbooks as they are opened: their sheets, their defined names, and how
-their dates count."""
+"""Tries the built program on workbooks as they are opened: their sheets, their defined names, and
+how their dates count."""
 
 import subprocess
 import unittest
@@ -40,7 +40,8 @@ UNASSIGNED = relationships('Id="rId1" Type')
 WHOLE = "S\tworksheet\tvisible\n"
 NOT_RELATED = refused("Relationship not found")
 
-# The package's relationships, the workbook's, the attributes of its sheet, and what `sheets` prints.
+# The package's relationships, the workbook's, the attributes of its sheet, and what `sheets`
+# prints.
 BOOKS = [
     (OFFICE, SHEETS, 'name="S" sheetId="1" r:id="rId1"', WHOLE),
     (
@@ -197,8 +198,8 @@ PACKAGES = [
 # The parts that say how dates count, and from which year they do.
 EPOCHS = [([ROOT, RELATIONSHIPS, WORKBOOK], 1900), (LONG, 1904)]
 DATED = [
-    ("xl/styles.xml", '<styleSheet><cellXfs><xf numFmtId="14"/></cellXfs></styleSheet>'),
-    (SHEET_NAME, with_data("<c><v>1</v></c>")),
+    ("xl/styles.xml", '<styleSheet><cellXfs><xf/><xf numFmtId="14"/></cellXfs></styleSheet>'),
+    (SHEET_NAME, with_data('<c s="1"><v>1</v></c>')),
 ]
 
 
@@ -210,10 +211,11 @@ class Opening(unittest.TestCase):
 
     def test_workbooks_open_or_are_refused(self):
         for office, related, attributes, wanted in BOOKS:
+            book = f"<workbook><sheets><sheet {attributes}/></sheets></workbook>"
             parts = [
                 (ROOT_NAME, office),
                 ("XL\\_rels\\Workbook.xml.RELS", related),
-                ("xl\\workbook.XML", f"<workbook><sheets><sheet {attributes}/></sheets></workbook>"),
+                ("xl\\workbook.XML", book),
             ]
             self.check(package_of(parts), ["sheets"], wanted, attributes)
 
