@@ -1,5 +1,5 @@
 -- The first error among values that are taken one by one.
-use Rattle.std.proofs.Common.{◌≡◌, ℕ, List, [], ◌∷◌, ◌++◌, Ok, Err, Result, Some, None, refl, sym, ap}
+use Rattle.std.proofs.Common.{◌≡◌, ℕ, List, [], ◌∷◌, ◌++◌, Ok, Err, Result, Some, None, refl, sym}
 use Rattle.std.proofs.Common.{◌∙◌, true, false, subst}
 use Rattle.std.proofs.lemmas.List.Folds.{find-append}
 use Rattle.cell_data.specs.CellValue.{CellValue}
@@ -53,8 +53,13 @@ error_among : (sound : List ((ℕ × ℕ) × CellValue)) (own : (ℕ × ℕ) × 
     → prepended (sound ++ own ∷ []) others ≡ Ok all → Some own ≡ first_error all
 error_among sound own (Ok others) all none error is =
     let same : (sound ++ own ∷ []) ++ others ≡ all = cc in
-    rw (sym same, find-append is_error (sound ++ own ∷ []) others,
-        find-append is_error sound (own ∷ []), none, error) refl
+    rw (
+      sym same,
+      find-append is_error (sound ++ own ∷ []) others,
+      find-append is_error sound (own ∷ []),
+      none,
+      error,
+    ) refl
 error_among sound own (Err refusal) all none error is = absurd (cc)
 
 -- its value is one

@@ -1,5 +1,4 @@
-use Rattle.std.proofs.Common.{◌≡◌, ℕ, List, Ok, Some, None, [], refl, sym, ◌∙◌, ap, option_map}
-use Rattle.cell_data.specs.CellValue.{CellValue}
+use Rattle.std.proofs.Common.{[], refl, sym, ◌∙◌}
 use Rattle.xlsx_cells.specs.CellsReader.{stream_by, grounds_by, IsValued}
 use Rattle.xlsx_cells.specs.Position.{NoCell}
 use Rattle.xlsx_cells.specs.Stream.{PassesCell, TakesCell, EndsData}
