@@ -11,9 +11,10 @@ use Rattle.xlsx_values.specs.Value.{Grounds, cell_value}
 use Rattle.xlsx_cells.specs.CellsReader.{IsValued}
 use Rattle.xlsx_cells.specs.Position.{NoCell}
 use Rattle.xlsx_cells.specs.Sheet.{values_in}
+use Rattle.xlsx_cells.specs.SheetPart.{value_entry}
 use Rattle.xlsx_cells.specs.Stream.{Stream, TakesCell, EndsData, data_ahead}
 use Rattle.xlsx_cells.proofs.WholeReadings.{HasValues, values_further, values_whole}
-use Rattle.worked_calls.specs.Taking.{value_taken_from, first_error, is_error}
+use Rattle.worked_calls.specs.Taking.{first_error, is_error}
 
 -- cells were taken, none of whose values is an error
 pub record HasNoError (grounds : Grounds) (old now : Stream) : Type 0 where
@@ -25,24 +26,24 @@ pub record HasNoError (grounds : Grounds) (old now : Stream) : Type 0 where
 values_and_one : {own_grounds grounds : Grounds} {old mid new : Stream} (own : Cell DataRef)
     → own_grounds ≡ grounds → (so_far : HasNoError grounds old mid)
     → TakesCell NoCell so_far.been.before so_far.been.earlier mid new (IsValued own_grounds own)
-    → HasValues grounds old new (so_far.sound ++ value_taken_from own ∷ [])
+    → HasValues grounds old new (so_far.sound ++ value_entry own ∷ [])
 values_and_one own same so_far takes =
-    values_further (value_taken_from own) so_far.been takes
+    values_further (value_entry own) so_far.been takes
     (λ before element kept is. (
       is.placed,
       subst (λ (grounds : Grounds). cell_value grounds element.tag element.inside
-          ≡ Ok (value_taken_from own).1) same is.valued,
+          ≡ Ok (value_entry own).1) same is.valued,
     ))
 
 -- its value is no error
 pub no_error_further : {own_grounds grounds : Grounds} {old mid new : Stream} (own : Cell DataRef)
     → own_grounds ≡ grounds → (so_far : HasNoError grounds old mid)
     → TakesCell NoCell so_far.been.before so_far.been.earlier mid new (IsValued own_grounds own)
-    → is_error (value_taken_from own) ≡ false → HasNoError grounds old new
+    → is_error (value_entry own) ≡ false → HasNoError grounds old new
 no_error_further own same so_far takes other = record {
-  sound = so_far.sound ++ value_taken_from own ∷ [];
+  sound = so_far.sound ++ value_entry own ∷ [];
   been = values_and_one own same so_far takes;
-  none = rw (find-append is_error so_far.sound (value_taken_from own ∷ []), so_far.none, other)
+  none = rw (find-append is_error so_far.sound (value_entry own ∷ []), so_far.none, other)
       refl;
 }
 
@@ -67,11 +68,11 @@ pub error_found : {own_grounds grounds : Grounds} {old mid new : Stream} (own : 
     (all : List ((ℕ × ℕ) × CellValue)) → own_grounds ≡ grounds
     → (so_far : HasNoError grounds old mid)
     → TakesCell NoCell so_far.been.before so_far.been.earlier mid new (IsValued own_grounds own)
-    → is_error (value_taken_from own) ≡ true → values_in grounds (data_ahead old) ≡ Ok all
-    → Some (value_taken_from own) ≡ first_error all
+    → is_error (value_entry own) ≡ true → values_in grounds (data_ahead old) ≡ Ok all
+    → Some (value_entry own) ≡ first_error all
 error_found own all same so_far takes error is =
     let one_more = values_and_one own same so_far takes in
-    error_among so_far.sound (value_taken_from own) _ all so_far.none error (one_more.all ∙ is)
+    error_among so_far.sound (value_entry own) _ all so_far.none error (one_more.all ∙ is)
 
 -- no cell is left
 pub no_error_left : {grounds : Grounds} {old mid new : Stream}

@@ -1,4 +1,5 @@
 pub mod Agreement
+pub mod Listing
 pub mod Opened
 pub mod SheetReading
 pub mod Worksheets

@@ -5,10 +5,15 @@ mod laws;
 mod placed_sheet;
 mod ranges;
 mod sheet_reading;
+mod worksheet_list;
 mod worksheets;
 mod xlsx;
 
-pub use laws::{readable_sheets_are_not_refused, sheets_are_read_alike, sheets_go_by_their_parts};
+pub use laws::{
+    ranges_differ_by_texts, readable_sheets_are_not_refused, sheets_are_read_alike,
+    sheets_go_by_their_parts, worksheets_are_listed_or_left_out,
+    worksheets_that_are_read_are_not_refused,
+};
 pub use sheet_reading::{SheetAnswer, SheetReading, read_sheet};
 pub use xlsx::{OpenFailure, Xlsx};
 pub use xlsx_cells::{SheetCursor, XlsxCellFormula, XlsxCellFormulaMetadataRecord, XlsxCellReader};
