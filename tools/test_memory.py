@@ -1,5 +1,5 @@
-"""Tries that taking cells asks for no memory where nothing of a cell has to be kept: numbers, places
-of shared strings and truth values, and formulas of a group that are told by their index.
+"""Tries that taking cells asks for no memory where nothing of a cell has to be kept: numbers,
+places of shared strings and truth values, and formulas of a group that are told by their index.
 
 A program of its own makes five readers and takes the first cells of each, so that their buffers
 stand. What comes next is the step that is tried. Then it allocates until the allocation fails that
@@ -22,7 +22,10 @@ FIRST = 6
 # Nothing, the rest by the four calls without texts, and the rest by the call with texts, too.
 STEPS = ("0", "1", "2")
 
-PLAIN = '<row><c><v>-1.50</v></c><c t=\\"s\\" s=\\"1\\"><v>0</v></c><c t=\\"b\\" s=\\"1\\"><v>1</v></c></row>'
+PLAIN = (
+    '<row><c><v>-1.50</v></c><c t=\\"s\\" s=\\"1\\"><v>0</v></c>'
+    '<c t=\\"b\\" s=\\"1\\"><v>1</v></c></row>'
+)
 MASTER = '<c><f t=\\"shared\\" si=\\"0\\" ref=\\"A1:A50\\">B1</f><v>1</v></c>'
 DERIVED = '<row><c><f t=\\"shared\\" si=\\"0\\"/><v>1</v></c></row>'
 
@@ -156,7 +159,7 @@ def write_program(top):
 
 
 def told_by_steps(top):
-    """For each step how many cells were taken, and how many allocations came before the failing one."""
+    """For each step how many cells were taken, and how many allocations came before one failed."""
     own = write_program(top)
     cases = top / "cases"
     cases.mkdir()

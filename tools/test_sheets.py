@@ -229,7 +229,8 @@ STRINGS = [
     ("an empty string", "<sst><si/><si><t/></si><si><t>c</t></si></sst>", ["", "", "c"]),
     (
         "escapes are undone behind the blanks, line ends read, and a return by its number cut",
-        '<sst><si><t space="preserve">\r\n_x0041_\r\nb<!data><!amp>_x000D_\v\t<!#13></t></si></sst>',
+        '<sst><si><t space="preserve">\r\n_x0041_\r\nb<!data><!amp>_x000D_\v\t<!#13></t></si>'
+        "</sst>",
         ["A\\nbx&\\r\v"],
     ),
     ("an escaped blank at the end is kept", "<sst><si><t> a_x0020_ </t></si></sst>", ["a "]),

@@ -10,4 +10,5 @@ pub mod Sections
 pub mod Spans
 pub mod Steps
 pub mod Texts
+pub mod Uses
 pub mod Walking

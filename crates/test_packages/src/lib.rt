@@ -6,6 +6,6 @@ mod minimal;
 
 pub use markup::{Part, add_front, events_of, package_front, package_of};
 pub use minimal::{
-    RELATIONSHIPS, RELATIONSHIPS_MARKUP, RELATIONSHIPS_NAME, ROOT, ROOT_MARKUP, ROOT_NAME, SHEET,
-    SHEET_MARKUP, SHEET_NAME, STRINGS_NAME, WORKBOOK, WORKBOOK_NAME, package_with, sheet_part,
+    RELATIONSHIPS, ROOT, SHEET, SHEET_NAME, STRINGS_NAME, WORKBOOK, WORKBOOK_NAME, package_with,
+    sheet_part,
 };

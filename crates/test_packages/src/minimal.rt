@@ -6,10 +6,10 @@ use std::alloc::{AllocError, Global};
 use xlsx_error::XlsxError;
 
 /// The name of the part of the package's relationships.
-pub const ROOT_NAME: &str = "_rels/.rels";
+const ROOT_NAME: &str = "_rels/.rels";
 
 /// The name of the part of the workbook's relationships.
-pub const RELATIONSHIPS_NAME: &str = "xl/_rels/workbook.xml.rels";
+const RELATIONSHIPS_NAME: &str = "xl/_rels/workbook.xml.rels";
 
 /// The name of the workbook's own part.
 pub const WORKBOOK_NAME: &str = "xl/workbook.xml";
@@ -21,14 +21,14 @@ pub const STRINGS_NAME: &str = "xl/sharedStrings.xml";
 pub const SHEET_NAME: &str = "xl/worksheets/sheet1.xml";
 
 /// The markup of the package's relationships: one, to the workbook.
-pub const ROOT_MARKUP: &str =
+const ROOT_MARKUP: &str =
     r#"<Relationships><Relationship Id="rId1" Type="http://schemas.openxmlformats.org/officeDocument/2006/relationships/officeDocument" Target="xl/workbook.xml"></Relationship></Relationships>"#;
 
 /// The part of the package's relationships.
 pub const ROOT: Part<'static> = (ROOT_NAME, ROOT_MARKUP);
 
 /// The markup of the workbook's relationships: one, to the sheet, whose Id is `rId1`.
-pub const RELATIONSHIPS_MARKUP: &str =
+const RELATIONSHIPS_MARKUP: &str =
     r#"<Relationships><Relationship Id="rId1" Type="http://schemas.openxmlformats.org/officeDocument/2006/relationships/worksheet" Target="worksheets/sheet1.xml"></Relationship></Relationships>"#;
 
 /// The part of the workbook's relationships.
@@ -41,7 +41,7 @@ pub const WORKBOOK: Part<'static> = (
 );
 
 /// The markup of the sheet: one cell, A1, with the text `nut`.
-pub const SHEET_MARKUP: &str =
+const SHEET_MARKUP: &str =
     r#"<worksheet><sheetData><row r="1"><c r="A1" t="str"><v>nut</v></c></row></sheetData></worksheet>"#;
 
 /// The sheet's part.

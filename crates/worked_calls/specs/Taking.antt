@@ -1,6 +1,7 @@
 -- What callers take of a sheet's cells.
-use Rattle.std.specs.Prelude.{ℕ, List, ◌∷◌}
-use Rattle.cell_data.specs.CellValue.{CellValue, value_of_data_ref}
+use Rattle.std.specs.Prelude.{ℕ, List, ◌∷◌, Bool, true, false, Option}
+use Rattle.std.specs.List.{find}
+use Rattle.cell_data.specs.CellValue.{CellValue, failure}
 use Rattle.cell_data.specs.declared.cell.Cell.{Cell}
 use Rattle.cell_data.specs.declared.value.DataRef.{DataRef}
 use Rattle.xlsx_values.specs.Value.{Grounds}
@@ -11,11 +12,14 @@ use Rattle.xlsx_cells.specs.Position.{NoCell}
 use Rattle.xlsx_cells.specs.Stream.{Stream, TakesCell}
 use Rattle.xlsx_cells.specs.declared.cell_records.XlsxCellFormula.{XlsxCellFormula}
 
-abbrev pub value_taken_from : Cell DataRef → (ℕ × ℕ) × CellValue
-value_taken_from own = (own.pos, value_of_data_ref own.val)
+-- the value of a cell is an error
+abbrev pub is_error : (ℕ × ℕ) × CellValue → Bool
+is_error (place, failure error) = true
+is_error (place, value) = false
 
-abbrev pub formula_taken_from : XlsxCellFormula → (ℕ × ℕ) × CellValue
-formula_taken_from own = (own.pos, value_of_data_ref own.value)
+-- the first cell whose value is one
+abbrev pub first_error : List ((ℕ × ℕ) × CellValue) → Option ((ℕ × ℕ) × CellValue)
+first_error cells = find is_error cells
 
 -- two cells were taken, the second with its formula by those kept before both
 pub record TakesBoth

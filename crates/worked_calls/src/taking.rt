@@ -1,10 +1,13 @@
-ghost use Rattle.std.specs.Prelude.{◌≡◌, [], List, map, true, Ok, IfOk, IfSome};
+ghost use Rattle.std.specs.Prelude.{◌≡◌, ℕ, [], List, map, true, Ok, IfOk, IfSome, option_map};
+ghost use Rattle.cell_data.specs.CellValue.{CellValue};
 ghost use Rattle.xlsx_formulas.specs.Formula.{FormulaText};
 ghost use Rattle.xlsx_cells.specs.CellsReader.{stream_by, grounds_by};
 ghost use Rattle.xlsx_cells.specs.Marks.{Mark};
 ghost use Rattle.xlsx_cells.specs.Sheet.{values_in};
 ghost use Rattle.xlsx_cells.specs.Stream.{IsStreaming, IsGoing, StandsBehind, data_ahead};
-ghost use Rattle.worked_calls.specs.Taking.{value_taken_from, formula_taken_from, TakesBoth};
+ghost use Rattle.xlsx_cells.specs.SheetPart.{value_entry};
+ghost use Rattle.xlsx_cells.specs.WholeReadings.{formula_value_entry};
+ghost use Rattle.worked_calls.specs.Taking.{TakesBoth, is_error, first_error};
 
 use cell_data::{Cell, DataRef};
 use part_events::Package;
@@ -21,7 +24,7 @@ pub fn values_taken<P: Package>(
     requires fresh { StandsBehind [] [] (stream_by P.state reader.old) }
     ensures values { let old = stream_by P.state reader.old in
         old.reading.source.is_told ≡ true → IfOk result (λ cells.
-        values_in (grounds_by reader.old) (data_ahead old) ≡ Ok (map value_taken_from cells.items)) }
+        values_in (grounds_by reader.old) (data_ahead old) ≡ Ok (map value_entry cells.items)) }
 {
     let mut cells = Vec::new(alloc);
     'cells: while let Some(cell) = reader.next_cell()? {
@@ -39,13 +42,39 @@ pub fn formulas_taken<P: Package>(
     requires fresh { StandsBehind [] [] (stream_by P.state reader.old) }
     ensures values { let old = stream_by P.state reader.old in
         old.reading.source.is_told ≡ true → IfOk result (λ cells.
-        values_in (grounds_by reader.old) (data_ahead old) ≡ Ok (map formula_taken_from cells.items)) }
+        values_in (grounds_by reader.old) (data_ahead old) ≡ Ok (map formula_value_entry cells.items)) }
 {
     let mut cells = Vec::new(alloc);
     'cells: while let Some(cell) = reader.next_cell_with_formula()? {
         cells.push(cell)?;
     }
     Ok(cells)
+}
+
+/// Whether the value of a cell is an error.
+fn is_error(cell: &Cell<DataRef>) -> bool
+    ensures { result ≡ is_error (value_entry cell.now) }
+{
+    matches!(cell.val, DataRef::Error(_))
+}
+
+/// The first cell whose value is an error, where there is one. Nothing behind it is read.
+pub fn first_error<P: Package>(
+    reader: &mut XlsxCellReader<'_, P>,
+) -> Result<Option<Cell<DataRef>>, XlsxError>
+    requires going { IsGoing (stream_by P.state reader.old) }
+    requires fresh { StandsBehind [] [] (stream_by P.state reader.old) }
+    ensures found { let old = stream_by P.state reader.old in
+        old.reading.source.is_told ≡ true → (all : List ((ℕ × ℕ) × CellValue)) →
+        values_in (grounds_by reader.old) (data_ahead old) ≡ Ok all → IfOk result
+        (λ found. option_map value_entry found ≡ first_error all) }
+{
+    'cells: while let Some(cell) = reader.next_cell()? {
+        if is_error(&cell) {
+            return Ok(Some(cell));
+        }
+    }
+    Ok(None)
 }
 
 /// The value of the next cell, and the value and the formula of the one behind it, where there are

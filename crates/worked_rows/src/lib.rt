@@ -7,6 +7,8 @@ mod answers;
 #[cfg(test)]
 mod fault_tests;
 #[cfg(test)]
+mod list_tests;
+#[cfg(test)]
 mod opening_tests;
 #[cfg(test)]
 mod reader_tests;

@@ -15,7 +15,7 @@ fn workbook_of(alloc: Global, sheet: &str) -> Result<Xlsx<MemoryPackage>, Fail> 
 }
 
 /// The first and the last position of a range.
-fn push_area<T>(out: &mut String, range: &Range<T>) -> Result<(), Fail> {
+pub fn push_area<T>(out: &mut String, range: &Range<T>) -> Result<(), Fail> {
     if let Some(start) = range.start() {
         write!(out, "({},{})", start.0, start.1)?;
     }
@@ -76,7 +76,7 @@ fn cells_taken<P: Package>(alloc: Global, xlsx: &mut Xlsx<P>, name: &str) -> Res
 }
 
 /// A sheet with 1 in A2 and 2 in B4.
-const TWO_CELLS: &str =
+pub const TWO_CELLS: &str =
     r#"<worksheet><sheetData><row r="2"><c r="A2"><v>1</v></c></row><row r="4"><c r="B4"><v>2</v></c></row></sheetData></worksheet>"#;
 
 /// Header rows in turn, and the range that each gives.

@@ -12,7 +12,7 @@ use Rattle.xlsx_error.specs.declared.error.XlsxError.{XlsxError}
 use Rattle.xlsx_error.specs.declared.error.XlsxError.TheVariants.{Failed}
 use Rattle.cell_data.specs.CellValue.{CellValue, value_of_data_ref}
 use Rattle.cell_data.specs.declared.cell.Cell.{Cell}
-use Rattle.cell_data.specs.declared.value.Data.{Data}
+use Rattle.cell_data.specs.declared.value.DataRef.{DataRef}
 use Rattle.cell_styles.specs.StyleMap.{StyledCell, is_explicit}
 use Rattle.xlsx_sections.specs.Answers.{prepended}
 use Rattle.xlsx_sections.specs.Elements.{KeepsElements, end_outside}
@@ -45,7 +45,7 @@ use Rattle.xlsx_cells.proofs.Fronts.{behind_append, mark_weaker, front_over, tak
 use Rattle.xlsx_cells.proofs.Fronts.{refused_behind_front}
 
 -- rows that were passed have no answer
-answers_passed : {A : Type 0} (answer : List Mark → Element → Result A Refusal)
+pub answers_passed : {A : Type 0} (answer : List Mark → Element → Result A Refusal)
     (passed before marks : List Mark) → PassesMarks NoCell before passed
     → answers_from answer before (passed ++ marks)
     ≡ answers_from answer (behind_marks passed before) marks
@@ -58,7 +58,7 @@ answers_passed answer (row_end ∷ passed) before marks rows =
     answers_passed answer passed (row_end ∷ before) marks rows
 answers_passed answer (cell element ∷ passed) before marks rows = absurd rows.0
 
-no_answers : {A : Type 0} (answer : List Mark → Element → Result A Refusal)
+pub no_answers : {A : Type 0} (answer : List Mark → Element → Result A Refusal)
     (passed before : List Mark) → PassesMarks NoCell before passed
     → answers_from answer before passed ≡ Ok []
 no_answers answer [] before rows = refl
@@ -124,14 +124,12 @@ used_value_if : {A : Type 0} (b : Bool) (own : A) (first second : List A)
 used_value_if true own first second = refl
 used_value_if false own first second = refl
 
-used_values_further : (strings : List (List ℕ)) (passed others : List ((ℕ × ℕ) × CellValue))
-    → used_values strings (passed ++ others)
-    ≡ used_values strings passed ++ used_values strings others
-used_values_further strings [] others = refl
-used_values_further strings (first ∷ passed) others =
-    rw (used_values_further strings passed others)
-    (used_value_if (is_nothing first.1) _ (used_values strings passed)
-    (used_values strings others))
+used_values_further : (passed others : List ((ℕ × ℕ) × CellValue))
+    → used_values (passed ++ others) ≡ used_values passed ++ used_values others
+used_values_further [] others = refl
+used_values_further (first ∷ passed) others =
+    rw (used_values_further passed others)
+    (used_value_if (is_nothing first.1) first (used_values passed) (used_values others))
 
 used_formulas_further : (passed others : List ((ℕ × ℕ) × List ℕ))
     → used_formulas (passed ++ others) ≡ used_formulas passed ++ used_formulas others
@@ -159,7 +157,7 @@ pub record ValuesSoFar
   pub all :
       prepended passed (answers_from (placed_value grounds) before (marks_ahead now))
       ≡ values_in grounds (data_ahead old)
-  pub used : values ≡ used_values grounds.strings passed
+  pub used : values ≡ used_values passed
 
 -- and the formulas
 pub record FormulasSoFar
@@ -204,7 +202,7 @@ pub collected_further : (wants : Wants) (grounds : Grounds) (count : ℕ) (old m
     → TakesCell NoCell been.before been.earlier mid new
     (IsWritten wants grounds been.earlier read)
     → HasCollected wants grounds count old new
-    (values ++ used_values grounds.strings ((read.pos, value_of_data_ref read.value) ∷ []))
+    (values ++ used_values ((read.pos, value_of_data_ref read.value) ∷ []))
     (formulas ++ used_formulas ((read.pos, string_bytes read.text) ∷ []))
     (ids ++ filter (is_explicit count) ((read.pos.0, read.pos.1, read.style_id) ∷ []))
 collected_further wants grounds count old mid new values formulas ids read been takes =
@@ -228,8 +226,8 @@ collected_further wants grounds count old mid new values formulas ids read been 
                 been.before (marks_ahead new) (marks_ahead mid) element _ front.fact marks_same
                 answer so_far.all;
             used = ap (λ (own : List ((ℕ × ℕ) × CellValue)). own
-                ++ used_values grounds.strings ((read.pos, value) ∷ [])) so_far.used
-                ∙ sym (used_values_further grounds.strings so_far.passed ((read.pos, value) ∷ []));
+                ++ used_values ((read.pos, value) ∷ [])) so_far.used
+                ∙ sym (used_values_further so_far.passed ((read.pos, value) ∷ []));
           };
       listed = λ wanted.
           let so_far = been.listed wanted in
@@ -282,18 +280,18 @@ no_entries entry [] is = refl
 no_entries entry (own ∷ cells) is = absurd (cc)
 
 -- what isn't wanted of one cell more leaves nothing
-pub unwanted_further : (wants : Wants) (strings : List (List ℕ)) (count : ℕ)
-    (values more_values : List (Cell Data)) (formulas more_formulas : List (Cell (String Global)))
-    (ids more_ids : List StyledCell) (read : CellText) → LackUnwanted wants values formulas ids
+pub unwanted_further : (wants : Wants) (count : ℕ) (values more_values : List (Cell DataRef))
+    (formulas more_formulas : List (Cell (String Global))) (ids more_ids : List StyledCell)
+    (read : CellText) → LackUnwanted wants values formulas ids
     → LacksUnwantedText wants read
     → value_entries more_values
-    ≡ value_entries values ++ used_values strings ((read.pos, value_of_data_ref read.value) ∷ [])
+    ≡ value_entries values ++ used_values ((read.pos, value_of_data_ref read.value) ∷ [])
     → formula_entries more_formulas
     ≡ formula_entries formulas ++ used_formulas ((read.pos, string_bytes read.text) ∷ [])
     → more_ids
     ≡ ids ++ filter (is_explicit count) ((read.pos.0, read.pos.1, read.style_id) ∷ [])
     → LackUnwanted wants more_values more_formulas more_ids
-unwanted_further wants strings count values more_values formulas more_formulas ids more_ids read
+unwanted_further wants count values more_values formulas more_formulas ids more_ids read
     been lacks valued listed styled = record {
       values = λ unwanted. no_entries value_entry more_values
           (valued ∙ rw (been.values unwanted, lacks.value unwanted) refl);

@@ -6,25 +6,27 @@ use Rattle.part_events.specs.Event.{Tag, Event}
 use Rattle.part_events.specs.Nesting.{whole}
 use Rattle.part_events.specs.Section.{Element, behind_start, is_named}
 use Rattle.cell_data.specs.CellValue.{CellValue}
+use Rattle.cell_refs.specs.declared.dimensions.Dimensions.{Dimensions}
 use Rattle.xlsx_error.specs.declared.error.XlsxError.{XlsxError}
 use Rattle.cell_styles.specs.StyleMap.{StyledCell}
 use Rattle.xlsx_sections.specs.Answers.{and_others, with_first}
 use Rattle.xlsx_sections.specs.PartSection.{PartSection, inside_of, has_end}
-use Rattle.xlsx_sections.specs.PartSection.{section_from}
+use Rattle.xlsx_sections.specs.PartSection.{section_from, section_in}
 use Rattle.xlsx_sections.specs.Refusal.{Refusal, in_element}
 use Rattle.xlsx_sections.proofs.Sound.{no_section_cause}
 use Rattle.xlsx_values.specs.Value.{Grounds, cell_value}
 use Rattle.xlsx_formulas.specs.Formula.{FormulaText, formulas_in}
+use Rattle.xlsx_cells.specs.CellsReader.{formulas_alone, styles_alone}
 use Rattle.xlsx_cells.specs.Ends.{end_in_data}
 use Rattle.xlsx_cells.specs.Marks.{Mark, row_start, row_end, cell, marks}
 use Rattle.xlsx_cells.specs.Finding.{IsMarkRefused}
-use Rattle.xlsx_cells.specs.Position.{row_named, cell_position, IsPlaced}
+use Rattle.xlsx_cells.specs.Head.{dimensions_in}
+use Rattle.xlsx_cells.specs.Position.{row_named, cell_position, IsPlaced, PassesMarks}
 use Rattle.xlsx_cells.specs.Sheet.{behind_row, answers_from, at_position, placed_value}
-use Rattle.xlsx_cells.specs.Sheet.{placed_formulas, values_in, formulas_written}
+use Rattle.xlsx_cells.specs.Sheet.{placed_formulas}
 use Rattle.xlsx_cells.specs.SheetPart.{AreDataRefused, DataCause, SheetPartCause}
-use Rattle.xlsx_cells.specs.SheetPart.{IsSoundSheet}
 use Rattle.xlsx_cells.specs.Stream.{IsCellRefused}
-use Rattle.xlsx_cells.specs.StyleIds.{id_named, with_id, placed_id, ids_in}
+use Rattle.xlsx_cells.specs.StyleIds.{id_named, with_id, placed_id}
 use Rattle.xlsx_cells.specs.declared.children.Wants.{Wants}
 use Rattle.xlsx_cells.proofs.HeadRead.{no_head_cause}
 
@@ -63,104 +65,160 @@ placed_sound (Ok position) (Err refusal) found is = absurd (cc)
 placed_sound (Err refusal) own found is = absurd (cc)
 
 id_sound : (position : Result (ℕ × ℕ) Refusal) (own : Result ℕ Refusal) (found : StyledCell)
-    → with_id position own ≡ Ok found → (id : ℕ) × (own ≡ Ok id)
-id_sound (Ok position) (Ok id) found is = (id, refl)
+    → with_id position own ≡ Ok found
+    → ((placed : ℕ × ℕ) × (position ≡ Ok placed)) × ((id : ℕ) × (own ≡ Ok id))
+id_sound (Ok position) (Ok id) found is = ((position, refl), (id, refl))
 id_sound (Ok position) (Err refusal) found is = absurd (cc)
 id_sound (Err refusal) own found is = absurd (cc)
 
 -- ---- no mark is refused
 
--- what the cells give that aren't refused, whatever is asked for
-record AreSound
-    (grounds : Grounds) (before marks : List Mark) (values : List ((ℕ × ℕ) × CellValue))
-    (written : List ((ℕ × ℕ) × List FormulaText)) (ids : List StyledCell) : Type 0 where
-  valued : answers_from (placed_value grounds) before marks ≡ Ok values
-  listed : answers_from placed_formulas before marks ≡ Ok written
-  styled : answers_from placed_id before marks ≡ Ok ids
+-- no cell gives a refusal, and no row
+abbrev pub AnswerAll :
+    {A : Type 0} → (List Mark → Element → Result A Refusal) → List Mark → List Mark → Type 0
+AnswerAll {A} answer before marks =
+    (all : List A) × (answers_from answer before marks ≡ Ok all)
 
-cell_never : (wants : Wants) (grounds : Grounds) (before : List Mark) (element : Element)
-    (value : (ℕ × ℕ) × CellValue) (written : (ℕ × ℕ) × List FormulaText) (id : StyledCell)
-    (refusal : Refusal) → placed_value grounds before element ≡ Ok value
-    → placed_formulas before element ≡ Ok written → placed_id before element ≡ Ok id
-    → IsCellRefused wants grounds before element refusal → ⊥
-cell_never wants grounds before element value written id refusal valued listed styled
-    (inl misplaced) =
-    let sound = placed_sound (cell_position before element.tag)
-    (in_element element (cell_value grounds element.tag element.inside)) value valued in
-    never_both (cell_position before element.tag) value.0 refusal sound.0 misplaced
-cell_never wants grounds before element value written id refusal valued listed styled
-    (inr (inl refused)) =
-    let own = in_element element (cell_value grounds element.tag element.inside) in
-    let sound = placed_sound (cell_position before element.tag) own value valued in
-    never_both own value.1 refusal sound.1 refused.1
-cell_never wants grounds before element value written id refusal valued listed styled
-    (inr (inr (inl refused))) =
-    let own = in_element element (formulas_in element.inside) in
-    let sound = placed_sound (cell_position before element.tag) own written listed in
-    never_both own written.1 refusal sound.1 refused.1
-cell_never wants grounds before element value written id refusal valued listed styled
-    (inr (inr (inr refused))) =
-    let own = in_element element (id_named element.tag) in
-    let sound = id_sound (cell_position before element.tag) own id styled in
-    never_both own sound.0 refusal sound.1 refused.1
+row_answers : {A : Type 0} (answer : List Mark → Element → Result A Refusal)
+    (before marks : List Mark) (tag : Tag) → AnswerAll answer before (row_start tag ∷ marks)
+    → ((row : Option ℕ) × (row_named tag ≡ Ok row))
+    × AnswerAll answer (row_start tag ∷ before) marks
+row_answers answer before marks tag are =
+    let sound = row_sound (row_named tag) (answers_from answer (row_start tag ∷ before) marks)
+    are.0 are.1 in
+    (sound.0, (are.0, sound.1))
 
--- behind the start of a row
-rows_sound : (grounds : Grounds) (before marks : List Mark) (tag : Tag)
-    (values : List ((ℕ × ℕ) × CellValue)) (written : List ((ℕ × ℕ) × List FormulaText))
-    (ids : List StyledCell) → AreSound grounds before (row_start tag ∷ marks) values written ids
-    → AreSound grounds (row_start tag ∷ before) marks values written ids
-rows_sound grounds before marks tag values written ids are = record {
-  valued = (row_sound (row_named tag)
-      (answers_from (placed_value grounds) (row_start tag ∷ before) marks) values are.valued).1;
-  listed = (row_sound (row_named tag)
-      (answers_from placed_formulas (row_start tag ∷ before) marks) written are.listed).1;
-  styled = (row_sound (row_named tag)
-      (answers_from placed_id (row_start tag ∷ before) marks) ids are.styled).1;
+cell_answers : {A : Type 0} (answer : List Mark → Element → Result A Refusal)
+    (before marks : List Mark) (element : Element)
+    → AnswerAll answer before (cell element ∷ marks)
+    → ((own : A) × (answer before element ≡ Ok own))
+    × AnswerAll answer (cell element ∷ before) marks
+cell_answers answer before marks element are =
+    cell_sound (answer before element) (answers_from answer (cell element ∷ before) marks) are.0
+    are.1
+
+-- then each row and each cell has its place
+all_placed : {A : Type 0} (answer : List Mark → Element → Result A Refusal)
+    → ((before : List Mark) (element : Element) (own : A) → answer before element ≡ Ok own
+    → IsPlaced before element) → (before marks : List Mark) → AnswerAll answer before marks
+    → PassesMarks IsPlaced before marks
+all_placed answer places before [] are = tt
+all_placed answer places before (row_start tag ∷ marks) are =
+    let sound = row_answers answer before marks tag are in
+    (sound.0, all_placed answer places (row_start tag ∷ before) marks sound.1)
+all_placed answer places before (row_end ∷ marks) are =
+    all_placed answer places (row_end ∷ before) marks are
+all_placed answer places before (cell element ∷ marks) are =
+    let sound = cell_answers answer before marks element are in (
+      places before element sound.0.0 sound.0.1,
+      all_placed answer places (cell element ∷ before) marks sound.1,
+    )
+
+-- what is wanted of such marks isn't refused
+pub record AreSound (wants : Wants) (grounds : Grounds) (before marks : List Mark) : Type 0 where
+  placed : PassesMarks IsPlaced before marks
+  valued : wants.values ≡ true → AnswerAll (placed_value grounds) before marks
+  listed : wants.formulas ≡ true → AnswerAll placed_formulas before marks
+  styled : wants.styles ≡ true → AnswerAll placed_id before marks
+
+pub sound_by_values : (wants : Wants) (grounds : Grounds) (before marks : List Mark)
+    → AnswerAll (placed_value grounds) before marks
+    → (wants.formulas ≡ true → AnswerAll placed_formulas before marks)
+    → (wants.styles ≡ true → AnswerAll placed_id before marks)
+    → AreSound wants grounds before marks
+sound_by_values wants grounds before marks valued listed styled = record {
+  placed = all_placed (placed_value grounds) (λ earlier element own is. (
+    own.0,
+    (placed_sound (cell_position earlier element.tag)
+        (in_element element (cell_value grounds element.tag element.inside)) own is).0,
+  )) before
+      marks valued;
+  valued = λ wanted. valued;
+  listed = listed;
+  styled = styled;
 }
 
-marks_never : (wants : Wants) (grounds : Grounds) (before marks : List Mark)
-    (values : List ((ℕ × ℕ) × CellValue)) (written : List ((ℕ × ℕ) × List FormulaText))
-    (ids : List StyledCell) (refusal : Refusal)
-    → AreSound grounds before marks values written ids
+pub sound_by_formulas : (grounds : Grounds) (before marks : List Mark)
+    → AnswerAll placed_formulas before marks → AreSound formulas_alone grounds before marks
+sound_by_formulas grounds before marks listed = record {
+  placed = all_placed placed_formulas (λ earlier element own is. (
+    own.0,
+    (placed_sound (cell_position earlier element.tag)
+        (in_element element (formulas_in element.inside)) own is).0,
+  )) before marks listed;
+  valued = λ wanted. absurd (cc);
+  listed = λ wanted. listed;
+  styled = λ wanted. absurd (cc);
+}
+
+pub sound_by_ids : (grounds : Grounds) (before marks : List Mark)
+    → AnswerAll placed_id before marks → AreSound styles_alone grounds before marks
+sound_by_ids grounds before marks styled = record {
+  placed = all_placed placed_id (λ earlier element own is.
+      (id_sound (cell_position earlier element.tag)
+      (in_element element (id_named element.tag)) own is).0) before marks styled;
+  valued = λ wanted. absurd (cc);
+  listed = λ wanted. absurd (cc);
+  styled = λ wanted. styled;
+}
+
+cell_never : (wants : Wants) (grounds : Grounds) (before marks : List Mark) (element : Element)
+    (refusal : Refusal) → AreSound wants grounds before (cell element ∷ marks)
+    → IsCellRefused wants grounds before element refusal → ⊥
+cell_never wants grounds before marks element refusal are (inl misplaced) =
+    never_both (cell_position before element.tag) are.placed.0.0 refusal are.placed.0.1 misplaced
+cell_never wants grounds before marks element refusal are (inr (inl refused)) =
+    let own = in_element element (cell_value grounds element.tag element.inside) in
+    let answer = cell_answers (placed_value grounds) before marks element
+    (are.valued refused.0) in
+    let sound = placed_sound (cell_position before element.tag) own answer.0.0 answer.0.1 in
+    never_both own answer.0.0.1 refusal sound.1 refused.1
+cell_never wants grounds before marks element refusal are (inr (inr (inl refused))) =
+    let own = in_element element (formulas_in element.inside) in
+    let answer = cell_answers placed_formulas before marks element (are.listed refused.0) in
+    let sound = placed_sound (cell_position before element.tag) own answer.0.0 answer.0.1 in
+    never_both own answer.0.0.1 refusal sound.1 refused.1
+cell_never wants grounds before marks element refusal are (inr (inr (inr refused))) =
+    let own = in_element element (id_named element.tag) in
+    let answer = cell_answers placed_id before marks element (are.styled refused.0) in
+    let sound = id_sound (cell_position before element.tag) own answer.0.0 answer.0.1 in
+    never_both own sound.1.0 refusal sound.1.1 refused.1
+
+marks_never : (wants : Wants) (grounds : Grounds) (before marks : List Mark) (refusal : Refusal)
+    → AreSound wants grounds before marks
     → IsMarkRefused IsPlaced (IsCellRefused wants grounds) before marks refusal → ⊥
-marks_never wants grounds before [] values written ids refusal are is = is
-marks_never wants grounds before (row_start tag ∷ marks) values written ids refusal are
-    is =
-    let sound = row_sound (row_named tag)
-    (answers_from (placed_value grounds) (row_start tag ∷ before) marks) values are.valued in
-    marks_never wants grounds (row_start tag ∷ before) marks values written ids refusal
-    (rows_sound grounds before marks tag values written ids are) (rw sound.0.1 at is)
-marks_never wants grounds before (row_end ∷ marks) values written ids refusal are is =
-    marks_never wants grounds (row_end ∷ before) marks values written ids refusal
-    (record { valued = are.valued; listed = are.listed; styled = are.styled }) is
-marks_never wants grounds before (cell element ∷ marks) values written ids refusal are is =
-    let first = cell_sound (placed_value grounds before element)
-    (answers_from (placed_value grounds) (cell element ∷ before) marks) values are.valued in
-    let second = cell_sound (placed_formulas before element)
-    (answers_from placed_formulas (cell element ∷ before) marks) written are.listed in
-    let third = cell_sound (placed_id before element)
-    (answers_from placed_id (cell element ∷ before) marks) ids are.styled in
+marks_never wants grounds before [] refusal are is = is
+marks_never wants grounds before (row_start tag ∷ marks) refusal are is =
+    marks_never wants grounds (row_start tag ∷ before) marks refusal
+    (record {
+      placed = are.placed.1;
+      valued = λ wanted. (row_answers (placed_value grounds) before marks tag
+          (are.valued wanted)).1;
+      listed = λ wanted. (row_answers placed_formulas before marks tag (are.listed wanted)).1;
+      styled = λ wanted. (row_answers placed_id before marks tag (are.styled wanted)).1;
+    }) (rw are.placed.0.1 at is)
+marks_never wants grounds before (row_end ∷ marks) refusal are is =
+    marks_never wants grounds (row_end ∷ before) marks refusal (record {
+      placed = are.placed;
+      valued = are.valued;
+      listed = are.listed;
+      styled = are.styled;
+    }) is
+marks_never wants grounds before (cell element ∷ marks) refusal are is =
     elim is [
-      | inl refused ↦ cell_never wants grounds before element first.0.0 second.0.0 third.0.0
-          refusal first.0.1 second.0.1 third.0.1 refused
-      | inr others ↦ marks_never wants grounds (cell element ∷ before) marks first.1.0 second.1.0
-          third.1.0 refusal
-          (record { valued = first.1.1; listed = second.1.1; styled = third.1.1 }) others.1
+      | inl refused ↦ cell_never wants grounds before marks element refusal are refused
+      | inr others ↦ marks_never wants grounds (cell element ∷ before) marks refusal (record {
+        placed = are.placed.1;
+        valued = λ wanted. (cell_answers (placed_value grounds) before marks element
+            (are.valued wanted)).1;
+        listed = λ wanted. (cell_answers placed_formulas before marks element
+            (are.listed wanted)).1;
+        styled = λ wanted. (cell_answers placed_id before marks element
+            (are.styled wanted)).1;
+      }) others.1
     ]
 
 -- ---- the part of a sheet
-
--- data that are closed, none of whose cells and rows is refused, have no cause to be refused
-pub no_data_cause : (wants : Wants) (grounds : Grounds) (s : PartSection)
-    (values : List ((ℕ × ℕ) × CellValue)) (written : List ((ℕ × ℕ) × List FormulaText))
-    (ids : List StyledCell) (error : XlsxError) → has_end s ≡ true
-    → values_in grounds (inside_of s) ≡ Ok values
-    → formulas_written (inside_of s) ≡ Ok written → ids_in (inside_of s) ≡ Ok ids
-    → DataCause wants grounds s error → ⊥
-no_data_cause wants grounds s values written ids error closed valued listed styled cause =
-    no_section_cause (end_in_data wants) (AreDataRefused wants grounds) s error closed
-    (λ refusal is. marks_never wants grounds [] (marks (inside_of s)) values written ids refusal
-    (record { valued = valued; listed = listed; styled = styled }) is) cause
 
 start_of_section : (events : List Event) (found : Option (List Event)) (s : PartSection)
     → option_map (section_from events) found ≡ Some s → (after : List Event)
@@ -168,18 +226,18 @@ start_of_section : (events : List Event) (found : Option (List Event)) (s : Part
 start_of_section events None s is = absurd (cc)
 start_of_section events (Some after) s is = (after, refl)
 
--- a sound sheet can be read, whatever is asked for
-pub no_part_cause : (wants : Wants) (grounds : Grounds) (events : List Event)
-    (values : List ((ℕ × ℕ) × CellValue)) (written : List ((ℕ × ℕ) × List FormulaText))
-    (ids : List StyledCell) (error : XlsxError) → IsSoundSheet grounds events values written ids
+-- a part with a sound head and closed data, of which what is wanted isn't refused, can be read
+pub no_part_cause : (wants : Wants) (grounds : Grounds) (events : List Event) (s : PartSection)
+    (area : Option Dimensions) (error : XlsxError)
+    → section_in (codes "sheetData") events ≡ Some s → dimensions_in (whole events) ≡ Ok area
+    → has_end s ≡ true → AreSound wants grounds [] (marks (inside_of s))
     → SheetPartCause wants grounds events error → ⊥
-no_part_cause wants grounds events values written ids error sound (inl head) =
+no_part_cause wants grounds events s area error found dimensions closed are (inl head) =
     let after = start_of_section events
-    (behind_start (is_named (codes "sheetData" ∷ [])) (whole events)) sound.section
-    sound.found in
-    no_head_cause events (whole events) after.0 sound.area error after.1 sound.dimensions head
-no_part_cause wants grounds events values written ids error sound (inr data_cause) =
-    no_data_cause wants grounds sound.section values written ids error sound.closed sound.valued
-    sound.written sound.styled
-    (subst (λ (found : Option PartSection). IsSomeAnd found
-    (λ s. DataCause wants grounds s error)) sound.found data_cause)
+    (behind_start (is_named (codes "sheetData" ∷ [])) (whole events)) s found in
+    no_head_cause events (whole events) after.0 area error after.1 dimensions head
+no_part_cause wants grounds events s area error found dimensions closed are (inr cause) =
+    no_section_cause (end_in_data wants) (AreDataRefused wants grounds) s error closed
+    (λ refusal is. marks_never wants grounds [] (marks (inside_of s)) refusal are is)
+    (subst (λ (own : Option PartSection). IsSomeAnd own (λ one. DataCause wants grounds one error))
+    found cause)

@@ -13,3 +13,4 @@ pub mod SheetPart
 pub mod Stream
 pub mod StyleIds
 pub mod StyleSteps
+pub mod WholeReadings

@@ -1,6 +1,6 @@
 -- What a sheet's data say.
 use Rattle.std.specs.Prelude.{ℕ, List, [], ◌∷◌, Bool, true, false, if◌then◌else◌, Result, Ok, Err}
-use Rattle.std.specs.Prelude.{Option}
+use Rattle.std.specs.Prelude.{Option, map}
 use Rattle.part_events.specs.Event.{Event}
 use Rattle.part_events.specs.Section.{Element}
 use Rattle.cell_data.specs.CellValue as value
@@ -78,12 +78,15 @@ abbrev pub is_empty : List ℕ → Bool
 is_empty [] = true
 is_empty (b ∷ bs) = false
 
--- the values that count, with the texts of shared strings
-abbrev pub used_values : List (List ℕ) → List ((ℕ × ℕ) × CellValue) → List ((ℕ × ℕ) × CellValue)
-used_values strings [] = []
-used_values strings (first ∷ others) =
-    if is_nothing first.1 then used_values strings others
-    else (first.0, resolved strings first.1) ∷ used_values strings others
+-- the values that count, shared strings by their places
+abbrev pub used_values : List ((ℕ × ℕ) × CellValue) → List ((ℕ × ℕ) × CellValue)
+used_values [] = []
+used_values (first ∷ others) =
+    if is_nothing first.1 then used_values others else first ∷ used_values others
+
+-- values with the texts of shared strings put in
+abbrev pub with_texts : List (List ℕ) → List ((ℕ × ℕ) × CellValue) → List ((ℕ × ℕ) × CellValue)
+with_texts strings values = map (λ own. (own.0, resolved strings own.1)) values
 
 -- the formulas that count
 abbrev pub used_formulas : List ((ℕ × ℕ) × List ℕ) → List ((ℕ × ℕ) × List ℕ)

@@ -7,11 +7,11 @@ use Rattle.part_events.specs.Event.{Event}
 use Rattle.part_events.specs.Nesting.{whole}
 use Rattle.part_events.specs.Package.{PackageState, SameParts, part_of, event_count}
 use Rattle.part_events.specs.Reading.{events_of}
-use Rattle.cell_data.specs.CellValue.{CellValue, value_of_data}
+use Rattle.cell_data.specs.CellValue.{CellValue, value_of_data_ref}
 use Rattle.cell_data.specs.Cells.{IsInSheet}
 use Rattle.cell_data.specs.declared.cell.Cell.{Cell}
 use Rattle.xlsx_error.specs.declared.error.XlsxError.{XlsxError}
-use Rattle.cell_data.specs.declared.value.Data.{Data}
+use Rattle.cell_data.specs.declared.value.DataRef.{DataRef}
 use Rattle.cell_styles.specs.StyleMap.{StyledCell, IsOnSheet}
 use Rattle.xlsx_sections.specs.Failing.{FailsBy}
 use Rattle.xlsx_sections.specs.PartSection.{PartSection, SectionCause, SectionFails, section_left}
@@ -97,10 +97,10 @@ OpenDataFails path old new error =
     FailsBy (OptionalHeadCause (part_of old.parts path)) old new error
 
 -- cells as pairs of a position and what they hold
-abbrev pub value_entry : Cell Data → (ℕ × ℕ) × CellValue
-value_entry own = (own.pos, value_of_data own.val)
+abbrev pub value_entry : Cell DataRef → (ℕ × ℕ) × CellValue
+value_entry own = (own.pos, value_of_data_ref own.val)
 
-abbrev pub value_entries : List (Cell Data) → List ((ℕ × ℕ) × CellValue)
+abbrev pub value_entries : List (Cell DataRef) → List ((ℕ × ℕ) × CellValue)
 value_entries cells = map value_entry cells
 
 abbrev pub formula_entry : Cell (String Global) → (ℕ × ℕ) × List ℕ
@@ -110,24 +110,24 @@ abbrev pub formula_entries : List (Cell (String Global)) → List ((ℕ × ℕ) 
 formula_entries cells = map formula_entry cells
 
 -- cells with values and formulas, and entries of styles, that lie in a worksheet
-abbrev pub LieInSheet : List (Cell Data) → List (Cell (String Global)) → List StyledCell → Type 0
+abbrev pub LieInSheet : List (Cell DataRef) → List (Cell (String Global)) → List StyledCell → Type 0
 LieInSheet values formulas styled =
     All IsInSheet values × All IsInSheet formulas × All IsOnSheet styled
 
 -- what wasn't wanted of a sheet is empty
 pub record LackUnwanted
-    (wants : Wants) (valued : List (Cell Data)) (written : List (Cell (String Global)))
+    (wants : Wants) (valued : List (Cell DataRef)) (written : List (Cell (String Global)))
     (styled : List StyledCell) : Type 0 where
   pub values : wants.values ≡ false → valued ≡ []
   pub formulas : wants.formulas ≡ false → written ≡ []
   pub ids : wants.styles ≡ false → styled ≡ []
 
--- the values that count among those of a sheet's data, with the texts of shared strings
+-- the values that count among those of a sheet's data
 abbrev pub HoldsValues :
     Grounds → List Event → List ((ℕ × ℕ) × CellValue) → Type 0
 HoldsValues grounds inside found =
     (all : List ((ℕ × ℕ) × CellValue)) × (values_in grounds inside ≡ Ok all)
-    × (found ≡ used_values grounds.strings all)
+    × (found ≡ used_values all)
 
 -- and the formulas that count
 abbrev pub HoldsFormulas : List Event → List ((ℕ × ℕ) × List ℕ) → Type 0

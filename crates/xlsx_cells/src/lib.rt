@@ -8,6 +8,7 @@ mod children;
 mod counters;
 mod finding;
 mod head;
+mod laws;
 mod sheet_cells;
 mod sheet_cursor;
 
@@ -16,5 +17,6 @@ pub use cell_records::{XlsxCellFormula, XlsxCellFormulaMetadataRecord, equality_
 pub use cells_reader::XlsxCellReader;
 pub use children::{Asked, Wants};
 pub use head::enter_data;
+pub use laws::readings_have_the_same_values;
 pub use sheet_cells::{SheetCells, collect};
 pub use sheet_cursor::{SheetCursor, open_data};

@@ -1,5 +1,5 @@
 ghost use Rattle.std.specs.Prelude.{◌≡◌, ◌<◌, ◌++◌, [], ◌∷◌, true, false, IfOk, OnOk, IfErr, All};
-ghost use Rattle.std.specs.Prelude.{string_bytes, map, filter};
+ghost use Rattle.std.specs.Prelude.{string_bytes, filter};
 ghost use Rattle.cell_refs.specs.declared.TheConstants.{MAX_ROWS, MAX_COLUMNS};
 ghost use Rattle.cell_data.specs.CellValue.{value_of_data_ref};
 ghost use Rattle.xlsx_cells.specs.Sheet.{used_values, used_formulas};
@@ -19,17 +19,16 @@ ghost use Rattle.xlsx_cells.specs.Stream.{are_closed_ahead};
 use crate::cell_read::CellText;
 use crate::children::Asked;
 use crate::sheet_cursor::SheetCursor;
-use cell_data::{Cell, Data, DataRef};
+use cell_data::{Cell, DataRef};
 use part_events::Package;
 use std::alloc::Global;
 use xlsx_error::XlsxError;
-use xlsx_values::to_data;
 
 /// The cells of a sheet's data that hold something, in their order there.
 #[derive(Debug, Drop)]
 pub struct SheetCells {
-    /// Those with a value, where values were asked for.
-    pub values: Vec<Cell<Data>>,
+    /// Those with a value, where values were asked for. Shared strings are told by their places.
+    pub values: Vec<Cell<DataRef>>,
     /// Those with a formula, where formulas were asked for.
     pub formulas: Vec<Cell<String>>,
     /// The rows, the columns and the style ids of those whose id is above 0 and below the number of
@@ -39,17 +38,14 @@ pub struct SheetCells {
 
 /// Keeps the value of a cell where it holds one.
 fn keep_value(
-    alloc: Global,
-    cells: &mut Vec<Cell<Data>>,
+    cells: &mut Vec<Cell<DataRef>>,
     pos: (u32, u32),
     value: DataRef,
-    strings: &[String],
 ) -> Result<(), XlsxError>
     requires row { pos.0 < MAX_ROWS }
     requires column { pos.1 < MAX_COLUMNS }
     requires inside { All IsInSheet cells.old.items }
-    ensures value { let found = used_values (map string_bytes strings.now)
-        ((pos, value_of_data_ref value) ∷ []) in
+    ensures value { let found = used_values ((pos, value_of_data_ref value) ∷ []) in
         OnOk result (value_entries cells.new.items ≡ value_entries cells.old.items ++ found) }
     ensures inside { OnOk result (All IsInSheet cells.new.items) }
     ensures err { IfErr result (λ error. error ≡ OutOfMemory) }
@@ -57,7 +53,7 @@ fn keep_value(
     if matches!(value, DataRef::Empty) {
         return Ok(());
     }
-    cells.push(Cell::new(pos, to_data(alloc, value, strings)?))?;
+    cells.push(Cell::new(pos, value))?;
     Ok(())
 }
 
@@ -153,7 +149,7 @@ pub fn collect<P: Package>(
             text,
             style_id,
         } = found;
-        keep_value(alloc, &mut cells.values, pos, value, asked.book.strings)?;
+        keep_value(&mut cells.values, pos, value)?;
         keep_formula(&mut cells.formulas, pos, text)?;
         keep_id(&mut cells.style_ids, pos, style_id, asked.style_count)?;
     }

@@ -65,19 +65,9 @@ module _ {X Y : Type 0} (f : X → Y) where
       (mapped_reverse es)
       ∙ mapped_entries (reverse es)
 
-  mapped_cells : (cells : List (Cell X)) →
+  pub mapped_cells : (cells : List (Cell X)) →
       map (λ (own : Cell X). (own.pos, f own.val)) cells
       ≡ map (with_meaning f) (placed_cells cells)
   mapped_cells [] = refl
   mapped_cells (cell ∷ cells) =
       ap (λ (rest : List ((ℕ × ℕ) × Y)). (cell.pos, f cell.val) ∷ rest) (mapped_cells cells)
-
-  -- what a range holds, by the cells that it was made of
-  pub last_cells : (cells : List (Cell X)) (kept : List ((ℕ × ℕ) × X)) →
-      kept ≡ last_of_each (placed_cells cells) →
-      map (with_meaning f) kept
-      ≡ last_of_each (map (λ (own : Cell X). (own.pos, f own.val)) cells)
-  last_cells cells kept is =
-      ap (map (with_meaning f)) is
-      ∙ sym (last_mapped (placed_cells cells))
-      ∙ ap last_of_each (sym (mapped_cells cells))

@@ -2,6 +2,8 @@ pub mod Agreeing
 pub mod LastOfEach
 pub mod LeastAreas
 pub mod RangesMade
+pub mod RangesRead
 pub mod SheetLaws
+pub mod SheetsListed
 pub mod SheetsRead
 pub mod StylesMade

@@ -1,14 +1,13 @@
--- The ranges of values and of formulas.
+-- The ranges of cells, and of what is meant by them.
 use Rattle.std.proofs.Common.{◌≡◌, ℕ, zero, suc, ◌≤◌, List, [], ◌∷◌, Bool, true, false, cond}
-use Rattle.std.proofs.Common.{refl, sym, ◌∙◌, ap, subst, Option, Some, None, arith}
-use Rattle.std.proofs.Common.{Result, Ok, Err, ◌&&◌, String, Global, string_bytes}
+use Rattle.std.proofs.Common.{refl, sym, ◌∙◌, ap, subst, Option, Some, None, arith, map}
+use Rattle.std.proofs.Common.{Result, Ok, Err, ◌&&◌}
 use Rattle.std.specs.Prelude.{⊤, IfOk, option_map, nat_le, All}
 use Rattle.std.specs.List.{filter, list_all}
 use Rattle.std.specs.declared.alloc.AllocError.{AllocError}
 use Rattle.std.proofs.lemmas.Bool.Decides.{nat_tests}
 use Rattle.cell_refs.specs.declared.dimensions.Dimensions.{Dimensions}
-use Rattle.cell_data.specs.CellValue.{value_of_data}
-use Rattle.cell_data.specs.Cells.{IsInSheet, placed_cells}
+use Rattle.cell_data.specs.Cells.{IsInSheet, cell_entry, placed_cells}
 use Rattle.cell_refs.specs.Positions.{last_of_each, least_area, area_with, is_in_area}
 use Rattle.cell_refs.specs.Positions.{lie_inside}
 use Rattle.cell_data.specs.Range.{cells_of, bounds_of, blank_of}
@@ -16,59 +15,12 @@ use Rattle.cell_data.proofs.Areas.{all_wider, last_inside}
 use Rattle.cell_data.proofs.Placing.{and_both}
 use Rattle.cell_data.specs.declared.cell.Cell.{Cell}
 use Rattle.cell_data.specs.declared.range.Range.{Range}
-use Rattle.cell_data.specs.declared.value.Data.{Data}
-use Rattle.cell_data.specs.declared.value.Data.TheVariants.{Empty}
+use Rattle.cell_data.specs.declared.value.HeaderRow.{HeaderRow}
 use Rattle.cell_data.specs.declared.value.HeaderRow.TheVariants.{FirstNonEmptyRow, Row}
-use Rattle.xlsx_cells.specs.SheetPart.{value_entry, value_entries, formula_entries}
-use Rattle.xlsx_core.specs.Worksheets.{from_row, area_from, IsValueRange, IsFormulaRange}
-use Rattle.xlsx_core.proofs.LastOfEach.{last_cells}
-
--- the cells from a row on
-abbrev pub cells_from : ℕ → List (Cell Data) → List (Cell Data)
-cells_from row cells = filter (λ (cell : Cell Data). nat_le row cell.pos.0) cells
-
--- ---- where the cells lie
-
-same_area : (cells : List (Cell Data)) → least_area (placed_cells cells)
-    ≡ least_area (value_entries cells)
-same_area [] = refl
-same_area (cell ∷ cells) =
-    ap (λ (area : Option Dimensions). Some (area_with cell.pos area)) (same_area cells)
-
-entries_from : (row : ℕ) (cells : List (Cell Data)) → value_entries (cells_from row cells)
-    ≡ from_row row (value_entries cells)
-entries_from row [] = refl
-entries_from row (cell ∷ cells) = entry_from (nat_le row cell.pos.0) (entries_from row cells)
-  where
-    entry_from : (test : Bool) → value_entries (cells_from row cells)
-        ≡ from_row row (value_entries cells)
-        → value_entries (cond test (cell ∷ cells_from row cells) (cells_from row cells))
-        ≡ cond test (value_entry cell ∷ from_row row (value_entries cells))
-        (from_row row (value_entries cells))
-    entry_from true rest = ap (λ es. value_entry cell ∷ es) rest
-    entry_from false rest = rest
-
--- they stay in the sheet
-all_tail : (cell : Cell Data) (cells : List (Cell Data)) → All IsInSheet (cell ∷ cells)
-    → All IsInSheet cells
-all_tail cell cells inside k d below = inside (suc k) d (omega arith)
-
-all_cons : (cell : Cell Data) (cells : List (Cell Data)) → IsInSheet cell → All IsInSheet cells
-    → All IsInSheet (cell ∷ cells)
-all_cons cell cells first rest zero d below = first
-all_cons cell cells first rest (suc k) d below = rest k d (omega arith)
-
-pub sheet_from : (row : ℕ) (cells : List (Cell Data)) → All IsInSheet cells
-    → All IsInSheet (cells_from row cells)
-sheet_from row [] inside = inside
-sheet_from row (cell ∷ cells) inside =
-    kept (nat_le row cell.pos.0) (inside 0 cell (omega arith))
-    (sheet_from row cells (all_tail cell cells inside))
-  where
-    kept : (test : Bool) → IsInSheet cell → All IsInSheet (cells_from row cells)
-        → All IsInSheet (cond test (cell ∷ cells_from row cells) (cells_from row cells))
-    kept true first rest = all_cons cell (cells_from row cells) first rest
-    kept false first rest = rest
+use Rattle.xlsx_core.specs.SheetReading.{with_meaning}
+use Rattle.xlsx_core.specs.Worksheets.{from_row, below_header, area_from, header_area}
+use Rattle.xlsx_core.specs.Worksheets.{IsRangeFrom, IsRangeOf}
+use Rattle.xlsx_core.proofs.LastOfEach.{last_mapped, mapped_cells}
 
 -- an area that begins in no row before this one
 abbrev begins_by : ℕ → Option Dimensions → Type 0
@@ -80,32 +32,6 @@ begins_with : (row : ℕ) (k : ℕ × ℕ) (bounds : Option Dimensions) → nat_
 begins_with row k None first is = (grind (arith, nat_tests, first), omega arith)
 begins_with row k (Some area) first is =
     (grind (arith, nat_tests, first, is.0), grind (arith, is.1))
-
-begins_from : (row : ℕ) (cells : List (Cell Data))
-    → begins_by row (least_area (placed_cells (cells_from row cells)))
-begins_from row [] = tt
-begins_from row (cell ∷ cells) =
-    kept (nat_le row cell.pos.0) refl (begins_from row cells)
-  where
-    kept : (test : Bool) → nat_le row cell.pos.0 ≡ test
-        → begins_by row (least_area (placed_cells (cells_from row cells)))
-        → begins_by row (least_area (placed_cells
-        (cond test (cell ∷ cells_from row cells) (cells_from row cells))))
-    kept true first rest =
-        begins_with row cell.pos (least_area (placed_cells (cells_from row cells))) first rest
-    kept false first rest = rest
-
--- ---- another first row
-
-pub first_row : (row : ℕ) (cells items : List (Cell Data)) (area : Dimensions)
-    (bounds : Option Dimensions) → items ≡ cells_from row cells
-    → bounds ≡ least_area (placed_cells items) → bounds ≡ Some area → row ≤ area.end.0
-first_row row cells items area bounds there is own =
-    let begins : begins_by row (Some area) =
-    subst (begins_by row)
-    (sym (ap (λ (all : List (Cell Data)). least_area (placed_cells all)) there) ∙ sym is ∙ own)
-    (begins_from row cells) in
-    omega (arith, begins.0, begins.1)
 
 -- the bounds by their ends
 pub bounds_by : (bounds : Option Dimensions) (start end : ℕ × ℕ)
@@ -142,118 +68,201 @@ all_kept p (e ∷ es) is =
     ap (λ test. cond test (e ∷ filter (λ cell. p cell.0) es) (filter (λ cell. p cell.0) es)) own
     ∙ ap (λ rest. e ∷ rest) (all_kept p es others)
 
--- the wider area drops no cell
-wider_keeps : (row : ℕ) (cells : List (Cell Data)) (area : Dimensions)
-    → least_area (placed_cells (cells_from row cells)) ≡ Some area
-    → filter (λ cell. is_in_area (record { start = (row, area.start.1); end = area.end }) cell.0)
-    (last_of_each (placed_cells (cells_from row cells)))
-    ≡ last_of_each (placed_cells (cells_from row cells))
-wider_keeps row cells area is =
-    let begins : begins_by row (Some area) =
-    subst (begins_by row) is (begins_from row cells) in
-    let placed = placed_cells (cells_from row cells) in
-    let inside : lie_inside (Some area) (last_of_each placed) ≡ true =
-    subst (λ (bounds : Option Dimensions). lie_inside bounds (last_of_each placed) ≡ true) is
-    (last_inside placed) in
-    all_kept (is_in_area (record { start = (row, area.start.1); end = area.end }))
-    (last_of_each placed)
-    (all_wider (is_in_area area)
-    (is_in_area (record { start = (row, area.start.1); end = area.end })) (last_of_each placed)
-    (λ k own. in_wider row area k begins.0 own) inside)
+module _ {X : Type 0} where
+  -- the cells from a row on
+  abbrev pub cells_from : ℕ → List (Cell X) → List (Cell X)
+  cells_from row cells = filter (λ (cell : Cell X). nat_le row cell.pos.0) cells
 
--- ---- the range
+  -- ---- where the cells lie
 
--- a range of cells
-whole_range : (cells : List (Cell Data)) (range : Range Data)
-    → cells_of range ≡ last_of_each (placed_cells cells)
-    → bounds_of range ≡ least_area (placed_cells cells) → blank_of range ≡ Empty
-    → IsValueRange FirstNonEmptyRow (value_entries cells) range
-whole_range cells range kept bounds blank = record {
-  cells = last_cells value_of_data cells (cells_of range) kept;
-  bounds = bounds ∙ same_area cells;
-  blank = blank;
-}
+  placed_from : (row : ℕ) (cells : List (Cell X)) → placed_cells (cells_from row cells)
+      ≡ from_row row (placed_cells cells)
+  placed_from row [] = refl
+  placed_from row (cell ∷ cells) = placed_if (nat_le row cell.pos.0) (placed_from row cells)
+    where
+      placed_if : (test : Bool) → placed_cells (cells_from row cells)
+          ≡ from_row row (placed_cells cells)
+          → placed_cells (cond test (cell ∷ cells_from row cells) (cells_from row cells))
+          ≡ cond test (cell_entry cell ∷ from_row row (placed_cells cells))
+          (from_row row (placed_cells cells))
+      placed_if true rest = ap (λ es. cell_entry cell ∷ es) rest
+      placed_if false rest = rest
 
-pub whole_ranges : (cells : List (Cell Data)) (made : Result (Range Data) AllocError)
-    → IfOk made (λ range. cells_of range ≡ last_of_each (placed_cells cells))
-    → IfOk made (λ range. bounds_of range ≡ least_area (placed_cells cells))
-    → IfOk made (λ range. blank_of range ≡ Empty)
-    → IfOk made (IsValueRange FirstNonEmptyRow (value_entries cells))
-whole_ranges cells (Ok range) kept bounds blank = whole_range cells range kept bounds blank
-whole_ranges cells (Err error) kept bounds blank = tt
+  -- they stay in the sheet
+  all_tail : (cell : Cell X) (cells : List (Cell X)) → All IsInSheet (cell ∷ cells)
+      → All IsInSheet cells
+  all_tail cell cells inside k d below = inside (suc k) d (omega arith)
 
--- what has no cell from the row on
-pub empty_from : (row : ℕ) (cells items : List (Cell Data)) (range : Range Data)
-    → items ≡ cells_from row cells → cells_of range ≡ last_of_each (placed_cells items)
-    → bounds_of range ≡ least_area (placed_cells items) → blank_of range ≡ Empty
-    → bounds_of range ≡ None → IsValueRange (Row row) (value_entries cells) range
-empty_from row cells items range there kept bounds blank none =
-    let least : least_area (from_row row (value_entries cells)) ≡ None =
-    ap least_area (sym (entries_from row cells)) ∙ sym (same_area (cells_from row cells))
-    ∙ sym (ap (λ (own : List (Cell Data)). least_area (placed_cells own)) there)
-    ∙ sym bounds ∙ none in
-    record {
-      cells = last_cells value_of_data (cells_from row cells) (cells_of range)
-          (kept ∙ ap (λ (own : List (Cell Data)). last_of_each (placed_cells own)) there)
-          ∙ ap last_of_each (entries_from row cells);
-      bounds = none ∙ sym (ap (area_from row) least);
-      blank = blank;
-    }
+  all_cons : (cell : Cell X) (cells : List (Cell X)) → IsInSheet cell → All IsInSheet cells
+      → All IsInSheet (cell ∷ cells)
+  all_cons cell cells first rest zero d below = first
+  all_cons cell cells first rest (suc k) d below = rest k d (omega arith)
 
--- the cells from the row on, in the area that begins with it
-pub range_from : (row : ℕ) (cells items : List (Cell Data)) (area : Dimensions)
-    (narrow range : Range Data) → items ≡ cells_from row cells
-    → cells_of narrow ≡ last_of_each (placed_cells items)
-    → bounds_of narrow ≡ least_area (placed_cells items)
-    → blank_of narrow ≡ Empty → bounds_of narrow ≡ Some area
-    → cells_of range ≡ filter
-    (λ cell. is_in_area (record { start = (row, area.start.1); end = area.end }) cell.0)
-    (cells_of narrow)
-    → bounds_of range ≡ Some (record { start = (row, area.start.1); end = area.end })
-    → blank_of range ≡ blank_of narrow → IsValueRange (Row row) (value_entries cells) range
-range_from row cells items area narrow range there kept bounds blank own filtered wide same =
-    let wider : Dimensions = record { start = (row, area.start.1); end = area.end } in
-    let found : least_area (placed_cells (cells_from row cells)) ≡ Some area =
-    sym (ap (λ (own : List (Cell Data)). least_area (placed_cells own)) there)
-    ∙ sym bounds ∙ own in
-    let least : least_area (from_row row (value_entries cells)) ≡ Some area =
-    ap least_area (sym (entries_from row cells)) ∙ sym (same_area (cells_from row cells))
-    ∙ found in
-    let all : cells_of range ≡ last_of_each (placed_cells (cells_from row cells)) =
-    filtered
-    ∙ ap (filter (λ cell. is_in_area wider cell.0))
-    (kept ∙ ap (λ (own : List (Cell Data)). last_of_each (placed_cells own)) there)
-    ∙ wider_keeps row cells area found in
-    record {
-      cells = last_cells value_of_data (cells_from row cells) (cells_of range) all
-          ∙ ap last_of_each (entries_from row cells);
-      bounds = wide ∙ sym (ap (area_from row) least);
-      blank = same ∙ blank;
-    }
+  pub sheet_from : (row : ℕ) (cells : List (Cell X)) → All IsInSheet cells
+      → All IsInSheet (cells_from row cells)
+  sheet_from row [] inside = inside
+  sheet_from row (cell ∷ cells) inside =
+      kept (nat_le row cell.pos.0) (inside 0 cell (omega arith))
+      (sheet_from row cells (all_tail cell cells inside))
+    where
+      kept : (test : Bool) → IsInSheet cell → All IsInSheet (cells_from row cells)
+          → All IsInSheet (cond test (cell ∷ cells_from row cells) (cells_from row cells))
+      kept true first rest = all_cons cell (cells_from row cells) first rest
+      kept false first rest = rest
 
--- ---- formulas
+  begins_from : (row : ℕ) (cells : List (Cell X))
+      → begins_by row (least_area (placed_cells (cells_from row cells)))
+  begins_from row [] = tt
+  begins_from row (cell ∷ cells) =
+      kept (nat_le row cell.pos.0) refl (begins_from row cells)
+    where
+      kept : (test : Bool) → nat_le row cell.pos.0 ≡ test
+          → begins_by row (least_area (placed_cells (cells_from row cells)))
+          → begins_by row (least_area (placed_cells
+          (cond test (cell ∷ cells_from row cells) (cells_from row cells))))
+      kept true first rest =
+          begins_with row cell.pos (least_area (placed_cells (cells_from row cells))) first rest
+      kept false first rest = rest
 
-same_places : (cells : List (Cell (String Global))) → least_area (placed_cells cells)
-    ≡ least_area (formula_entries cells)
-same_places [] = refl
-same_places (cell ∷ cells) =
-    ap (λ (area : Option Dimensions). Some (area_with cell.pos area)) (same_places cells)
+  -- ---- another first row
 
-formula_range : (cells : List (Cell (String Global))) (range : Range (String Global))
-    → cells_of range ≡ last_of_each (placed_cells cells)
-    → bounds_of range ≡ least_area (placed_cells cells) → string_bytes (blank_of range) ≡ []
-    → IsFormulaRange (formula_entries cells) range
-formula_range cells range kept bounds blank = record {
-  cells = last_cells string_bytes cells (cells_of range) kept;
-  bounds = bounds ∙ same_places cells;
-  blank = blank;
-}
+  pub first_row : (row : ℕ) (cells items : List (Cell X)) (area : Dimensions)
+      (bounds : Option Dimensions) → items ≡ cells_from row cells
+      → bounds ≡ least_area (placed_cells items) → bounds ≡ Some area → row ≤ area.end.0
+  first_row row cells items area bounds there is own =
+      let begins : begins_by row (Some area) =
+      subst (begins_by row)
+      (sym (ap (λ (all : List (Cell X)). least_area (placed_cells all)) there) ∙ sym is ∙ own)
+      (begins_from row cells) in
+      omega (arith, begins.0, begins.1)
 
-pub formula_ranges : (cells : List (Cell (String Global)))
-    (made : Result (Range (String Global)) AllocError)
-    → IfOk made (λ range. cells_of range ≡ last_of_each (placed_cells cells))
-    → IfOk made (λ range. bounds_of range ≡ least_area (placed_cells cells))
-    → IfOk made (λ range. string_bytes (blank_of range) ≡ [])
-    → IfOk made (IsFormulaRange (formula_entries cells))
-formula_ranges cells (Ok range) kept bounds blank = formula_range cells range kept bounds blank
-formula_ranges cells (Err error) kept bounds blank = tt
+  -- the wider area drops no cell
+  wider_keeps : (row : ℕ) (cells : List (Cell X)) (area : Dimensions)
+      → least_area (placed_cells (cells_from row cells)) ≡ Some area
+      → filter (λ cell. is_in_area (record { start = (row, area.start.1); end = area.end }) cell.0)
+      (last_of_each (placed_cells (cells_from row cells)))
+      ≡ last_of_each (placed_cells (cells_from row cells))
+  wider_keeps row cells area is =
+      let begins : begins_by row (Some area) =
+      subst (begins_by row) is (begins_from row cells) in
+      let placed = placed_cells (cells_from row cells) in
+      let inside : lie_inside (Some area) (last_of_each placed) ≡ true =
+      subst (λ (bounds : Option Dimensions). lie_inside bounds (last_of_each placed) ≡ true) is
+      (last_inside placed) in
+      all_kept (is_in_area (record { start = (row, area.start.1); end = area.end }))
+      (last_of_each placed)
+      (all_wider (is_in_area area)
+      (is_in_area (record { start = (row, area.start.1); end = area.end })) (last_of_each placed)
+      (λ k own. in_wider row area k begins.0 own) inside)
+
+  -- ---- the range
+
+  pub whole_ranges : (cells : List (Cell X)) (blank : X) (made : Result (Range X) AllocError)
+      → IfOk made (λ range. cells_of range ≡ last_of_each (placed_cells cells))
+      → IfOk made (λ range. bounds_of range ≡ least_area (placed_cells cells))
+      → IfOk made (λ range. blank_of range ≡ blank)
+      → IfOk made (IsRangeFrom FirstNonEmptyRow (placed_cells cells) blank)
+  whole_ranges cells blank (Ok range) kept bounds same =
+      record { cells = kept; bounds = bounds; blank = same }
+  whole_ranges cells blank (Err error) kept bounds same = tt
+
+  -- what has no cell from the row on
+  pub empty_from : (row : ℕ) (cells items : List (Cell X)) (blank : X) (range : Range X)
+      → items ≡ cells_from row cells → cells_of range ≡ last_of_each (placed_cells items)
+      → bounds_of range ≡ least_area (placed_cells items) → blank_of range ≡ blank
+      → bounds_of range ≡ None → IsRangeFrom (Row row) (placed_cells cells) blank range
+  empty_from row cells items blank range there kept bounds same none =
+      let all : placed_cells items ≡ from_row row (placed_cells cells) =
+      ap placed_cells there ∙ placed_from row cells in
+      let least : least_area (from_row row (placed_cells cells)) ≡ None =
+      sym (ap least_area all) ∙ sym bounds ∙ none in
+      record {
+        cells = kept ∙ ap last_of_each all;
+        bounds = none ∙ sym (ap (area_from row) least);
+        blank = same;
+      }
+
+  -- the cells from the row on, in the area that begins with it
+  pub range_from : (row : ℕ) (cells items : List (Cell X)) (blank : X) (area : Dimensions)
+      (narrow range : Range X) → items ≡ cells_from row cells
+      → cells_of narrow ≡ last_of_each (placed_cells items)
+      → bounds_of narrow ≡ least_area (placed_cells items)
+      → blank_of narrow ≡ blank → bounds_of narrow ≡ Some area
+      → cells_of range ≡ filter
+      (λ cell. is_in_area (record { start = (row, area.start.1); end = area.end }) cell.0)
+      (cells_of narrow)
+      → bounds_of range ≡ Some (record { start = (row, area.start.1); end = area.end })
+      → blank_of range ≡ blank_of narrow → IsRangeFrom (Row row) (placed_cells cells) blank range
+  range_from row cells items blank area narrow range there kept bounds first own filtered wide
+      same =
+      let wider : Dimensions = record { start = (row, area.start.1); end = area.end } in
+      let all : placed_cells items ≡ from_row row (placed_cells cells) =
+      ap placed_cells there ∙ placed_from row cells in
+      let found : least_area (placed_cells (cells_from row cells)) ≡ Some area =
+      sym (ap (λ (own : List (Cell X)). least_area (placed_cells own)) there)
+      ∙ sym bounds ∙ own in
+      let least : least_area (from_row row (placed_cells cells)) ≡ Some area =
+      sym (ap least_area all) ∙ sym bounds ∙ own in
+      record {
+        cells = filtered
+            ∙ ap (filter (λ cell. is_in_area wider cell.0))
+            (kept ∙ ap (λ (own : List (Cell X)). last_of_each (placed_cells own)) there)
+            ∙ wider_keeps row cells area found ∙ ap last_of_each (placed_from row cells);
+        bounds = wide ∙ sym (ap (area_from row) least);
+        blank = same ∙ first;
+      }
+
+-- ---- what is meant by cells
+
+module _ {X Y : Type 0} (meaning : X → Y) where
+  from_mapped : (row : ℕ) (cells : List ((ℕ × ℕ) × X)) →
+      from_row row (map (with_meaning meaning) cells)
+      ≡ map (with_meaning meaning) (from_row row cells)
+  from_mapped row [] = refl
+  from_mapped row (own ∷ cells) =
+      mapped_if (nat_le row own.0.0) (from_mapped row cells)
+    where
+      mapped_if : (test : Bool) → from_row row (map (with_meaning meaning) cells)
+          ≡ map (with_meaning meaning) (from_row row cells)
+          → cond test (with_meaning meaning own ∷ from_row row (map (with_meaning meaning) cells))
+          (from_row row (map (with_meaning meaning) cells))
+          ≡ map (with_meaning meaning) (cond test (own ∷ from_row row cells) (from_row row cells))
+      mapped_if true rest = ap (λ others. with_meaning meaning own ∷ others) rest
+      mapped_if false rest = rest
+
+  pub below_mapped : (header : HeaderRow) (cells : List ((ℕ × ℕ) × X)) →
+      below_header header (map (with_meaning meaning) cells)
+      ≡ map (with_meaning meaning) (below_header header cells)
+  below_mapped FirstNonEmptyRow cells = refl
+  below_mapped (Row row) cells = from_mapped row cells
+
+  pub least_mapped : (cells : List ((ℕ × ℕ) × X)) →
+      least_area (map (with_meaning meaning) cells) ≡ least_area cells
+  least_mapped [] = refl
+  least_mapped (own ∷ cells) =
+      ap (λ (area : Option Dimensions). Some (area_with own.0 area)) (least_mapped cells)
+
+  -- the range of cells is that of what is meant by them
+  pub meant_range : (header : HeaderRow) (cells : List ((ℕ × ℕ) × X)) (blank : X)
+      (range : Range X) → IsRangeFrom header cells blank range
+      → IsRangeOf meaning header (map (with_meaning meaning) cells) (meaning blank) range
+  meant_range header cells blank range is =
+      let below = below_header header cells in
+      record {
+        cells = ap (map (with_meaning meaning)) is.cells ∙ sym (last_mapped meaning below)
+            ∙ ap last_of_each (sym (below_mapped header cells));
+        bounds = is.bounds
+            ∙ ap (header_area header) (sym (ap least_area (below_mapped header cells)
+            ∙ least_mapped below));
+        blank = ap meaning is.blank;
+      }
+
+  pub meant_ranges : (header : HeaderRow) (cells : List (Cell X)) (blank : X)
+      (made : Result (Range X) AllocError)
+      → IfOk made (IsRangeFrom header (placed_cells cells) blank)
+      → IfOk made (IsRangeOf meaning header (map (λ own. (own.pos, meaning own.val)) cells)
+      (meaning blank))
+  meant_ranges header cells blank (Ok range) is =
+      subst (λ (own : List ((ℕ × ℕ) × Y)). IsRangeOf meaning header own (meaning blank) range)
+      (sym (mapped_cells meaning cells)) (meant_range header (placed_cells cells) blank range is)
+  meant_ranges header cells blank (Err error) is = tt

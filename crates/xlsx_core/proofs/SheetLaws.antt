@@ -24,10 +24,11 @@ use Rattle.xlsx_stylesheet.specs.StyleSheet.{cell_formats_in, AreStyles, HasStyl
 use Rattle.xlsx_values.specs.Value.{Grounds}
 use Rattle.xlsx_formulas.specs.Formula.{FormulaText}
 use Rattle.xlsx_cells.specs.Sheet.{values_in, formulas_written, used_values, used_formulas}
-use Rattle.xlsx_cells.specs.Sheet.{formulas_along}
+use Rattle.xlsx_cells.specs.Sheet.{formulas_along, with_texts}
 use Rattle.xlsx_cells.specs.SheetPart.{SheetPartCause, IsSoundSheet}
 use Rattle.xlsx_cells.specs.StyleIds.{ids_in}
-use Rattle.xlsx_cells.proofs.SoundSheet.{no_part_cause}
+use Rattle.xlsx_cells.specs.Marks.{marks}
+use Rattle.xlsx_cells.proofs.SoundSheet.{no_part_cause, sound_by_values}
 use Rattle.xlsx_relationships.specs.Paths.{folder_of}
 use Rattle.xlsx_workbook.specs.Paths.{workbook_part, strings_part, theme_part}
 use Rattle.xlsx_workbook.specs.Paths.{styles_part}
@@ -234,9 +235,10 @@ one_reading parts name values others formulas more styles again first second =
     let styles = styles_of_alike first.palette second.palette one.ids
     (first.named ∙ shared.styles ∙ sym second.named) in (
       one.valued
-          ∙ ap (λ (own : List (List ℕ)). last_of_each (used_values own one.all)) shared.strings
+          ∙ ap (λ (own : List (List ℕ)).
+          last_of_each (with_texts own (used_values one.all))) shared.strings
           ∙ ap (λ (all : List ((ℕ × ℕ) × CellValue)).
-          last_of_each (used_values second.opening.shared.strings all)) both.0
+          last_of_each (with_texts second.opening.shared.strings (used_values all))) both.0
           ∙ sym two.valued,
       one.listed
           ∙ ap (λ (written : List ((ℕ × ℕ) × List FormulaText)).
@@ -286,8 +288,12 @@ part_never parts name values formulas styles error reads has =
     (subst (λ (own : List Event). SheetPartCause all_wanted (opened_grounds has.opening) own error)
     events has.cause) in
     let holds = reads.holds in
-    no_part_cause all_wanted (opened_grounds reads.opening) reads.events holds.all holds.written
-    holds.ids error holds.sheet cause
+    let sheet = holds.sheet in
+    no_part_cause all_wanted (opened_grounds reads.opening) reads.events sheet.section sheet.area
+    error sheet.found sheet.dimensions sheet.closed
+    (sound_by_values all_wanted (opened_grounds reads.opening) []
+    (marks (inside_of sheet.section)) (holds.all, sheet.valued)
+    (λ wanted. (holds.written, sheet.written)) (λ wanted. (holds.ids, sheet.styled))) cause
 
 either_never : (parts : List Part) (name : List ℕ) (values : List ((ℕ × ℕ) × CellValue))
     (formulas : List ((ℕ × ℕ) × List ℕ)) (styles : StyleMap) (error : XlsxError)

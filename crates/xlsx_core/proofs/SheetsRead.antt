@@ -1,16 +1,19 @@
 -- The sheet of a workbook that opens, and refusals that are handed on.
 use Rattle.std.proofs.Common.{◌≡◌, ℕ, List, [], ◌∷◌, Bool, true, map, refl, sym, ◌∙◌, ap, subst}
 use Rattle.std.proofs.Common.{inl, inr, Option, Some, None, String, Global, string_bytes}
-use Rattle.std.specs.Prelude.{if◌then◌else◌, IsSomeAnd}
+use Rattle.std.specs.Prelude.{if◌then◌else◌, IsSomeAnd, length, filter}
 use Rattle.std.specs.Str.{bytes_eq}
 use Rattle.part_events.specs.Event.{Event}
 use Rattle.part_events.specs.Package.{Part, PackageState, SameParts}
 use Rattle.cell_data.specs.CellValue.{CellValue}
+use Rattle.cell_data.specs.declared.value.HeaderRow.TheVariants.{FirstNonEmptyRow}
+use Rattle.cell_refs.specs.Positions.{last_of_each}
 use Rattle.xlsx_error.specs.declared.error.XlsxError.{XlsxError}
 use Rattle.xlsx_error.specs.declared.error.XlsxError.TheVariants.{WorksheetNotFound}
-use Rattle.cell_styles.specs.StyleMap.{StyleMap}
+use Rattle.cell_styles.specs.StyleMap.{StyleMap, StyledCell, is_explicit, styles_of}
 use Rattle.cell_styles.specs.declared.style.Style.{Style}
 use Rattle.xlsx_values.specs.Value.{Grounds}
+use Rattle.xlsx_cells.specs.Sheet.{with_texts}
 use Rattle.xlsx_cells.specs.SheetPart.{SheetPartCause}
 use Rattle.xlsx_workbook.specs.Sheets.{PlacedSheet}
 use Rattle.xlsx_workbook.specs.declared.sheet.Metadata.{Metadata}
@@ -24,7 +27,9 @@ use Rattle.xlsx_core.specs.Opened.{path_listed}
 use Rattle.xlsx_core.specs.SheetReading.{SheetCause, PlacedCause}
 use Rattle.xlsx_core.specs.SheetReading.{path_named, events_at, events_named, grounds_with}
 use Rattle.xlsx_core.specs.SheetReading.{opened_grounds, all_wanted, HoldsSheet, IsPaletteOf}
-use Rattle.xlsx_core.specs.SheetReading.{ReadsAs}
+use Rattle.xlsx_core.specs.SheetReading.{ReadsAs, value_pairs, formula_pairs}
+use Rattle.xlsx_core.specs.Worksheets.{HoldsWanted, IsValueRange, IsFormulaRange}
+use Rattle.xlsx_core.specs.declared.sheet_reading.SheetReading.{SheetReading}
 use Rattle.xlsx_core.specs.SheetReading.{SheetFails, PlacedSheetFails}
 use Rattle.xlsx_sections.proofs.Failing.{fails_by_weaker, same_parts}
 
@@ -119,6 +124,57 @@ reads_as name path grounds palette old mid values formulas styles same opens has
       found = there.1;
       holds = there.2;
     }
+
+-- the part of a sheet holds what was read of it, if its ranges are those of what it holds
+held : (grounds : Grounds) (palette : List Style) (events : List Event)
+    (values : List ((ℕ × ℕ) × CellValue)) (formulas : List ((ℕ × ℕ) × List ℕ))
+    (ids : List StyledCell) (found : SheetReading)
+    → HoldsWanted all_wanted grounds (length palette) events values formulas ids
+    → IsValueRange FirstNonEmptyRow (with_texts grounds.strings values) found.values
+    → IsFormulaRange formulas found.formulas
+    → ((all : List StyledCell) → ids ≡ filter (is_explicit (length palette)) all
+    → found.styles ≡ styles_of palette all)
+    → HoldsSheet grounds palette events (value_pairs found.values) (formula_pairs found.formulas)
+    found.styles
+held grounds palette events values formulas ids found holds valued written styled =
+    let (all, are, used) = holds.valued refl in
+    let (listed, is, counted) = holds.written refl in
+    let (named, has, explicit) = holds.styled refl in
+    record {
+      all = all;
+      written = listed;
+      ids = named;
+      sheet = record {
+        section = holds.section;
+        area = holds.sheet.area;
+        found = holds.sheet.found;
+        dimensions = holds.sheet.dimensions;
+        closed = holds.sheet.closed;
+        valued = are;
+        written = is;
+        styled = has;
+      };
+      valued = valued.cells
+          ∙ ap (λ (own : List ((ℕ × ℕ) × CellValue)). last_of_each (with_texts grounds.strings own))
+          used;
+      listed = written.cells ∙ ap last_of_each counted;
+      styled = styled named explicit;
+    }
+
+pub held_at : (grounds : Grounds) (palette : List Style) (part : Option (List Event))
+    (values : List ((ℕ × ℕ) × CellValue)) (formulas : List ((ℕ × ℕ) × List ℕ))
+    (ids : List StyledCell) (found : SheetReading)
+    → IsSomeAnd part
+    (λ events. HoldsWanted all_wanted grounds (length palette) events values formulas ids)
+    → IsValueRange FirstNonEmptyRow (with_texts grounds.strings values) found.values
+    → IsFormulaRange formulas found.formulas
+    → ((all : List StyledCell) → ids ≡ filter (is_explicit (length palette)) all
+    → found.styles ≡ styles_of palette all)
+    → IsSomeAnd part (λ events. HoldsSheet grounds palette events (value_pairs found.values)
+    (formula_pairs found.formulas) found.styles)
+held_at grounds palette None values formulas ids found holds valued written styled = holds
+held_at grounds palette (Some events) values formulas ids found holds valued written styled =
+    held grounds palette events values formulas ids found holds valued written styled
 
 -- a workbook that opens, and whose sheet isn't read
 placed_cause : (name : List ℕ) (path : Option (List ℕ)) (grounds : Grounds) (palette : List Style)

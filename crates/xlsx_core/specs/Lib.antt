@@ -1,4 +1,6 @@
 pub mod Agreement
+pub mod Listing
+pub mod Merges
 pub mod Opened
 pub mod SheetReading
 pub mod Worksheets

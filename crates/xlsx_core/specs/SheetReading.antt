@@ -6,7 +6,7 @@ use Rattle.std.specs.declared.alloc.Global.{Global}
 use Rattle.part_events.specs.Event.{Event}
 use Rattle.part_events.specs.Nesting.{whole}
 use Rattle.part_events.specs.Package.{Part, PackageState, part_of}
-use Rattle.cell_data.specs.CellValue.{CellValue, value_of_data}
+use Rattle.cell_data.specs.CellValue.{CellValue, value_of_data, value_of_data_ref}
 use Rattle.cell_refs.specs.Positions.{last_of_each}
 use Rattle.cell_data.specs.Range.{cells_of}
 use Rattle.xlsx_error.specs.declared.error.XlsxError.{XlsxError}
@@ -14,6 +14,7 @@ use Rattle.cell_data.specs.declared.format.CellFormat.{CellFormat}
 use Rattle.xlsx_error.specs.declared.error.XlsxError.TheVariants.{WorksheetNotFound}
 use Rattle.cell_data.specs.declared.range.Range.{Range}
 use Rattle.cell_data.specs.declared.value.Data.{Data}
+use Rattle.cell_data.specs.declared.value.DataRef.{DataRef}
 use Rattle.cell_styles.specs.StyleMap.{StyledCell, StyleMap, styles_of}
 use Rattle.cell_styles.specs.declared.style.Style.{Style}
 use Rattle.xlsx_formats.specs.Formattings.{style_said}
@@ -21,8 +22,7 @@ use Rattle.xlsx_values.specs.Value.{Grounds}
 use Rattle.xlsx_formulas.specs.Formula.{FormulaText}
 use Rattle.xlsx_cells.specs.CellErrors.{IsCellError}
 use Rattle.xlsx_cells.specs.Head.{HeadCause, IsHeadError}
-use Rattle.xlsx_cells.specs.Sheet.{used_values, used_formulas}
-use Rattle.xlsx_cells.specs.Sheet.{formulas_along}
+use Rattle.xlsx_cells.specs.Sheet.{used_values, with_texts, used_formulas, formulas_along}
 use Rattle.xlsx_cells.specs.SheetPart.{SheetPartCause, IsSoundSheet}
 use Rattle.xlsx_cells.specs.declared.children.Wants.{Wants}
 use Rattle.xlsx_workbook.specs.Sheets.{PlacedSheet}
@@ -73,12 +73,19 @@ all_wanted = record { values = true; formulas = true; styles = true }
 abbrev pub with_meaning : {X Y : Type 0} → (X → Y) → (ℕ × ℕ) × X → (ℕ × ℕ) × Y
 with_meaning meaning entry = (entry.0, meaning entry.1)
 
--- the cells of a range as pairs of a position and what they hold
+-- the cells of a range as pairs of a position and what is meant by what they hold
+abbrev pub pairs_by : {X Y : Type 0} → (X → Y) → Range X → List ((ℕ × ℕ) × Y)
+pairs_by meaning range = map (with_meaning meaning) (cells_of range)
+
 abbrev pub value_pairs : Range Data → List ((ℕ × ℕ) × CellValue)
-value_pairs range = map (with_meaning value_of_data) (cells_of range)
+value_pairs range = pairs_by value_of_data range
+
+-- shared strings by their places
+abbrev pub place_pairs : Range DataRef → List ((ℕ × ℕ) × CellValue)
+place_pairs range = pairs_by value_of_data_ref range
 
 abbrev pub formula_pairs : Range (String Global) → List ((ℕ × ℕ) × List ℕ)
-formula_pairs range = map (with_meaning string_bytes) (cells_of range)
+formula_pairs range = pairs_by string_bytes range
 
 -- the part of a sheet is sound, and these are the last value and the last formula at each position,
 -- and the styles of its cells
@@ -90,7 +97,7 @@ pub record HoldsSheet
   pub written : List ((ℕ × ℕ) × List FormulaText)
   pub ids : List StyledCell
   pub sheet : IsSoundSheet grounds events all written ids
-  pub valued : values ≡ last_of_each (used_values grounds.strings all)
+  pub valued : values ≡ last_of_each (with_texts grounds.strings (used_values all))
   pub listed : formulas ≡ last_of_each (used_formulas (formulas_along [] written))
   pub styled : styles ≡ styles_of palette ids
 

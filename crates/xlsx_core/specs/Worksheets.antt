@@ -7,15 +7,16 @@ use Rattle.cell_refs.specs.declared.dimensions.Dimensions.{Dimensions}
 use Rattle.part_events.specs.Event.{Event}
 use Rattle.part_events.specs.Nesting.{whole}
 use Rattle.part_events.specs.Package.{Part, PackageState}
-use Rattle.cell_data.specs.CellValue.{CellValue}
+use Rattle.cell_data.specs.CellValue.{CellValue, nothing, value_of_data, value_of_data_ref}
 use Rattle.cell_refs.specs.Positions.{last_of_each, least_area}
-use Rattle.cell_data.specs.Range.{bounds_of, blank_of}
+use Rattle.cell_data.specs.Range.{cells_of, bounds_of, blank_of}
 use Rattle.xlsx_error.specs.declared.error.XlsxError.{XlsxError}
 use Rattle.xlsx_error.specs.declared.error.XlsxError.TheVariants.{OutOfMemory, Io, NotAWorksheet}
 use Rattle.xlsx_error.specs.declared.error.XlsxError.TheVariants.{WorksheetNotFound}
+use Rattle.cell_data.specs.declared.cell.Cell.{Cell}
 use Rattle.cell_data.specs.declared.range.Range.{Range}
 use Rattle.cell_data.specs.declared.value.Data.{Data}
-use Rattle.cell_data.specs.declared.value.Data.TheVariants.{Empty}
+use Rattle.cell_data.specs.declared.value.DataRef.{DataRef}
 use Rattle.cell_data.specs.declared.value.HeaderRow.{HeaderRow}
 use Rattle.cell_data.specs.declared.value.HeaderRow.TheVariants.{FirstNonEmptyRow, Row}
 use Rattle.cell_styles.specs.StyleMap.{StyledCell, StyleMap, styles_of}
@@ -25,14 +26,16 @@ use Rattle.xlsx_values.specs.Value.{Grounds}
 use Rattle.xlsx_cells.specs.CellErrors.{IsStyledError}
 use Rattle.xlsx_cells.specs.Head.{dimensions_in, HasNoData, HasSoundDimensions, other_in}
 use Rattle.xlsx_cells.specs.Head.{IsHeadError}
-use Rattle.xlsx_cells.specs.SheetPart.{EntersData, HoldsValues, HoldsFormulas}
+use Rattle.xlsx_cells.specs.Sheet.{with_texts}
+use Rattle.xlsx_cells.specs.SheetPart.{EntersData, HoldsValues, HoldsFormulas, SheetPartCause}
 use Rattle.xlsx_cells.specs.Stream.{Stream, IsGoing}
 use Rattle.xlsx_cells.specs.StyleIds.{ids_in, HoldsIds}
 use Rattle.xlsx_cells.specs.declared.children.Wants.{Wants}
 use Rattle.xlsx_core.specs.Opened.{path_listed}
-use Rattle.xlsx_core.specs.SheetReading.{grounds_with, events_at, value_pairs, formula_pairs}
+use Rattle.xlsx_core.specs.SheetReading.{grounds_with, events_at, pairs_by, value_pairs}
+use Rattle.xlsx_core.specs.SheetReading.{formula_pairs}
 use Rattle.xlsx_core.specs.SheetReading.{IsPlacedError}
-use Rattle.xlsx_core.specs.SheetReading.{PlacedSheetFails, PlacedHeadFails}
+use Rattle.xlsx_core.specs.SheetReading.{PlacedCause, PlacedSheetFails, PlacedHeadFails}
 use Rattle.xlsx_core.specs.declared.sheet_reading.SheetReading.{SheetReading}
 use Rattle.xlsx_core.specs.declared.xlsx.Xlsx.{Xlsx}
 
@@ -50,13 +53,18 @@ grounds_of_book xlsx =
 abbrev pub palette_of_book : {P : Type 0} → Xlsx P → List Style
 palette_of_book xlsx = xlsx.shared.style_sheet.styles.items
 
--- a call keeps all of a workbook but its package
-pub record KeepsWorkbook {P : Type 0} (old new : Xlsx P) : Type 0 where
+-- a call keeps what a workbook was opened as, and its header row
+pub record KeepsBook {P : Type 0} (old new : Xlsx P) : Type 0 where
   pub metadata : new.metadata ≡ old.metadata
   pub paths : new.paths ≡ old.paths
   pub shared : new.shared ≡ old.shared
   pub is_1904 : new.is_1904 ≡ old.is_1904
   pub header_row : new.header_row ≡ old.header_row
+
+-- a call keeps all of a workbook but its package
+pub record KeepsWorkbook {P : Type 0} (old new : Xlsx P) : Type 0 where
+  pub book : KeepsBook old new
+  pub lists : new.lists ≡ old.lists
 
 -- another header row, and all else as it was
 pub record SetsHeaderRow {P : Type 0} (header : HeaderRow) (old new : Xlsx P) : Type 0 where
@@ -66,6 +74,7 @@ pub record SetsHeaderRow {P : Type 0} (header : HeaderRow) (old new : Xlsx P) : 
   pub shared : new.shared ≡ old.shared
   pub is_1904 : new.is_1904 ≡ old.is_1904
   pub header_row : new.header_row ≡ header
+  pub lists : new.lists ≡ old.lists
 
 -- the head of a sheet's part is sound, and its data are this section, which is closed
 pub record HasSheetData (events : List Event) (section : PartSection) : Type 0 where
@@ -129,6 +138,13 @@ abbrev pub AnswersFormulas : List Event → List ((ℕ × ℕ) × List ℕ) → 
 AnswersFormulas events formulas =
     HasFormulas events formulas ⊎ (IsNoWorksheet events × (formulas ≡ []))
 
+-- cells as pairs of a position and what they hold
+abbrev pub data_entry : Cell Data → (ℕ × ℕ) × CellValue
+data_entry own = (own.pos, value_of_data own.val)
+
+abbrev pub data_entries : List (Cell Data) → List ((ℕ × ℕ) × CellValue)
+data_entries cells = map data_entry cells
+
 -- what stands in a row from this one on
 abbrev pub from_row : {X : Type 0} → ℕ → List ((ℕ × ℕ) × X) → List ((ℕ × ℕ) × X)
 from_row row cells = filter (λ cell. nat_le row cell.0.0) cells
@@ -148,19 +164,34 @@ abbrev pub header_area : HeaderRow → Option Dimensions → Option Dimensions
 header_area FirstNonEmptyRow area = area
 header_area (Row row) area = area_from row area
 
--- the range of these values under a header row: the last of each position
-pub record IsValueRange
-    (header : HeaderRow) (values : List ((ℕ × ℕ) × CellValue)) (range : Range Data) : Type 0 where
-  pub cells : value_pairs range ≡ last_of_each (below_header header values)
-  pub bounds : bounds_of range ≡ header_area header (least_area (below_header header values))
-  pub blank : blank_of range ≡ Empty
+-- the range of these cells under a header row: the last of each position, and elsewhere another
+-- value
+pub record IsRangeFrom
+    {X : Type 0} (header : HeaderRow) (placed : List ((ℕ × ℕ) × X)) (other : X)
+    (range : Range X) : Type 0 where
+  pub cells : cells_of range ≡ last_of_each (below_header header placed)
+  pub bounds : bounds_of range ≡ header_area header (least_area (below_header header placed))
+  pub blank : blank_of range ≡ other
+
+-- the range of what is meant by cells
+pub record IsRangeOf
+    {X Y : Type 0} (meaning : X → Y) (header : HeaderRow) (meant : List ((ℕ × ℕ) × Y)) (other : Y)
+    (range : Range X) : Type 0 where
+  pub cells : pairs_by meaning range ≡ last_of_each (below_header header meant)
+  pub bounds : bounds_of range ≡ header_area header (least_area (below_header header meant))
+  pub blank : meaning (blank_of range) ≡ other
+
+-- the range of these values
+abbrev pub IsValueRange : HeaderRow → List ((ℕ × ℕ) × CellValue) → Range Data → Type 0
+IsValueRange header values range = IsRangeOf value_of_data header values nothing range
+
+-- and with shared strings by their places
+abbrev pub IsPlaceRange : HeaderRow → List ((ℕ × ℕ) × CellValue) → Range DataRef → Type 0
+IsPlaceRange header values range = IsRangeOf value_of_data_ref header values nothing range
 
 -- the range of these formulas
-pub record IsFormulaRange
-    (formulas : List ((ℕ × ℕ) × List ℕ)) (range : Range (String Global)) : Type 0 where
-  pub cells : formula_pairs range ≡ last_of_each formulas
-  pub bounds : bounds_of range ≡ least_area formulas
-  pub blank : string_bytes (blank_of range) ≡ []
+abbrev pub IsFormulaRange : List ((ℕ × ℕ) × List ℕ) → Range (String Global) → Type 0
+IsFormulaRange formulas range = IsRangeOf string_bytes FirstNonEmptyRow formulas [] range
 
 -- the ranges of a sheet have the least areas that have their own cells, and nothing elsewhere
 abbrev pub HasLeastRanges : SheetReading → Type 0
@@ -168,13 +199,26 @@ HasLeastRanges found =
     IsValueRange FirstNonEmptyRow (value_pairs found.values) found.values
     × IsFormulaRange (formula_pairs found.formulas) found.formulas
 
--- the values of the sheet whose part is at a path
+-- the values of the sheet whose part is at a path, of which a fact holds
+abbrev pub ReadsUsed :
+    Grounds → Option (List ℕ) → List Part → (List ((ℕ × ℕ) × CellValue) → Type 0) → Type 0
+ReadsUsed grounds path parts fact =
+    IsSomeAnd (events_at path parts)
+    (λ events. (values : List ((ℕ × ℕ) × CellValue)) × AnswersValues grounds events values
+    × fact values)
+
+-- its values, with the texts of shared strings
 abbrev pub ReadsValues :
     Grounds → HeaderRow → Option (List ℕ) → List Part → Range Data → Type 0
 ReadsValues grounds header path parts range =
-    IsSomeAnd (events_at path parts)
-    (λ events. (values : List ((ℕ × ℕ) × CellValue)) × AnswersValues grounds events values
-    × IsValueRange header values range)
+    ReadsUsed grounds path parts
+    (λ values. IsValueRange header (with_texts grounds.strings values) range)
+
+-- and with shared strings by their places
+abbrev pub ReadsPlaces :
+    Grounds → HeaderRow → Option (List ℕ) → List Part → Range DataRef → Type 0
+ReadsPlaces grounds header path parts range =
+    ReadsUsed grounds path parts (λ values. IsPlaceRange header values range)
 
 -- and its formulas
 abbrev pub ReadsFormulas : Option (List ℕ) → List Part → Range (String Global) → Type 0
@@ -199,6 +243,17 @@ abbrev pub RangeFails :
 RangeFails name wants grounds path old new (NotAWorksheet other) = ⊥
 RangeFails name wants grounds path old new error =
     PlacedSheetFails name wants grounds path old new error
+
+-- why a range isn't read of a part: that it is no worksheet is no reason
+abbrev pub RangePartCause : Wants → Grounds → List Event → XlsxError → Type 0
+RangePartCause wants grounds events (NotAWorksheet other) = ⊥
+RangePartCause wants grounds events error = SheetPartCause wants grounds events error
+
+-- why the range of the sheet of this name isn't read, whose part is at a path
+abbrev pub RangeCause :
+    List ℕ → Wants → Grounds → Option (List ℕ) → List Part → XlsxError → Type 0
+RangeCause name wants grounds path parts error =
+    PlacedCause name path (RangePartCause wants grounds) parts error
 
 abbrev pub IsRangeError : List ℕ → XlsxError → Type 0
 IsRangeError name (NotAWorksheet other) = ⊥

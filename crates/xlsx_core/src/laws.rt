@@ -1,14 +1,29 @@
-ghost use Rattle.std.specs.Prelude.{◌≡◌, ℕ, List};
+ghost use Rattle.std.specs.Prelude.{◌≡◌, ℕ, List, Option};
 ghost use Rattle.part_events.specs.Package.{Part};
 ghost use Rattle.cell_data.specs.CellValue.{CellValue};
 ghost use Rattle.cell_data.specs.Range.{bounds_of};
+ghost use Rattle.cell_data.specs.declared.range.Range.{Range};
+ghost use Rattle.cell_data.specs.declared.value.Data.{Data};
+ghost use Rattle.cell_data.specs.declared.value.DataRef.{DataRef};
+ghost use Rattle.cell_data.specs.declared.value.HeaderRow.{HeaderRow};
 ghost use Rattle.xlsx_error.specs.declared.error.XlsxError.{XlsxError};
 ghost use Rattle.cell_styles.specs.StyleMap.{StyleMap};
 ghost use Rattle.xlsx_core.specs.Agreement.{HaveSameSheet};
 ghost use Rattle.xlsx_core.specs.SheetReading.{SayTheSame, ReadsAs, IsReadable, SheetCause};
-ghost use Rattle.xlsx_core.specs.SheetReading.{value_pairs, formula_pairs};
-ghost use Rattle.xlsx_core.specs.Worksheets.{HasLeastRanges};
+ghost use Rattle.xlsx_core.specs.SheetReading.{PlacedCause};
+ghost use Rattle.xlsx_core.specs.SheetReading.{value_pairs, place_pairs, formula_pairs};
+ghost use Rattle.xlsx_core.specs.Listing.{IsListedAs, IsLeftOut};
+ghost use Rattle.xlsx_core.specs.Worksheets.{HasLeastRanges, ReadsValues, ReadsPlaces};
+ghost use Rattle.xlsx_core.specs.Worksheets.{ReadsFormulas, ReadsStyles, RangeCause};
+ghost use Rattle.xlsx_cells.specs.CellsReader.{values_alone, formulas_alone, styles_alone};
+ghost use Rattle.xlsx_cells.specs.SheetPart.{SheetPartCause};
+ghost use Rattle.cell_styles.specs.declared.style.Style.{Style};
+ghost use Rattle.std.specs.Prelude.{String};
+ghost use Rattle.std.specs.declared.alloc.Global.{Global};
+ghost use Rattle.xlsx_workbook.specs.declared.sheet.Sheet.{Sheet};
 ghost use Rattle.xlsx_core.specs.declared.sheet_reading.SheetReading.{SheetReading};
+ghost use Rattle.xlsx_cells.specs.Sheet.{with_texts};
+ghost use Rattle.xlsx_values.specs.Value.{Grounds};
 
 /// A sheet that can be read has no cause to be refused.
 pub fn readable_sheets_are_not_refused()
@@ -46,4 +61,43 @@ pub fn sheets_go_by_their_parts()
         HaveSameSheet one two name → ReadsAs one name values formulas styles →
         ReadsAs two name others more again →
         (values ≡ others) × (formulas ≡ more) × SayTheSame styles again }
+{}
+
+/// Of one sheet the range of values is the range with shared strings by their places, with the
+/// texts put in, in the same area.
+pub fn ranges_differ_by_texts()
+    ensures { (grounds : Grounds) (header : HeaderRow) (path : Option (List ℕ))
+        (parts : List Part) (one : Range DataRef) (two : Range Data) →
+        ReadsPlaces grounds header path parts one → ReadsValues grounds header path parts two →
+        (value_pairs two ≡ with_texts grounds.strings (place_pairs one))
+        × (bounds_of two ≡ bounds_of one) }
+{}
+
+/// What is read of a worksheet of an open workbook has no cause to be refused, whatever the rest of
+/// its cells says: formulas at fault are no cause for values, and so on.
+pub fn worksheets_that_are_read_are_not_refused()
+    ensures values { (grounds : Grounds) (header : HeaderRow) (name : List ℕ)
+        (path : Option (List ℕ)) (parts : List Part) (range : Range Data) (error : XlsxError) →
+        ReadsValues grounds header path parts range →
+        RangeCause name values_alone grounds path parts error → ⊥ }
+    ensures places { (grounds : Grounds) (header : HeaderRow) (name : List ℕ)
+        (path : Option (List ℕ)) (parts : List Part) (range : Range DataRef)
+        (error : XlsxError) → ReadsPlaces grounds header path parts range →
+        RangeCause name values_alone grounds path parts error → ⊥ }
+    ensures formulas { (grounds : Grounds) (name : List ℕ) (path : Option (List ℕ))
+        (parts : List Part) (range : Range (String Global)) (error : XlsxError) →
+        ReadsFormulas path parts range →
+        RangeCause name formulas_alone grounds path parts error → ⊥ }
+    ensures styles { (grounds : Grounds) (palette : List Style) (name : List ℕ)
+        (path : Option (List ℕ)) (parts : List Part) (styles : StyleMap) (error : XlsxError) →
+        ReadsStyles palette path parts styles →
+        PlacedCause name path (SheetPartCause styles_alone grounds) parts error → ⊥ }
+{}
+
+/// No sheet that is listed with its range is one that is left out.
+pub fn worksheets_are_listed_or_left_out()
+    ensures { (grounds : Grounds) (header : HeaderRow) (place : List ℕ → Option (List ℕ))
+        (parts : List Part) (sheet : Sheet) (listed : String Global × Range Data) →
+        IsListedAs grounds header place parts sheet listed →
+        IsLeftOut grounds place parts sheet → ⊥ }
 {}

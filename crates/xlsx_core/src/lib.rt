@@ -2,16 +2,26 @@
 #![tactic(auto)]
 
 mod laws;
+mod lists;
+mod merges;
 mod placed_sheet;
+mod properties;
 mod ranges;
 mod sheet_reading;
+mod worksheet_list;
 mod worksheets;
 mod xlsx;
 
-pub use laws::{readable_sheets_are_not_refused, sheets_are_read_alike, sheets_go_by_their_parts};
+pub use laws::{
+    ranges_differ_by_texts, readable_sheets_are_not_refused, sheets_are_read_alike,
+    sheets_go_by_their_parts, worksheets_are_listed_or_left_out,
+    worksheets_that_are_read_are_not_refused,
+};
 pub use sheet_reading::{SheetAnswer, SheetReading, read_sheet};
 pub use xlsx::{OpenFailure, Xlsx};
+pub use xlsx_areas::{MergedRegion, MergedRegions};
 pub use xlsx_cells::{SheetCursor, XlsxCellFormula, XlsxCellFormulaMetadataRecord, XlsxCellReader};
 pub use xlsx_error::XlsxError;
 pub use xlsx_formulas::XlsxFormulaMetadata;
 pub use xlsx_open::{Metadata, Sheet, SheetType, SheetVisible};
+pub use xlsx_properties::{Property, WorkbookProperties};

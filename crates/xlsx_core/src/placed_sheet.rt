@@ -1,24 +1,30 @@
 ghost use Rattle.std.specs.Prelude.{◌≡◌, true, false, option_map, IfOk, OnOk, IfErr, IsSomeAnd};
+ghost use Rattle.std.specs.Prelude.{length, map, string_bytes};
 ghost use Rattle.std.specs.Option.{option_copied};
 ghost use Rattle.part_events.specs.Package.{SameParts, KeepsFaults};
 ghost use Rattle.xlsx_error.specs.declared.error.XlsxError.TheVariants.{Io};
 ghost use Rattle.xlsx_values.specs.Book.{grounds_of};
 ghost use Rattle.xlsx_cells.specs.SheetPart.{EntersData, value_entries, formula_entries};
 ghost use Rattle.xlsx_cells.specs.SheetPart.{LieInSheet};
+ghost use Rattle.xlsx_cells.specs.CellsReader.{values_alone};
 ghost use Rattle.xlsx_cells.specs.Ends.{reads_children};
 ghost use Rattle.xlsx_cells.specs.Stream.{stream};
 ghost use Rattle.xlsx_core.specs.Opened.{path_listed};
-ghost use Rattle.xlsx_core.specs.SheetReading.{events_at};
+ghost use Rattle.xlsx_core.specs.SheetReading.{events_at, grounds_with};
 ghost use Rattle.xlsx_core.specs.SheetReading.{PlacedHeadFails, PlacedSheetFails};
 ghost use Rattle.xlsx_core.specs.SheetReading.{IsPlacedHeadError, IsPlacedError};
-ghost use Rattle.xlsx_core.specs.Worksheets.{HoldsWanted, IsStyleRangeError};
+ghost use Rattle.xlsx_core.specs.Worksheets.{HoldsWanted, IsStyleRangeError, AnswersCells};
+ghost use Rattle.xlsx_core.specs.Worksheets.{ReadsValues, RangeFails, IsRangeError};
 
+use crate::ranges::value_range;
+use cell_data::{Data, HeaderRow, Range};
 use cell_refs::Dimensions;
 use part_events::Package;
 use std::alloc::Global;
-use xlsx_cells::{Asked, SheetCells, SheetCursor, collect, open_data};
+use xlsx_cells::{Asked, SheetCells, SheetCursor, Wants, collect, open_data};
 use xlsx_error::XlsxError;
-use xlsx_open::Sheet;
+use xlsx_open::{SharedParts, Sheet};
+use xlsx_values::Book;
 
 /// The path of the part of the first sheet of this name.
 pub fn path_named<'a>(sheets: &[Sheet], paths: &'a [String], name: &str) -> Option<&'a str>
@@ -96,4 +102,91 @@ pub fn read_placed<P: Package>(
     let (sheet, _) = open_placed(alloc, package, path, name)?;
     let mut sheet = sheet;
     collect(alloc, package, &mut sheet, asked)
+}
+
+/// What is asked for of a sheet, over what the sheets share.
+pub fn asked_of(shared: &SharedParts, is_1904: bool, wants: Wants) -> Asked<'_>
+    ensures grounds { grounds_of result.book ≡ grounds_with
+        (map string_bytes shared.now.strings.items) shared.now.style_sheet.formats.items is_1904 }
+    ensures wants { result.wants ≡ wants }
+    ensures count { result.style_count ≡ length shared.now.style_sheet.styles.items }
+    ensures keeps { result.keeps_masters ≡ true }
+{
+    let book = Book {
+        strings: &shared.strings,
+        formats: &shared.style_sheet.formats,
+        is_1904,
+    };
+    Asked {
+        wants,
+        book,
+        style_count: shared.style_sheet.styles.len(),
+        keeps_masters: true,
+    }
+}
+
+/// The same as `read_placed`, and nothing where the part is no worksheet.
+pub fn read_range<P: Package>(
+    alloc: Global,
+    package: &mut P,
+    path: Option<&str>,
+    name: &str,
+    asked: Asked<'_>,
+) -> Result<SheetCells, XlsxError>
+    ensures keeps { SameParts (P.state «package».old) (P.state «package».new) }
+    ensures faults { OnOk result
+        ((P.state «package».new).faults ≡ (P.state «package».old).faults) }
+    ensures inside { IfOk result (λ cells.
+        LieInSheet cells.values.items cells.formulas.items cells.style_ids.items) }
+    ensures reads { let old = P.state «package».old in
+        let wants = asked.entry.wants in
+        let grounds = grounds_of asked.entry.book in
+        let path = option_copied path.entry in
+        let count = asked.entry.style_count in
+        old.is_told ≡ true → IfOk result (λ cells. IsSomeAnd (events_at path old.parts)
+        (AnswersCells wants grounds count (value_entries cells.values.items)
+        (formula_entries cells.formulas.items) cells.style_ids.items)) }
+    ensures err { IfErr result (RangeFails name.now asked.entry.wants
+        (grounds_of asked.entry.book) (option_copied path.entry) (P.state «package».old)
+        (P.state «package».new)) }
+    ensures counts { IfErr result
+        (KeepsFaults Io (P.state «package».old) (P.state «package».new)) }
+    ensures kind { IfErr result (IsRangeError name.now) }
+{
+    match read_placed(alloc, package, path, name, asked) {
+        Ok(cells) => Ok(cells),
+        Err(XlsxError::NotAWorksheet(_)) => Ok(SheetCells {
+            values: Vec::new(alloc),
+            formulas: Vec::new(alloc),
+            style_ids: Vec::new(alloc),
+        }),
+        Err(error) => Err(error),
+    }
+}
+
+/// The range of values of the sheet of this name, whose part is at this path.
+pub fn read_values<P: Package>(
+    alloc: Global,
+    package: &mut P,
+    path: Option<&str>,
+    name: &str,
+    asked: Asked<'_>,
+    header_row: HeaderRow,
+) -> Result<Range<Data>, XlsxError>
+    requires { asked.wants ≡ values_alone }
+    ensures keeps { SameParts (P.state «package».old) (P.state «package».new) }
+    ensures faults { OnOk result
+        ((P.state «package».new).faults ≡ (P.state «package».old).faults) }
+    ensures reads { let old = P.state «package».old in
+        let path = option_copied path.entry in
+        old.is_told ≡ true → IfOk result
+        (ReadsValues (grounds_of asked.entry.book) header_row path old.parts) }
+    ensures err { IfErr result (RangeFails name.now values_alone (grounds_of asked.entry.book)
+        (option_copied path.entry) (P.state «package».old) (P.state «package».new)) }
+    ensures counts { IfErr result
+        (KeepsFaults Io (P.state «package».old) (P.state «package».new)) }
+    ensures kind { IfErr result (IsRangeError name.now) }
+{
+    let cells = read_range(alloc, package, path, name, asked)?;
+    Ok(value_range(alloc, cells.values, asked.book.strings, header_row)?)
 }

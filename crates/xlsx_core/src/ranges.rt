@@ -1,31 +1,35 @@
-ghost use Rattle.std.specs.Prelude.{◌≡◌, List, length, filter, IfOk, All};
-ghost use Rattle.cell_data.specs.Cells.{IsInSheet};
+ghost use Rattle.std.specs.Prelude.{◌≡◌, List, length, filter, map, string_bytes, IfOk, All};
+ghost use Rattle.cell_data.specs.Cells.{IsInSheet, placed_cells};
 ghost use Rattle.cell_data.specs.declared.value.HeaderRow.TheVariants.{FirstNonEmptyRow};
 ghost use Rattle.cell_styles.specs.StyleMap.{StyledCell, IsOnSheet, is_explicit, styles_of};
+ghost use Rattle.xlsx_cells.specs.Sheet.{with_texts};
 ghost use Rattle.xlsx_cells.specs.SheetPart.{value_entries, formula_entries, LieInSheet};
-ghost use Rattle.xlsx_core.specs.Worksheets.{IsValueRange, IsFormulaRange};
+ghost use Rattle.xlsx_core.specs.Worksheets.{IsRangeFrom, IsValueRange, IsPlaceRange};
+ghost use Rattle.xlsx_core.specs.Worksheets.{IsFormulaRange, data_entries};
 
 use crate::sheet_reading::SheetReading;
-use cell_data::{Cell, Data, HeaderRow, Range};
+use cell_data::{Cell, Data, DataRef, HeaderRow, Range};
 use cell_styles::{Style, StyleRange, copied_palette};
 use std::alloc::{AllocError, Global};
 use xlsx_cells::SheetCells;
+use xlsx_values::to_data;
 
 /// The range of the cells from the header row on, which begins with that row where it has a cell.
-pub fn value_range(
+fn range_below<T: Drop>(
     alloc: Global,
-    cells: Vec<Cell<Data>>,
+    cells: Vec<Cell<T>>,
     header_row: HeaderRow,
-) -> Result<Range<Data>, AllocError>
+    blank: T,
+) -> Result<Range<T>, AllocError>
     requires { All IsInSheet cells.items }
-    ensures { IfOk result (IsValueRange header_row (value_entries cells.items)) }
+    ensures { IfOk result (IsRangeFrom header_row (placed_cells cells.items) blank) }
 {
     let HeaderRow::Row(first) = header_row else {
-        return Range::from_sparse(alloc, cells, Data::Empty);
+        return Range::from_sparse(alloc, cells, blank);
     };
     let mut cells = cells;
     cells.retain(|cell| first <= cell.pos.0);
-    let range = Range::from_sparse(alloc, cells, Data::Empty)?;
+    let range = Range::from_sparse(alloc, cells, blank)?;
     let Some(start) = range.start() else {
         return Ok(range);
     };
@@ -35,12 +39,62 @@ pub fn value_range(
     Ok(range.range((first, start.1), end))
 }
 
+/// The cells with the texts of shared strings in place of their places.
+fn with_texts(
+    alloc: Global,
+    cells: Vec<Cell<DataRef>>,
+    strings: &[String],
+) -> Result<Vec<Cell<Data>>, AllocError>
+    requires { All IsInSheet cells.items }
+    ensures texts { IfOk result (λ own. data_entries own.items
+        ≡ with_texts (map string_bytes strings.now) (value_entries cells.items)) }
+    ensures inside { IfOk result (λ own. All IsInSheet own.items) }
+{
+    let mut own = Vec::with_capacity(alloc, cells.len())?;
+    'cells: for cell in cells {
+        own.push(Cell::new(cell.pos, to_data(alloc, cell.val, strings)?))?;
+    }
+    Ok(own)
+}
+
+/// The range of the values from the header row on, with the texts of shared strings.
+pub fn value_range(
+    alloc: Global,
+    cells: Vec<Cell<DataRef>>,
+    strings: &[String],
+    header_row: HeaderRow,
+) -> Result<Range<Data>, AllocError>
+    requires { All IsInSheet cells.items }
+    ensures { IfOk result (IsValueRange header_row
+        (with_texts (map string_bytes strings.now) (value_entries cells.items))) }
+{
+    let own = with_texts(alloc, cells, strings)?;
+    range_below(alloc, own, header_row, Data::Empty)
+}
+
+/// The same, with shared strings by their places.
+pub fn place_range(
+    alloc: Global,
+    cells: Vec<Cell<DataRef>>,
+    header_row: HeaderRow,
+) -> Result<Range<DataRef>, AllocError>
+    requires { All IsInSheet cells.items }
+    ensures { IfOk result (IsPlaceRange header_row (value_entries cells.items)) }
+{
+    range_below(alloc, cells, header_row, DataRef::Empty)
+}
+
 /// The range of the formulas.
 pub fn formula_range(alloc: Global, cells: Vec<Cell<String>>) -> Result<Range<String>, AllocError>
     requires { All IsInSheet cells.items }
     ensures { IfOk result (IsFormulaRange (formula_entries cells.items)) }
 {
-    Range::from_sparse(alloc, cells, String::new(alloc))
+    range_below(
+        alloc,
+        cells,
+        HeaderRow::FirstNonEmptyRow,
+        String::new(alloc),
+    )
 }
 
 /// The styles of the entries, each a row, a column and a style id, over these styles. Entries that
@@ -80,11 +134,13 @@ pub fn copied_style_range(
 pub fn ranges_of(
     alloc: Global,
     cells: SheetCells,
+    strings: &[String],
     styles: Vec<Style>,
 ) -> Result<SheetReading, AllocError>
     requires { LieInSheet cells.values.items cells.formulas.items cells.style_ids.items }
-    ensures values { IfOk result (λ found.
-        IsValueRange FirstNonEmptyRow (value_entries cells.values.items) found.values) }
+    ensures values { IfOk result (λ found. IsValueRange FirstNonEmptyRow
+        (with_texts (map string_bytes strings.now) (value_entries cells.values.items))
+        found.values) }
     ensures formulas { IfOk result (λ found.
         IsFormulaRange (formula_entries cells.formulas.items) found.formulas) }
     ensures styles { (all : List StyledCell) →
@@ -92,7 +148,7 @@ pub fn ranges_of(
         IfOk result (λ found. found.styles ≡ styles_of styles.items all) }
 {
     Ok(SheetReading {
-        values: value_range(alloc, cells.values, HeaderRow::FirstNonEmptyRow)?,
+        values: value_range(alloc, cells.values, strings, HeaderRow::FirstNonEmptyRow)?,
         formulas: formula_range(alloc, cells.formulas)?,
         styles: style_range(alloc, cells.style_ids, styles)?,
     })

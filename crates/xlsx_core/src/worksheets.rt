@@ -11,21 +11,24 @@ ghost use Rattle.xlsx_core.specs.SheetReading.{all_wanted, events_at, PlacedShee
 ghost use Rattle.xlsx_core.specs.SheetReading.{PlacedHeadFails};
 ghost use Rattle.xlsx_core.specs.SheetReading.{IsPlacedHeadError, IsPlacedError, ReadsPlaced};
 ghost use Rattle.xlsx_core.specs.Worksheets.{path_of, grounds_of_book, KeepsWorkbook, HoldsWanted};
-ghost use Rattle.xlsx_core.specs.Worksheets.{AnswersCells, ReadsValues, ReadsFormulas, RangeFails};
+ghost use Rattle.xlsx_core.specs.Worksheets.{AnswersCells, ReadsValues, ReadsPlaces};
+ghost use Rattle.xlsx_core.specs.Worksheets.{ReadsFormulas, RangeFails};
 ghost use Rattle.xlsx_core.specs.Worksheets.{IsRangeError, EntersSheet, ReaderFails, ReadsStyles};
 ghost use Rattle.xlsx_core.specs.Worksheets.{IsStyleRangeError, palette_of_book, HasLeastRanges};
 
-use crate::placed_sheet::{open_placed, path_named, read_placed};
-use crate::ranges::{copied_style_range, formula_range, ranges_of, value_range};
+use crate::placed_sheet::{
+    asked_of, open_placed, path_named, read_placed, read_range, read_values,
+};
+use crate::ranges::{copied_style_range, formula_range, place_range, ranges_of};
 use crate::sheet_reading::SheetAnswer;
 use crate::xlsx::Xlsx;
-use cell_data::{Data, Range};
+use cell_data::{Data, DataRef, Range};
 use cell_refs::Dimensions;
 use cell_styles::StyleRange;
 use part_events::Package;
-use xlsx_cells::{Asked, SheetCells, SheetCursor, Wants, XlsxCellReader};
+use xlsx_cells::{SheetCells, SheetCursor, Wants, XlsxCellReader};
 use xlsx_error::XlsxError;
-use xlsx_values::Book;
+use xlsx_open::SharedParts;
 
 /// Reading the worksheets of an open workbook.
 impl<P: Package> Xlsx<P> {
@@ -52,17 +55,7 @@ impl<P: Package> Xlsx<P> {
         ensures plain { reads_children wants ≡ false → IfErr result (IsStyleRangeError name.now) }
     {
         let path = path_named(&self.metadata.sheets, &self.paths, name);
-        let book = Book {
-            strings: &self.shared.strings,
-            formats: &self.shared.style_sheet.formats,
-            is_1904: self.is_1904,
-        };
-        let asked = Asked {
-            wants,
-            book,
-            style_count: self.shared.style_sheet.styles.len(),
-            keeps_masters: true,
-        };
+        let asked = asked_of(&self.shared, self.is_1904, wants);
         read_placed(self.alloc, &mut self.package, path, name, asked)
     }
 
@@ -98,7 +91,11 @@ impl<P: Package> Xlsx<P> {
             alloc,
             ..
         } = xlsx;
-        let style_sheet = shared.style_sheet;
+        let SharedParts {
+            strings,
+            style_sheet,
+            ..
+        } = shared;
         let cells = match found {
             Ok(cells) => cells,
             Err(error) => return SheetAnswer {
@@ -106,7 +103,7 @@ impl<P: Package> Xlsx<P> {
                 package,
             },
         };
-        match ranges_of(alloc, cells, style_sheet.styles) {
+        match ranges_of(alloc, cells, &strings, style_sheet.styles) {
             Ok(ranges) => SheetAnswer {
                 result: Ok(ranges),
                 package,
@@ -139,15 +136,9 @@ impl<P: Package> Xlsx<P> {
             (KeepsFaults Io (P.state self.old.package) (P.state self.new.package)) }
         ensures kind { IfErr result (IsRangeError name.now) }
     {
-        match self.placed_cells(name, wants) {
-            Ok(cells) => Ok(cells),
-            Err(XlsxError::NotAWorksheet(_)) => Ok(SheetCells {
-                values: Vec::new(self.alloc),
-                formulas: Vec::new(self.alloc),
-                style_ids: Vec::new(self.alloc),
-            }),
-            Err(error) => Err(error),
-        }
+        let path = path_named(&self.metadata.sheets, &self.paths, name);
+        let asked = asked_of(&self.shared, self.is_1904, wants);
+        read_range(self.alloc, &mut self.package, path, name, asked)
     }
 
     /// The values of the first sheet of this name (ECMA-376 part 1, 18.3.1.80) that aren't empty:
@@ -177,8 +168,36 @@ impl<P: Package> Xlsx<P> {
             formulas: false,
             styles: false,
         };
+        let path = path_named(&self.metadata.sheets, &self.paths, name);
+        let asked = asked_of(&self.shared, self.is_1904, wants);
+        let header_row = self.header_row;
+        read_values(self.alloc, &mut self.package, path, name, asked, header_row)
+    }
+
+    /// The values that `worksheet_range` answers, with shared strings by their places, whose texts
+    /// `shared_string` has. Refused as `worksheet_range` is.
+    pub fn worksheet_range_ref(&mut self, name: &str) -> Result<Range<DataRef>, XlsxError>
+        ensures keeps { SameParts (P.state self.old.package) (P.state self.new.package) }
+        ensures rest { KeepsWorkbook self.old self.new }
+        ensures faults { OnOk result
+            ((P.state self.new.package).faults ≡ (P.state self.old.package).faults) }
+        ensures reads { let old = P.state self.old.package in
+            let path = path_of self.old name.now in
+            old.is_told ≡ true → IfOk result
+            (ReadsPlaces (grounds_of_book self.old) self.old.header_row path old.parts) }
+        ensures err { IfErr result (RangeFails name.now values_alone (grounds_of_book self.old)
+            (path_of self.old name.now) (P.state self.old.package) (P.state self.new.package)) }
+        ensures counts { IfErr result
+            (KeepsFaults Io (P.state self.old.package) (P.state self.new.package)) }
+        ensures kind { IfErr result (IsRangeError name.now) }
+    {
+        let wants = Wants {
+            values: true,
+            formulas: false,
+            styles: false,
+        };
         let cells = self.worksheet_cells(name, wants)?;
-        Ok(value_range(self.alloc, cells.values, self.header_row)?)
+        Ok(place_range(self.alloc, cells.values, self.header_row)?)
     }
 
     /// The formulas of the first sheet of this name (18.3.1.40) that aren't empty, without `=`: the

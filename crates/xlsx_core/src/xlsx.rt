@@ -1,10 +1,11 @@
-ghost use Rattle.std.specs.Prelude.{◌≡◌, true, map, option_map, slice_get, string_bytes};
+ghost use Rattle.std.specs.Prelude.{◌≡◌, true, None, map, option_map, slice_get, string_bytes};
 ghost use Rattle.std.specs.Prelude.{MatchResult, IfOk, IfErr};
 ghost use Rattle.xlsx_error.specs.declared.error.XlsxError.TheVariants.{Io};
 ghost use Rattle.xlsx_open.specs.Opening.{Opening, HoldsOpening, OpensAs, OpensSoundly};
 ghost use Rattle.xlsx_open.specs.Opening.{IsOpeningError, OpensFrom, FailsToOpen, OpeningFails};
 ghost use Rattle.xlsx_sections.specs.Failing.{SoundFails};
 
+use crate::lists::Lists;
 use cell_data::HeaderRow;
 use cell_styles::Style;
 use part_events::Package;
@@ -21,6 +22,7 @@ pub struct Xlsx<P: Package> {
     pub(crate) shared: SharedParts,
     pub(crate) is_1904: bool,
     pub(crate) header_row: HeaderRow,
+    pub(crate) lists: Lists,
     pub(crate) alloc: Global,
 }
 
@@ -59,6 +61,8 @@ impl<P: Package> Xlsx<P> {
             × HoldsOpening xlsx.metadata xlsx.paths.items xlsx.shared xlsx.is_1904 opening
             × OpensAs old.parts opening) }
         ensures header_row { IfOk result (λ xlsx. xlsx.header_row ≡ FirstNonEmptyRow) }
+        ensures regions { IfOk result (λ xlsx. xlsx.lists.regions ≡ None) }
+        ensures properties { IfOk result (λ xlsx. xlsx.lists.properties ≡ None) }
         ensures err { IfErr result (λ failure.
             OpeningFails (P.state «package») (P.state failure.package) failure.error) }
         ensures kind { IfErr result (λ failure. IsOpeningError failure.error) }
@@ -75,6 +79,7 @@ impl<P: Package> Xlsx<P> {
                 shared: opened.shared,
                 is_1904: opened.is_1904,
                 header_row: HeaderRow::FirstNonEmptyRow,
+                lists: Lists::new(),
                 alloc,
             }),
             Err(error) => Err(OpenFailure { error, package }),
@@ -102,6 +107,7 @@ impl<P: Package> Xlsx<P> {
             shared: _,
             is_1904: _,
             header_row: _,
+            lists: _,
             alloc: _,
         } = self;
         package

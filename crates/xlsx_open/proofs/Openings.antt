@@ -5,6 +5,7 @@ use Rattle.std.proofs.Common.{arith, codes, string_bytes, String, Global}
 use Rattle.std.specs.Prelude.{option_and_then, unwrap_or, IsSomeAnd, MatchOption, OnOk}
 use Rattle.part_events.specs.Package.{Part, PackageState, SameParts, UsesPackage, LeavesPackage}
 use Rattle.part_events.specs.Package.{Uses, CountsUp, part_of, event_count}
+use Rattle.part_events.proofs.Uses.{uses_then, leaves_then}
 use Rattle.xlsx_error.specs.declared.error.XlsxError.{XlsxError}
 use Rattle.xlsx_error.specs.declared.error.XlsxError.TheVariants.{Io}
 use Rattle.cell_styles.specs.declared.color.Color.{Color}
@@ -36,43 +37,6 @@ use Rattle.xlsx_open.specs.Opening.{epoch_or_1900, book_events}
 use Rattle.xlsx_open.specs.SharedParts.{SharedCause}
 use Rattle.xlsx_open.specs.SharedParts.{SharedSaid, shared_said, SharedFails}
 use Rattle.xlsx_open.specs.declared.shared_parts.SharedParts.{SharedParts}
-
--- one call behind another
-same_further : {old mid new : PackageState} → SameParts old mid → SameParts mid new
-    → SameParts old new
-same_further first second = record {
-  is_told = second.is_told ∙ first.is_told;
-  parts = second.parts ∙ first.parts;
-  faults = omega (arith, first.faults, second.faults);
-}
-
-pub uses_then : {few more most : ℕ} {old mid new : PackageState} → few + more ≤ most
-    → UsesPackage few old mid → UsesPackage more mid new → UsesPackage most old new
-uses_then less first second = record {
-  parts = same_further first.parts second.parts;
-  faults = second.faults ∙ first.faults;
-  forward = omega (arith, first.forward, second.forward);
-  taken = λ told. omega (arith, less, first.taken told, second.taken (first.parts.is_told ∙ told));
-}
-
-pub leaves_then : {E : Type 0} {fault error : E} {few more most : ℕ} {old mid new : PackageState}
-    → few + more ≤ most → UsesPackage few old mid → LeavesPackage more fault mid new error
-    → LeavesPackage most fault old new error
-leaves_then less first second = record {
-  parts = same_further first.parts second.parts;
-  faults = λ other. second.faults other ∙ first.faults;
-  forward = omega (arith, first.forward, second.forward);
-  taken = λ told. omega (arith, less, first.taken told, second.taken (first.parts.is_told ∙ told));
-}
-
--- what a call takes behind another one, whatever it answers
-pub uses_behind : {A E : Type 0} (fault : E) (result : Result A E) (few more most : ℕ)
-    (old mid new : PackageState) → few + more ≤ most → UsesPackage few old mid
-    → Uses more fault result mid new → Uses most fault result old new
-uses_behind fault (Ok value) few more most old mid new less first second =
-    uses_then less first second
-uses_behind fault (Err error) few more most old mid new less first second =
-    leaves_then less first second
 
 -- the sheets of entries, and the paths of their parts
 pub sheets_listed : (entries : List SheetEntry)

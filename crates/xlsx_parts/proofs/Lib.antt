@@ -1,3 +1,5 @@
+pub mod ManySaid
 pub mod SaidRead
+pub mod SoundParts
 pub mod StartLists
 pub mod WholeRead

@@ -1,5 +1,6 @@
 -- What a section says that a part may lack, and when it is refused.
-use Rattle.std.proofs.Common.{◌≡◌, ℕ, List, [], ◌∷◌, Bool, true, Option, Some, None, Result, Ok, refl, ap}
+use Rattle.std.proofs.Common.{◌≡◌, ℕ, List, [], ◌∷◌, Bool, true, Option, Some, None, Result, Ok}
+use Rattle.std.proofs.Common.{refl, ap}
 use Rattle.std.proofs.Common.{length, ◌∙◌, suc, sym, inr, subst, eq-eqb}
 use Rattle.std.specs.Prelude.{option_map, option_and_then, if◌then◌else◌}
 use Rattle.std.specs.Option.{option_map_or}
@@ -35,7 +36,8 @@ closed_there events (Some ahead) s is closed =
 -- what the first section of a name says
 pub said_there : {A : Type 0} {s : PartSection} {own : A} (name : List ℕ) (events : List Event)
     (meaning : List Event → Result A Refusal) → section_in name events ≡ Some s
-    → has_end s ≡ true → meaning (inside_of s) ≡ Ok own → section_said name meaning events ≡ Some own
+    → has_end s ≡ true → meaning (inside_of s) ≡ Ok own
+    → section_said name meaning events ≡ Some own
 said_there {s = s} name events meaning there closed is =
     ap (option_and_then (λ (inside : List Event). ok_or_none (meaning inside)))
     (closed_there events (behind_start (is_named (name ∷ [])) (whole events)) s there closed)
@@ -78,7 +80,8 @@ pub section_lacking_refused : (name : List ℕ) (old mid : Reading) (ending : En
     (refused : Refusing) (new : PackageState) (error : XlsxError) → SameParts old.source mid.source
     → (old.source.is_told ≡ true
     → section_in name (events_of old) ≡ Some (section_left (length mid.names) mid))
-    → FailsBy (SectionCause ending refused (section_left (length mid.names) mid)) mid.source new error
+    → FailsBy (SectionCause ending refused (section_left (length mid.names) mid)) mid.source new
+    error
     → FailsBy (LackingCause name ending refused (events_of old)) old.source new error
 section_lacking_refused name old mid ending refused new error same found fails =
     fails_by_weaker (LackingCause name ending refused (events_of old))
@@ -91,7 +94,8 @@ pub find_lacking_refused : (name : List ℕ) (ending : Ending) (refused : Refusi
     → FailsBy (LackingCause name ending refused (events_of old)) old.source new.source error
 find_lacking_refused name ending refused old new error fails =
     fails_by_weaker (LackingCause name ending refused (events_of old))
-    (λ own. (section_in name (events_of old) ≡ None) × IsBroken (events_of old) own) new.source error
+    (λ own. (section_in name (events_of old) ≡ None) × IsBroken (events_of old) own) new.source
+    error
     (same_parts old.source) (λ told both. rw both.0 both.1) fails
 
 -- a part that was opened is refused, and so is the one at its path

@@ -16,7 +16,8 @@ use Rattle.part_events.specs.declared.fault.XmlFault.TheVariants.{EndMismatch, U
 use Rattle.part_events.proofs.Onward.{whole_at_end}
 use Rattle.xlsx_error.specs.declared.error.XlsxError.{XlsxError}
 use Rattle.xlsx_error.specs.declared.error.XlsxError.TheVariants.{OutOfMemory, Io, Xml, XmlEof}
-use Rattle.xlsx_sections.specs.PartSection.{PartSection, Ending, KeepsSection, section_left, last_of}
+use Rattle.xlsx_sections.specs.PartSection.{PartSection, Ending, KeepsSection, section_left}
+use Rattle.xlsx_sections.specs.PartSection.{last_of}
 use Rattle.xlsx_sections.specs.PartSection.{section_in, section_from, inside_of}
 use Rattle.xlsx_sections.specs.Elements.{IsInsideRefused}
 use Rattle.xlsx_sections.specs.Refusal.{Refusal, RefusedAs}

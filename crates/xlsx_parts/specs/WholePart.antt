@@ -85,7 +85,8 @@ StandsInPart wanted (Some place) old new = StandsAtStart wanted 0 (Some place) o
 
 -- the end of the part was reached, before which nothing breaks the nesting
 abbrev pub EndsPart : Reading → Reading → Type 0
-EndsPart first new = (whole (events_of first) ≡ events_of first) × (new.at ≡ length (events_of first))
+EndsPart first new =
+    (whole (events_of first) ≡ events_of first) × (new.at ≡ length (events_of first))
 
 -- the next wanted start, or the part's end, before which none is left
 abbrev pub StepsInPart : (Tag → Bool) → Option ℕ → Reading → Reading → Reading → Type 0

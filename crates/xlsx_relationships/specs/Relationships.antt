@@ -8,6 +8,7 @@ use Rattle.attr_text.specs.declared.fault.AttrFault.{AttrFault}
 use Rattle.part_events.specs.Event.{Event}
 use Rattle.part_events.specs.Section.{PlacedTag, starts_by, is_named}
 use Rattle.xlsx_sections.specs.Answers.{last_answer, with_two, with_three}
+use Rattle.xlsx_sections.specs.Names.{some_text}
 use Rattle.xlsx_sections.specs.PartSection.{PartSection, inside_of, has_end}
 use Rattle.xlsx_sections.specs.Refusal.{Refusal, plain, lookup_fault, unrelated, decoded_at}
 
@@ -17,10 +18,6 @@ relationship_starts inside = starts_by (is_named (codes "Relationship" ∷ [])) 
 
 abbrev pub is_office_document : List ℕ → Bool
 is_office_document typ = ends_with nat_eq typ (codes "/relationships/officeDocument")
-
-abbrev pub some_text : Result (List ℕ) Refusal → Result (Option (List ℕ)) Refusal
-some_text (Ok text) = Ok (Some text)
-some_text (Err refusal) = Err refusal
 
 abbrev pub target_from : ℕ → Option (List ℕ) → Option (List ℕ) → Result (Option (List ℕ)) Refusal
 target_from behind None target = Ok None

@@ -1,7 +1,7 @@
 -- How a text that can't be read makes its element refused.
 use Rattle.std.proofs.Common.{◌≡◌, ℕ, suc, ◌+◌, List, length, Bool, Some, None, Option, sym}
 use Rattle.std.proofs.Common.{◌∙◌, ap, subst, refl}
-use Rattle.std.specs.Prelude.{Err, IsSomeAnd}
+use Rattle.std.specs.Prelude.{Result, Err, IsSomeAnd}
 use Rattle.part_events.specs.Event.{Event}
 use Rattle.part_events.specs.JoinedText.{TextFails, joined_text, unknown_entity}
 use Rattle.part_events.specs.Reading.{Reading, BreaksAt, ahead}
@@ -10,11 +10,14 @@ use Rattle.part_events.specs.declared.fault.StreamError.{StreamError}
 use Rattle.part_events.specs.declared.fault.StreamError.TheVariants as stream
 use Rattle.part_events.specs.declared.fault.XmlFault.TheVariants.{EndMismatch, Unclosed, Entity}
 use Rattle.xlsx_error.specs.XlsxError.{of_stream}
+use Rattle.xlsx_error.specs.declared.error.XlsxError.{XlsxError}
 use Rattle.xlsx_sections.specs.Elements.{ElementReadFails}
 use Rattle.xlsx_sections.specs.ElementText.{element_text, known_text}
 use Rattle.xlsx_sections.specs.PartSection.{always}
-use Rattle.xlsx_sections.specs.Refusal.{no_character}
+use Rattle.xlsx_sections.specs.Names.{some_text}
+use Rattle.xlsx_sections.specs.Refusal.{Refusal, ElementFails, no_character}
 use Rattle.xlsx_sections.proofs.ElementsRead.{own_inside, own_end}
+use Rattle.xlsx_sections.proofs.Refused.{refused_at_weaker}
 
 unknown_there : (at end : ℕ) (written : List ℕ) (unknown : Option ℕ)
     → IsSomeAnd unknown (λ behind. at + suc behind ≡ end)
@@ -42,3 +45,10 @@ text_refused name data_too old new (stream.Xml (Entity at)) fails = λ told.
       found.1 ∙ ap (λ (events : List Event). old.at + length events) (sym (own_inside old)),
       ap (element_text data_too) (own_inside old) ∙ found.2,
     )
+
+-- a text that doesn't decode is refused also where it is given as one that may be absent
+pub some_text_fails : (at behind : ℕ) (decoded : Result (List ℕ) Refusal) (error : XlsxError)
+    → ElementFails decoded at behind error → ElementFails (some_text decoded) at behind error
+some_text_fails at behind decoded error fails =
+    refused_at_weaker at behind (λ (refusal : Refusal). some_text decoded ≡ Err refusal)
+    (λ (refusal : Refusal). decoded ≡ Err refusal) error (λ refusal is. ap some_text is) fails

@@ -6,7 +6,7 @@ mod elements;
 mod numbers;
 mod section;
 
-pub use decode::decode_at;
+pub use decode::{decode_at, name_by, push_text_at};
 pub use elements::{
     next_child_in, next_element_in, read_element_text, read_to_end, skip_element_in,
 };

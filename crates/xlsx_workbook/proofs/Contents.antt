@@ -15,7 +15,8 @@ use Rattle.xlsx_error.specs.declared.error.XlsxError.TheVariants.{OutOfMemory, X
 use Rattle.xlsx_sections.specs.Answers.{some_answers, and_others_if, or_earlier, prepended}
 use Rattle.xlsx_sections.specs.PartSection.{PartSection, inside_of}
 use Rattle.xlsx_sections.specs.Refusal.{Refusal, RefusedAt, no_character, placed_at}
-use Rattle.xlsx_workbook.specs.DefinedNames.{name_by, with_text, defined_name, is_defined_name}
+use Rattle.xlsx_sections.specs.Names.{name_by}
+use Rattle.xlsx_workbook.specs.DefinedNames.{with_text, defined_name, is_defined_name}
 use Rattle.xlsx_workbook.specs.DefinedNames.{names_in, behind_in_section}
 use Rattle.xlsx_relationships.specs.Relationships.{Related}
 use Rattle.xlsx_workbook.specs.Sheets.{is_sheet, is_properties, sheet_of, epoch_of, sheets_in}

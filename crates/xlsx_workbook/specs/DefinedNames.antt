@@ -7,18 +7,8 @@ use Rattle.part_events.specs.Event.{Tag, Event}
 use Rattle.part_events.specs.JoinedText.{joined_text, unknown_entity}
 use Rattle.part_events.specs.Section.{PlacedTag, Element, outermost, is_named}
 use Rattle.xlsx_sections.specs.Answers.{some_answers}
+use Rattle.xlsx_sections.specs.Names.{name_by}
 use Rattle.xlsx_sections.specs.Refusal.{Refusal, plain, lookup_fault, no_character, decoded_at}
-use Rattle.xlsx_relationships.specs.Relationships.{some_text}
-
-abbrev pub name_from :
-    ℕ → Result (Option (List ℕ)) AttrFault → Result (Option (List ℕ)) Refusal
-name_from behind (Ok (Some name)) = some_text (decoded_at behind name)
-name_from behind (Ok None) = Ok None
-name_from behind (Err fault) = Err (plain (lookup_fault fault))
-
--- the name, decoded, of a start that has one
-abbrev pub name_by : PlacedTag → Result (Option (List ℕ)) Refusal
-name_by start = name_from start.behind (value_of (codes "name") start.tag.attributes)
 
 -- How many events of a section stand behind one that has `within` behind it in an element. `behind`
 -- stand behind the start of the element, and `inside` in it.

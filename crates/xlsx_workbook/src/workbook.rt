@@ -14,7 +14,7 @@ ghost use Rattle.xlsx_sections.specs.PartSection.{OptionalPartFails, closed_sect
 ghost use Rattle.xlsx_sections.specs.Refusal.{RefusedAt, ElementFails, placed_at};
 ghost use Rattle.xlsx_sections.specs.SectionEvents.{ReadsToEnd};
 ghost use Rattle.xlsx_relationships.specs.KeptRelationships.{related_by_id};
-ghost use Rattle.xlsx_workbook.specs.DefinedNames.{name_by, is_defined_name};
+ghost use Rattle.xlsx_workbook.specs.DefinedNames.{is_defined_name};
 ghost use Rattle.xlsx_workbook.specs.KeptContents.{pair_of};
 ghost use Rattle.xlsx_workbook.specs.Workbook.{KeepsSheets, AreSheetsRefused, names_of};
 ghost use Rattle.xlsx_workbook.specs.Workbook.{TextRefused, KeepsName, IsNameRefused};
@@ -23,13 +23,12 @@ ghost use Rattle.xlsx_workbook.specs.WorkbookErrors.{IsWorkbookError};
 
 use crate::sheet::SheetEntry;
 use crate::sheet_element::{keep_epoch, push_sheet};
-use attr_text::{RawAttributes, TextFault};
-use part_events::{Cursor, Package, PartEvent, StartTag, XmlFault, push_text};
+use part_events::{Cursor, Package, PartEvent, StartTag};
 use std::alloc::Global;
 use std::collections::BTreeMap;
 use xlsx_error::XlsxError;
 use xlsx_relationships::Relationship;
-use xlsx_sections::{decode_at, enter_part, next_event_in};
+use xlsx_sections::{enter_part, name_by, next_event_in, push_text_at};
 
 /// What was read of a workbook's section.
 #[derive(Debug, Drop)]
@@ -119,21 +118,6 @@ fn take_event(
     }
 }
 
-/// The name of the start of a defined name, decoded, which is event number `at` of its part.
-#[tactic(auto, using(crate::proofs::WorkbookErrors::decoding))]
-fn name_by(alloc: Global, tag: StartTag<'_>, at: u64) -> Result<Option<String>, XlsxError>
-    ensures ok { IfOk result (λ name. (behind : ℕ) →
-        name_by (placed_at (tag_of tag.entry) behind) ≡ Ok (option_map string_bytes name)) }
-    ensures err { IfErr result (λ error. (behind : ℕ) →
-        ElementFails (name_by (placed_at (tag_of tag.entry) behind)) at behind error) }
-    ensures kind { IfErr result IsWorkbookError }
-{
-    match tag.raw_attr("name")? {
-        Some(name) => Ok(Some(decode_at(alloc, name, at)?)),
-        None => Ok(None),
-    }
-}
-
 /// Appends the text of an event, number `at` of its part, where it is wanted.
 fn push_wanted(
     out: &mut String,
@@ -150,11 +134,8 @@ fn push_wanted(
     if !wanted {
         return Ok(());
     }
-    match push_text(out, event, false) {
-        Ok(()) => Ok(()),
-        Err(TextFault::Entity { .. }) => Err(XlsxError::Xml(XmlFault::Entity { at })),
-        Err(TextFault::OutOfMemory) => Err(XlsxError::OutOfMemory),
-    }
+    push_text_at(out, event, at)?;
+    Ok(())
 }
 
 /// Appends a defined name with its text, where it has a name.

@@ -1,4 +1,4 @@
-use Rattle.std.proofs.Common.{◌≡◌, ◌∷◌, List, ◌∙◌, subst}
+use Rattle.std.proofs.Common.{◌∷◌, List, ◌∙◌, subst}
 use Rattle.xlsx_values.specs.Value.{Grounds}
 use Rattle.xlsx_formulas.specs.Formula.{FormulaText, behind_formulas}
 use Rattle.xlsx_cells.specs.CellsReader.{stream_by, grounds_by, IsValued, IsValuedFormula}

@@ -7,7 +7,7 @@ use Rattle.xlsx_cells.specs.Position.{NoCell}
 use Rattle.xlsx_cells.specs.Stream.{PassesCell, TakesCell, EndsData}
 use Rattle.xlsx_cells.proofs.WholeReadings.{HasValues, values_none, values_further}
 use Rattle.xlsx_cells.proofs.WholeReadings.{values_whole}
-use Rattle.worked_calls.specs.Taking.{value_taken_from}
+use Rattle.xlsx_cells.specs.SheetPart.{value_entry}
 use Rattle.worked_calls.proofs.taking.values_taken.Goals as goal
 
 pub cells-init : goal.cells-init
@@ -41,13 +41,13 @@ cells-preserved g c =
           been.stands) in
           subst (λ (entries : List ((ℕ × ℕ) × CellValue)). HasValues
           (grounds_by c.args.reader.now) old new entries)
-          (sym (ap (map value_taken_from) c.in_ok-push.ensures.items
-          ∙ map-append value_taken_from c.cells.cells.items (own ∷ [])))
-          (values_further (value_taken_from own) been takes
+          (sym (ap (map value_entry) c.in_ok-push.ensures.items
+          ∙ map-append value_entry c.cells.cells.items (own ∷ [])))
+          (values_further (value_entry own) been takes
           (λ before element kept is. (
             is.placed,
             subst (λ (grounds : Grounds). cell_value grounds element.tag element.inside
-                ≡ Ok (value_taken_from own).1) now.hold is.valued,
+                ≡ Ok (value_entry own).1) now.hold is.valued,
           )));
     }
 

@@ -2,7 +2,7 @@ use Rattle.std.proofs.Common.{◌≡◌, true, map}
 use Rattle.xlsx_cells.specs.CellsReader.{stream_by, grounds_by}
 use Rattle.xlsx_cells.specs.Stream.{IsGoing}
 use Rattle.xlsx_cells.proofs.WholeReadings.{HasValues}
-use Rattle.worked_calls.specs.Taking.{value_taken_from}
+use Rattle.xlsx_cells.specs.SheetPart.{value_entry}
 use Rattle.worked_calls.proofs.taking.values_taken.Given as goal
 
 abbrev pub invariant-cells : goal.invariant-cells
@@ -14,7 +14,7 @@ invariant-cells g l =
       still : old.reading.source.is_told ≡ true → now.reading.source.is_told ≡ true;
       going : IsGoing now;
       taken : old.reading.source.is_told ≡ true →
-          HasValues (grounds_by l.fn.reader) old now (map value_taken_from l.cells.items);
+          HasValues (grounds_by l.fn.reader) old now (map value_entry l.cells.items);
     }
 
 abbrev pub decreases-cells : goal.decreases-cells

@@ -52,7 +52,7 @@ cells-preserved g c =
       unwanted =
           let lacks : LacksUnwantedText wants read =
           rw c.in-Some.is at c.in_ok-found.ensures.unwanted in
-          unwanted_further wants grounds.strings c.args.asked.style_count _ _ _ _ _ _ read
+          unwanted_further wants c.args.asked.style_count _ _ _ _ _ _ read
           now.unwanted lacks c.in_ok-keep_value.ensures.value c.in_ok-keep_formula.ensures.formula
           c.in_ok-keep_id.ensures.id;
       collected = λ told.

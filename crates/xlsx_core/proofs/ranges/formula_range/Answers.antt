@@ -1,13 +1,14 @@
-use Rattle.std.proofs.Common.{[], ◌∙◌, ◌≡◌, ap, string_bytes}
-use Rattle.std.proofs.lemmas.Result.{IfOk-weaker}
-use Rattle.cell_data.specs.Range.{blank_of}
-use Rattle.xlsx_core.proofs.RangesMade.{formula_ranges}
+use Rattle.std.proofs.Common.{[], ◌≡◌, List, ℕ, subst, string_bytes}
+use Rattle.std.specs.Prelude.{IfOk}
+use Rattle.cell_data.specs.declared.value.HeaderRow.TheVariants.{FirstNonEmptyRow}
+use Rattle.xlsx_cells.specs.SheetPart.{formula_entries}
+use Rattle.xlsx_core.specs.Worksheets.{IsRangeOf}
+use Rattle.xlsx_core.proofs.RangesMade.{meant_ranges}
 use Rattle.xlsx_core.proofs.ranges.formula_range.Goals as goal
 
 pub returns : goal.returns
 returns c =
-    formula_ranges c.args.cells.items c.from_sparse.result c.from_sparse.ensures.cells
-    c.from_sparse.ensures.bounds
-    (IfOk-weaker c.from_sparse.result (λ range. blank_of range ≡ c.new.result)
-    (λ range. string_bytes (blank_of range) ≡ [])
-    (λ range is. ap string_bytes is ∙ c.new.ensures.bytes) c.from_sparse.ensures.blank)
+    subst (λ (blank : List ℕ). IfOk c.range_below.result (IsRangeOf string_bytes FirstNonEmptyRow
+    (formula_entries c.args.cells.items) blank)) c.new.ensures.bytes
+    (meant_ranges string_bytes FirstNonEmptyRow c.args.cells.items c.new.result
+    c.range_below.result c.range_below.ensures)

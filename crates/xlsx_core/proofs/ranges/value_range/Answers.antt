@@ -1,55 +1,15 @@
-use Rattle.std.proofs.Common.{rules, ◌≡◌, sym, ◌∙◌, subst}
-use Rattle.std.specs.Prelude.{All}
-use Rattle.std.proofs.lemmas.Fn.{filter_same}
-use Rattle.cell_refs.specs.declared.dimensions.Dimensions.{Dimensions}
-use Rattle.cell_data.specs.Cells.{IsInSheet}
-use Rattle.xlsx_core.proofs.RangesMade.{cells_from, sheet_from, whole_ranges, first_row, bounds_by}
-use Rattle.xlsx_core.proofs.RangesMade.{no_bounds, empty_from, range_from}
+use Rattle.std.proofs.Common.{◌≡◌, List, ℕ, subst}
+use Rattle.std.specs.Prelude.{IfOk}
+use Rattle.cell_data.specs.CellValue.{CellValue, value_of_data}
+use Rattle.cell_data.specs.declared.value.Data.TheVariants.{Empty}
+use Rattle.xlsx_core.specs.Worksheets.{IsValueRange}
+use Rattle.xlsx_core.proofs.RangesMade.{meant_ranges}
 use Rattle.xlsx_core.proofs.ranges.value_range.Goals as goal
-
-pub from_sparse-requires-2 : goal.from_sparse-requires-2
-from_sparse-requires-2 c =
-    let kept : c.retain.new.self.items ≡ cells_from c.in-Row.first c.args.cells.items =
-    filter_same _ _ _ (λ x b f called. search rules) _ _ c.retain.ensures.filtered in
-    subst (All IsInSheet) (sym kept) (sheet_from c.in-Row.first c.args.cells.items c.requires)
-
-pub returns-in_default : goal.returns-in_default
-returns-in_default c =
-    rw c.in_default.is
-    (whole_ranges c.args.cells.items c.from_sparse.result c.from_sparse.ensures.cells
-    c.from_sparse.ensures.bounds c.from_sparse.ensures.blank)
-
-pub range-requires-clause-rows : goal.range-requires-clause-rows
-range-requires-clause-rows c =
-    let kept : c.retain.new.self.items ≡ cells_from c.in-Row.first c.args.cells.items =
-    filter_same _ _ _ (λ x b f called. search rules) _ _ c.retain.ensures.filtered in
-    let narrow = c.in_ok-range in
-    first_row c.in-Row.first c.args.cells.items c.retain.new.self.items
-    (record { start = c.in-Some.start; end = c.in-Some-end.end }) narrow.range.bounds kept
-    narrow.ensures.bounds
-    (bounds_by narrow.range.bounds c.in-Some.start c.in-Some-end.end
-    (sym c.in-Some.is ∙ c.start.ensures) (sym c.in-Some-end.is ∙ c.end.ensures))
-
-pub returns-in_default-start : goal.returns-in_default-start
-returns-in_default-start c =
-    let kept : c.retain.new.self.items ≡ cells_from c.in-Row.first c.args.cells.items =
-    filter_same _ _ _ (λ x b f called. search rules) _ _ c.retain.ensures.filtered in
-    let narrow = c.in_ok-range in
-    rw c.in-Row.is
-    (empty_from c.in-Row.first c.args.cells.items c.retain.new.self.items narrow.range kept
-    narrow.ensures.cells narrow.ensures.bounds narrow.ensures.blank
-    (no_bounds narrow.range.bounds (λ (area : Dimensions). area.start)
-    (sym c.in_default-start.is ∙ c.start.ensures)))
 
 pub returns : goal.returns
 returns c =
-    let kept : c.retain.new.self.items ≡ cells_from c.in-Row.first c.args.cells.items =
-    filter_same _ _ _ (λ x b f called. search rules) _ _ c.retain.ensures.filtered in
-    let narrow = c.in_ok-range in
-    let area : Dimensions = record { start = c.in-Some.start; end = c.in-Some-end.end } in
-    rw c.in-Row.is
-    (range_from c.in-Row.first c.args.cells.items c.retain.new.self.items area narrow.range
-    c.range.result kept narrow.ensures.cells narrow.ensures.bounds narrow.ensures.blank
-    (bounds_by narrow.range.bounds c.in-Some.start c.in-Some-end.end
-    (sym c.in-Some.is ∙ c.start.ensures) (sym c.in-Some-end.is ∙ c.end.ensures))
-    c.range.ensures.cells c.range.ensures.bounds c.range.ensures.blank)
+    let own = c.in_ok-own in
+    subst (λ (values : List ((ℕ × ℕ) × CellValue)). IfOk c.range_below.result
+    (IsValueRange c.args.header_row values)) own.ensures.texts
+    (meant_ranges value_of_data c.args.header_row own.own.items Empty c.range_below.result
+    c.range_below.ensures)

@@ -3,7 +3,7 @@ use Rattle.part_events.specs.Package.{Part, Uses}
 use Rattle.xlsx_error.specs.declared.error.XlsxError.TheVariants.{Io}
 use Rattle.xlsx_open.specs.Opening.{workbook_events, book_events}
 use Rattle.xlsx_open.specs.SharedParts.{shared_events}
-use Rattle.xlsx_open.proofs.Openings.{uses_behind}
+use Rattle.part_events.proofs.Uses.{uses_behind}
 use Rattle.xlsx_open.proofs.opening.open_at.Goals as goal
 
 pub returns-clause-uses : goal.returns-clause-uses

@@ -13,7 +13,8 @@ use Rattle.xlsx_workbook.specs.Workbook.{IsContents, AreContentsRefused}
 use Rattle.xlsx_open.specs.Opening.{HasRelationships}
 use Rattle.xlsx_open.specs.SharedParts.{shared_said}
 use Rattle.xlsx_open.proofs.Openings.{opening_of, holds_contents, has_contents, has_nothing}
-use Rattle.xlsx_open.proofs.Openings.{contents_fail, leaves_then}
+use Rattle.part_events.proofs.Uses.{leaves_then}
+use Rattle.xlsx_open.proofs.Openings.{contents_fail}
 use Rattle.xlsx_open.proofs.opening.open_workbook.Goals as goal
 
 pub returns-in-Some-clause-opened : goal.returns-in-Some-clause-opened

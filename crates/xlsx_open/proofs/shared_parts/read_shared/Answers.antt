@@ -4,7 +4,8 @@ use Rattle.part_events.specs.Package.{Part, UsesPackage, LeavesPackage, event_co
 use Rattle.xlsx_error.specs.declared.error.XlsxError.TheVariants.{Io}
 use Rattle.xlsx_theme.specs.ThemePart.{theme_colors}
 use Rattle.xlsx_workbook.specs.Paths.{strings_part, theme_part, styles_part}
-use Rattle.xlsx_open.proofs.Openings.{uses_then, leaves_then, styles_fail}
+use Rattle.part_events.proofs.Uses.{uses_then, leaves_then}
+use Rattle.xlsx_open.proofs.Openings.{styles_fail}
 use Rattle.xlsx_open.proofs.shared_parts.read_shared.Goals as goal
 
 pub returns-in_err-style_sheet-clause-err : goal.returns-in_err-style_sheet-clause-err

@@ -20,7 +20,8 @@ returns-in-Found-clause-found g c = λ told.
     let next = start_there new.source.current
     (λ (tag : Tag). IsNextStart (is_named (name ∷ [])) 0 tag old new)
     (rw c.in-Found.is at (c.in_ok-next_start.ensures.found told)) in
-    subst (λ (events : List Event). section_in name events ≡ Some (section_left (length new.names) new))
+    subst (λ (events : List Event). section_in name events
+    ≡ Some (section_left (length new.names) new))
     (reads.stays.part told)
     (first_section_left name old new
     (nothing_past old c.requires.reading c.requires.first told)

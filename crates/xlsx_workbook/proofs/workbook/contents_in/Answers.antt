@@ -9,7 +9,7 @@ use Rattle.xlsx_sections.specs.PartSection.{section_left, always}
 use Rattle.xlsx_sections.specs.Refusal.{Refusal, placed_at}
 use Rattle.xlsx_sections.proofs.Refused.{event_refused, refused_later}
 use Rattle.xlsx_sections.proofs.SectionsRead.{event_inside, keeps_further}
-use Rattle.xlsx_workbook.specs.DefinedNames.{name_by}
+use Rattle.xlsx_sections.specs.Names.{name_by}
 use Rattle.xlsx_relationships.specs.KeptRelationships.{related_by_id}
 use Rattle.xlsx_workbook.specs.Workbook.{AreSheetsRefused, IsNameRefused, AreContentsRefused}
 use Rattle.xlsx_workbook.proofs.Contents.{refused_earlier, event_taken, sheets_further}

@@ -1,0 +1,19 @@
+use Rattle.std.proofs.Common.{◌≡◌, true}
+use Rattle.xlsx_cells.specs.CellsReader.{stream_by, grounds_by}
+use Rattle.xlsx_cells.specs.Stream.{IsGoing}
+use Rattle.worked_calls.proofs.FirstErrors.{HasNoError}
+use Rattle.worked_calls.proofs.taking.first_error.Given as goal
+
+abbrev pub invariant-cells : goal.invariant-cells
+invariant-cells g l =
+    let old = stream_by g.P.Package.state l.fn.reader in
+    let now = stream_by g.P.Package.state l.reader in
+    record {
+      hold : grounds_by l.reader ≡ grounds_by l.fn.reader;
+      still : old.reading.source.is_told ≡ true → now.reading.source.is_told ≡ true;
+      going : IsGoing now;
+      sound : old.reading.source.is_told ≡ true → HasNoError (grounds_by l.fn.reader) old now;
+    }
+
+abbrev pub decreases-cells : goal.decreases-cells
+decreases-cells g l = (stream_by g.P.Package.state l.reader).reading.source.left

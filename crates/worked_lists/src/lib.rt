@@ -1,0 +1,8 @@
+//! What the lists around the cells of a workbook are read as: tests of calls on an open workbook,
+//! over packages that are written as markup.
+#![tactic(auto)]
+
+#[cfg(test)]
+mod merge_tests;
+#[cfg(test)]
+mod property_tests;

@@ -1,0 +1,368 @@
+//! The merged cells of sheets, by each of the calls that read them.
+
+use cell_refs::Dimensions;
+use part_events::{FailingPackage, Package};
+use std::alloc::Global;
+use std::test::Fail;
+use test_packages::{
+    Part, RELATIONSHIPS, ROOT, SHEET_NAME, WORKBOOK, WORKBOOK_NAME, package_of, package_with,
+};
+use xlsx_core::{OpenFailure, Xlsx};
+
+fn opened<P: Package + Drop>(alloc: Global, package: P) -> Result<Xlsx<P>, Fail> {
+    match Xlsx::new(alloc, package) {
+        Ok(xlsx) => Ok(xlsx),
+        Err(OpenFailure { error, package: _ }) => Err(Fail::from(error)),
+    }
+}
+
+fn push_areas(out: &mut String, areas: &[Dimensions]) -> Result<(), Fail> {
+    for area in areas {
+        let (start, end) = (area.start, area.end);
+        write!(out, "({},{})-({},{})", start.0, start.1, end.0, end.1)?;
+    }
+    Ok(())
+}
+
+/// The merged cells of the sheet of this name, or why they are not read.
+fn merges_told<P: Package>(alloc: Global, xlsx: &mut Xlsx<P>, name: &str) -> Result<String, Fail> {
+    let mut out = String::new(alloc);
+    match xlsx.merge_cells_by_sheet_name(name) {
+        Ok(areas) => push_areas(&mut out, &areas)?,
+        Err(error) => write!(out, "{error:?}")?,
+    }
+    Ok(out)
+}
+
+/// The same of the sheet at an index.
+fn numbered_told<P: Package>(alloc: Global, xlsx: &mut Xlsx<P>, id: usize) -> Result<String, Fail> {
+    let mut out = String::new(alloc);
+    match xlsx.merge_cells_by_sheet_id(id) {
+        Ok(areas) => push_areas(&mut out, &areas)?,
+        Err(error) => write!(out, "{error:?}")?,
+    }
+    Ok(out)
+}
+
+/// The merged cells where a faulty section counts for none.
+fn lenient_told<P: Package>(alloc: Global, xlsx: &mut Xlsx<P>, name: &str) -> Result<String, Fail> {
+    let mut out = String::new(alloc);
+    match xlsx.worksheet_merge_cells(name) {
+        Some(Ok(areas)) => push_areas(&mut out, &areas)?,
+        Some(Err(error)) => write!(out, "{error:?}")?,
+        None => out.push_str("None")?,
+    }
+    Ok(out)
+}
+
+/// The same of the sheet at an index.
+fn lenient_numbered_told<P: Package>(
+    alloc: Global,
+    xlsx: &mut Xlsx<P>,
+    index: usize,
+) -> Result<String, Fail> {
+    let mut out = String::new(alloc);
+    match xlsx.worksheet_merge_cells_at(index) {
+        Some(Ok(areas)) => push_areas(&mut out, &areas)?,
+        Some(Err(error)) => write!(out, "{error:?}")?,
+        None => out.push_str("None")?,
+    }
+    Ok(out)
+}
+
+/// The regions of all sheets, each behind the name of its sheet, or why they are not loaded.
+fn regions_told<P: Package>(alloc: Global, xlsx: &mut Xlsx<P>) -> Result<String, Fail> {
+    let mut out = String::new(alloc);
+    if let Err(error) = xlsx.load_merged_regions() {
+        write!(out, "{error:?}")?;
+        return Ok(out);
+    }
+    for region in xlsx.merged_regions() {
+        out.push_str(region.sheet.as_str())?;
+        let (start, end) = (region.dimensions.start, region.dimensions.end);
+        write!(out, "({},{})-({},{})", start.0, start.1, end.0, end.1)?;
+    }
+    Ok(out)
+}
+
+/// What stands in a sheet's part, its merged cells, those where a faulty section counts for none,
+/// and the regions.
+const CASES: [(&str, &str, &str, &str); 26] = [
+    (
+        r#"<worksheet><sheetData/><mergeCells><mergeCell ref="A5:B6"/><mergeCell ref="D1"/></mergeCells></worksheet>"#,
+        "(4,0)-(5,1)(0,3)-(0,3)",
+        "(4,0)-(5,1)(0,3)-(0,3)",
+        "S(4,0)-(5,1)S(0,3)-(0,3)",
+    ),
+    ("<worksheet><sheetData/></worksheet>", "", "", ""),
+    ("", "", "", ""),
+    (
+        r#"<worksheet><mergeCells/><mergeCells><mergeCell ref="A1"/></mergeCells></worksheet>"#,
+        "",
+        "",
+        "S(0,0)-(0,0)",
+    ),
+    (
+        r#"<worksheet><extLst><mergeCells><mergeCell ref="A1"/></mergeCells></extLst><mergeCells><mergeCell ref="B1"/></mergeCells></worksheet>"#,
+        "(0,0)-(0,0)",
+        "(0,0)-(0,0)",
+        "S(0,0)-(0,0)S(0,1)-(0,1)",
+    ),
+    (
+        r#"<worksheet><mergeCell ref="A1"/><mergeCells><x><mergeCell ref="B1"/></x></mergeCells></worksheet>"#,
+        "(0,1)-(0,1)",
+        "(0,1)-(0,1)",
+        "S(0,0)-(0,0)S(0,1)-(0,1)",
+    ),
+    (
+        r#"<worksheet><mergeCells><mergeCell ref="A1"/>"#,
+        "XmlEof(\"\")",
+        "",
+        "S(0,0)-(0,0)",
+    ),
+    ("<worksheet><sheetData>", "", "", ""),
+    (
+        r#"<worksheet><sheetData></x><mergeCells><mergeCell ref="A1"/></mergeCells>"#,
+        "Xml(EndMismatch { at: 2 })",
+        "Xml(EndMismatch { at: 2 })",
+        "Xml(EndMismatch { at: 2 })",
+    ),
+    (
+        r#"<worksheet><mergeCells><mergeCell ref="A1"></x>"#,
+        "Xml(EndMismatch { at: 3 })",
+        "",
+        "Xml(EndMismatch { at: 3 })",
+    ),
+    (
+        r#"<worksheet><mergeCells><mergeCell ref="A1"/></mergeCells></x>"#,
+        "(0,0)-(0,0)",
+        "(0,0)-(0,0)",
+        "Xml(EndMismatch { at: 5 })",
+    ),
+    (
+        r#"<worksheet><sheetData><c r="!" x><v/></sheetData><mergeCells><mergeCell ref="A1"/></mergeCells></worksheet>"#,
+        "Xml(EndMismatch { at: 5 })",
+        "Xml(EndMismatch { at: 5 })",
+        "Xml(EndMismatch { at: 5 })",
+    ),
+    (
+        r#"<worksheet><sheetData><c r="!" x></c></sheetData><mergeCells><mergeCell ref="A1"/></mergeCells></worksheet>"#,
+        "(0,0)-(0,0)",
+        "(0,0)-(0,0)",
+        "S(0,0)-(0,0)",
+    ),
+    (
+        r#"<mergeCells><mergeCell ref=""/></mergeCells>"#,
+        "RangeWithoutRowComponent",
+        "",
+        "RangeWithoutRowComponent",
+    ),
+    (
+        r#"<mergeCells><mergeCell ref="A0"/></mergeCells>"#,
+        "RangeWithoutRowComponent",
+        "",
+        "RangeWithoutRowComponent",
+    ),
+    (
+        r#"<mergeCells><mergeCell ref="XFE1"/></mergeCells>"#,
+        "ColumnNumberOverflow",
+        "",
+        "ColumnNumberOverflow",
+    ),
+    (
+        r#"<mergeCells><mergeCell ref="A1:B2:C3"/></mergeCells>"#,
+        "DimensionCount(3)",
+        "",
+        "DimensionCount(3)",
+    ),
+    (
+        r#"<mergeCells><mergeCell ref="$A$1"/></mergeCells>"#,
+        "Alphanumeric(36)",
+        "",
+        "Alphanumeric(36)",
+    ),
+    (
+        r#"<mergeCells><mergeCell ref="a1"/><mergeCell/><mergeCell ref="B2:A1"/></mergeCells>"#,
+        "(0,0)-(0,0)(1,1)-(0,0)",
+        "(0,0)-(0,0)(1,1)-(0,0)",
+        "S(0,0)-(0,0)S(1,1)-(0,0)",
+    ),
+    (
+        r#"<mergeCells><mergeCell ref="A1"/><mergeCell ref="A0"/></mergeCells>"#,
+        "RangeWithoutRowComponent",
+        "",
+        "RangeWithoutRowComponent",
+    ),
+    (
+        r#"<mergeCells></mergeCells><mergeCell ref="A0"/>"#,
+        "",
+        "",
+        "RangeWithoutRowComponent",
+    ),
+    (
+        r#"<mergeCells><mergeCell ref="A1" x></mergeCell></mergeCells>"#,
+        "(0,0)-(0,0)",
+        "(0,0)-(0,0)",
+        "S(0,0)-(0,0)",
+    ),
+    (
+        r#"<mergeCells><mergeCell x></mergeCell></mergeCells>"#,
+        "XmlAttr(ExpectedEq(1))",
+        "",
+        "XmlAttr(ExpectedEq(1))",
+    ),
+    (
+        r#"<mergeCells><mergeCell ref="A1" ref="B1"/></mergeCells>"#,
+        "(0,0)-(0,0)",
+        "(0,0)-(0,0)",
+        "S(0,0)-(0,0)",
+    ),
+    (
+        r#"<mergeCells><mergeCell r="A1"/></mergeCells>"#,
+        "",
+        "",
+        "",
+    ),
+    (
+        r#"<x:mergeCells><x:mergeCell ref="A1"/></x:mergeCells>"#,
+        "(0,0)-(0,0)",
+        "(0,0)-(0,0)",
+        "S(0,0)-(0,0)",
+    ),
+];
+
+#[test]
+fn merged_cells_are_read_and_refused(rt: HostRuntime) -> Result<(), Fail> {
+    let alloc = rt.alloc();
+    for (sheet, merges, lenient, regions) in CASES {
+        let mut xlsx = opened(alloc, package_with(alloc, (SHEET_NAME, sheet))?)?;
+        let told = merges_told(alloc, &mut xlsx, "S")?;
+        assert_eq!(rt; told.as_str(), merges, "of {sheet}");
+        let told = numbered_told(alloc, &mut xlsx, 0)?;
+        assert_eq!(rt; told.as_str(), merges, "by index of {sheet}");
+        let told = lenient_told(alloc, &mut xlsx, "S")?;
+        assert_eq!(rt; told.as_str(), lenient, "leniently of {sheet}");
+        let told = lenient_numbered_told(alloc, &mut xlsx, 0)?;
+        assert_eq!(rt; told.as_str(), lenient, "leniently by index of {sheet}");
+        let told = regions_told(alloc, &mut xlsx)?;
+        assert_eq!(rt; told.as_str(), regions, "regions of {sheet}");
+    }
+    Ok(())
+}
+
+/// Two sheets of one name, and one whose part is absent.
+const SHEETS: [Part<'static>; 5] = [
+    ROOT,
+    (
+        "xl/_rels/workbook.xml.rels",
+        r#"<Relationships><Relationship Id="a" Type="x/worksheet" Target="a.xml"/><Relationship Id="b" Type="x/worksheet" Target="b.xml"/><Relationship Id="c" Type="x/worksheet" Target="c.xml"/></Relationships>"#,
+    ),
+    (
+        WORKBOOK_NAME,
+        r#"<workbook><sheets><sheet name="S" r:id="a"/><sheet name="S" r:id="b"/><sheet name="T" r:id="c"/></sheets></workbook>"#,
+    ),
+    (
+        "xl/a.xml",
+        r#"<worksheet><mergeCells><mergeCell ref="A1"/></mergeCells></worksheet>"#,
+    ),
+    (
+        "xl/b.xml",
+        r#"<worksheet><mergeCells><mergeCell ref="B1"/></mergeCells></worksheet>"#,
+    ),
+];
+
+#[test]
+fn merged_cells_go_by_the_names_of_sheets(rt: HostRuntime) -> Result<(), Fail> {
+    let alloc = rt.alloc();
+    let mut xlsx = opened(alloc, package_of(alloc, &SHEETS)?)?;
+    for (id, merges, lenient) in [
+        (0, "(0,0)-(0,0)", "(0,0)-(0,0)"),
+        (1, "(0,0)-(0,0)", "(0,0)-(0,0)"),
+        (2, "WorksheetNotFound(\"T\")", "None"),
+        (
+            7,
+            "WorksheetNotFound(\"Sheet index 7 out of range\")",
+            "None",
+        ),
+    ] {
+        let told = numbered_told(alloc, &mut xlsx, id)?;
+        assert_eq!(rt; told.as_str(), merges, "of sheet {id}");
+        let told = lenient_numbered_told(alloc, &mut xlsx, id)?;
+        assert_eq!(rt; told.as_str(), lenient, "leniently of sheet {id}");
+    }
+    let told = merges_told(alloc, &mut xlsx, "Z")?;
+    assert_eq!(rt; told.as_str(), "WorksheetNotFound(\"Z\")");
+    let told = lenient_told(alloc, &mut xlsx, "Z")?;
+    assert_eq!(rt; told.as_str(), "None");
+    assert!(rt; !xlsx.merged_regions_loaded());
+    let told = regions_told(alloc, &mut xlsx)?;
+    assert_eq!(rt; told.as_str(), "S(0,0)-(0,0)S(0,1)-(0,1)");
+    assert!(rt; xlsx.merged_regions_loaded());
+    if xlsx.merged_regions_loaded() {
+        assert_eq!(rt; xlsx.merged_regions_by_sheet("S").count(), 2);
+        assert_eq!(rt; xlsx.merged_regions_by_sheet("T").count(), 0);
+    }
+    Ok(())
+}
+
+/// A sheet with merged cells: 7 events up to the end of their section, and one more of the part.
+const MERGED: Part<'static> = (
+    SHEET_NAME,
+    r#"<worksheet><mergeCells><mergeCell ref="A1"/><mergeCell ref="B1"/></mergeCells></worksheet>"#,
+);
+
+/// The calls of the opening: six parts are looked for, and the events taken are 4 of the package's
+/// relationships, 4 of the workbook's and 6 of the workbook.
+const OPENING: u64 = 6 + 4 + 4 + 6;
+
+/// What the calls answer where this call of the package fails, and the next time, with the count of
+/// faults.
+fn failing_told(alloc: Global, call: u64, lenient: bool) -> Result<String, Fail> {
+    let package = package_of(alloc, &[ROOT, RELATIONSHIPS, WORKBOOK, MERGED])?;
+    let calls = vec![in alloc; call]?;
+    let mut xlsx = opened(alloc, FailingPackage::new(package, calls))?;
+    let first = if lenient {
+        lenient_told(alloc, &mut xlsx, "S")?
+    } else {
+        merges_told(alloc, &mut xlsx, "S")?
+    };
+    let again = merges_told(alloc, &mut xlsx, "S")?;
+    Ok(format!(in alloc; "{first} {again} {}", xlsx.faults())?)
+}
+
+#[test]
+fn a_fault_in_merged_cells_is_told(rt: HostRuntime) -> Result<(), Fail> {
+    for call in OPENING..OPENING + 1 + 7 {
+        for lenient in [false, true] {
+            let told = failing_told(rt.alloc(), call, lenient)?;
+            assert_eq!(rt;
+                told.as_str(),
+                "Io (0,0)-(0,0)(0,1)-(0,1) 1",
+                "at call {call}"
+            );
+        }
+    }
+    Ok(())
+}
+
+/// How many regions are there where this call of the package fails in a second loading, and what it
+/// answers.
+fn failing_regions(alloc: Global, call: u64) -> Result<String, Fail> {
+    let package = package_of(alloc, &[ROOT, RELATIONSHIPS, WORKBOOK, MERGED])?;
+    let calls = vec![in alloc; call]?;
+    let mut xlsx = opened(alloc, FailingPackage::new(package, calls))?;
+    regions_told(alloc, &mut xlsx)?;
+    let told = regions_told(alloc, &mut xlsx)?;
+    let kept = xlsx.merged_regions_loaded() && xlsx.merged_regions().len() == 2;
+    Ok(format!(in alloc; "{told} {kept}")?)
+}
+
+#[test]
+fn regions_stay_where_a_loading_fails(rt: HostRuntime) -> Result<(), Fail> {
+    let calls = 1 + 8 + 1;
+    for call in OPENING + calls..OPENING + 2 * calls {
+        let told = failing_regions(rt.alloc(), call)?;
+        assert_eq!(rt; told.as_str(), "Io true", "at call {call}");
+    }
+    Ok(())
+}

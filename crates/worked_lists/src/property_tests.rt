@@ -1,0 +1,214 @@
+//! The properties of a workbook, by the parts that say them.
+
+use part_events::{FailingPackage, MemoryPackage, Package};
+use std::alloc::Global;
+use std::test::Fail;
+use test_packages::{Part, RELATIONSHIPS, ROOT, SHEET, WORKBOOK, package_of};
+use xlsx_core::{OpenFailure, Property, WorkbookProperties, Xlsx};
+
+const CORE: &str = "docProps/core.xml";
+const PROGRAM: &str = "docProps/app.xml";
+const CUSTOM: &str = "docProps/custom.xml";
+
+const NAMED: [(&str, Property); 17] = [
+    ("creator", Property::Creator),
+    ("last_modified_by", Property::LastModifiedBy),
+    ("created", Property::Created),
+    ("modified", Property::Modified),
+    ("title", Property::Title),
+    ("subject", Property::Subject),
+    ("description", Property::Description),
+    ("keywords", Property::Keywords),
+    ("category", Property::Category),
+    ("content_status", Property::ContentStatus),
+    ("revision", Property::Revision),
+    ("version", Property::Version),
+    ("application", Property::Application),
+    ("app_version", Property::AppVersion),
+    ("company", Property::Company),
+    ("template", Property::Template),
+    ("manager", Property::Manager),
+];
+
+fn opened<P: Package + Drop>(alloc: Global, package: P) -> Result<Xlsx<P>, Fail> {
+    match Xlsx::new(alloc, package) {
+        Ok(xlsx) => Ok(xlsx),
+        Err(OpenFailure { error, package: _ }) => Err(Fail::from(error)),
+    }
+}
+
+/// The texts of properties, in their order, and then those that users named.
+fn texts_of(alloc: Global, properties: &WorkbookProperties) -> Result<String, Fail> {
+    let mut out = String::new(alloc);
+    for (name, property) in NAMED {
+        if let Some(text) = properties.get(property) {
+            write!(out, "{name}={text};")?;
+        }
+    }
+    for (name, text) in properties.custom_properties.iter() {
+        write!(out, "{name}:{text};")?;
+    }
+    Ok(out)
+}
+
+/// The properties of a workbook, or why they are not read.
+fn told<P: Package>(alloc: Global, xlsx: &mut Xlsx<P>) -> Result<String, Fail> {
+    match xlsx.workbook_properties() {
+        Ok(properties) => texts_of(alloc, &properties),
+        Err(error) => Ok(format!(in alloc; "{error:?}")?),
+    }
+}
+
+fn workbook_of(alloc: Global, part: Part<'_>, other: Part<'_>) -> Result<MemoryPackage, Fail> {
+    Ok(package_of(
+        alloc,
+        &[ROOT, RELATIONSHIPS, WORKBOOK, SHEET, part, other],
+    )?)
+}
+
+/// The name of a part, what stands in it, and what is told of the properties.
+const CASES: [(&str, &str, &str); 33] = [
+    (
+        CORE,
+        "<cp:coreProperties><dc:creator>Ann <!amp> Bo</dc:creator></cp:coreProperties>",
+        "creator=Ann & Bo;",
+    ),
+    (CORE, "", ""),
+    (
+        CORE,
+        "<a><lastModifiedBy>b</lastModifiedBy><created>c</created><modified>d</modified><title>e</title></a>",
+        "last_modified_by=b;created=c;modified=d;title=e;",
+    ),
+    (
+        CORE,
+        "<a><subject>f</subject><description>g</description><keywords>h</keywords><category>i</category></a>",
+        "subject=f;description=g;keywords=h;category=i;",
+    ),
+    (
+        CORE,
+        "<a><contentStatus>j</contentStatus><revision>k</revision><version>l</version><Company>m</Company></a>",
+        "content_status=j;revision=k;version=l;company=m;",
+    ),
+    (
+        PROGRAM,
+        "<a><Application>n</Application><AppVersion>o</AppVersion><Template>p</Template><Manager>q</Manager></a>",
+        "application=n;app_version=o;template=p;manager=q;",
+    ),
+    (PROGRAM, "<a><title>T</title><Company>D</Company></a>", "company=D;"),
+    (CORE, "<a><creator>x</creator><creator></creator></a>", "creator=x;"),
+    (CORE, "<a><creator>x</creator><creator>y</creator></a>", "creator=y;"),
+    (CORE, "<a><creator>a<x/>b</creator></a>", ""),
+    (CORE, "<a><creator>a<x>b</x></creator></a>", ""),
+    (CORE, "<a><creator><title>b</title></creator></a>", "title=b;"),
+    (CORE, "<a><creator><!bogus></creator></a>", "Xml(Entity { at: 2 })"),
+    (CORE, "<a><creator><!bogus><x/></creator></a>", "Xml(Entity { at: 2 })"),
+    (CORE, "<a><!bogus><creator>x</creator></a>", "creator=x;"),
+    (CORE, "<a><creator>x</a>", "Xml(EndMismatch { at: 3 })"),
+    (CORE, "<a><creator>x", ""),
+    (CORE, "<a><creator><!data></creator></a>", ""),
+    (CORE, "<a><creator>a<!>b</creator></a>", "creator=ab;"),
+    (
+        CUSTOM,
+        r#"<Properties><property name="A"><vt:lpwstr>1</vt:lpwstr></property></Properties>"#,
+        "A:1;",
+    ),
+    (CUSTOM, r#"<p><property name="A"/></p>"#, "A:;"),
+    (CUSTOM, r#"<p><property name="A">x<v>1</v>y</property></p>"#, "A:1;"),
+    (CUSTOM, "<p><property><v>1</v></property></p>", ""),
+    (CUSTOM, r#"<p><property name="A"><v>1</v><w>2</w></property></p>"#, "A:12;"),
+    (
+        CUSTOM,
+        r#"<p><property name="B"><v>1</v></property><property name="A"><v>2</v></property></p>"#,
+        "A:2;B:1;",
+    ),
+    (
+        CUSTOM,
+        r#"<p><property name="A"><v>1</v></property><property name="A"><v>2</v></property></p>"#,
+        "A:2;",
+    ),
+    (
+        CUSTOM,
+        r#"<p><property name="A"><v>1</v><property name="B"><v>2</v></property></property></p>"#,
+        "B:2;",
+    ),
+    (CUSTOM, r#"<p><property name="a&amp;b"><v>1</v></property></p>"#, "a&b:1;"),
+    (CUSTOM, r#"<p><property name="&bogus;"/></p>"#, "Xml(Entity { at: 1 })"),
+    (
+        CUSTOM,
+        r#"<p><property name="A"><v><!bogus></v></property></p>"#,
+        "Xml(Entity { at: 3 })",
+    ),
+    (
+        CUSTOM,
+        r#"<p><property name="A"><!bogus><v>1</v></property></p>"#,
+        "A:1;",
+    ),
+    (CUSTOM, "<p><property x></property></p>", "XmlAttr(ExpectedEq(1))"),
+    (CUSTOM, "<p></q>", "Xml(EndMismatch { at: 1 })"),
+];
+
+#[test]
+fn properties_are_read_and_refused(rt: HostRuntime) -> Result<(), Fail> {
+    let alloc = rt.alloc();
+    for (name, markup, wanted) in CASES {
+        let package = workbook_of(alloc, (name, markup), ("x", ""))?;
+        let mut xlsx = opened(alloc, package)?;
+        let first = told(alloc, &mut xlsx)?;
+        assert_eq!(rt; first.as_str(), wanted, "of {name}: {markup}");
+        let again = told(alloc, &mut xlsx)?;
+        assert_eq!(rt; again.as_str(), wanted, "again of {name}: {markup}");
+    }
+    Ok(())
+}
+
+#[test]
+fn the_programs_part_is_read_behind_the_core_part(rt: HostRuntime) -> Result<(), Fail> {
+    let alloc = rt.alloc();
+    let program = (PROGRAM, "<a><Company>D</Company></a>");
+    let core = (CORE, "<a><Company>C</Company><Manager>M</Manager></a>");
+    let mut xlsx = opened(alloc, workbook_of(alloc, program, core)?)?;
+    let first = told(alloc, &mut xlsx)?;
+    assert_eq!(rt; first.as_str(), "company=D;manager=M;");
+    Ok(())
+}
+
+/// The calls of the opening: six parts are looked for, and the events taken are 4 of the package's
+/// relationships, 4 of the workbook's and 6 of the workbook.
+const OPENING: u64 = 6 + 4 + 4 + 6;
+
+/// What is told where this call of the package fails, and the next two times, with the count of
+/// faults.
+fn failing_told(alloc: Global, call: u64) -> Result<String, Fail> {
+    let core = (CORE, "<a><title>T</title></a>");
+    let custom = (CUSTOM, r#"<p><property name="A"/></p>"#);
+    let package = workbook_of(alloc, core, custom)?;
+    let calls = vec![in alloc; call]?;
+    let mut xlsx = opened(alloc, FailingPackage::new(package, calls))?;
+    let first = told(alloc, &mut xlsx)?;
+    let second = told(alloc, &mut xlsx)?;
+    let third = told(alloc, &mut xlsx)?;
+    Ok(format!(in alloc; "{first} {second} {third} {}", xlsx.faults())?)
+}
+
+#[test]
+fn a_fault_in_properties_is_told_and_keeps_none(rt: HostRuntime) -> Result<(), Fail> {
+    // Three parts are looked for, and of the two that are there 5 and 4 events and their ends taken.
+    for call in OPENING..OPENING + 3 + 6 + 5 {
+        let told = failing_told(rt.alloc(), call)?;
+        assert_eq!(rt; told.as_str(), "Io title=T;A:; title=T;A:; 1", "at call {call}");
+    }
+    Ok(())
+}
+
+#[test]
+fn a_copy_has_the_same_texts(rt: HostRuntime) -> Result<(), Fail> {
+    let alloc = rt.alloc();
+    let core = (CORE, "<a><title>T</title></a>");
+    let custom = (CUSTOM, r#"<p><property name="A"><v>1</v></property></p>"#);
+    let mut xlsx = opened(alloc, workbook_of(alloc, core, custom)?)?;
+    let properties = xlsx.workbook_properties()?;
+    let copy = properties.clone_in(alloc)?;
+    let texts = texts_of(alloc, &copy)?;
+    assert_eq!(rt; texts.as_str(), "title=T;A:1;");
+    Ok(())
+}

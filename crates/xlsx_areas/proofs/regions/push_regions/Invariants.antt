@@ -1,0 +1,8 @@
+use Rattle.std.proofs.Common.{◌≡◌, ◌++◌, map}
+use Rattle.xlsx_areas.specs.Regions.{sheet_at, region_in, region_of}
+use Rattle.xlsx_areas.proofs.regions.push_regions.Given as goal
+
+abbrev pub invariant-loop-dimensions : goal.invariant-loop-dimensions
+invariant-loop-dimensions l =
+    map region_of l.regions.items
+    ≡ map region_of l.fn.regions.items ++ map (region_in (sheet_at l.sheet l.path)) l.yielded

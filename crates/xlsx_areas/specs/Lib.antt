@@ -1,0 +1,3 @@
+pub mod MergeErrors
+pub mod MergedCells
+pub mod Regions

@@ -1,0 +1,73 @@
+-- The merged cells of a sheet (ECMA-376 part 1, section 18.3.1.55).
+use Rattle.std.specs.Prelude.{ℕ, List, [], ◌∷◌, Bool, if◌then◌else◌, codes, Option, Some, None}
+use Rattle.std.specs.Prelude.{Result}
+use Rattle.std.specs.Prelude.{Ok, Err, option_and_then}
+use Rattle.attr_text.specs.Attributes.{value_of}
+use Rattle.attr_text.specs.declared.fault.AttrFault.{AttrFault}
+use Rattle.cell_refs.specs.A1.{area}
+use Rattle.cell_refs.specs.declared.dimensions.Dimensions.{Dimensions}
+use Rattle.cell_refs.specs.declared.error.RefError.{RefError}
+use Rattle.part_events.specs.Event.{Tag, Event}
+use Rattle.part_events.specs.Package.{Part, part_of}
+use Rattle.part_events.specs.Section.{PlacedTag, starts_by, is_named}
+use Rattle.xlsx_sections.specs.Answers.{some_answers}
+use Rattle.xlsx_sections.specs.PartSection.{PartSection, section_in, inside_of, has_end}
+use Rattle.xlsx_sections.specs.Refusal.{Refusal, plain, lookup_fault, misplaced}
+use Rattle.xlsx_parts.specs.PartSaid.{section_said_or, whole_said}
+
+abbrev pub is_merge : Tag → Bool
+is_merge tag = is_named (codes "mergeCell" ∷ []) tag
+
+abbrev pub area_named : Result Dimensions RefError → Result (Option Dimensions) Refusal
+area_named (Ok found) = Ok (Some found)
+area_named (Err fault) = Err (plain (misplaced fault))
+
+abbrev pub merge_by : Result (Option (List ℕ)) AttrFault → Result (Option Dimensions) Refusal
+merge_by (Ok None) = Ok None
+merge_by (Ok (Some written)) = area_named (area written)
+merge_by (Err fault) = Err (plain (lookup_fault fault))
+
+-- the area of a start; one without `ref` is passed over
+abbrev pub merge_of : PlacedTag → Result (Option Dimensions) Refusal
+merge_of start = merge_by (value_of (codes "ref") start.tag.attributes)
+
+-- the areas of the merged cells among these events, in order
+abbrev pub merges_in : List Event → Result (List Dimensions) Refusal
+merges_in events = some_answers merge_of (starts_by is_merge events)
+
+-- those of the first `mergeCells` of a part, and none of a part without one
+abbrev pub merges_of : List Event → Option (List Dimensions)
+merges_of events = section_said_or [] (codes "mergeCells") merges_in events
+
+-- those of the part at a path
+abbrev pub merges_at : List Part → List ℕ → Option (List Dimensions)
+merges_at parts path = option_and_then merges_of (part_of parts path)
+
+-- those of a whole part, wherever they stand in it
+abbrev pub regions_of : List Event → Option (List Dimensions)
+regions_of events = whole_said merges_in events
+
+abbrev pub regions_at : List Part → List ℕ → Option (List Dimensions)
+regions_at parts path = option_and_then regions_of (part_of parts path)
+
+abbrev pub or_none : {A : Type 0} → Result (List A) Refusal → List A
+or_none (Ok areas) = areas
+or_none (Err refusal) = []
+
+-- What counts of a section for the call that takes a faulty one for none: all its areas where an
+-- end closes it and none is refused.
+abbrev pub merges_or_none : PartSection → List Dimensions
+merges_or_none s = if has_end s then or_none (merges_in (inside_of s)) else []
+
+abbrev pub of_section : Option PartSection → Option (List Dimensions) → Option (List Dimensions)
+of_section None whole = whole
+of_section (Some s) whole = Some (merges_or_none s)
+
+-- what that call answers of a part: none where its nesting breaks before the first section
+abbrev pub merges_or_none_of : List Event → Option (List Dimensions)
+merges_or_none_of events =
+    of_section (section_in (codes "mergeCells") events) (section_said_or [] (codes "mergeCells")
+    merges_in events)
+
+abbrev pub merges_or_none_at : List Part → List ℕ → Option (List Dimensions)
+merges_or_none_at parts path = option_and_then merges_or_none_of (part_of parts path)

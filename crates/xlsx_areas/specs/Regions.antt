@@ -1,0 +1,62 @@
+-- The merged cells of the sheets of a workbook.
+use Rattle.std.specs.Prelude.{ℕ, List, [], map, Bool, Option, option_map, string_bytes, String}
+use Rattle.std.specs.List.{filter}
+use Rattle.std.specs.Str.{bytes_eq}
+use Rattle.cell_refs.specs.declared.dimensions.Dimensions.{Dimensions}
+use Rattle.part_events.specs.Package.{Part, part_of}
+use Rattle.xlsx_error.specs.declared.error.XlsxError.{XlsxError}
+use Rattle.xlsx_parts.specs.PartSaid.{unless_absent, all_said}
+use Rattle.xlsx_parts.specs.WholePart.{IfThere, SomeCause}
+use Rattle.xlsx_areas.specs.MergeErrors.{RegionsCause}
+use Rattle.xlsx_areas.specs.MergedCells.{regions_at}
+use Rattle.xlsx_areas.specs.declared.regions.MergedRegion.{MergedRegion}
+use Rattle.xlsx_areas.specs.declared.regions.MergedRegions.{MergedRegions}
+
+-- a sheet: its name, and the path of its part
+pub record SheetPath : Type 0 where
+  pub name : List ℕ
+  pub path : List ℕ
+
+abbrev pub sheet_at : List ℕ → List ℕ → SheetPath
+sheet_at name path = record { name = name; path = path }
+
+-- an area of merged cells in a sheet
+pub record Region : Type 0 where
+  pub sheet : SheetPath
+  pub area : Dimensions
+
+abbrev pub region_in : SheetPath → Dimensions → Region
+region_in sheet area = record { sheet = sheet; area = area }
+
+-- those of a sheet, and none where its part is absent
+abbrev pub regions_on : List Part → SheetPath → Option (List Region)
+regions_on parts sheet =
+    option_map (map (region_in sheet))
+    (unless_absent [] (part_of parts sheet.path) (regions_at parts sheet.path))
+
+-- those of many sheets, one after the other
+abbrev pub all_regions : List Part → List SheetPath → Option (List Region)
+all_regions parts sheets = all_said (regions_on parts) sheets
+
+-- why those of a sheet can't be taken
+abbrev pub SheetRegionsCause : List Part → SheetPath → XlsxError → Type 0
+SheetRegionsCause parts sheet error = IfThere RegionsCause (part_of parts sheet.path) error
+
+-- why those of many sheets can't
+abbrev pub AllRegionsCause : List Part → List SheetPath → XlsxError → Type 0
+AllRegionsCause parts sheets error = SomeCause (SheetRegionsCause parts) sheets error
+
+-- a region that is kept, apart from where its texts lie in memory
+abbrev pub region_of : MergedRegion → Region
+region_of kept = record {
+  sheet = sheet_at (string_bytes kept.sheet) (string_bytes kept.path);
+  area = kept.dimensions;
+}
+
+-- it is of a sheet of this name
+abbrev pub is_of_sheet : List ℕ → MergedRegion → Bool
+is_of_sheet name kept = bytes_eq (string_bytes kept.sheet) name
+
+-- the regions that an iterator has left
+abbrev pub regions_left : MergedRegions → List MergedRegion
+regions_left it = filter (is_of_sheet it.name.now) it.left.now

@@ -1,0 +1,152 @@
+ghost use Rattle.std.specs.Prelude.{◌≡◌, ◌≤◌, ◌++◌, ℕ, List, [], suc, length, true, Some, Ok};
+ghost use Rattle.std.specs.Prelude.{Result};
+ghost use Rattle.std.specs.Prelude.{IfOk, OnOk, IfErr, option_to_list};
+ghost use Rattle.cell_refs.specs.declared.dimensions.Dimensions.{Dimensions};
+ghost use Rattle.part_events.specs.Event.{tag_of};
+ghost use Rattle.part_events.specs.Reader.{reading_by, SamePackage};
+ghost use Rattle.part_events.specs.Reading.{reading, open_elements, IsReading};
+ghost use Rattle.part_events.specs.Reading.{ReadsPart, IsReadingElement, ReadsElement, ahead};
+ghost use Rattle.part_events.specs.Reading.{events_of};
+ghost use Rattle.part_events.specs.Section.{content};
+ghost use Rattle.part_events.specs.Walk.{section_ahead};
+ghost use Rattle.xlsx_error.specs.declared.error.XlsxError.TheVariants.{Io};
+ghost use Rattle.xlsx_sections.specs.Answers.{prepended, and_others_if};
+ghost use Rattle.xlsx_sections.specs.Elements.{ElementReadFails, IsInsideRefused, ReachesEnd};
+ghost use Rattle.xlsx_sections.specs.PartSection.{always, SectionFails};
+ghost use Rattle.xlsx_sections.specs.Refusal.{Refusal, ElementFails, placed_at};
+ghost use Rattle.xlsx_parts.specs.WholePart.{IsMeaningRefused, WholePartFails};
+ghost use Rattle.xlsx_areas.specs.MergeErrors.{IsRegionsError, IsMergesError};
+ghost use Rattle.xlsx_areas.specs.MergedCells.{merge_of, merges_in, regions_of};
+
+use attr_text::RawAttributes;
+use cell_refs::{Dimensions, get_dimension};
+use part_events::{Cursor, Package, StartTag, XlReader};
+use std::alloc::{AllocError, Global};
+use xlsx_error::XlsxError;
+use xlsx_parts::next_start_of_part;
+use xlsx_sections::{next_start_in, start_tag};
+
+/// The area that the start of merged cells names.
+fn merge_of(tag: StartTag<'_>) -> Result<Option<Dimensions>, XlsxError>
+    ensures ok { IfOk result (λ area. (behind : ℕ) →
+        merge_of (placed_at (tag_of tag.entry) behind) ≡ Ok area) }
+    ensures err { IfErr result (λ error. (at behind : ℕ) →
+        ElementFails (merge_of (placed_at (tag_of tag.entry) behind)) at behind error) }
+    ensures kind { IfErr result IsRegionsError }
+{
+    match tag.raw_attr("ref")? {
+        Some(text) => Ok(Some(get_dimension(text)?)),
+        None => Ok(None),
+    }
+}
+
+/// Appends an area, where there is one.
+fn push_area(areas: &mut Vec<Dimensions>, area: Option<Dimensions>) -> Result<(), AllocError>
+    ensures { OnOk result (areas.new.items ≡ areas.old.items ++ option_to_list area) }
+{
+    if let Some(area) = area {
+        areas.push(area)?;
+    }
+    Ok(())
+}
+
+/// Appends the area of a start that names one.
+fn push_merge(areas: &mut Vec<Dimensions>, tag: StartTag<'_>) -> Result<(), XlsxError>
+    ensures ok { OnOk result ((behind : ℕ) (others : Result (List Dimensions) Refusal) →
+        prepended areas.new.items others
+        ≡ prepended areas.old.items
+        (and_others_if (merge_of (placed_at (tag_of tag.entry) behind)) others)) }
+    ensures err { IfErr result (λ error. (at behind : ℕ) →
+        ElementFails (merge_of (placed_at (tag_of tag.entry) behind)) at behind error) }
+    ensures kind { IfErr result IsRegionsError }
+{
+    let area = merge_of(tag)?;
+    push_area(areas, area)?;
+    Ok(())
+}
+
+/// The areas in a section of merged cells whose element is number `base` of the open ones.
+#[tactic(auto, using(crate::proofs::MergesRead::merges_step, crate::proofs::MergesRead::own_error))]
+pub fn merges_in<P: Package>(
+    alloc: Global,
+    package: &mut P,
+    cursor: &mut Cursor,
+    base: usize,
+) -> Result<Vec<Dimensions>, XlsxError>
+    requires reading { IsReading (reading (P.state «package».old) cursor.old) }
+    requires within { base ≤ length (open_elements cursor.old) }
+    ensures reads { let old = reading (P.state «package».old) cursor.old in
+        let new = reading (P.state «package».new) cursor.new in
+        ReadsPart Io result old new }
+    ensures depth { OnOk result (suc (length (open_elements cursor.new)) ≡ base) }
+    ensures reaches { let old = reading (P.state «package».old) cursor.old in
+        let new = reading (P.state «package».new) cursor.new in
+        old.source.is_told ≡ true → OnOk result (ReachesEnd base old new) }
+    ensures merges { let old = reading (P.state «package».old) cursor.old in
+        old.source.is_told ≡ true → IfOk result (λ areas.
+        merges_in (section_ahead base old) ≡ Ok areas.items) }
+    ensures err { let old = reading (P.state «package».old) cursor.old in
+        let new = reading (P.state «package».new) cursor.new in
+        IfErr result (SectionFails (always []) (IsInsideRefused merges_in) base old new) }
+    ensures kind { IfErr result IsMergesError }
+{
+    let mut areas = Vec::new(alloc);
+    'starts: while let Some(_at) = next_start_in(package, cursor, base, "mergeCell", "")? {
+        push_merge(&mut areas, start_tag(package))?;
+    }
+    Ok(areas)
+}
+
+/// Reads the merged cells at whose start the reader stands, to its end (ECMA-376 part 1, section
+/// 18.3.1.55): the area of each `mergeCell` in it that has a `ref`, in order.
+///
+/// A part that ends before is `XmlEof("")`, and an end that breaks the nesting is
+/// `Xml(EndMismatch)` with its number in the part, counted from 0. Attributes that end in a fault
+/// and have no `ref` are `XmlAttr`, and a `ref` that names no area has the refusal of its text.
+pub fn read_merge_cells<P: Package>(xml: &mut XlReader<'_, P>) -> Result<Vec<Dimensions>, XlsxError>
+    requires element { IsReadingElement (reading_by P.state xml.old) }
+    ensures same_package { SamePackage xml.old xml.new }
+    ensures reads { let old = reading_by P.state xml.old in
+        ReadsElement Io result old (reading_by P.state xml.new) }
+    ensures merges { let old = reading_by P.state xml.old in
+        old.source.is_told ≡ true →
+        IfOk result (λ areas. merges_in (content 0 (ahead old)) ≡ Ok areas.items) }
+    ensures err { let old = reading_by P.state xml.old in
+        let new = reading_by P.state xml.new in
+        IfErr result (ElementReadFails (always []) merges_in old new) }
+    ensures kind { IfErr result IsMergesError }
+{
+    let alloc = xml.cursor.alloc();
+    let base = xml.cursor.depth();
+    merges_in(alloc, xml.package, &mut xml.cursor, base)
+}
+
+/// The areas of all merged cells of a part of which nothing was taken, wherever they stand in it.
+#[tactic(auto, using(crate::proofs::MergesRead::regions_step))]
+pub fn regions_in<P: Package>(
+    alloc: Global,
+    package: &mut P,
+    cursor: &mut Cursor,
+) -> Result<Vec<Dimensions>, XlsxError>
+    requires reading { IsReading (reading (P.state «package».old) cursor.old) }
+    requires first { (reading (P.state «package».old) cursor.old).at ≡ 0 }
+    ensures reads { let old = reading (P.state «package».old) cursor.old in
+        let new = reading (P.state «package».new) cursor.new in
+        ReadsPart Io result old new }
+    ensures ends { let old = reading (P.state «package».old) cursor.old in
+        let new = reading (P.state «package».new) cursor.new in
+        old.source.is_told ≡ true → OnOk result (new.at ≡ length (events_of old)) }
+    ensures regions { let old = reading (P.state «package».old) cursor.old in
+        old.source.is_told ≡ true → IfOk result (λ areas.
+        regions_of (events_of old) ≡ Some areas.items) }
+    ensures err { let old = reading (P.state «package».old) cursor.old in
+        let new = reading (P.state «package».new) cursor.new in
+        IfErr result (WholePartFails (IsMeaningRefused merges_in) old new.source) }
+    ensures kind { IfErr result IsRegionsError }
+{
+    let mut areas = Vec::new(alloc);
+    'starts: while let Some(_at) = next_start_of_part(package, cursor, "mergeCell")? {
+        push_merge(&mut areas, start_tag(package))?;
+    }
+    Ok(areas)
+}

@@ -1,0 +1,117 @@
+ghost use Rattle.std.specs.Prelude.{◌≡◌, ◌++◌, List, map, true, Some, OnOk, IfOk, IfErr};
+ghost use Rattle.std.specs.List.{filter};
+ghost use Rattle.part_events.specs.Package.{Uses, UsesPackage, event_count};
+ghost use Rattle.xlsx_error.specs.declared.error.XlsxError.TheVariants.{Io, OutOfMemory};
+ghost use Rattle.xlsx_sections.specs.Failing.{FailsBy};
+ghost use Rattle.xlsx_areas.specs.MergeErrors.{IsRegionsError};
+ghost use Rattle.xlsx_areas.specs.Regions.{Region, sheet_at, region_in, region_of, regions_on};
+ghost use Rattle.xlsx_areas.specs.Regions.{SheetRegionsCause, is_of_sheet};
+
+use crate::merged_parts::read_regions;
+use cell_refs::Dimensions;
+use part_events::Package;
+use std::alloc::{AllocError, Global};
+use xlsx_error::XlsxError;
+
+/// An area of merged cells, with the name of its sheet and the path of the sheet's part.
+#[derive(Debug, Drop)]
+pub struct MergedRegion {
+    pub sheet: String,
+    pub path: String,
+    pub dimensions: Dimensions,
+}
+
+/// Appends the regions of these areas in a sheet.
+fn push_regions(
+    alloc: Global,
+    regions: &mut Vec<MergedRegion>,
+    sheet: &str,
+    path: &str,
+    areas: Vec<Dimensions>,
+) -> Result<(), AllocError>
+    ensures { let own = sheet_at sheet.now path.now in
+        OnOk result (map region_of regions.new.items
+        ≡ map region_of regions.old.items ++ map (region_in own) areas.items) }
+{
+    for dimensions in areas {
+        regions.push(MergedRegion {
+            sheet: String::from_str(alloc, sheet)?,
+            path: String::from_str(alloc, path)?,
+            dimensions,
+        })?;
+    }
+    Ok(())
+}
+
+/// Appends the regions of the sheet of this name, whose part is at this path, in order: the area of
+/// each `mergeCell` start wherever it stands in the part (ECMA-376 part 1, section 18.3.1.54). The
+/// part is read to its end. A part that is absent has none.
+///
+/// Fails as `read_regions`. After a refusal some of them may be appended.
+pub fn read_sheet_regions<P: Package>(
+    alloc: Global,
+    package: &mut P,
+    regions: &mut Vec<MergedRegion>,
+    sheet: &str,
+    path: &str,
+) -> Result<(), XlsxError>
+    ensures uses { let old = P.state «package».old in
+        let new = P.state «package».new in
+        Uses (event_count old.parts path.now) Io result old new }
+    ensures regions { let old = P.state «package».old in
+        let own = sheet_at sheet.now path.now in
+        old.is_told ≡ true → OnOk result ((found : List Region)
+        × (regions_on old.parts own ≡ Some found)
+        × (map region_of regions.new.items ≡ map region_of regions.old.items ++ found)) }
+    ensures err { let old = P.state «package».old in
+        let own = sheet_at sheet.now path.now in
+        IfErr result (FailsBy (SheetRegionsCause old.parts own) old (P.state «package».new)) }
+    ensures kind { IfErr result IsRegionsError }
+{
+    if let Some(areas) = read_regions(alloc, package, path)? {
+        push_regions(alloc, regions, sheet, path, areas)?;
+    }
+    Ok(())
+}
+
+/// The regions among some that are of the sheets of one name, in order.
+#[derive(Drop)]
+pub struct MergedRegions<'a> {
+    left: &'a [MergedRegion],
+    name: &'a str,
+}
+
+impl<'a> MergedRegions<'a> {
+    ghost use Rattle.xlsx_areas.specs.Regions.{regions_left};
+
+    /// Those of the sheets of this name, of which none was taken yet.
+    pub fn new(regions: &'a [MergedRegion], name: &'a str) -> MergedRegions<'a>
+        ensures { regions_left result ≡ filter (is_of_sheet name.now) regions.now }
+    {
+        MergedRegions {
+            left: regions,
+            name,
+        }
+    }
+}
+
+impl<'a> Iterator for MergedRegions<'a> {
+    ghost use Rattle.std.specs.Iterator.{YieldsFirstRef, item_count};
+    ghost use Rattle.xlsx_areas.specs.Regions.{regions_left};
+
+    type Item = &'a MergedRegion;
+
+    ghost next_gives = { YieldsFirstRef regions_left };
+
+    ghost remaining = { item_count regions_left };
+
+    fn next(&mut self) -> Option<&'a MergedRegion> {
+        'regions: while let Some((first, left)) = self.left.split_first() {
+            self.left = left;
+            if first.sheet.as_str() == self.name {
+                return Some(first);
+            }
+        }
+        None
+    }
+}

@@ -1,0 +1,128 @@
+-- The worksheets of an open workbook, as they are listed.
+use Rattle.std.proofs.Common.{◌≡◌, ◌≤◌, ◌<◌, ◌⊎◌, ℕ, List, [], ◌∷◌, ◌++◌, drop, length, refl, sym}
+use Rattle.std.proofs.Common.{◌∙◌, ap, subst, inl, inr, Option, Some, None, String, Global, Bool}
+use Rattle.std.proofs.Common.{true, false, arith, append_assoc, ◌+◌}
+use Rattle.std.specs.Prelude.{string_bytes, if◌then◌else◌, nat_lt, MatchOption}
+use Rattle.std.specs.Str.{bytes_eq}
+use Rattle.std.specs.Cmp.Lexicographic.{nat_list_eq_equiv}
+use Rattle.std.proofs.lemmas.Bool.Decides.{nat_tests}
+use Rattle.std.proofs.Math.ListN.{get_or}
+use Rattle.std.proofs.lemmas.List.{drop_all, drop_more}
+use Rattle.part_events.specs.Package.{Part, PackageState}
+use Rattle.cell_data.specs.declared.range.Range.{Range}
+use Rattle.cell_data.specs.declared.value.Data.{Data}
+use Rattle.cell_data.specs.declared.value.HeaderRow.{HeaderRow}
+use Rattle.xlsx_error.specs.declared.error.XlsxError.{XlsxError}
+use Rattle.xlsx_error.specs.declared.error.XlsxError.TheVariants.{OutOfMemory, Io, NotAWorksheet}
+use Rattle.xlsx_error.specs.declared.error.XlsxError.TheVariants.{WorksheetNotFound}
+use Rattle.xlsx_sections.specs.Failing.{SoundFails}
+use Rattle.xlsx_values.specs.Value.{Grounds}
+use Rattle.xlsx_cells.specs.declared.children.Wants.{Wants}
+use Rattle.xlsx_workbook.specs.declared.sheet.Sheet.{Sheet}
+use Rattle.xlsx_core.specs.Listing.{IsListedAs, IsLeftOut, AreListed, ends_listing, IsPutBehind}
+use Rattle.xlsx_core.specs.Opened.{path_listed}
+use Rattle.xlsx_core.specs.Worksheets.{RangeFails, RangeCause, ReadsValues}
+use Rattle.xlsx_core.proofs.RangesRead.{values_never}
+
+-- ---- the first sheet of a name
+
+no_paths : (name : List ℕ) (sheets : List Sheet) → path_listed name sheets [] ≡ None
+no_paths name [] = refl
+no_paths name (sheet ∷ sheets) = refl
+
+-- none stands behind the shorter one of both lists
+pub none_behind : (name : List ℕ) (place : ℕ) (sheets : List Sheet)
+    (paths : List (String Global)) → (place < length sheets → length paths ≤ place)
+    → path_listed name (drop place sheets) (drop place paths) ≡ None
+none_behind name place sheets paths few =
+    by_test (nat_lt place (length sheets)) refl
+  where
+    by_test : (test : Bool) → nat_lt place (length sheets) ≡ test
+        → path_listed name (drop place sheets) (drop place paths) ≡ None
+    by_test true is =
+        ap (path_listed name (drop place sheets))
+        (drop_all place paths (few (grind (arith, nat_tests, is))))
+        ∙ no_paths name (drop place sheets)
+    by_test false is =
+        ap (λ (own : List Sheet). path_listed name own (drop place paths))
+        (drop_all place sheets (grind (arith, nat_tests, is)))
+
+pub drop_from : {X : Type 0} (xs : List X) (place next : ℕ) (own : X)
+    → own ≡ get_or xs place own → place < length xs → place + 1 ≡ next
+    → drop place xs ≡ own ∷ drop next xs
+drop_from {X} xs place next own is below same =
+    drop_more xs place own below ∙ ap (λ (first : X). first ∷ drop (place + 1) xs) (sym is)
+    ∙ ap (λ (n : ℕ). own ∷ drop n xs) same
+
+-- one sheet before those behind
+pub first_further : (name : List ℕ) (sheet : Sheet) (sheets : List Sheet) (path : String Global)
+    (paths : List (String Global)) (kept found : Option (List ℕ)) (own there : List ℕ)
+    → kept ≡ path_listed name sheets paths → own ≡ string_bytes sheet.name
+    → there ≡ string_bytes path
+    → found ≡ (if bytes_eq name own then Some there else kept)
+    → found ≡ path_listed name (sheet ∷ sheets) (path ∷ paths)
+first_further name sheet sheets path paths kept found own there is named placed put =
+    put
+    ∙ ap (λ (rest : Option (List ℕ)). if bytes_eq name own then Some there else rest) is
+    ∙ ap (λ (test : Bool). if test then Some there else path_listed name sheets paths)
+    (nat_list_eq_equiv.symm name own ∙ ap (λ (text : List ℕ). bytes_eq text name) named)
+    ∙ ap (λ (text : List ℕ). if bytes_eq (string_bytes sheet.name) name then Some text else
+    path_listed name sheets paths) placed
+
+-- ---- why a range isn't read
+
+pub listing_ends : (name : List ℕ) (wants : Wants) (grounds : Grounds)
+    (path : Option (List ℕ)) (old new : PackageState) (error : XlsxError)
+    → ends_listing error ≡ true → RangeFails name wants grounds path old new error
+    → SoundFails old new error
+listing_ends name wants grounds path old new Io ends fails = fails
+listing_ends name wants grounds path old new OutOfMemory ends fails = tt
+listing_ends name wants grounds path old new (NotAWorksheet other) ends fails = absurd fails
+listing_ends name wants grounds path old new error ends fails = absurd (cc)
+
+pub range_cause : (name : List ℕ) (wants : Wants) (grounds : Grounds) (path : Option (List ℕ))
+    (old new : PackageState) (error : XlsxError) → ends_listing error ≡ false
+    → RangeFails name wants grounds path old new error → old.is_told ≡ true
+    → RangeCause name wants grounds path old.parts error
+range_cause name wants grounds path old new Io goes fails told = absurd (cc)
+range_cause name wants grounds path old new OutOfMemory goes fails told = absurd (cc)
+range_cause name wants grounds path old new (NotAWorksheet other) goes fails told = absurd fails
+range_cause name wants grounds path old new (WorksheetNotFound asked) goes fails told = fails told
+range_cause name wants grounds path old new error goes fails told = fails told
+
+-- ---- one sheet more
+
+-- what is listed of all, where it is so of those behind
+pub listed_further : (grounds : Grounds) (header : HeaderRow)
+    (place : List ℕ → Option (List ℕ)) (parts : List Part) (sheet : Sheet) (sheets : List Sheet)
+    (range : Option (Range Data)) (old new : List (String Global × Range Data))
+    (fact : List (String Global × Range Data) → Type 0)
+    → MatchOption range (IsLeftOut grounds place parts sheet)
+    (ReadsValues grounds header (place (string_bytes sheet.name)) parts)
+    → MatchOption range (new ≡ old) (IsPutBehind (string_bytes sheet.name) old new)
+    → ((others : List (String Global × Range Data))
+    → AreListed grounds header place parts (sheet ∷ sheets) others → fact (old ++ others))
+    → (others : List (String Global × Range Data))
+    → AreListed grounds header place parts sheets others → fact (new ++ others)
+listed_further grounds header place parts sheet sheets None old new fact left same all others is =
+    subst (λ (own : List (String Global × Range Data)). fact (own ++ others)) (sym same)
+    (all others (inl (left, is)))
+listed_further grounds header place parts sheet sheets (Some range) old new fact reads put all
+    others is =
+    let (own, named, same) = put in
+    let first : String Global × Range Data = (own, range) in
+    subst fact
+    (sym (ap (λ (kept : List (String Global × Range Data)). kept ++ others) same
+    ∙ append_assoc old (first ∷ []) others))
+    (all (first ∷ others)
+    (inr (first, others, refl, record { name = named; reads = reads }, is)))
+
+-- ---- none is both
+
+pub listed_or_left_out : (grounds : Grounds) (header : HeaderRow)
+    (place : List ℕ → Option (List ℕ)) (parts : List Part) (sheet : Sheet)
+    (own : String Global × Range Data) → IsListedAs grounds header place parts sheet own
+    → IsLeftOut grounds place parts sheet → ⊥
+listed_or_left_out grounds header place parts sheet own is (error, cause) =
+    let name = string_bytes sheet.name in
+    values_never grounds header name (place name) parts own.1 error is.reads cause

@@ -1,0 +1,76 @@
+use Rattle.std.proofs.Common.{◌≡◌, ◌∷◌, ◌+◌, ℕ, List, [], drop, refl, ◌∙◌, subst, append-nil}
+use Rattle.std.proofs.Common.{string_bytes, arith, Option}
+use Rattle.std.specs.Prelude.{MatchOption}
+use Rattle.std.proofs.lemmas.List.{drop_all}
+use Rattle.std.specs.Option.{option_copied}
+use Rattle.part_events.specs.Package.{Part}
+use Rattle.xlsx_error.specs.declared.error.XlsxError.{XlsxError}
+use Rattle.xlsx_values.specs.Book.{grounds_of}
+use Rattle.xlsx_cells.specs.CellsReader.{values_alone}
+use Rattle.xlsx_core.specs.Listing.{AreListed, IsPutBehind}
+use Rattle.xlsx_core.specs.Opened.{path_listed}
+use Rattle.xlsx_core.specs.Worksheets.{ReadsValues, RangeCause}
+use Rattle.xlsx_core.proofs.SheetsListed.{listed_further, drop_from}
+use Rattle.xlsx_core.proofs.worksheet_list.ranges_listed.Goals as goal
+
+pub sheets-preserved : goal.sheets-preserved
+sheets-preserved g c =
+    let old = g.P.Package.state c.args.package.now in
+    let mid = g.P.Package.state c.sheets.package in
+    let now = c.sheets.invariant in
+    let own = c.in_ok-range.ensures in
+    let sheet = c.sheet-item.result in
+    let name = c.as_str-name.result.now in
+    let sheets = c.args.sheets.now in
+    let place = λ (text : List ℕ). path_listed text sheets c.args.paths.now in
+    let grounds = grounds_of c.args.asked.book in
+    let header = c.args.header_row in
+    let range = c.in_ok-range.range in
+    let reads_at = λ (text : List ℕ) (path : Option (List ℕ)) (parts : List Part).
+    MatchOption range ((error : XlsxError) × RangeCause text values_alone grounds path parts error)
+    (ReadsValues grounds header path parts) in
+    record {
+      keeps = record {
+        parts = own.keeps.parts ∙ now.keeps.parts;
+        is_told = own.keeps.is_told ∙ now.keeps.is_told;
+        faults = omega (arith, own.keeps.faults, now.keeps.faults);
+      };
+      faults = own.faults ∙ now.faults;
+      listed = λ told.
+          let named : name ≡ string_bytes sheet.name = c.as_str-name.ensures.value in
+          let path : option_copied c.kept_path-path.result ≡ place name =
+          c.kept_path-path.ensures ∙ c.in_ok-firsts.ensures name in
+          let read : reads_at name (place name) old.parts =
+          subst (reads_at name (place name)) now.keeps.parts
+          (subst (λ (there : Option (List ℕ)). reads_at name there mid.parts) path
+          (own.reads (now.keeps.is_told ∙ told))) in
+          let reads : reads_at (string_bytes sheet.name) (place (string_bytes sheet.name))
+          old.parts =
+          subst (λ (text : List ℕ). reads_at text (place text) old.parts) named read in
+          let put : MatchOption range (c.put_behind.new.listed.items ≡ c.sheets.listed.items)
+          (IsPutBehind (string_bytes sheet.name) c.sheets.listed.items
+          c.put_behind.new.listed.items) =
+          subst (λ (text : List ℕ). MatchOption range
+          (c.put_behind.new.listed.items ≡ c.sheets.listed.items)
+          (IsPutBehind text c.sheets.listed.items c.put_behind.new.listed.items)) named
+          c.in_ok-put_behind.ensures in
+          let front : drop c.sheets.sheet-index sheets
+          ≡ sheet ∷ drop (c.sheets.sheet-index + 1) sheets =
+          drop_from sheets c.sheets.sheet-index (c.sheets.sheet-index + 1) sheet c.sheet-item.is
+          c.sheets-test.true refl in
+          listed_further grounds header place old.parts sheet
+          (drop (c.sheets.sheet-index + 1) sheets) range c.sheets.listed.items
+          c.put_behind.new.listed.items (AreListed grounds header place old.parts sheets) reads
+          put (λ others is. now.listed told others (rw front is));
+    }
+
+pub returns-clause-lists : goal.returns-clause-lists
+returns-clause-lists g c = λ told.
+    let old = g.P.Package.state c.args.package.now in
+    let place = λ (name : List ℕ). path_listed name c.args.sheets.now c.args.paths.now in
+    let behind : drop c.sheets.sheet-index c.args.sheets.now ≡ [] =
+    drop_all c.sheets.sheet-index c.args.sheets.now c.sheets-test.false in
+    subst (AreListed (grounds_of c.args.asked.book) c.args.header_row place old.parts
+    c.args.sheets.now) (append-nil c.sheets.listed.items)
+    (c.sheets.invariant.listed told []
+    (rw behind refl))

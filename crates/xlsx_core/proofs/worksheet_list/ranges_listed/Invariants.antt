@@ -1,0 +1,23 @@
+use Rattle.std.proofs.Common.{◌≡◌, ◌++◌, ℕ, List, drop, true, String, Global}
+use Rattle.part_events.specs.Package.{SameParts}
+use Rattle.cell_data.specs.declared.range.Range.{Range}
+use Rattle.cell_data.specs.declared.value.Data.{Data}
+use Rattle.xlsx_values.specs.Book.{grounds_of}
+use Rattle.xlsx_core.specs.Listing.{AreListed}
+use Rattle.xlsx_core.specs.Opened.{path_listed}
+use Rattle.xlsx_core.proofs.worksheet_list.ranges_listed.Given as goal
+
+abbrev pub invariant-sheets : goal.invariant-sheets
+invariant-sheets g l =
+    let old = g.P.Package.state l.fn.«package» in
+    let now = g.P.Package.state l.«package» in
+    let place = λ (name : List ℕ). path_listed name l.fn.sheets l.fn.paths in
+    record {
+      keeps : SameParts old now;
+      faults : now.faults ≡ old.faults;
+      listed : old.is_told ≡ true → (others : List (String Global × Range Data)) →
+          AreListed (grounds_of l.asked.book) l.header_row place old.parts
+          (drop l.sheet-index l.fn.sheets) others →
+          AreListed (grounds_of l.asked.book) l.header_row place old.parts l.fn.sheets
+          (l.listed.items ++ others);
+    }

@@ -1,0 +1,24 @@
+use Rattle.std.proofs.Common.{List, subst, String, Global, ℕ}
+use Rattle.std.specs.Prelude.{IfOk}
+use Rattle.xlsx_values.specs.Book.{grounds_of}
+use Rattle.xlsx_values.specs.Value.{Grounds}
+use Rattle.xlsx_workbook.specs.declared.sheet.Sheet.{Sheet}
+use Rattle.xlsx_core.specs.Listing.{AreListed}
+use Rattle.xlsx_core.specs.Opened.{path_listed}
+use Rattle.xlsx_core.specs.Worksheets.{path_of}
+use Rattle.xlsx_core.proofs.xlsx.Xlsx.worksheets.Goals as goal
+
+pub returns-clause-lists : goal.returns-clause-lists
+returns-clause-lists g c = λ told.
+    let xlsx = c.args.self.now in
+    let parts = (g.P.Package.state xlsx.package).parts in
+    let made = c.ranges_listed.result in
+    let own = grounds_of c.asked_of-asked.result.book in
+    subst (λ (grounds : Grounds). IfOk made (λ listed. AreListed grounds xlsx.header_row
+    (path_of xlsx) parts xlsx.metadata.sheets.items listed.items)) c.asked_of-asked.ensures.grounds
+    (subst (λ (sheets : List Sheet). IfOk made (λ listed. AreListed own xlsx.header_row
+    (λ (name : List ℕ). path_listed name sheets xlsx.paths.items) parts sheets listed.items))
+    c.deref.ensures.value
+    (subst (λ (paths : List (String Global)). IfOk made (λ listed. AreListed own xlsx.header_row
+    (λ (name : List ℕ). path_listed name c.deref.result.now paths) parts c.deref.result.now
+    listed.items)) c.deref-2.ensures.value (c.ranges_listed.ensures.lists told)))

@@ -1,0 +1,52 @@
+-- The worksheets of an open workbook, listed.
+use Rattle.std.specs.Prelude.{◌≡◌, ◌⊎◌, ◌++◌, ℕ, List, [], ◌∷◌, Bool, true, false, Option, String}
+use Rattle.std.specs.Prelude.{string_bytes}
+use Rattle.std.specs.declared.alloc.Global.{Global}
+use Rattle.part_events.specs.Package.{Part}
+use Rattle.cell_data.specs.declared.range.Range.{Range}
+use Rattle.cell_data.specs.declared.value.Data.{Data}
+use Rattle.cell_data.specs.declared.value.HeaderRow.{HeaderRow}
+use Rattle.xlsx_error.specs.declared.error.XlsxError.{XlsxError}
+use Rattle.xlsx_error.specs.declared.error.XlsxError.TheVariants.{OutOfMemory, Io}
+use Rattle.xlsx_values.specs.Value.{Grounds}
+use Rattle.xlsx_cells.specs.CellsReader.{values_alone}
+use Rattle.xlsx_workbook.specs.declared.sheet.Sheet.{Sheet}
+use Rattle.xlsx_core.specs.Worksheets.{ReadsValues, RangeCause}
+
+-- a sheet's name, and the range of values of the first sheet of this name; `place` tells where the
+-- part of that sheet is
+pub record IsListedAs
+    (grounds : Grounds) (header : HeaderRow) (place : List ℕ → Option (List ℕ))
+    (parts : List Part) (sheet : Sheet) (listed : String Global × Range Data) : Type 0 where
+  pub name : string_bytes listed.0 ≡ string_bytes sheet.name
+  pub reads : ReadsValues grounds header (place (string_bytes sheet.name)) parts listed.1
+
+-- that range isn't read
+abbrev pub IsLeftOut : Grounds → (List ℕ → Option (List ℕ)) → List Part → Sheet → Type 0
+IsLeftOut grounds place parts sheet =
+    let name = string_bytes sheet.name in
+    (error : XlsxError) × RangeCause name values_alone grounds (place name) parts error
+
+-- what is listed of these sheets, in their order
+abbrev pub AreListed :
+    Grounds → HeaderRow → (List ℕ → Option (List ℕ)) → List Part → List Sheet →
+    List (String Global × Range Data) → Type 0
+AreListed grounds header place parts [] listed = listed ≡ []
+AreListed grounds header place parts (sheet ∷ sheets) listed =
+    (IsLeftOut grounds place parts sheet × AreListed grounds header place parts sheets listed)
+    ⊎ ((first : String Global × Range Data) × (others : List (String Global × Range Data))
+    × (listed ≡ first ∷ others) × IsListedAs grounds header place parts sheet first
+    × AreListed grounds header place parts sheets others)
+
+-- nothing is listed where a range is refused so
+abbrev pub ends_listing : XlsxError → Bool
+ends_listing Io = true
+ends_listing OutOfMemory = true
+ends_listing _ = false
+
+-- a range was put behind others, with this name
+abbrev pub IsPutBehind :
+    List ℕ → List (String Global × Range Data) → List (String Global × Range Data) → Range Data →
+    Type 0
+IsPutBehind name old new range =
+    (own : String Global) × (string_bytes own ≡ name) × (new ≡ old ++ (own, range) ∷ [])

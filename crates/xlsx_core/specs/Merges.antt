@@ -1,0 +1,91 @@
+-- What the calls on merged cells of an open workbook answer.
+use Rattle.std.specs.Prelude.{◌≡◌, ⊤, ℕ, List, [], ◌∷◌, ◌++◌, map, Option, Some, None, option_map}
+use Rattle.std.specs.Prelude.{option_and_then, slice_get, codes, decimal, string_bytes, String}
+use Rattle.std.specs.Prelude.{MatchOption, IsSomeAnd, IfSome, Vec}
+use Rattle.std.specs.declared.alloc.Global.{Global}
+use Rattle.cell_refs.specs.declared.dimensions.Dimensions.{Dimensions}
+use Rattle.part_events.specs.Package.{Part, PackageState}
+use Rattle.xlsx_error.specs.declared.error.XlsxError.{XlsxError}
+use Rattle.xlsx_error.specs.declared.error.XlsxError.TheVariants.{OutOfMemory, WorksheetNotFound}
+use Rattle.xlsx_sections.specs.Failing.{FailsBy}
+use Rattle.xlsx_areas.specs.MergeErrors.{MergesCause, BreaksBefore, IsMergesError}
+use Rattle.xlsx_areas.specs.MergedCells.{merges_of, merges_or_none_of}
+use Rattle.xlsx_areas.specs.Regions.{SheetPath, sheet_at, all_regions, region_of, AllRegionsCause}
+use Rattle.xlsx_areas.specs.declared.regions.MergedRegion.{MergedRegion}
+use Rattle.xlsx_workbook.specs.declared.sheet.Sheet.{Sheet}
+use Rattle.xlsx_core.specs.SheetReading.{PlacedCause, events_at}
+use Rattle.xlsx_core.specs.Worksheets.{path_of}
+use Rattle.xlsx_core.specs.declared.xlsx.Xlsx.{Xlsx}
+
+-- the sheets of a workbook with the paths of their parts
+abbrev pub sheet_paths : List Sheet → List (String Global) → List SheetPath
+sheet_paths [] paths = []
+sheet_paths (sheet ∷ sheets) [] = []
+sheet_paths (sheet ∷ sheets) (path ∷ paths) =
+    sheet_at (string_bytes sheet.name) (string_bytes path) ∷ sheet_paths sheets paths
+
+abbrev pub sheets_of_book : {P : Type 0} → Xlsx P → List SheetPath
+sheets_of_book xlsx = sheet_paths xlsx.metadata.sheets.items xlsx.paths.items
+
+-- the name of the sheet at an index
+abbrev pub name_at : {P : Type 0} → Xlsx P → ℕ → Option (List ℕ)
+name_at xlsx index =
+    option_map (λ (sheet : Sheet). string_bytes sheet.name)
+    (slice_get xlsx.metadata.sheets.items index)
+
+-- where the part is of the first sheet of that name
+abbrev pub path_at : {P : Type 0} → Xlsx P → ℕ → Option (List ℕ)
+path_at xlsx index = option_and_then (path_of xlsx) (name_at xlsx index)
+
+-- the merged cells of the part at a path, where there is one
+abbrev pub merges_placed : Option (List ℕ) → List Part → Option (List Dimensions)
+merges_placed path parts = option_and_then merges_of (events_at path parts)
+
+-- and what the call answers that takes a faulty section for none
+abbrev pub merges_or_none_placed : Option (List ℕ) → List Part → Option (List Dimensions)
+merges_or_none_placed path parts = option_and_then merges_or_none_of (events_at path parts)
+
+-- when the merged cells of a sheet can't be taken
+abbrev pub PlacedMergesFail :
+    List ℕ → Option (List ℕ) → PackageState → PackageState → XlsxError → Type 0
+PlacedMergesFail name path old new error =
+    FailsBy (PlacedCause name path MergesCause old.parts) old new error
+
+abbrev pub IsPlacedMergesError : List ℕ → XlsxError → Type 0
+IsPlacedMergesError name (WorksheetNotFound asked) = string_bytes asked ≡ name
+IsPlacedMergesError name error = IsMergesError error
+
+-- no sheet has this index
+abbrev pub out_of_range : ℕ → List ℕ
+out_of_range index = codes "Sheet index " ++ (decimal index ++ codes " out of range")
+
+abbrev pub IsOutOfRange : ℕ → XlsxError → Type 0
+IsOutOfRange index (WorksheetNotFound asked) = string_bytes asked ≡ out_of_range index
+IsOutOfRange index _ = ⊥
+
+abbrev pub IsIndexError : ℕ → XlsxError → Type 0
+IsIndexError index OutOfMemory = ⊤
+IsIndexError index error = IsOutOfRange index error
+
+-- when those of the sheet at an index can't be taken
+abbrev pub NumberedMergesFail :
+    {P : Type 0} → Xlsx P → ℕ → PackageState → PackageState → XlsxError → Type 0
+NumberedMergesFail xlsx index old new error =
+    FailsBy (λ own. MatchOption (name_at xlsx index) (IsOutOfRange index own)
+    (λ name. PlacedCause name (path_of xlsx name) MergesCause old.parts own)) old new error
+
+-- when the call that takes a faulty section for none is refused: the nesting breaks before one
+abbrev pub PlacedBreaks :
+    Option (List ℕ) → PackageState → PackageState → XlsxError → Type 0
+PlacedBreaks path old new error =
+    FailsBy (λ own. IsSomeAnd (events_at path old.parts) (λ events. BreaksBefore events own))
+    old new error
+
+-- these are the regions of all sheets
+abbrev pub HoldsRegions :
+    List Part → List SheetPath → Vec MergedRegion Global → Type 0
+HoldsRegions parts sheets kept = all_regions parts sheets ≡ Some (map region_of kept.items)
+
+abbrev pub RegionsFail :
+    List SheetPath → PackageState → PackageState → XlsxError → Type 0
+RegionsFail sheets old new error = FailsBy (AllRegionsCause old.parts sheets) old new error

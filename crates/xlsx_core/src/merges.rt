@@ -1,0 +1,297 @@
+ghost use Rattle.std.specs.Prelude.{◌≡◌, true, map, IfOk, OnOk, OnErr, IfErr, IfSome, IfNone};
+ghost use Rattle.std.specs.Prelude.{IsSome, IsSomeAnd, MatchOption, None, Some, is_some};
+ghost use Rattle.std.specs.List.{filter};
+ghost use Rattle.std.specs.Option.{option_copied};
+ghost use Rattle.part_events.specs.Package.{SameParts, KeepsFaults};
+ghost use Rattle.xlsx_error.specs.declared.error.XlsxError.TheVariants.{Io};
+ghost use Rattle.xlsx_parts.specs.WholePart.{IsBreakError};
+ghost use Rattle.xlsx_areas.specs.MergeErrors.{IsRegionsError};
+ghost use Rattle.xlsx_areas.specs.Regions.{all_regions, region_of, regions_left, is_of_sheet};
+ghost use Rattle.xlsx_core.specs.Merges.{sheet_paths, sheets_of_book, name_at, path_at};
+ghost use Rattle.xlsx_core.specs.Merges.{merges_placed, merges_or_none_placed, PlacedMergesFail};
+ghost use Rattle.xlsx_core.specs.Merges.{IsPlacedMergesError, IsIndexError, NumberedMergesFail};
+ghost use Rattle.xlsx_core.specs.Merges.{PlacedBreaks, HoldsRegions, RegionsFail};
+ghost use Rattle.xlsx_core.specs.SheetReading.{events_at};
+ghost use Rattle.xlsx_core.specs.Worksheets.{path_of, KeepsBook, KeepsWorkbook};
+
+use crate::placed_sheet::path_named;
+use crate::xlsx::Xlsx;
+use cell_refs::Dimensions;
+use part_events::Package;
+use std::alloc::Global;
+use xlsx_areas::{
+    MergedRegion, MergedRegions, read_merges, read_merges_or_none, read_sheet_regions,
+};
+use xlsx_error::XlsxError;
+use xlsx_open::Sheet;
+
+/// The merged cells of the sheet of this name, whose part is at this path.
+fn placed_merges<P: Package>(
+    alloc: Global,
+    package: &mut P,
+    path: Option<&str>,
+    name: &str,
+) -> Result<Vec<Dimensions>, XlsxError>
+    ensures keeps { SameParts (P.state «package».old) (P.state «package».new) }
+    ensures faults { OnOk result
+        ((P.state «package».new).faults ≡ (P.state «package».old).faults) }
+    ensures merges { let old = P.state «package».old in
+        old.is_told ≡ true → IfOk result (λ areas.
+        merges_placed (option_copied path.entry) old.parts ≡ Some areas.items) }
+    ensures err { IfErr result (PlacedMergesFail name.now (option_copied path.entry)
+        (P.state «package».old) (P.state «package».new)) }
+    ensures counts { IfErr result
+        (KeepsFaults Io (P.state «package».old) (P.state «package».new)) }
+    ensures kind { IfErr result (IsPlacedMergesError name.now) }
+{
+    if let Some(path) = path {
+        if let Some(areas) = read_merges(alloc, package, path)? {
+            return Ok(areas);
+        }
+    }
+    Err(XlsxError::WorksheetNotFound(String::from_str(alloc, name)?))
+}
+
+/// The merged cells of the sheet whose part is at this path, and none where what stands in their
+/// section refuses them. None where there is no path, or no part at it.
+fn placed_merges_or_none<P: Package>(
+    alloc: Global,
+    package: &mut P,
+    path: Option<&str>,
+) -> Option<Result<Vec<Dimensions>, XlsxError>>
+    ensures keeps { SameParts (P.state «package».old) (P.state «package».new) }
+    ensures absent { let old = P.state «package».old in
+        IfNone result (((P.state «package».new).faults ≡ old.faults)
+        × (old.is_told ≡ true → events_at (option_copied path.entry) old.parts ≡ None)) }
+    ensures faults { IfSome result (λ answer. OnOk answer
+        ((P.state «package».new).faults ≡ (P.state «package».old).faults)) }
+    ensures merges { let old = P.state «package».old in
+        old.is_told ≡ true → IfSome result (λ answer. IfOk answer (λ areas.
+        merges_or_none_placed (option_copied path.entry) old.parts ≡ Some areas.items)) }
+    ensures err { IfSome result (λ answer. IfErr answer (PlacedBreaks (option_copied path.entry)
+        (P.state «package».old) (P.state «package».new))) }
+    ensures counts { IfSome result (λ answer. IfErr answer
+        (KeepsFaults Io (P.state «package».old) (P.state «package».new))) }
+    ensures kind { IfSome result (λ answer. IfErr answer IsBreakError) }
+{
+    match read_merges_or_none(alloc, package, path?) {
+        Ok(Some(areas)) => Some(Ok(areas)),
+        Ok(None) => None,
+        Err(error) => Some(Err(error)),
+    }
+}
+
+/// The regions of all these sheets, whose parts are at these paths.
+fn all_regions<P: Package>(
+    alloc: Global,
+    package: &mut P,
+    sheets: &[Sheet],
+    paths: &[String],
+) -> Result<Vec<MergedRegion>, XlsxError>
+    ensures keeps { SameParts (P.state «package».old) (P.state «package».new) }
+    ensures faults { OnOk result
+        ((P.state «package».new).faults ≡ (P.state «package».old).faults) }
+    ensures regions { let old = P.state «package».old in
+        old.is_told ≡ true →
+        IfOk result (HoldsRegions old.parts (sheet_paths sheets.now paths.now)) }
+    ensures err { IfErr result (RegionsFail (sheet_paths sheets.now paths.now)
+        (P.state «package».old) (P.state «package».new)) }
+    ensures counts { IfErr result
+        (KeepsFaults Io (P.state «package».old) (P.state «package».new)) }
+    ensures kind { IfErr result IsRegionsError }
+{
+    let mut regions = Vec::new(alloc);
+    let mut left = sheets;
+    let mut rest = paths;
+    'sheets: while let Some((sheet, others)) = left.split_first() {
+        let Some((path, more)) = rest.split_first() else {
+            return Ok(regions);
+        };
+        read_sheet_regions(
+            alloc,
+            package,
+            &mut regions,
+            sheet.name.as_str(),
+            path.as_str(),
+        )?;
+        left = others;
+        rest = more;
+    }
+    Ok(regions)
+}
+
+/// The merged cells of an open workbook.
+impl<P: Package> Xlsx<P> {
+    /// The merged cells of the first sheet of this name (ECMA-376 part 1, section 18.3.1.55): the
+    /// area of each `mergeCell` in the first `mergeCells` of its part that has a `ref`, in order.
+    /// Rows and columns are counted from 0. A part without that section has none.
+    ///
+    /// Fails with `WorksheetNotFound` where no sheet has the name or the first such sheet has no
+    /// part. Else an end that breaks the nesting up to the section's end is `Xml(EndMismatch)`, a
+    /// part that ends in the section `XmlEof("")`, and a start in it that can't be looked up, or
+    /// whose `ref` names no area, has its refusal.
+    pub fn merge_cells_by_sheet_name(&mut self, name: &str) -> Result<Vec<Dimensions>, XlsxError>
+        ensures keeps { SameParts (P.state self.old.package) (P.state self.new.package) }
+        ensures rest { KeepsWorkbook self.old self.new }
+        ensures faults { OnOk result
+            ((P.state self.new.package).faults ≡ (P.state self.old.package).faults) }
+        ensures merges { let old = P.state self.old.package in
+            old.is_told ≡ true → IfOk result (λ areas.
+            merges_placed (path_of self.old name.now) old.parts ≡ Some areas.items) }
+        ensures err { IfErr result (PlacedMergesFail name.now (path_of self.old name.now)
+            (P.state self.old.package) (P.state self.new.package)) }
+        ensures counts { IfErr result
+            (KeepsFaults Io (P.state self.old.package) (P.state self.new.package)) }
+        ensures kind { IfErr result (IsPlacedMergesError name.now) }
+    {
+        let path = path_named(&self.metadata.sheets, &self.paths, name);
+        placed_merges(self.alloc, &mut self.package, path, name)
+    }
+
+    /// The merged cells of the sheet at this index, counted from 0, by its name: those of the first
+    /// sheet of that name.
+    ///
+    /// Fails with `WorksheetNotFound("Sheet index N out of range")` past the last sheet, and else
+    /// as `merge_cells_by_sheet_name` of the sheet's name.
+    pub fn merge_cells_by_sheet_id(&mut self, id: usize) -> Result<Vec<Dimensions>, XlsxError>
+        ensures keeps { SameParts (P.state self.old.package) (P.state self.new.package) }
+        ensures rest { KeepsWorkbook self.old self.new }
+        ensures faults { OnOk result
+            ((P.state self.new.package).faults ≡ (P.state self.old.package).faults) }
+        ensures merges { let old = P.state self.old.package in
+            old.is_told ≡ true → IfOk result (λ areas.
+            merges_placed (path_at self.old id) old.parts ≡ Some areas.items) }
+        ensures err { IfErr result (NumberedMergesFail self.old id (P.state self.old.package)
+            (P.state self.new.package)) }
+        ensures counts { IfErr result
+            (KeepsFaults Io (P.state self.old.package) (P.state self.new.package)) }
+        ensures kind { IfErr result (λ error.
+            MatchOption (name_at self.old id) (IsIndexError id error)
+            (λ name. IsPlacedMergesError name error)) }
+    {
+        let Some(sheet) = self.metadata.sheets.get(id) else {
+            let text = format!(in self.alloc; "Sheet index {id} out of range")?;
+            return Err(XlsxError::WorksheetNotFound(text));
+        };
+        let name = sheet.name.as_str();
+        let path = path_named(&self.metadata.sheets, &self.paths, name);
+        placed_merges(self.alloc, &mut self.package, path, name)
+    }
+
+    /// The merged cells as `merge_cells_by_sheet_name` has them, and none where what stands in
+    /// their section refuses them, the part ends in it, or the nesting breaks there. None where no
+    /// sheet has the name or the first such sheet has no part.
+    ///
+    /// Its refusals are `Io`, `OutOfMemory`, and `Xml(EndMismatch)` by an end that breaks the
+    /// nesting before the section, or anywhere in a part without one.
+    pub fn worksheet_merge_cells(
+        &mut self,
+        name: &str,
+    ) -> Option<Result<Vec<Dimensions>, XlsxError>>
+        ensures keeps { SameParts (P.state self.old.package) (P.state self.new.package) }
+        ensures rest { KeepsWorkbook self.old self.new }
+        ensures absent { let old = P.state self.old.package in
+            IfNone result (((P.state self.new.package).faults ≡ old.faults)
+            × (old.is_told ≡ true → events_at (path_of self.old name.now) old.parts ≡ None)) }
+        ensures faults { IfSome result (λ answer. OnOk answer
+            ((P.state self.new.package).faults ≡ (P.state self.old.package).faults)) }
+        ensures merges { let old = P.state self.old.package in
+            old.is_told ≡ true → IfSome result (λ answer. IfOk answer (λ areas.
+            merges_or_none_placed (path_of self.old name.now) old.parts ≡ Some areas.items)) }
+        ensures err { IfSome result (λ answer. IfErr answer
+            (PlacedBreaks (path_of self.old name.now) (P.state self.old.package)
+            (P.state self.new.package))) }
+        ensures counts { IfSome result (λ answer. IfErr answer
+            (KeepsFaults Io (P.state self.old.package) (P.state self.new.package))) }
+        ensures kind { IfSome result (λ answer. IfErr answer IsBreakError) }
+    {
+        let path = path_named(&self.metadata.sheets, &self.paths, name);
+        placed_merges_or_none(self.alloc, &mut self.package, path)
+    }
+
+    /// The merged cells of the sheet at this index, counted from 0, by its name, as
+    /// `worksheet_merge_cells` has them. None also past the last sheet.
+    pub fn worksheet_merge_cells_at(
+        &mut self,
+        sheet_index: usize,
+    ) -> Option<Result<Vec<Dimensions>, XlsxError>>
+        ensures keeps { SameParts (P.state self.old.package) (P.state self.new.package) }
+        ensures rest { KeepsWorkbook self.old self.new }
+        ensures absent { let old = P.state self.old.package in
+            IfNone result (((P.state self.new.package).faults ≡ old.faults)
+            × (old.is_told ≡ true → events_at (path_at self.old sheet_index) old.parts ≡ None)) }
+        ensures faults { IfSome result (λ answer. OnOk answer
+            ((P.state self.new.package).faults ≡ (P.state self.old.package).faults)) }
+        ensures merges { let old = P.state self.old.package in
+            old.is_told ≡ true → IfSome result (λ answer. IfOk answer (λ areas.
+            merges_or_none_placed (path_at self.old sheet_index) old.parts
+            ≡ Some areas.items)) }
+        ensures err { IfSome result (λ answer. IfErr answer
+            (PlacedBreaks (path_at self.old sheet_index) (P.state self.old.package)
+            (P.state self.new.package))) }
+        ensures counts { IfSome result (λ answer. IfErr answer
+            (KeepsFaults Io (P.state self.old.package) (P.state self.new.package))) }
+        ensures kind { IfSome result (λ answer. IfErr answer IsBreakError) }
+    {
+        let sheet = self.metadata.sheets.get(sheet_index)?;
+        let path = path_named(&self.metadata.sheets, &self.paths, sheet.name.as_str());
+        placed_merges_or_none(self.alloc, &mut self.package, path)
+    }
+
+    /// Loads the regions of all sheets in their order: the area of each `mergeCell` start of each
+    /// sheet's part (18.3.1.54), wherever it stands there, with the sheet's name and its path. Each
+    /// part is read to its end. A sheet whose part is absent has none. What was loaded before is
+    /// replaced.
+    ///
+    /// Fails by an end that breaks the nesting of a part, and by a start that can't be looked up or
+    /// whose `ref` names no area. A refusal leaves what was loaded as it was.
+    pub fn load_merged_regions(&mut self) -> Result<(), XlsxError>
+        ensures keeps { SameParts (P.state self.old.package) (P.state self.new.package) }
+        ensures book { KeepsBook self.old self.new }
+        ensures loaded { OnOk result (IsSome self.new.lists.regions) }
+        ensures regions { let old = P.state self.old.package in
+            old.is_told ≡ true → OnOk result (IsSomeAnd self.new.lists.regions
+            (HoldsRegions old.parts (sheets_of_book self.old))) }
+        ensures faults { OnOk result
+            ((P.state self.new.package).faults ≡ (P.state self.old.package).faults) }
+        ensures properties { self.new.lists.properties ≡ self.old.lists.properties }
+        ensures unchanged { OnErr result (KeepsWorkbook self.old self.new) }
+        ensures err { IfErr result (RegionsFail (sheets_of_book self.old)
+            (P.state self.old.package) (P.state self.new.package)) }
+        ensures counts { IfErr result
+            (KeepsFaults Io (P.state self.old.package) (P.state self.new.package)) }
+        ensures kind { IfErr result IsRegionsError }
+    {
+        let sheets = &self.metadata.sheets;
+        let regions = all_regions(self.alloc, &mut self.package, sheets, &self.paths)?;
+        self.lists.regions = Some(regions);
+        Ok(())
+    }
+
+    /// Whether the regions were loaded.
+    pub fn merged_regions_loaded(&self) -> bool
+        ensures { result ≡ is_some self.now.lists.regions }
+    {
+        self.lists.regions.is_some()
+    }
+
+    /// The regions that were loaded, in order.
+    pub fn merged_regions(&self) -> &[MergedRegion]
+        requires { IsSome self.now.lists.regions }
+        ensures { IsSomeAnd self.now.lists.regions (λ kept. result.now ≡ kept.items) }
+    {
+        match &self.lists.regions {
+            Some(regions) => regions,
+            None => unreachable!(),
+        }
+    }
+
+    /// Those of the sheets of this name.
+    pub fn merged_regions_by_sheet<'a>(&'a self, name: &'a str) -> MergedRegions<'a>
+        requires { IsSome self.now.lists.regions }
+        ensures { IsSomeAnd self.now.lists.regions (λ kept.
+            regions_left result ≡ filter (is_of_sheet name.now) kept.items) }
+    {
+        MergedRegions::new(self.merged_regions(), name)
+    }
+}

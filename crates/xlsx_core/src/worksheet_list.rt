@@ -1,0 +1,196 @@
+ghost use Rattle.std.specs.Prelude.{◌≡◌, ℕ, List, true, IfOk, OnOk, IfErr, MatchOption};
+ghost use Rattle.std.specs.Prelude.{if◌then◌else◌, Some};
+ghost use Rattle.std.specs.BTreeMap.{get_by_text};
+ghost use Rattle.std.specs.Option.{option_copied};
+ghost use Rattle.std.specs.Str.{bytes_eq};
+ghost use Rattle.part_events.specs.Package.{SameParts, KeepsFaults};
+ghost use Rattle.xlsx_error.specs.declared.error.XlsxError.TheVariants.{Io};
+ghost use Rattle.xlsx_sections.specs.Failing.{SoundFails};
+ghost use Rattle.xlsx_values.specs.Book.{grounds_of};
+ghost use Rattle.xlsx_cells.specs.CellsReader.{values_alone};
+ghost use Rattle.xlsx_core.specs.Opened.{path_listed};
+ghost use Rattle.xlsx_core.specs.Listing.{AreListed, IsPutBehind, ends_listing};
+ghost use Rattle.xlsx_core.specs.Worksheets.{ReadsValues, RangeCause, KeepsWorkbook};
+ghost use Rattle.xlsx_core.specs.Worksheets.{grounds_of_book, path_of};
+
+use crate::placed_sheet::{asked_of, read_values};
+use crate::xlsx::Xlsx;
+use cell_data::{Data, HeaderRow, Range};
+use part_events::Package;
+use std::alloc::{AllocError, Global};
+use std::collections::BTreeMap;
+use xlsx_cells::{Asked, Wants};
+use xlsx_error::XlsxError;
+use xlsx_open::Sheet;
+
+/// Keeps a path for a name, in place of an earlier one.
+#[tactic(auto, using(std::proofs::lemmas::Map::Text::text_keys))]
+fn put<'a>(
+    alloc: Global,
+    paths: &mut BTreeMap<String, &'a str>,
+    name: &str,
+    path: &'a str,
+) -> Result<(), AllocError>
+    ensures { OnOk result ((other : List ℕ) → option_copied (get_by_text paths.new other)
+        ≡ (if bytes_eq other name.now then Some path.now
+        else option_copied (get_by_text paths.old other))) }
+{
+    paths.insert(String::from_str(alloc, name)?, path)?;
+    Ok(())
+}
+
+/// The path of the part of the first sheet of each name.
+fn first_paths<'a>(
+    alloc: Global,
+    sheets: &[Sheet],
+    paths: &'a [String],
+) -> Result<BTreeMap<String, &'a str>, AllocError>
+    ensures { IfOk result (λ firsts. (name : List ℕ) → option_copied (get_by_text firsts name)
+        ≡ path_listed name sheets.now paths.now) }
+{
+    let mut firsts = BTreeMap::new(alloc);
+    let mut place = sheets.len().min(paths.len());
+    'places: while place > 0 {
+        place -= 1;
+        put(
+            alloc,
+            &mut firsts,
+            sheets[place].name.as_str(),
+            paths[place].as_str(),
+        )?;
+    }
+    Ok(firsts)
+}
+
+/// The path that is kept for a name.
+fn kept_path<'a>(paths: &BTreeMap<String, &'a str>, name: &str) -> Option<&'a str>
+    ensures { option_copied result ≡ option_copied (get_by_text paths.now name.now) }
+{
+    paths.get(name).copied()
+}
+
+/// Whether nothing is listed where a range is refused so.
+fn ends_listing(error: &XlsxError) -> bool
+    ensures { result ≡ ends_listing error.now }
+{
+    matches!(error, XlsxError::Io | XlsxError::OutOfMemory)
+}
+
+/// The range of values of the sheet of this name, whose part is at this path, or none where it
+/// isn't read for a cause in the parts.
+fn range_or_none<P: Package>(
+    alloc: Global,
+    package: &mut P,
+    path: Option<&str>,
+    name: &str,
+    asked: Asked<'_>,
+    header_row: HeaderRow,
+) -> Result<Option<Range<Data>>, XlsxError>
+    requires { asked.wants ≡ values_alone }
+    ensures keeps { SameParts (P.state «package».old) (P.state «package».new) }
+    ensures faults { OnOk result
+        ((P.state «package».new).faults ≡ (P.state «package».old).faults) }
+    ensures reads { let old = P.state «package».old in
+        let grounds = grounds_of asked.entry.book in
+        let path = option_copied path.entry in
+        old.is_told ≡ true → IfOk result (λ found. MatchOption found
+        ((error : XlsxError) × RangeCause name.now values_alone grounds path old.parts error)
+        (ReadsValues grounds header_row path old.parts)) }
+    ensures err { IfErr result (SoundFails (P.state «package».old) (P.state «package».new)) }
+    ensures counts { IfErr result
+        (KeepsFaults Io (P.state «package».old) (P.state «package».new)) }
+{
+    match read_values(alloc, package, path, name, asked, header_row) {
+        Ok(range) => Ok(Some(range)),
+        Err(error) => {
+            if ends_listing(&error) {
+                return Err(error);
+            }
+            Ok(None)
+        }
+    }
+}
+
+/// Puts a range behind others, with this name, where there is one.
+fn put_behind(
+    alloc: Global,
+    listed: &mut Vec<(String, Range<Data>)>,
+    name: &str,
+    range: Option<Range<Data>>,
+) -> Result<(), AllocError>
+    ensures { OnOk result (MatchOption range (listed.new.items ≡ listed.old.items)
+        (IsPutBehind name.now listed.old.items listed.new.items)) }
+{
+    if let Some(range) = range {
+        listed.push((String::from_str(alloc, name)?, range))?;
+    }
+    Ok(())
+}
+
+/// The ranges of values of these sheets, each by the first sheet of its name.
+fn ranges_listed<P: Package>(
+    alloc: Global,
+    package: &mut P,
+    sheets: &[Sheet],
+    paths: &[String],
+    asked: Asked<'_>,
+    header_row: HeaderRow,
+) -> Result<Vec<(String, Range<Data>)>, XlsxError>
+    requires { asked.wants ≡ values_alone }
+    ensures keeps { SameParts (P.state «package».old) (P.state «package».new) }
+    ensures faults { OnOk result
+        ((P.state «package».new).faults ≡ (P.state «package».old).faults) }
+    ensures lists { let old = P.state «package».old in
+        let place = λ (name : List ℕ). path_listed name sheets.now paths.now in
+        old.is_told ≡ true → IfOk result (λ listed. AreListed (grounds_of asked.entry.book)
+        header_row place old.parts sheets.now listed.items) }
+    ensures err { IfErr result (SoundFails (P.state «package».old) (P.state «package».new)) }
+    ensures counts { IfErr result
+        (KeepsFaults Io (P.state «package».old) (P.state «package».new)) }
+{
+    let firsts = first_paths(alloc, sheets, paths)?;
+    let mut listed = Vec::new(alloc);
+    'sheets: for sheet in sheets {
+        let name = sheet.name.as_str();
+        let path = kept_path(&firsts, name);
+        let range = range_or_none(alloc, package, path, name, asked, header_row)?;
+        put_behind(alloc, &mut listed, name, range)?;
+    }
+    Ok(listed)
+}
+
+/// Reading all worksheets of an open workbook.
+impl<P: Package> Xlsx<P> {
+    /// For each sheet in order its name, and what `worksheet_range` answers for that name. Two
+    /// sheets of one name both have the range of the first. A sheet whose range is refused is left
+    /// out, but a fault of the package (`Io`) and want of memory are answered.
+    pub fn worksheets(&mut self) -> Result<Vec<(String, Range<Data>)>, XlsxError>
+        ensures keeps { SameParts (P.state self.old.package) (P.state self.new.package) }
+        ensures rest { KeepsWorkbook self.old self.new }
+        ensures faults { OnOk result
+            ((P.state self.new.package).faults ≡ (P.state self.old.package).faults) }
+        ensures lists { let old = P.state self.old.package in
+            old.is_told ≡ true → IfOk result (λ listed. AreListed (grounds_of_book self.old)
+            self.old.header_row (path_of self.old) old.parts self.old.metadata.sheets.items
+            listed.items) }
+        ensures err { IfErr result
+            (SoundFails (P.state self.old.package) (P.state self.new.package)) }
+        ensures counts { IfErr result
+            (KeepsFaults Io (P.state self.old.package) (P.state self.new.package)) }
+    {
+        let wants = Wants {
+            values: true,
+            formulas: false,
+            styles: false,
+        };
+        let asked = asked_of(&self.shared, self.is_1904, wants);
+        ranges_listed(
+            self.alloc,
+            &mut self.package,
+            &self.metadata.sheets,
+            &self.paths,
+            asked,
+            self.header_row,
+        )
+    }
+}

@@ -1,0 +1,4 @@
+pub mod CustomKept
+pub mod Errors
+pub mod EventsSaid
+pub mod TextsKept

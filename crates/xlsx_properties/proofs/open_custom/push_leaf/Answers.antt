@@ -1,0 +1,22 @@
+use Rattle.std.proofs.Common.{◌≡◌, true, refl}
+use Rattle.std.proofs.lemmas.Result.{err_from_is_err_and}
+use Rattle.part_events.specs.Event.{event_of}
+use Rattle.part_events.specs.JoinedText.{is_unknown}
+use Rattle.xlsx_sections.specs.Refusal.{Refusal, no_character}
+use Rattle.xlsx_sections.proofs.Refused.{refused_at_weaker}
+use Rattle.xlsx_properties.specs.CustomProperties.{is_taken}
+use Rattle.xlsx_properties.specs.Open.{custom_in_place}
+use Rattle.xlsx_properties.proofs.open_custom.push_leaf.Goals as goal
+
+pub returns-in_err-push_text_at-clause-err : goal.returns-in_err-push_text_at-clause-err
+returns-in_err-push_text_at-clause-err c =
+    let place = c.args.place.now in
+    let p = err_from_is_err_and c.from_residual.result c.from_residual.ensures.1 in
+    let taken : is_taken (custom_in_place place.started) place.takes ≡ true =
+    rw (c.in-Some.is, c.if-not-place.false) refl in
+    rw (p.1, p.2) (λ behind. refused_at_weaker c.args.at behind
+    (λ (refusal : Refusal). (is_taken (custom_in_place place.started) place.takes ≡ true)
+    × (is_unknown (event_of c.args.event) ≡ true) × (refusal ≡ no_character behind))
+    (λ (refusal : Refusal). (is_unknown (event_of c.args.event) ≡ true)
+    × (refusal ≡ no_character behind)) c.in_err-push_text_at.field-0.0
+    (λ refusal refuses. (taken, refuses.0, refuses.1)) (c.in_err-push_text_at.ensures.err behind))

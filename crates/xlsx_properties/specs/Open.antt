@@ -1,0 +1,26 @@
+-- What is open while properties are read.
+use Rattle.std.specs.Prelude.{ℕ, List, Option, option_map, string_bytes}
+use Rattle.xlsx_properties.specs.CustomProperties as custom
+use Rattle.xlsx_properties.specs.CustomProperties.{custom_from}
+use Rattle.xlsx_properties.specs.PropertyTexts.{OpenText}
+use Rattle.xlsx_properties.specs.Said.{Saying}
+use Rattle.xlsx_properties.specs.declared.open_custom.CustomPlace.{CustomPlace}
+use Rattle.xlsx_properties.specs.declared.open_custom.OpenCustom as open_custom
+use Rattle.xlsx_properties.specs.declared.open_property.OpenProperty.{OpenProperty}
+
+abbrev pub text_of : OpenProperty → OpenText
+text_of own = record { property = own.property; text = string_bytes own.text }
+
+abbrev pub open_in : Option OpenProperty → Option OpenText
+open_in started = option_map text_of started
+
+abbrev pub custom_text_of : open_custom.OpenCustom → custom.OpenCustom
+custom_text_of own = record { name = string_bytes own.name; text = string_bytes own.text }
+
+abbrev pub custom_in_place : Option open_custom.OpenCustom → Option custom.OpenCustom
+custom_in_place started = option_map custom_text_of started
+
+-- what follows says of a name, from where reading stands among the users' own properties
+abbrev pub custom_behind : CustomPlace → Saying (List ℕ) (List ℕ)
+custom_behind place name events =
+    custom_from name (custom_in_place place.started) place.takes events

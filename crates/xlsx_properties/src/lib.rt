@@ -1,0 +1,15 @@
+//! The properties of a workbook: those of its core part and of its program's (ECMA-376 part 2,
+//! section 11, and part 1, section 22.2), and those that users named (section 22.3).
+#![tactic(auto)]
+
+mod custom_part;
+mod open_custom;
+mod open_property;
+mod property;
+mod property_part;
+mod read;
+mod workbook_properties;
+
+pub use property::Property;
+pub use read::read_properties;
+pub use workbook_properties::WorkbookProperties;

@@ -1,0 +1,161 @@
+ghost use Rattle.std.specs.Prelude.{◌≡◌, ◌∷◌, ℕ, List, length, Ok, Err, true, false};
+ghost use Rattle.std.specs.Prelude.{option_map, string_bytes, OnOk, IfErr};
+ghost use Rattle.std.specs.Option.{option_or};
+ghost use Rattle.part_events.specs.Event.{Event, event_of, tag_of, start, end};
+ghost use Rattle.part_events.specs.JoinedText.{is_unknown};
+ghost use Rattle.xlsx_error.specs.declared.error.XlsxError.TheVariants.{OutOfMemory};
+ghost use Rattle.xlsx_sections.specs.Answers.{or_earlier};
+ghost use Rattle.xlsx_sections.specs.Refusal.{RefusedAt, no_character};
+ghost use Rattle.xlsx_properties.specs.CustomProperties.{custom_from, text_named, behind_leaf};
+ghost use Rattle.xlsx_properties.specs.CustomProperties.{is_taken, ends_property, opened};
+ghost use Rattle.xlsx_properties.specs.Errors.{IsPropertyError};
+ghost use Rattle.xlsx_properties.specs.Kept.{held, custom_held};
+ghost use Rattle.xlsx_properties.specs.Open.{custom_in_place, custom_behind};
+ghost use Rattle.xlsx_properties.specs.declared.property.Property.{Property};
+
+use crate::workbook_properties::WorkbookProperties;
+use attr_text::local_name;
+use part_events::{PartEvent, StartTag};
+use std::alloc::Global;
+use xlsx_error::XlsxError;
+use xlsx_sections::{name_by, push_text_at};
+
+/// A property that users named, whose end is still to come, with its text so far.
+#[derive(Drop)]
+pub(crate) struct OpenCustom {
+    name: String,
+    text: String,
+}
+
+/// Where reading stands among the properties that users named.
+#[derive(Drop)]
+pub(crate) struct CustomPlace {
+    pub(crate) started: Option<OpenCustom>,
+    /// Whether the texts that come next count.
+    pub(crate) takes: bool,
+}
+
+fn opened(alloc: Global, name: Option<String>) -> Option<OpenCustom>
+    ensures { custom_in_place result ≡ opened (option_map string_bytes name) }
+{
+    Some(OpenCustom {
+        name: name?,
+        text: String::new(alloc),
+    })
+}
+
+/// Takes a start, which is event number `at` of its part: one of a property begins it, and texts
+/// count behind any other in it.
+fn take_start(
+    alloc: Global,
+    place: &mut CustomPlace,
+    tag: StartTag<'_>,
+    at: u64,
+) -> Result<(), XlsxError>
+    ensures ok { OnOk result ((name : List ℕ) (events : List Event) →
+        custom_behind place.old name (start (tag_of tag.entry) ∷ events)
+        ≡ custom_behind place.new name events) }
+    ensures err { IfErr result (λ error. (events : List Event) →
+        RefusedAt (λ refusal. (name : List ℕ) →
+        custom_behind place.old name (start (tag_of tag.entry) ∷ events) ≡ Err refusal)
+        at (length events) error) }
+    ensures kind { IfErr result IsPropertyError }
+{
+    if tag.local_name() != "property" {
+        place.takes = place.started.is_some();
+        return Ok(());
+    }
+    let name = name_by(alloc, tag, at)?;
+    place.started = opened(alloc, name);
+    Ok(())
+}
+
+/// Keeps the text of a property that ends.
+fn keep_custom(
+    properties: &mut WorkbookProperties,
+    ended: Option<OpenCustom>,
+) -> Result<(), XlsxError>
+    ensures ok { OnOk result ((name : List ℕ) → custom_held name properties.new
+        ≡ option_or (text_named name (custom_in_place ended)) (custom_held name properties.old)) }
+    ensures held { (own : Property) → held own properties.new ≡ held own properties.old }
+    ensures err { IfErr result (λ error. error ≡ OutOfMemory) }
+{
+    if let Some(own) = ended {
+        properties.keep(own.name, own.text)?;
+    }
+    Ok(())
+}
+
+/// Takes the end of an element of this name, which keeps the property that ends. No text counts
+/// behind it.
+fn take_end(
+    properties: &mut WorkbookProperties,
+    place: &mut CustomPlace,
+    ended: &str,
+) -> Result<(), XlsxError>
+    ensures ok { OnOk result ((name : List ℕ) (events : List Event) →
+        or_earlier (custom_held name properties.old)
+        (custom_behind place.old name (end ended.now ∷ events))
+        ≡ or_earlier (custom_held name properties.new) (custom_behind place.new name events)) }
+    ensures held { (own : Property) → held own properties.new ≡ held own properties.old }
+    ensures err { IfErr result (λ error. error ≡ OutOfMemory) }
+{
+    place.takes = false;
+    if local_name(ended) != "property" {
+        return Ok(());
+    }
+    keep_custom(properties, place.started.take())
+}
+
+/// Appends the text of a leaf, which is event number `at` of its part, where it counts.
+fn push_leaf(place: &mut CustomPlace, event: PartEvent<'_>, at: u64) -> Result<(), XlsxError>
+    ensures text { OnOk result (custom_in_place place.new.started
+        ≡ behind_leaf place.old.takes (event_of event.entry)
+        (custom_in_place place.old.started)) }
+    ensures takes { place.new.takes ≡ place.old.takes }
+    ensures known { OnOk result (is_taken (custom_in_place place.old.started) place.old.takes ≡ true
+        → is_unknown (event_of event.entry) ≡ false) }
+    ensures err { IfErr result (λ error. (behind : ℕ) → RefusedAt
+        (λ refusal. (is_taken (custom_in_place place.old.started) place.old.takes ≡ true)
+        × (is_unknown (event_of event.entry) ≡ true) × (refusal ≡ no_character behind))
+        at behind error) }
+    ensures kind { IfErr result IsPropertyError }
+{
+    if !place.takes {
+        return Ok(());
+    }
+    if let Some(own) = &mut place.started {
+        push_text_at(&mut own.text, event, at)?;
+    }
+    Ok(())
+}
+
+/// Takes an event of the part of the properties that users named, which is number `at` of it.
+pub(crate) fn take_custom_event(
+    alloc: Global,
+    place: &mut CustomPlace,
+    properties: &mut WorkbookProperties,
+    event: PartEvent<'_>,
+    at: u64,
+) -> Result<(), XlsxError>
+    ensures ok { OnOk result ((name : List ℕ) (events : List Event) →
+        or_earlier (custom_held name properties.old)
+        (custom_behind place.old name (event_of event.entry ∷ events))
+        ≡ or_earlier (custom_held name properties.new) (custom_behind place.new name events)) }
+    ensures held { (own : Property) → held own properties.new ≡ held own properties.old }
+    ensures err { IfErr result (λ error. (events : List Event) →
+        RefusedAt (λ refusal. (name : List ℕ) →
+        custom_behind place.old name (event_of event.entry ∷ events) ≡ Err refusal)
+        at (length events) error) }
+    ensures kind { IfErr result IsPropertyError }
+{
+    match event {
+        PartEvent::Start(tag) => take_start(alloc, place, tag, at)?,
+        PartEvent::End(name) => take_end(properties, place, name)?,
+        PartEvent::Text(_)
+        | PartEvent::CharData(_)
+        | PartEvent::EntityRef(_)
+        | PartEvent::Other => push_leaf(place, event, at)?,
+    }
+    Ok(())
+}

@@ -1,0 +1,122 @@
+ghost use Rattle.std.specs.Prelude.{◌≡◌, ◌∷◌, ℕ, List, length, Err, Some, option_map, OnOk, IfErr};
+ghost use Rattle.std.specs.Prelude.{true, false, IsSome};
+ghost use Rattle.std.specs.Option.{option_or};
+ghost use Rattle.part_events.specs.JoinedText.{event_text, is_unknown};
+ghost use Rattle.part_events.specs.Event.{Event, event_of, tag_of};
+ghost use Rattle.xlsx_sections.specs.Answers.{or_earlier};
+ghost use Rattle.xlsx_sections.specs.Refusal.{RefusedAt, IsDecodeError, no_character};
+ghost use Rattle.xlsx_properties.specs.Kept.{held};
+ghost use Rattle.xlsx_properties.specs.PropertyTexts.{listed_in, property_of, opened, text_kept};
+ghost use Rattle.xlsx_properties.specs.PropertyTexts.{continued, with_text};
+ghost use Rattle.xlsx_properties.specs.Open.{open_in};
+ghost use Rattle.xlsx_properties.specs.declared.property.Property.{Property};
+
+use crate::property::{Property, core_property, program_property};
+use crate::workbook_properties::WorkbookProperties;
+use part_events::{PartEvent, StartTag};
+use std::alloc::Global;
+use xlsx_error::XlsxError;
+use xlsx_sections::push_text_at;
+
+/// A part whose elements give properties by their names.
+#[derive(Clone, Copy)]
+pub(crate) enum PropertyPart {
+    Core,
+    Program,
+}
+
+impl PropertyPart {
+    fn property(self, tag: StartTag<'_>) -> Option<Property>
+        ensures { result ≡ property_of (listed_in self) (tag_of tag.entry) }
+    {
+        match self {
+            PropertyPart::Core => core_property(tag.local_name()),
+            PropertyPart::Program => program_property(tag.local_name()),
+        }
+    }
+}
+
+/// The property whose start was taken last, with its text so far.
+#[derive(Drop)]
+pub(crate) struct OpenProperty {
+    property: Property,
+    text: String,
+}
+
+fn opened(alloc: Global, property: Option<Property>) -> Option<OpenProperty>
+    ensures { open_in result ≡ opened property }
+{
+    Some(OpenProperty {
+        property: property?,
+        text: String::new(alloc),
+    })
+}
+
+/// Keeps the text of the property that an end closes, where it says something.
+fn keep_text(properties: &mut WorkbookProperties, started: Option<OpenProperty>)
+    ensures held { (wanted : Property) → held wanted properties.new
+        ≡ option_or (text_kept wanted (open_in started)) (held wanted properties.old) }
+    ensures custom { properties.new.custom_properties ≡ properties.old.custom_properties }
+{
+    if let Some(own) = started {
+        if !own.text.is_empty() {
+            properties.set(own.property, own.text);
+        }
+    }
+}
+
+/// Appends the text of a leaf, which is event number `at` of its part, where a property is read.
+fn push_leaf(
+    started: &mut Option<OpenProperty>,
+    event: PartEvent<'_>,
+    at: u64,
+) -> Result<(), XlsxError>
+    ensures text { let text = event_text false (event_of event.entry) in
+        OnOk result (open_in started.new ≡ option_map (with_text text) (open_in started.old)) }
+    ensures known { OnOk result (IsSome (open_in started.old) →
+        is_unknown (event_of event.entry) ≡ false) }
+    ensures err { IfErr result (λ error. (behind : ℕ) → RefusedAt
+        (λ refusal. IsSome (open_in started.old) × (is_unknown (event_of event.entry) ≡ true)
+        × (refusal ≡ no_character behind)) at behind error) }
+    ensures kind { IfErr result IsDecodeError }
+{
+    if let Some(own) = started {
+        push_text_at(&mut own.text, event, at)?;
+    }
+    Ok(())
+}
+
+/// Takes an event of a part, which is number `at` of it. What was taken so far is kept in
+/// `properties`, and in `started` the one that is read.
+pub(crate) fn take_event(
+    alloc: Global,
+    started: &mut Option<OpenProperty>,
+    properties: &mut WorkbookProperties,
+    part: PropertyPart,
+    event: PartEvent<'_>,
+    at: u64,
+) -> Result<(), XlsxError>
+    ensures ok { let listed = listed_in part in
+        OnOk result ((wanted : Property) (events : List Event) →
+        or_earlier (held wanted properties.old)
+        (continued listed wanted (open_in started.old) (event_of event.entry ∷ events))
+        ≡ or_earlier (held wanted properties.new)
+        (continued listed wanted (open_in started.new) events)) }
+    ensures custom { properties.new.custom_properties ≡ properties.old.custom_properties }
+    ensures err { let listed = listed_in part in
+        IfErr result (λ error. (events : List Event) →
+        RefusedAt (λ refusal. (wanted : Property) →
+        continued listed wanted (open_in started.old) (event_of event.entry ∷ events)
+        ≡ Err refusal) at (length events) error) }
+    ensures kind { IfErr result IsDecodeError }
+{
+    match event {
+        PartEvent::Start(tag) => *started = opened(alloc, part.property(tag)),
+        PartEvent::End(_) => keep_text(properties, started.take()),
+        PartEvent::Text(_)
+        | PartEvent::CharData(_)
+        | PartEvent::EntityRef(_)
+        | PartEvent::Other => push_leaf(started, event, at)?,
+    }
+    Ok(())
+}

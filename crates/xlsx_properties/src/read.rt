@@ -1,0 +1,88 @@
+ghost use Rattle.std.specs.Prelude.{◌≡◌, ℕ, List, true, None, Ok, OnOk, IfOk, IfErr};
+ghost use Rattle.part_events.specs.Package.{Uses, CountsUp, part_of};
+ghost use Rattle.xlsx_error.specs.declared.error.XlsxError.TheVariants.{Io};
+ghost use Rattle.xlsx_sections.specs.Failing.{FailsBy};
+ghost use Rattle.xlsx_properties.specs.Errors.{IsPropertyError};
+ghost use Rattle.xlsx_properties.specs.Kept.{held, custom_held};
+ghost use Rattle.xlsx_properties.specs.Parts.{property_said, custom_said, PropertiesCause};
+ghost use Rattle.xlsx_properties.specs.Parts.{property_events, AreWhole};
+ghost use Rattle.xlsx_properties.specs.declared.property.Property.{Property};
+
+use crate::custom_part::read_custom_part;
+use crate::open_property::PropertyPart;
+use crate::property_part::read_part;
+use crate::workbook_properties::WorkbookProperties;
+use part_events::Package;
+use std::alloc::Global;
+use xlsx_error::XlsxError;
+
+/// Gives properties that are none yet the texts that the three parts say.
+fn read_parts<P: Package>(
+    alloc: Global,
+    package: &mut P,
+    properties: &mut WorkbookProperties,
+) -> Result<(), XlsxError>
+    requires none { (own : Property) → held own properties.old ≡ None }
+    requires no_custom { (name : List ℕ) → custom_held name properties.old ≡ None }
+    ensures uses { let old = P.state «package».old in
+        let new = P.state «package».new in
+        Uses (property_events old.parts) Io result old new }
+    ensures to_end { let old = P.state «package».old in
+        let new = P.state «package».new in
+        old.is_told ≡ true →
+        OnOk result (CountsUp (property_events old.parts) old.taken new.taken) }
+    ensures whole { let old = P.state «package».old in
+        old.is_told ≡ true → OnOk result (AreWhole old.parts) }
+    ensures properties { let old = P.state «package».old in
+        old.is_told ≡ true → OnOk result ((wanted : Property) →
+        property_said old.parts wanted ≡ Ok (held wanted properties.new)) }
+    ensures custom { let old = P.state «package».old in
+        old.is_told ≡ true → OnOk result ((name : List ℕ) →
+        custom_said old.parts name ≡ Ok (custom_held name properties.new)) }
+    ensures err { let old = P.state «package».old in
+        let new = P.state «package».new in
+        IfErr result (FailsBy (PropertiesCause old.parts) old new) }
+    ensures kind { IfErr result IsPropertyError }
+{
+    let (core, program) = (PropertyPart::Core, PropertyPart::Program);
+    read_part(alloc, package, "docProps/core.xml", core, properties)?;
+    read_part(alloc, package, "docProps/app.xml", program, properties)?;
+    read_custom_part(alloc, package, "docProps/custom.xml", properties)?;
+    Ok(())
+}
+
+/// The properties of a workbook: of `docProps/core.xml` those of all names, then of
+/// `docProps/app.xml` the program's, of each the last text that isn't empty, and of
+/// `docProps/custom.xml` those that users named. Each part may be absent, and is read to its end.
+///
+/// A part whose nesting breaks is `Xml(EndMismatch)` with the number of the end that breaks it, a
+/// reference without a character in a text or in a user's name `Xml(Entity)` with the number of its
+/// event, counted from 0, and a lookup of such a name that is refused `XmlAttr`.
+pub fn read_properties<P: Package>(
+    alloc: Global,
+    package: &mut P,
+) -> Result<WorkbookProperties, XlsxError>
+    ensures uses { let old = P.state «package».old in
+        let new = P.state «package».new in
+        Uses (property_events old.parts) Io result old new }
+    ensures to_end { let old = P.state «package».old in
+        let new = P.state «package».new in
+        old.is_told ≡ true →
+        OnOk result (CountsUp (property_events old.parts) old.taken new.taken) }
+    ensures whole { let old = P.state «package».old in
+        old.is_told ≡ true → OnOk result (AreWhole old.parts) }
+    ensures properties { let old = P.state «package».old in
+        old.is_told ≡ true → IfOk result (λ properties. (wanted : Property) →
+        property_said old.parts wanted ≡ Ok (held wanted properties)) }
+    ensures custom { let old = P.state «package».old in
+        old.is_told ≡ true → IfOk result (λ properties. (name : List ℕ) →
+        custom_said old.parts name ≡ Ok (custom_held name properties)) }
+    ensures err { let old = P.state «package».old in
+        let new = P.state «package».new in
+        IfErr result (FailsBy (PropertiesCause old.parts) old new) }
+    ensures kind { IfErr result IsPropertyError }
+{
+    let mut properties = WorkbookProperties::new(alloc);
+    read_parts(alloc, package, &mut properties)?;
+    Ok(properties)
+}

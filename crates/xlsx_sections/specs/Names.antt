@@ -1,0 +1,30 @@
+-- The names that starts give their elements.
+use Rattle.std.specs.Prelude.{⊤, ℕ, List, codes, Option, Some, None, Result, Ok, Err}
+use Rattle.attr_text.specs.Attributes.{value_of}
+use Rattle.attr_text.specs.declared.fault.AttrFault.{AttrFault}
+use Rattle.part_events.specs.Section.{PlacedTag}
+use Rattle.part_events.specs.declared.fault.XmlFault.TheVariants.{Entity}
+use Rattle.xlsx_error.specs.declared.error.XlsxError.{XlsxError}
+use Rattle.xlsx_error.specs.declared.error.XlsxError.TheVariants.{OutOfMemory, Xml, XmlAttr}
+use Rattle.xlsx_sections.specs.Refusal.{Refusal, plain, lookup_fault, decoded_at}
+
+abbrev pub some_text : Result (List ℕ) Refusal → Result (Option (List ℕ)) Refusal
+some_text (Ok text) = Ok (Some text)
+some_text (Err refusal) = Err refusal
+
+abbrev pub name_from :
+    ℕ → Result (Option (List ℕ)) AttrFault → Result (Option (List ℕ)) Refusal
+name_from behind (Ok (Some name)) = some_text (decoded_at behind name)
+name_from behind (Ok None) = Ok None
+name_from behind (Err fault) = Err (plain (lookup_fault fault))
+
+-- the name, decoded, of a start that has one
+abbrev pub name_by : PlacedTag → Result (Option (List ℕ)) Refusal
+name_by start = name_from start.behind (value_of (codes "name") start.tag.attributes)
+
+-- the refusals that reading such a name can have
+abbrev pub IsNameError : XlsxError → Type 0
+IsNameError OutOfMemory = ⊤
+IsNameError (Xml (Entity at)) = ⊤
+IsNameError (XmlAttr fault) = ⊤
+IsNameError _ = ⊥
