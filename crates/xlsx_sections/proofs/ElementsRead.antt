@@ -20,11 +20,11 @@ use Rattle.xlsx_error.specs.declared.error.XlsxError.{XlsxError}
 use Rattle.xlsx_sections.specs.Elements.{KeepsElements, FindsElementIn, end_outside}
 use Rattle.xlsx_sections.specs.Elements.{end_among}
 use Rattle.xlsx_sections.specs.PartSection.{Ending, Refusing, KeepsSection, SectionFails}
-use Rattle.xlsx_sections.specs.PartSection.{StandsAtStart, Never, section_left, has_end, inside_of}
+use Rattle.xlsx_sections.specs.PartSection.{StandsAtStart, section_left, has_end, inside_of}
 use Rattle.xlsx_sections.specs.Refusal.{Refusal, further, events_behind}
 pub use Rattle.xlsx_sections.specs.Steps.{IsElementFound}
 use Rattle.xlsx_sections.specs.Steps.{StepsToElement}
-use Rattle.xlsx_sections.proofs.Refused.{refused_in, refused_later}
+use Rattle.xlsx_sections.proofs.Refused.{refused_in}
 use Rattle.xlsx_sections.proofs.SectionsRead.{section_further, start_there}
 
 -- an element that is closed takes its events, its end, and leaves what stands behind
@@ -272,16 +272,4 @@ element_refused {base = base} {tag = tag} {first = first} {new = new} {wanted = 
       );
       weaker = weaker told;
     })
-    fails
-
--- the step to the next element is refused, and so is the section
-pub step_refused : {base : ℕ} {first mid : Reading} {wanted : Tag → Bool} (name : List ℕ)
-    (inner : Element → Option (List ℕ)) (before : Refusing) (new : Reading) (error : XlsxError)
-    → KeepsElements wanted base first mid
-    → SectionFails (end_among wanted name inner) Never base mid new error
-    → SectionFails (end_among wanted name inner) before base first new error
-step_refused {base = base} {first = first} {mid = mid} {wanted =
-    wanted} name inner before new error keeps fails =
-    refused_later base first mid (end_among wanted name inner) Never before new error keeps.section
-    (λ told. ap (end_outside name inner) (keeps.unclosed told)) (λ _ refusal never. absurd never)
     fails

@@ -1,6 +1,6 @@
 -- How a section is read on.
-use Rattle.std.proofs.Common.{◌≡◌, ℕ, suc, ◌+◌, ◌-◌, ◌≤◌, List, [], ◌∷◌, length, Bool, true, Some}
-use Rattle.std.proofs.Common.{Option, refl, sym, ◌∙◌, ap, subst, arith}
+use Rattle.std.proofs.Common.{◌≡◌, ℕ, ◌-◌, ◌≤◌, List, [], ◌∷◌, length, Bool, true, Some}
+use Rattle.std.proofs.Common.{Option, refl, sym, ◌∙◌, ap, arith}
 use Rattle.std.specs.Option.{option_map_or}
 use Rattle.std.proofs.lemmas.List.{length-append, length-reverse}
 use Rattle.std.specs.Prelude.{option_map, reverse, ◌++◌}
@@ -10,16 +10,16 @@ use Rattle.part_events.specs.Package.{PackageState, SameParts, OpenCounts, Opens
 use Rattle.part_events.specs.Package.{event_count}
 use Rattle.part_events.specs.Reading.{Reading, IsReading, ReadsOn, IsTracked, IsAtElement}
 use Rattle.part_events.specs.Reading.{TakesEvent, StepsAhead, ahead, events_of}
-use Rattle.part_events.specs.Section.{behind, starts_by}
+use Rattle.part_events.specs.Section.{behind}
 use Rattle.part_events.specs.Section.{behind_start, is_named}
 use Rattle.part_events.specs.Walk.{inside, section_ahead, is_closed_ahead}
-use Rattle.part_events.specs.Walk.{TakesInside, IsNextStart}
+use Rattle.part_events.specs.Walk.{TakesInside}
 use Rattle.part_events.proofs.Nested.{whole_split}
 use Rattle.part_events.proofs.Onward.{reads_further}
 use Rattle.part_events.proofs.Walking.{takes_inside}
 use Rattle.xlsx_sections.specs.PartSection.{PartSection, KeepsSection, EntersSection, section_left}
 use Rattle.xlsx_sections.specs.PartSection.{section_from, section_in, last_of}
-use Rattle.xlsx_sections.specs.PartSection.{StandsAtEvent, FindsEvent, StandsAtStart, FindsStartIn}
+use Rattle.xlsx_sections.specs.PartSection.{StandsAtEvent, FindsEvent}
 use Rattle.xlsx_sections.specs.Steps.{IsEventInside}
 
 -- an event is the start of one tag
@@ -87,41 +87,6 @@ event_inside {base = base} {place = place} {event = event} {first = first} {old 
       behind = λ told. (finds (still told)).behind;
       ends = λ told. (finds (still told)).ends;
       there = λ told. omega (arith, ap length (events told), stands.2, before.last told);
-    }
-
--- a wanted start of a section was found, which is event number `place` of its part
-pub record IsStartRead (wanted : Tag
-    → Bool) (base : ℕ) (tag : Tag) (place : ℕ) (first old new : Reading) : Type 0 where
-  pub read : KeepsSection base first new
-  pub starts :
-      first.source.is_told ≡ true →
-      starts_by wanted (section_ahead base old)
-      ≡ record { tag = tag; behind = length (section_ahead base new) }
-      ∷ starts_by wanted (section_ahead base new)
-  pub there :
-      first.source.is_told ≡ true →
-      place + suc (length (section_ahead base new)) ≡ last_of (section_left base first)
-
-pub start_found : {base place : ℕ} {tag : Tag} {first old new : Reading} (wanted : Tag → Bool)
-    → start tag ≡ new.source.current → KeepsSection base first old → ReadsOn old new
-    → StandsAtStart wanted base (Some place) old new
-    → (old.source.is_told ≡ true → FindsStartIn wanted base (Some place) old new)
-    → IsStartRead wanted base tag place first old new
-start_found {base = base} {place = place} {tag = tag} {first = first} {old = old} {new =
-    new} wanted current before reads stands finds =
-    let next : old.source.is_told ≡ true → IsNextStart wanted base tag old new = λ told.
-    subst (λ (event : Event). IsStartAnd event (λ own. IsNextStart wanted base own old new))
-    (sym current) (finds told)
-    in
-    let still : first.source.is_told ≡ true → old.source.is_told ≡ true =
-    λ told. before.reads.moves.parts.is_told ∙ told in
-    let here : KeepsSection base first new = section_further before reads (omega (arith, stands.1))
-    (λ told. (sym (next told).closed, sym (next told).ends))
-    in
-    record {
-      read = here;
-      starts = λ told. (next (still told)).starts;
-      there = λ told. omega (arith, stands.3, here.last told);
     }
 
 empty_by_length : (events : List Event) → length events ≡ 0 → events ≡ []

@@ -55,11 +55,7 @@ pub fn name_by(alloc: Global, tag: StartTag<'_>, at: u64) -> Result<Option<Strin
 
 /// Appends the text of an event, number `at` of its part: a Text with its line ends as LF, or the
 /// character of a reference. A reference without a character is `Xml(Entity)` with that number.
-pub fn push_text_at(
-    out: &mut String,
-    event: PartEvent<'_>,
-    at: u64,
-) -> Result<(), XlsxError>
+pub fn push_text_at(out: &mut String, event: PartEvent<'_>, at: u64) -> Result<(), XlsxError>
     ensures text { let text = event_text false (event_of event.entry) in
         OnOk result (string_bytes out.new ≡ string_bytes out.old ++ text) }
     ensures known { OnOk result (is_unknown (event_of event.entry) ≡ false) }

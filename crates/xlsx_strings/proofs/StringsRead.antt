@@ -1,21 +1,19 @@
 -- How the elements of a string, and the strings of their section, are read one by one.
 use Rattle.std.proofs.Common.{◌≡◌, ℕ, List, [], ◌∷◌, ◌++◌, Bool, true, false, Some, Result, Ok, Err}
-use Rattle.std.proofs.Common.{refl, sym, ◌∙◌, ap, subst, codes, append_assoc, length}
+use Rattle.std.proofs.Common.{refl, sym, ◌∙◌, ap, subst, codes, append_assoc}
 use Rattle.std.specs.Prelude.{◌||◌, if◌then◌else◌, IfErr}
 use Rattle.std.specs.List.{flat_map}
 use Rattle.std.specs.Str.{bytes_eq}
 use Rattle.attr_text.specs.Attributes.{local_name_of}
 use Rattle.part_events.specs.Event.{Tag, Event, start}
-use Rattle.part_events.specs.Reading.{Reading, ahead}
-use Rattle.part_events.specs.Section.{Element, content}
-use Rattle.part_events.specs.Walk.{element_at}
+use Rattle.part_events.specs.Reading.{Reading}
+use Rattle.part_events.specs.Section.{Element}
 use Rattle.xlsx_error.specs.declared.error.XlsxError.{XlsxError}
 use Rattle.xlsx_sections.specs.Answers.{with_first, and_others, all_answers}
 use Rattle.xlsx_sections.specs.ElementLists.{element_said}
 use Rattle.xlsx_sections.specs.Elements.{ElementReadFails}
-use Rattle.xlsx_sections.specs.PartSection.{always, inside_of, section_left}
-use Rattle.xlsx_sections.specs.Refusal.{Refusal, in_element}
-use Rattle.xlsx_sections.proofs.ElementsRead.{own_inside}
+use Rattle.xlsx_sections.specs.PartSection.{always}
+use Rattle.xlsx_sections.specs.Refusal.{Refusal}
 use Rattle.xlsx_sections.proofs.SectionsRead.{same_tag}
 use Rattle.xlsx_strings.specs.Strings.{is_text, text_within, piece_of, end_in_piece, all_joined}
 

@@ -1,6 +1,6 @@
 -- How the slots of a color scheme are read, and how the end of the part is told in one.
 use Rattle.std.proofs.Common.{◌≡◌, ℕ, List, ◌∷◌, Option, Some, None, Result, Ok, Err, refl, sym}
-use Rattle.std.proofs.Common.{◌∙◌, ap}
+use Rattle.std.proofs.Common.{ap}
 use Rattle.part_events.specs.Event.{Event}
 use Rattle.part_events.specs.Reading.{Reading}
 use Rattle.part_events.specs.Section.{PlacedTag}

@@ -1,4 +1,4 @@
-use Rattle.std.proofs.Common.{◌≡◌, None, Ok, refl, true, ℕ, inl, inr, subst, arith, codes, length}
+use Rattle.std.proofs.Common.{◌≡◌, None, Ok, refl, true, ℕ, inl, inr, subst, codes, length}
 use Rattle.std.proofs.lemmas.Result.{err_from_is_err_and}
 use Rattle.part_events.specs.Reading.{reading}
 use Rattle.part_events.specs.Walk.{section_ahead, is_closed_ahead}

@@ -1,16 +1,15 @@
 use Rattle.std.proofs.Common.{◌≡◌, ◌∷◌, [], List, ℕ, Option, Result, Ok, Err, length, codes}
-use Rattle.std.proofs.lemmas.Result.{err_from_is_err_and}
 use Rattle.attr_text.specs.Attributes.{lookup}
 use Rattle.attr_text.specs.declared.fault.AttrFault.{AttrFault}
 use Rattle.part_events.specs.Event.{Tag, tag_of}
 use Rattle.part_events.specs.Reading.{reading}
-use Rattle.part_events.specs.Section.{is_named}
 use Rattle.part_events.specs.Walk.{section_ahead}
 use Rattle.xlsx_sections.specs.PartSection.{always}
 use Rattle.xlsx_sections.specs.Refusal.{Refusal, placed_at}
+use Rattle.xlsx_sections.proofs.Failing.{given_back}
 use Rattle.xlsx_sections.proofs.Kept.{last_further, last_refused}
 use Rattle.xlsx_sections.proofs.Refused.{event_refused}
-use Rattle.xlsx_sections.proofs.SectionsRead.{start_found}
+use Rattle.xlsx_sections.proofs.StartsSaid.{at_start}
 use Rattle.xlsx_relationships.specs.KeptRelationships.{related_by_id}
 use Rattle.xlsx_relationships.specs.Relationships.{related_by, related_of, AreRelationshipsRefused}
 use Rattle.xlsx_relationships.proofs.relationship_parts.relationships_in.Goals as goal
@@ -30,16 +29,15 @@ refused_for_all id tag behind refusal is =
 
 pub starts-preserved : goal.starts-preserved
 starts-preserved g c =
-    let found = start_found (is_named (codes "Relationship" ∷ [])) c.start_tag.ensures
-    c.starts.invariant.section c.in_ok-_at.ensures.reads
-    (rw c.in-Some.is at c.in_ok-_at.ensures.stands)
-    (λ told. rw c.in-Some.is at (c.in_ok-_at.ensures.found told)) in
+    let old = reading (g.P.Package.state c.args.package.now) c.args.cursor.now in
+    let new = reading (g.P.Package.state c.next_start_in.new.package) c.next_start_in.new.cursor in
+    let found = at_start _ c.start_tag.ensures
+    (rw c.in-Some.is at (c.in_ok-_at.ensures.step old c.starts.invariant.keeps)) in
     record {
-      section = found.read;
+      keeps = found.keeps;
       related = λ told id. last_further (related_of id) (related_by_id c.starts.map id)
-          (found.starts told) (c.in_ok-keep_relationship.ensures.ok id
-          (length (section_ahead c.args.base
-          (reading (g.P.Package.state c.next_start_in.new.package) c.next_start_in.new.cursor))))
+          (found.starts told)
+          (c.in_ok-keep_relationship.ensures.ok id (length (section_ahead c.args.base new)))
           (c.starts.invariant.related told id);
     }
 
@@ -49,15 +47,12 @@ returns-in_err-keep_relationship-clause-err g c =
     let old = reading (g.P.Package.state c.args.package.now) c.args.cursor.now in
     let new = reading (g.P.Package.state c.next_start_in.new.package) c.next_start_in.new.cursor in
     let tag = tag_of c.start_tag.result in
-    let found = start_found (is_named (codes "Relationship" ∷ [])) c.start_tag.ensures
-    c.starts.invariant.section c.in_ok-_at.ensures.reads
-    (rw c.in-Some.is at c.in_ok-_at.ensures.stands)
-    (λ told. rw c.in-Some.is at (c.in_ok-_at.ensures.found told)) in
+    let found = at_start _ c.start_tag.ensures
+    (rw c.in-Some.is at (c.in_ok-_at.ensures.step old c.starts.invariant.keeps)) in
     let behind = length (section_ahead c.args.base new) in
     let at = c.in-Some._at in
-    let p = err_from_is_err_and c.from_residual-in_err-keep_relationship.result
-    c.from_residual-in_err-keep_relationship.ensures.1 in
-    rw (p.1, p.2)
+    given_back _ c.from_residual-in_err-keep_relationship.result
+    c.from_residual-in_err-keep_relationship.ensures.1
     (event_refused c.args.base at behind old (always (codes "Relationships"))
     (λ (refusal : Refusal). related_of [] (placed_at tag behind)
     ≡ Err refusal) AreRelationshipsRefused new c.in_err-keep_relationship.field-0.0 found.there
