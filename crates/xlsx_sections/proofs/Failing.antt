@@ -1,5 +1,7 @@
 -- How the cause of a refusal is handed on, from a call to one that makes it.
-use Rattle.std.proofs.Common.{◌≡◌, true, List, refl, ◌∙◌, arith, ℕ, length, inr}
+use Rattle.std.proofs.Common.{◌≡◌, true, List, refl, ◌∙◌, arith, ℕ, length, inr, Result, Ok, Err}
+use Rattle.std.proofs.Common.{subst, sym}
+use Rattle.std.specs.Prelude.{IsErrAnd, IfErr}
 use Rattle.part_events.specs.Package.{PackageState, SameParts, part_of}
 use Rattle.part_events.specs.Reading.{Reading}
 use Rattle.xlsx_error.specs.declared.error.XlsxError.{XlsxError}
@@ -19,6 +21,12 @@ fails_by_weaker before after new Io same weaker fails = omega (arith, same.fault
 fails_by_weaker before after new OutOfMemory same weaker fails = tt
 fails_by_weaker before after new error same weaker fails = λ told.
     weaker told (fails (same.is_told ∙ told))
+
+-- what a `?` gives back is refused as its error is
+pub given_back : {T E : Type 0} (P : E → Type 0) (result : Result T E) {error : E}
+    → IsErrAnd result (λ own. own ≡ error) → P error → IfErr result P
+given_back P (Ok value) is holds = absurd is
+given_back P (Err own) is holds = subst P (sym is) holds
 
 pub same_parts : (state : PackageState) → SameParts state state
 same_parts state = record { is_told = refl; parts = refl; faults = omega arith }

@@ -1,4 +1,5 @@
 pub mod ElementsRead
+pub mod ElementsSaid
 pub mod Failing
 pub mod Kept
 pub mod ListsRead

@@ -82,20 +82,26 @@ pub own_refused : {base : ℕ} (old : Reading) (ending : Ending) (refused : Refu
 own_refused old ending refused new error own fails =
     subst (λ (n : ℕ). FailsFrom ending refused n old new error) own fails
 
--- by a step in it
+-- a step in a section is refused, whatever refuses what stands there
+pub section_stopped : (base : ℕ) (old : Reading) (ending : Ending) (refused : Refusing)
+    (new : PackageState) (error : XlsxError) → FailsFrom ending Never base old new error
+    → FailsFrom ending refused base old new error
+section_stopped base old ending refused new error fails =
+    refused_as base old ending Never refused (record old { source = new }) error
+    (λ refusal never. absurd never) fails
+
 pub own_step_refused : {base : ℕ} (old : Reading) (ending : Ending) (refused : Refusing)
     (new : PackageState) (error : XlsxError) → base ≡ length old.names
     → FailsFrom ending Never base old new error
     → FailsFrom ending refused (length old.names) old new error
 own_step_refused {base = base} old ending refused new error own fails =
     own_refused old ending refused new error own
-    (refused_as base old ending Never refused (record old { source = new }) error
-    (λ refusal never. absurd never) fails)
+    (section_stopped base old ending refused new error fails)
 
--- what starts make of a value, which those before them made
-abbrev pub changes_behind : {A : Type 0} → (PlacedTag → A → Result A Refusal) → A
-    → List PlacedTag → Result A Refusal
-changes_behind change kept starts = all_changes change starts kept
+-- what starts or elements make of a value, which those before them made
+abbrev pub changes_behind : {X A : Type 0} → (X → A → Result A Refusal) → A → List X
+    → Result A Refusal
+changes_behind change kept more = all_changes change more kept
 
 pub changed_further : {A : Type 0} {wanted : Tag → Bool} {meaning : List Event → Result A Refusal}
     {base place : ℕ} {kept next : A} {tag : Tag} {first old new : Reading}

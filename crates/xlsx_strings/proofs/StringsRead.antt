@@ -44,19 +44,6 @@ pub if_err_map : {A E : Type 0} {P Q : E → Type 0} (result : Result A E)
 if_err_map (Ok a) weaker is = tt
 if_err_map (Err error) weaker is = weaker error is
 
--- what is said of the element at whose start a reader stands, as an element of its section
-pub own_answer : {A : Type 0} {answer : Result A Refusal} (base : ℕ) (tag : Tag) (new : Reading)
-    (meaning : List Event → Result A Refusal)
-    → meaning (inside_of (section_left (length new.names) new)) ≡ answer
-    → in_element (element_at base tag new) (meaning (content 0 (ahead new)))
-    ≡ in_element (element_at base tag new) answer
-own_answer base tag new meaning is =
-    ap (in_element (element_at base tag new)) (sym (ap meaning (own_inside new)) ∙ is)
-
-pub own_text : {A : Type 0} {answer : Result A Refusal} {own : A} (base : ℕ) (tag : Tag)
-    (new : Reading) → answer ≡ Ok own → in_element (element_at base tag new) answer ≡ Ok own
-own_text base tag new is = ap (in_element (element_at base tag new)) is
-
 -- a text, and what is put behind it
 abbrev pub onto : List ℕ → Result (List ℕ) Refusal → Result (List ℕ) Refusal
 onto kept (Ok text) = Ok (kept ++ text)
@@ -73,35 +60,29 @@ onto-all_joined kept own (Err refusal) = refl
 abbrev pub pieces_joined : List Element → Result (List ℕ) Refusal
 pieces_joined elements = all_joined (all_answers (element_said piece_of) elements)
 
+-- and what others add behind what was put there before
+abbrev pub pieces_behind : List ℕ → List Element → Result (List ℕ) Refusal
+pieces_behind kept elements = onto kept (pieces_joined elements)
+
 -- one more element of a string was read
-pub piece_further : {x : Element} {xs rest : List Element} {all : Result (List ℕ) Refusal}
-    (kept own : List ℕ) → xs ≡ x ∷ rest → element_said piece_of x ≡ Ok own
-    → onto kept (pieces_joined xs) ≡ all
-    → onto (kept ++ own) (pieces_joined rest) ≡ all
-piece_further {rest = rest} kept own same is holds =
+pub piece_further : (x : Element) (kept own : List ℕ) (rest : List Element)
+    → element_said piece_of x ≡ Ok own
+    → pieces_behind (kept ++ own) rest ≡ pieces_behind kept (x ∷ rest)
+piece_further x kept own rest is =
     let others = all_answers (element_said piece_of) rest in
     onto-all_joined kept own others
     ∙ ap (λ (answer : Result (List ℕ) Refusal). onto kept (all_joined (and_others answer others)))
     (sym is)
-    ∙ ap (λ (elements : List Element). onto kept (pieces_joined elements))
-    (sym same)
-    ∙ holds
 
-onto_refused : (kept : List ℕ) (answer : Result (List ℕ) Refusal) (refusal : Refusal)
-    → Err refusal ≡ onto kept answer → answer ≡ Err refusal
+-- what is put behind a text is refused
+pub onto_refused : (kept : List ℕ) (answer : Result (List ℕ) Refusal) (refusal : Refusal)
+    → onto kept answer ≡ Err refusal → answer ≡ Err refusal
 onto_refused kept (Ok text) refusal is = absurd (cc)
-onto_refused kept (Err own) refusal is = sym is
+onto_refused kept (Err own) refusal is = is
 
--- one of them is refused, and so is the string
-pub piece_refused : {x : Element} {xs rest : List Element} {all : Result (List ℕ) Refusal}
-    {refusal : Refusal} (kept first : List ℕ) → xs ≡ x ∷ rest
-    → element_said piece_of x ≡ Err refusal → onto kept (pieces_joined xs) ≡ onto first all
-    → all ≡ Err refusal
-piece_refused {rest = rest} {all = all} {refusal = refusal} kept first same refuses holds =
-    let others = all_answers (element_said piece_of) rest in
-    onto_refused first all refusal
-    (ap (λ (answer : Result (List ℕ) Refusal). onto kept (all_joined (and_others answer others)))
-    (sym refuses)
-    ∙ ap (λ (elements : List Element). onto kept (pieces_joined elements))
-    (sym same)
-    ∙ holds)
+-- one of them is refused
+pub piece_refused : (x : Element) (kept : List ℕ) (rest : List Element) (refusal : Refusal)
+    → element_said piece_of x ≡ Err refusal → pieces_behind kept (x ∷ rest) ≡ Err refusal
+piece_refused x kept rest refusal is =
+    ap (λ (answer : Result (List ℕ) Refusal).
+    onto kept (all_joined (and_others answer (all_answers (element_said piece_of) rest)))) is

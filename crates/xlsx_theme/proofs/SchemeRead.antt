@@ -3,7 +3,9 @@ use Rattle.std.proofs.Common.{◌≡◌, ℕ, List, ◌∷◌, Option, Some, Non
 use Rattle.std.proofs.Common.{◌∙◌, ap}
 use Rattle.part_events.specs.Event.{Event}
 use Rattle.part_events.specs.Reading.{Reading}
+use Rattle.part_events.specs.Section.{PlacedTag}
 use Rattle.part_events.specs.declared.fault.XmlFault.TheVariants.{EndMismatch, Unclosed}
+use Rattle.cell_styles.specs.declared.color.Color.{Color}
 use Rattle.xlsx_error.specs.declared.error.XlsxError.{XlsxError}
 use Rattle.xlsx_error.specs.declared.error.XlsxError.TheVariants.{OutOfMemory, Io, Xml, XmlAttr}
 use Rattle.xlsx_sections.specs.Elements.{IsEndError, named_end}
@@ -11,6 +13,7 @@ use Rattle.xlsx_sections.specs.PartSection.{PartSection, KeepsSection, SectionFa
 use Rattle.xlsx_sections.specs.Refusal.{Refusal}
 use Rattle.xlsx_sections.proofs.Refused.{refused_later}
 use Rattle.xlsx_theme.specs.ColorScheme.{IsSchemeError, unless_given, or_others, first_answer}
+use Rattle.xlsx_theme.specs.ColorScheme.{model_answer, or_black}
 
 pub step_kind : (error : XlsxError) → IsEndError None error → IsSchemeError error
 step_kind OutOfMemory is = tt
@@ -41,25 +44,25 @@ told_by_number base ending refused old new (Xml (Unclosed at)) is fails = λ tol
 told_by_number base ending refused old new (XmlAttr fault) is fails = fails
 told_by_number base ending refused old new _ is fails = absurd is
 
--- one more start was looked up, where none before it gave a color
-pub first_further : {X A : Type 0} {next : Option A} {x : X} {xs rest : List X}
-    {all : Result (Option A) Refusal} (answer : X → Result (Option A) Refusal) (kept : Option A)
-    → xs ≡ x ∷ rest → unless_given kept (answer x) ≡ Ok next
-    → unless_given kept (first_answer answer xs) ≡ all
-    → unless_given next (first_answer answer rest) ≡ all
-first_further {rest = rest} answer None same is holds =
-    sym (ap (λ (first : Result (Option _) Refusal). or_others first (first_answer answer rest)) is)
-    ∙ (rw same at holds)
-first_further {next = next} {rest = rest} answer (Some given) same is holds =
-    let own : next ≡ Some given = cc in
-    ap (λ (kept : Option _). unless_given kept (first_answer answer rest)) own ∙ holds
+-- what starts say behind those that were looked up, of which none or the last gave a color
+abbrev pub colors_behind : Option Color → List PlacedTag → Result Color Refusal
+colors_behind kept starts = or_black (unless_given kept (first_answer model_answer starts))
+
+-- one more start was looked up
+pub color_further : {next : Option Color} (kept : Option Color) (x : PlacedTag)
+    (rest : List PlacedTag) → unless_given kept (model_answer x) ≡ Ok next
+    → colors_behind next rest ≡ colors_behind kept (x ∷ rest)
+color_further None x rest is =
+    sym (ap (λ (first : Result (Option Color) Refusal).
+    or_black (or_others first (first_answer model_answer rest))) is)
+color_further {next = next} (Some given) x rest is =
+    let own : next ≡ Some given = cc in ap (λ (kept : Option Color). colors_behind kept rest) own
 
 -- its lookup is refused
-pub first_refused : {X A : Type 0} {x : X} {xs rest : List X} {all : Result (Option A) Refusal}
-    {refusal : Refusal} (answer : X → Result (Option A) Refusal) (kept : Option A)
-    → xs ≡ x ∷ rest → unless_given kept (answer x) ≡ Err refusal
-    → unless_given kept (first_answer answer xs) ≡ all → all ≡ Err refusal
-first_refused {xs = xs} {refusal = refusal} answer None same refuses holds =
-    let here : first_answer answer xs ≡ Err refusal = rw (same, refuses) refl in
-    sym holds ∙ here
-first_refused answer (Some given) same refuses holds = absurd (cc)
+pub color_refused : (kept : Option Color) (x : PlacedTag) (rest : List PlacedTag)
+    (refusal : Refusal) → unless_given kept (model_answer x) ≡ Err refusal
+    → colors_behind kept (x ∷ rest) ≡ Err refusal
+color_refused None x rest refusal is =
+    ap (λ (first : Result (Option Color) Refusal).
+    or_black (or_others first (first_answer model_answer rest))) is
+color_refused (Some given) x rest refusal is = absurd (cc)

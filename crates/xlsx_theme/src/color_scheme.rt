@@ -1,11 +1,12 @@
 ghost use Rattle.std.specs.Prelude.{◌≡◌, ◌≤◌, length, true, None, Ok, IfOk, OnOk, IfErr};
 ghost use Rattle.std.specs.Prelude.{option_map, IfSome};
-ghost use Rattle.part_events.specs.Reading.{reading, open_elements, IsReading, ReadsPart};
+ghost use Rattle.part_events.specs.Reading.{Reading, reading, open_elements, IsReading, ReadsPart};
 ghost use Rattle.part_events.specs.Walk.{section_ahead};
 ghost use Rattle.xlsx_error.specs.declared.error.XlsxError.TheVariants.{Io};
 ghost use Rattle.xlsx_sections.specs.Elements.{IsInsideRefused, IsEndError, ReachesEnd};
-ghost use Rattle.xlsx_sections.specs.Elements.{FindsElementIn, named_end};
+ghost use Rattle.xlsx_sections.specs.Elements.{FindsElementIn, KeepsElements, named_end};
 ghost use Rattle.xlsx_sections.specs.PartSection.{Never, SectionFails, StandsAtStart};
+ghost use Rattle.xlsx_sections.specs.Steps.{StepsToElement};
 ghost use Rattle.xlsx_theme.specs.ColorScheme.{is_slot, slot_colors, numbered_colors};
 ghost use Rattle.xlsx_theme.specs.ColorScheme.{IsSchemeError};
 
@@ -35,9 +36,14 @@ fn next_slot<P: Package>(
         let new = reading (P.state «package».new) cursor.new in
         old.source.is_told ≡ true →
         IfOk result (λ found. FindsElementIn is_slot base found old new) }
-    ensures err { let old = reading (P.state «package».old) cursor.old in
+    ensures step { let old = reading (P.state «package».old) cursor.old in
         let new = reading (P.state «package».new) cursor.new in
-        IfErr result (SectionFails (named_end None) Never base old new) }
+        IfOk result (λ found. (first : Reading) → KeepsElements is_slot base first old →
+        StepsToElement is_slot base found first old new) }
+    ensures refused { let old = reading (P.state «package».old) cursor.old in
+        let new = reading (P.state «package».new) cursor.new in
+        IfErr result (λ error. (first : Reading) → KeepsElements is_slot base first old →
+        SectionFails (named_end None) Never base first new error) }
     ensures kind { IfErr result (IsEndError None) }
 {
     let names = [

@@ -2,14 +2,16 @@ ghost use Rattle.std.specs.Prelude.{◌≡◌, ◌≤◌, List, ℕ, length, tru
 ghost use Rattle.std.specs.Prelude.{IfErr, MatchResult, option_and_then};
 ghost use Rattle.std.specs.Option.{option_copied};
 ghost use Rattle.part_events.specs.Event.{tag_of};
-ghost use Rattle.part_events.specs.Reading.{reading, open_elements, IsReading, IsReadingElement};
-ghost use Rattle.part_events.specs.Reading.{ReadsElement, ReadsPart, ahead};
+ghost use Rattle.part_events.specs.Reading.{Reading, reading, open_elements, IsReading};
+ghost use Rattle.part_events.specs.Reading.{IsReadingElement, ReadsElement, ReadsPart, ahead};
 ghost use Rattle.part_events.specs.Section.{content};
 ghost use Rattle.xlsx_error.specs.declared.error.XlsxError.TheVariants.{Io};
-ghost use Rattle.xlsx_sections.specs.Elements.{ElementReadFails, IsEndError, named_end};
+ghost use Rattle.xlsx_sections.specs.Elements.{ElementReadFails, IsEndError, KeepsStarts};
+ghost use Rattle.xlsx_sections.specs.Elements.{named_end};
 ghost use Rattle.xlsx_sections.specs.PartSection.{Never, SectionFails, StandsAtStart, FindsStartIn};
 ghost use Rattle.xlsx_sections.specs.Refusal.{plain, lookup_fault, placed_at};
 ghost use Rattle.xlsx_styles.specs.Colors.{hex_color};
+ghost use Rattle.xlsx_sections.specs.Steps.{StepsToStart};
 ghost use Rattle.xlsx_theme.specs.ColorScheme.{is_color_model, model_color, model_answer};
 ghost use Rattle.xlsx_theme.specs.ColorScheme.{unless_given, slot_color, IsSchemeError};
 
@@ -69,9 +71,14 @@ fn next_model<P: Package>(
         let new = reading (P.state «package».new) cursor.new in
         old.source.is_told ≡ true →
         IfOk result (λ found. FindsStartIn is_color_model base found old new) }
-    ensures err { let old = reading (P.state «package».old) cursor.old in
+    ensures step { let old = reading (P.state «package».old) cursor.old in
         let new = reading (P.state «package».new) cursor.new in
-        IfErr result (SectionFails (named_end None) Never base old new) }
+        IfOk result (λ found. (first : Reading) → KeepsStarts base first old →
+        StepsToStart is_color_model base found first old new) }
+    ensures refused { let old = reading (P.state «package».old) cursor.old in
+        let new = reading (P.state «package».new) cursor.new in
+        IfErr result (λ error. (first : Reading) → KeepsStarts base first old →
+        SectionFails (named_end None) Never base first new error) }
     ensures kind { IfErr result (IsEndError None) }
 {
     match cursor.next_start(package, base, &["srgbClr", "sysClr"])? {

@@ -1,4 +1,4 @@
-use Rattle.std.proofs.Common.{◌≡◌, length, true}
+use Rattle.std.proofs.Common.{◌≡◌, true}
 use Rattle.part_events.specs.Reading.{reading}
 use Rattle.part_events.specs.Section.{starts_by}
 use Rattle.part_events.specs.Walk.{section_ahead}
@@ -13,7 +13,6 @@ invariant-starts g l =
     let now = reading (g.P.Package.state l.package) l.cursor in
     record {
       keeps : KeepsStarts l.base old now;
-      own : l.base ≡ length old.names;
       codes_kept :
           old.source.is_told ≡ true →
           KeepsCodes (starts_by is_number_format (section_ahead l.base old))

@@ -1,4 +1,4 @@
-use Rattle.std.proofs.Common.{◌≡◌, List, length, map}
+use Rattle.std.proofs.Common.{List, map}
 use Rattle.part_events.specs.Reading.{reading}
 use Rattle.xlsx_sections.specs.Elements.{KeepsElements}
 use Rattle.xlsx_sections.proofs.ListsRead.{KeepsList}
@@ -13,7 +13,6 @@ invariant-formats g l =
     let now = reading (g.P.Package.state l.package) l.cursor in
     record {
       keeps : KeepsElements is_format l.base old now;
-      own : l.base ≡ length old.names;
       formattings :
           (formats : List WrittenFormat) → AreCodes formats l.lists.codes.now →
           KeepsList is_format (formatting_of (named_said formats l.lists)) l.base

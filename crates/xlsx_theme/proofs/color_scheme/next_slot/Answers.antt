@@ -1,12 +1,32 @@
-use Rattle.std.proofs.Common.{refl, ◌∙◌}
+use Rattle.std.proofs.Common.{None, refl, ◌∙◌, arith}
+use Rattle.part_events.specs.Reading.{reading}
 use Rattle.part_events.proofs.Onward.{whole_at_end}
-use Rattle.xlsx_sections.proofs.ElementsRead.{at_end}
+use Rattle.part_events.specs.declared.fault.XmlFault.TheVariants.{Unclosed}
+use Rattle.xlsx_error.specs.declared.error.XlsxError.TheVariants.{Xml}
+use Rattle.xlsx_sections.specs.Elements.{named_end}
+use Rattle.xlsx_sections.specs.PartSection.{Never, SectionFails}
+use Rattle.xlsx_sections.proofs.ElementsRead.{at_end, element_step_found}
+use Rattle.xlsx_theme.specs.ColorScheme.{is_slot}
+use Rattle.xlsx_theme.proofs.SchemeRead.{unnamed_refused}
 use Rattle.xlsx_theme.proofs.color_scheme.next_slot.Goals as goal
 
-pub returns-in-Ended-clause-err : goal.returns-in-Ended-clause-err
-returns-in-Ended-clause-err g c = λ told.
+pub returns-in-Found-clause-step : goal.returns-in-Found-clause-step
+returns-in-Found-clause-step g c = λ first keeps.
+    let stands = rw c.in-Found.is at c.in_ok-next_element.ensures.stands in
+    element_step_found is_slot (omega (arith, stands.3, c.at.ensures))
+    c.in_ok-next_element.ensures.reads stands
+    (λ told. rw c.in-Found.is at (c.in_ok-next_element.ensures.found told)) first keeps
+
+pub returns-in-Ended-clause-refused : goal.returns-in-Ended-clause-refused
+returns-in-Ended-clause-refused g c = λ first keeps.
+    let old = reading (g.P.Package.state c.args.package.now) c.args.cursor.now in
+    let new = reading (g.P.Package.state c.next_element.new.package) c.next_element.new.self in
+    let error = Xml (Unclosed c.at-in-Ended.result) in
+    let own : SectionFails (named_end None) Never c.args.base old new error = λ told.
     let ends = rw c.in-Ended.is at (c.in_ok-next_element.ensures.found told) in (
       (whole_at_end c.in_ok-next_element.ensures.reads ends.at_end told, ends.closed),
       refl,
       c.at-in-Ended.ensures ∙ at_end c.in_ok-next_element.ensures.reads ends.at_end told,
     )
+    in
+    unnamed_refused Never new error keeps.section own
