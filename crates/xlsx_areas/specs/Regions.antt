@@ -1,5 +1,5 @@
 -- The merged cells of the sheets of a workbook.
-use Rattle.std.specs.Prelude.{ℕ, List, [], map, Bool, Option, option_map, string_bytes}
+use Rattle.std.specs.Prelude.{ℕ, List, [], map, Bool, Option, option_map, string_bytes, String}
 use Rattle.std.specs.List.{filter}
 use Rattle.std.specs.Str.{bytes_eq}
 use Rattle.cell_refs.specs.declared.dimensions.Dimensions.{Dimensions}

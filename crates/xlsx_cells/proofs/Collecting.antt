@@ -23,7 +23,8 @@ use Rattle.xlsx_sections.proofs.Refused.{refused_later}
 use Rattle.xlsx_sections.proofs.SectionsRead.{keeps_further}
 use Rattle.xlsx_values.specs.Value.{Grounds}
 use Rattle.xlsx_formulas.specs.Formula.{FormulaText, cell_formula, behind_formulas}
-use Rattle.xlsx_cells.specs.CellErrors.{IsCellError, IsStyledError, IsStreamError, IsStyledStreamError}
+use Rattle.xlsx_cells.specs.CellErrors.{IsCellError, IsStyledError, IsStreamError}
+use Rattle.xlsx_cells.specs.CellErrors.{IsStyledStreamError}
 use Rattle.xlsx_cells.specs.Counting.{AreKept}
 use Rattle.xlsx_cells.specs.Ends.{end_in_cell, end_in_data}
 use Rattle.xlsx_cells.specs.Finding.{IsMarkRefused, IsStepRefused}

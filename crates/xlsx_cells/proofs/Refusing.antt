@@ -6,7 +6,8 @@ use Rattle.part_events.specs.Reading.{Reading}
 use Rattle.part_events.specs.Section.{Element}
 use Rattle.part_events.specs.declared.fault.XmlFault.TheVariants.{EndMismatch, Unclosed}
 use Rattle.xlsx_error.specs.declared.error.XlsxError.{XlsxError}
-use Rattle.xlsx_error.specs.declared.error.XlsxError.TheVariants.{OutOfMemory, Io, Xml, XmlEof, Failed}
+use Rattle.xlsx_error.specs.declared.error.XlsxError.TheVariants.{OutOfMemory, Io, Xml, XmlEof}
+use Rattle.xlsx_error.specs.declared.error.XlsxError.TheVariants.{Failed}
 use Rattle.xlsx_sections.specs.PartSection.{PartSection, SectionFails, section_left, last_of}
 use Rattle.xlsx_sections.specs.PartSection.{has_end}
 use Rattle.xlsx_sections.specs.Refusal.{Refusal}

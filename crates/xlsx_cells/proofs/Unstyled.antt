@@ -1,5 +1,6 @@
 -- Cells without a style id that counts are passed.
-use Rattle.std.proofs.Common.{◌≡◌, ℕ, List, [], ◌∷◌, ◌++◌, true, false, Ok, refl, sym, ◌∙◌, ap, subst}
+use Rattle.std.proofs.Common.{◌≡◌, ℕ, List, [], ◌∷◌, ◌++◌, true, false, Ok, refl, sym, ◌∙◌, ap}
+use Rattle.std.proofs.Common.{subst}
 use Rattle.std.proofs.Common.{inl, inr, codes}
 use Rattle.part_events.specs.Section.{Element}
 use Rattle.part_events.specs.Walk.{behind_section}
@@ -20,7 +21,8 @@ use Rattle.xlsx_cells.specs.Finding.{IsStepRefused, IsCutOff, LacksCell, PassesT
 use Rattle.xlsx_cells.specs.Marks.{Mark, cell, is_cell, behind_marks}
 use Rattle.xlsx_cells.specs.Position.{NoCell}
 use Rattle.xlsx_cells.specs.Stream.{Stream, StandsBehind, IsGoing, IsCellRefused, IsRead, TakesCell}
-use Rattle.xlsx_cells.specs.Stream.{EndsData, NextCellFails, marks_ahead, are_closed_ahead, data_ahead}
+use Rattle.xlsx_cells.specs.Stream.{EndsData, NextCellFails, marks_ahead, are_closed_ahead}
+use Rattle.xlsx_cells.specs.Stream.{data_ahead}
 use Rattle.xlsx_cells.specs.StyleIds.{placed_id, IsIdRefused}
 use Rattle.xlsx_cells.specs.StyleSteps.{IsUnstyled, IsStyled, StyledFails}
 use Rattle.xlsx_cells.specs.declared.cell_read.CellRead.{CellRead}

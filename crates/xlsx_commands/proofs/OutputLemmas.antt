@@ -13,7 +13,8 @@ use Rattle.xlsx_open.specs.Opening.{without_path}
 use Rattle.xlsx_core.specs.SheetReading.{ReadsAs, IsReadable, SheetCause, SheetFails}
 use Rattle.xlsx_commands.specs.BookLists.{sheet_lines, name_lines}
 use Rattle.xlsx_commands.specs.Command.{Command, cells, sheets, names}
-use Rattle.xlsx_commands.specs.Outputs.{IsOutput, RefusedWorkbookCause, OutputCause, HasOutput, CallFails}
+use Rattle.xlsx_commands.specs.Outputs.{IsOutput, RefusedWorkbookCause, OutputCause, HasOutput}
+use Rattle.xlsx_commands.specs.Outputs.{CallFails}
 use Rattle.xlsx_commands.specs.Status.{of_workbook}
 use Rattle.xlsx_commands.specs.declared.error.ToolError.{ToolError}
 use Rattle.xlsx_commands.specs.declared.error.ToolError.TheVariants.{Workbook}

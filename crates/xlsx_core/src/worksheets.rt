@@ -262,9 +262,9 @@ impl<P: Package> Xlsx<P> {
         Ok(copied_style_range(self.alloc, found.style_ids, styles)?)
     }
 
-    /// Enters the data of the first sheet of this name (18.3.1.80), and answers where reading stands
-    /// behind their start, and the sheet's dimensions. The workbook is lent for this call alone, so
-    /// its clauses say what a refusal leaves. `resume_worksheet` goes on from there.
+    /// Enters the data of the first sheet of this name (18.3.1.80), and answers where reading
+    /// stands behind their start, and the sheet's dimensions. The workbook is lent for this call
+    /// alone, so its clauses say what a refusal leaves. `resume_worksheet` goes on from there.
     ///
     /// Fails with `WorksheetNotFound` where no sheet has the name or the first such sheet has no
     /// part, with `NotAWorksheet` where its part is none, and else as `XlsxCellReader::new`.

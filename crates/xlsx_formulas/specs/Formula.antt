@@ -14,7 +14,8 @@ use Rattle.part_events.specs.Section.{Element, children, is_named}
 use Rattle.xlsx_sections.specs.Answers.{some_answers, with_three}
 use Rattle.xlsx_sections.specs.ElementText.{element_text}
 use Rattle.xlsx_sections.specs.NumberText.{number_text}
-use Rattle.xlsx_sections.specs.Refusal.{Refusal, plain, lookup_fault, misplaced, stray_child, lacks_index}
+use Rattle.xlsx_sections.specs.Refusal.{Refusal, plain, lookup_fault, misplaced, stray_child}
+use Rattle.xlsx_sections.specs.Refusal.{lacks_index}
 use Rattle.xlsx_sections.specs.Refusal.{wrong_index, in_element}
 
 -- whose formula an element writes: its cell's alone, that of a group of this index and area, or one

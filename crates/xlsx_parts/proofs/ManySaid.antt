@@ -1,6 +1,7 @@
 -- What many say, one behind the other, is put together one by one.
 use Rattle.std.proofs.Common.{◌≡◌, List, [], ◌∷◌, ◌++◌, Option, Some, None, refl, sym, ◌∙◌, ap}
 use Rattle.std.proofs.Common.{append_assoc, append-nil}
+use Rattle.std.specs.Prelude.{option_map}
 use Rattle.xlsx_parts.specs.PartSaid.{put_together, all_said}
 
 behind_both : {A : Type 0} (kept found : List A) (others : Option (List A))

@@ -1,5 +1,5 @@
 -- A part that says something has no cause to be refused.
-use Rattle.std.proofs.Common.{◌≡◌, ℕ, List, true, false, Option, Some, None, Result, Ok, Err}
+use Rattle.std.proofs.Common.{◌≡◌, ℕ, List, Bool, true, false, Option, Some, None, Result, Ok, Err}
 use Rattle.std.proofs.Common.{refl, arith, length, eqb-true, [], ◌∷◌}
 use Rattle.std.specs.Prelude.{option_map, option_and_then, MatchOption, if◌then◌else◌}
 use Rattle.part_events.specs.Event.{Event}

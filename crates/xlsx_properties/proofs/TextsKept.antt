@@ -45,7 +45,8 @@ unless_closed : (wanted : Property) (started : Option OpenText) (listed : Listed
 unless_closed wanted None listed tag events = refl
 unless_closed wanted (Some own) listed tag events =
     ap (λ (said : Option (List ℕ)). or_later (Ok said)
-    (property_in listed wanted (start tag ∷ events))) (either_way (is_same wanted own.property) None)
+    (property_in listed wanted (start tag ∷ events)))
+    (either_way (is_same wanted own.property) None)
     ∙ none_earlier (property_in listed wanted (start tag ∷ events))
 
 begun : (wanted : Property) (property : Option Property) (events : List Event)

@@ -1,6 +1,5 @@
 -- The names of a workbook's properties (ECMA-376 part 2, section 11, and part 1, section 22.2).
-use Rattle.std.specs.Prelude.{ℕ, ◌==◌, List, [], ◌∷◌, Bool, if◌then◌else◌, codes, Option, Some}
-use Rattle.std.specs.Str.{bytes_eq}
+use Rattle.std.specs.Prelude.{ℕ, ◌==◌, List, [], ◌∷◌, Bool, codes, Option, Some}
 use Rattle.xlsx_properties.specs.declared.property.Property.{Property}
 use Rattle.xlsx_properties.specs.declared.property.Property.TheVariants.{Creator, LastModifiedBy}
 use Rattle.xlsx_properties.specs.declared.property.Property.TheVariants.{Created, Modified, Title}
@@ -10,12 +9,6 @@ use Rattle.xlsx_properties.specs.declared.property.Property.TheVariants.{Content
 use Rattle.xlsx_properties.specs.declared.property.Property.TheVariants.{Version, Application}
 use Rattle.xlsx_properties.specs.declared.property.Property.TheVariants.{AppVersion, Company}
 use Rattle.xlsx_properties.specs.declared.property.Property.TheVariants.{Template, Manager}
-
--- the value that a text names in a table, or another one
-abbrev pub named : {A : Type 0} → List (List ℕ × A) → A → List ℕ → A
-named [] other text = other
-named (entry ∷ entries) other text =
-    if bytes_eq text entry.0 then entry.1 else named entries other text
 
 -- the elements that the program's part may have
 abbrev pub program_properties : List (List ℕ × Option Property)
@@ -45,24 +38,24 @@ core_properties =
     ∷ program_properties
 
 -- the place of a property among all, in the order in which they are listed
-abbrev pub number_of : Property → ℕ
-number_of Creator = 0
-number_of LastModifiedBy = 1
-number_of Created = 2
-number_of Modified = 3
-number_of Title = 4
-number_of Subject = 5
-number_of Description = 6
-number_of Keywords = 7
-number_of Category = 8
-number_of ContentStatus = 9
-number_of Revision = 10
-number_of Version = 11
-number_of Application = 12
-number_of AppVersion = 13
-number_of Company = 14
-number_of Template = 15
-number_of Manager = 16
+abbrev pub order_of : Property → ℕ
+order_of Creator = 0
+order_of LastModifiedBy = 1
+order_of Created = 2
+order_of Modified = 3
+order_of Title = 4
+order_of Subject = 5
+order_of Description = 6
+order_of Keywords = 7
+order_of Category = 8
+order_of ContentStatus = 9
+order_of Revision = 10
+order_of Version = 11
+order_of Application = 12
+order_of AppVersion = 13
+order_of Company = 14
+order_of Template = 15
+order_of Manager = 16
 
 abbrev pub is_same : Property → Property → Bool
-is_same wanted own = number_of wanted == number_of own
+is_same wanted own = order_of wanted == order_of own

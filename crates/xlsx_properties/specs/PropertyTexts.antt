@@ -1,12 +1,13 @@
 -- What a part says of a workbook's properties: the texts of its listed starts, of each the last.
-use Rattle.std.specs.Prelude.{ℕ, ◌+◌, ◌-◌, List, [], ◌∷◌, ◌++◌, length, Bool, true, false}
+use Rattle.std.specs.Prelude.{◌≡◌, ℕ, ◌+◌, ◌-◌, List, [], ◌∷◌, ◌++◌, length, Bool, true, false}
 use Rattle.std.specs.Prelude.{if◌then◌else◌, Option, Some, None, Result, Ok, Err}
 use Rattle.attr_text.specs.Attributes.{local_name_of}
 use Rattle.part_events.specs.Event.{Tag, Event, start, end, leaf}
 use Rattle.part_events.specs.JoinedText.{joined_text, unknown_entity}
 use Rattle.xlsx_sections.specs.Answers.{or_later}
+use Rattle.xlsx_sections.specs.Names.{named}
 use Rattle.xlsx_sections.specs.Refusal.{Refusal, no_character}
-use Rattle.xlsx_properties.specs.Property.{is_same, named, core_properties, program_properties}
+use Rattle.xlsx_properties.specs.Property.{is_same, core_properties, program_properties}
 use Rattle.xlsx_properties.specs.declared.open_property.PropertyPart.{PropertyPart}
 use Rattle.xlsx_properties.specs.declared.open_property.PropertyPart.TheVariants.{Core, Program}
 use Rattle.xlsx_properties.specs.declared.property.Property.{Property}

@@ -1,5 +1,6 @@
 ghost use Rattle.std.specs.Prelude.{◌≡◌, None};
-ghost use Rattle.xlsx_properties.specs.Property.{core_properties, program_properties, named};
+ghost use Rattle.xlsx_sections.specs.Names.{named};
+ghost use Rattle.xlsx_properties.specs.Property.{core_properties, program_properties};
 
 /// A property that the core part of a workbook may have; from `Application` on those that the
 /// program's part may have, too.

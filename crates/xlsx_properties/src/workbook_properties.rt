@@ -13,7 +13,7 @@ use std::collections::BTreeMap;
 use xlsx_error::XlsxError;
 
 /// What a workbook says of itself: who made it, when, and what users added by names of their own.
-#[derive(Debug, Drop)]
+#[derive(Debug)]
 pub struct WorkbookProperties {
     pub creator: Option<String>,
     pub last_modified_by: Option<String>,
@@ -33,6 +33,31 @@ pub struct WorkbookProperties {
     pub template: Option<String>,
     pub manager: Option<String>,
     pub custom_properties: BTreeMap<String, String>,
+}
+
+impl Drop for WorkbookProperties {
+    fn drop(self) {
+        let WorkbookProperties {
+            creator: _,
+            last_modified_by: _,
+            created: _,
+            modified: _,
+            title: _,
+            subject: _,
+            description: _,
+            keywords: _,
+            category: _,
+            content_status: _,
+            revision: _,
+            version: _,
+            application: _,
+            app_version: _,
+            company: _,
+            template: _,
+            manager: _,
+            custom_properties: _,
+        } = self;
+    }
 }
 
 impl WorkbookProperties {

@@ -1,5 +1,7 @@
--- The names that starts give their elements.
-use Rattle.std.specs.Prelude.{⊤, ℕ, List, codes, Option, Some, None, Result, Ok, Err}
+-- The names that starts give their elements, and what names stand for.
+use Rattle.std.specs.Prelude.{⊤, ℕ, List, [], ◌∷◌, if◌then◌else◌, codes, Option, Some, None}
+use Rattle.std.specs.Prelude.{Result, Ok, Err}
+use Rattle.std.specs.Str.{bytes_eq}
 use Rattle.attr_text.specs.Attributes.{value_of}
 use Rattle.attr_text.specs.declared.fault.AttrFault.{AttrFault}
 use Rattle.part_events.specs.Section.{PlacedTag}
@@ -28,3 +30,9 @@ IsNameError OutOfMemory = ⊤
 IsNameError (Xml (Entity at)) = ⊤
 IsNameError (XmlAttr fault) = ⊤
 IsNameError _ = ⊥
+
+-- the value that a text names in a table, or another one
+abbrev pub named : {A : Type 0} → List (List ℕ × A) → A → List ℕ → A
+named [] other text = other
+named (entry ∷ entries) other text =
+    if bytes_eq text entry.0 then entry.1 else named entries other text

@@ -37,8 +37,8 @@ pub fn decode_at(alloc: Global, text: &str, at: u64) -> Result<String, XlsxError
     }
 }
 
-/// The attribute `name` of a start, decoded, which is event number `at` of its part, counted from 0.
-/// None where it has none. A name that can't be decoded is `Xml(Entity)` with that number, and a
+/// The attribute `name` of a start, decoded, which is event number `at` of its part, counted from
+/// 0. None where it has none. A name that can't be decoded is `Xml(Entity)` with that number, and a
 /// lookup that is refused `XmlAttr`.
 pub fn name_by(alloc: Global, tag: StartTag<'_>, at: u64) -> Result<Option<String>, XlsxError>
     ensures ok { IfOk result (λ name. (behind : ℕ) →

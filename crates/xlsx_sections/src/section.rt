@@ -2,7 +2,8 @@ ghost use Rattle.std.specs.Prelude.{◌≡◌, ◌≤◌, [], ◌∷◌, length,
 ghost use Rattle.std.specs.Prelude.{IfErr, IfSome, IfNone};
 ghost use Rattle.part_events.specs.Event.{tag_of, start, is_start};
 ghost use Rattle.part_events.specs.Package.{UsesPackage, LeavesPackage, part_of, event_count};
-ghost use Rattle.part_events.specs.Reading.{Reading, reading, open_elements, IsReading, IsAtElement};
+ghost use Rattle.part_events.specs.Reading.{Reading, reading, open_elements, IsReading};
+ghost use Rattle.part_events.specs.Reading.{IsAtElement};
 ghost use Rattle.part_events.specs.Reading.{ReadsPart, ahead};
 ghost use Rattle.part_events.specs.Section.{is_named, behind_start};
 ghost use Rattle.xlsx_error.specs.declared.error.XlsxError.TheVariants.{Io};

@@ -13,7 +13,8 @@ use Rattle.cell_styles.specs.declared.alignment.TextRotation.TheVariants as rota
 use Rattle.cell_styles.specs.declared.alignment.VerticalAlignment.{VerticalAlignment}
 use Rattle.cell_styles.specs.declared.alignment.VerticalAlignment.TheVariants as vertical
 use Rattle.cell_styles.specs.declared.protection.Protection.{Protection}
-use Rattle.xlsx_styles.specs.Texts.{truth_or, number_below, named}
+use Rattle.xlsx_sections.specs.Names.{named}
+use Rattle.xlsx_styles.specs.Texts.{truth_or, number_below}
 
 -- ECMA-376 part 1, section 18.18.40
 abbrev pub horizontal_named : Option (List ℕ) → HorizontalAlignment

@@ -17,7 +17,7 @@ use Rattle.xlsx_sections.specs.Elements.{end_among}
 use Rattle.xlsx_sections.specs.Refusal.{Refusal, plain, lookup_fault, in_element}
 use Rattle.xlsx_sections.specs.Changes.{all_changes, or_fault}
 use Rattle.xlsx_styles.specs.Colors.{color_of, is_color}
-use Rattle.xlsx_styles.specs.Texts.{named}
+use Rattle.xlsx_sections.specs.Names.{named}
 use Rattle.xlsx_styles.specs.declared.border.Side.{Side}
 use Rattle.xlsx_styles.specs.declared.border.Side.TheVariants.{Left, Right, Top, Bottom, Diagonal}
 

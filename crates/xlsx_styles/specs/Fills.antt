@@ -13,7 +13,7 @@ use Rattle.cell_styles.specs.declared.fill.FillPattern.TheVariants as pattern
 use Rattle.xlsx_sections.specs.Refusal.{Refusal}
 use Rattle.xlsx_sections.specs.Changes.{all_changes, or_fault, changed_with}
 use Rattle.xlsx_styles.specs.Colors.{color_of}
-use Rattle.xlsx_styles.specs.Texts.{named}
+use Rattle.xlsx_sections.specs.Names.{named}
 
 -- ECMA-376 part 1, section 18.18.55
 unfoldable pub pattern_named : List ℕ → FillPattern

@@ -21,7 +21,8 @@ use Rattle.cell_styles.specs.declared.font.UnderlineStyle.TheVariants as underli
 use Rattle.xlsx_sections.specs.Refusal.{Refusal, plain, lookup_fault, decoded_at}
 use Rattle.xlsx_sections.specs.Changes.{all_changes, or_fault, changed_with}
 use Rattle.xlsx_styles.specs.Colors.{color_of, is_color}
-use Rattle.xlsx_styles.specs.Texts.{truth_or, number_below, named}
+use Rattle.xlsx_sections.specs.Names.{named}
+use Rattle.xlsx_styles.specs.Texts.{truth_or, number_below}
 
 -- a font, its size as a number, its mantissa and its power of ten
 pub record FontSaid : Type 0 where

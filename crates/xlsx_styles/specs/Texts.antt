@@ -19,9 +19,3 @@ if_below most n = if nat_lt n most then Some n else None
 -- a text of digits alone, as a number below this one
 abbrev pub number_below : ℕ → List ℕ → Option ℕ
 number_below most text = option_and_then (if_below most) (number_text text)
-
--- the value that a text names in a table, or another one
-abbrev pub named : {A : Type 0} → List (List ℕ × A) → A → List ℕ → A
-named [] other text = other
-named (entry ∷ entries) other text =
-    if bytes_eq text entry.0 then entry.1 else named entries other text

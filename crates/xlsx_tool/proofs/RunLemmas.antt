@@ -13,7 +13,8 @@ use Rattle.xlsx_tool.specs.Run.{TellsInput, GivesParts, IsFed, PackageFed, Feedi
 use Rattle.xlsx_tool.specs.Run.{ReadingFails, Refuses, AnswersExactly}
 use Rattle.xlsx_tool.specs.Source.{SourceState}
 use Rattle.xlsx_commands.specs.declared.error.ToolError.{ToolError}
-use Rattle.xlsx_commands.specs.declared.error.ToolError.TheVariants.{Usage, ReadFault, InputTooLarge}
+use Rattle.xlsx_commands.specs.declared.error.ToolError.TheVariants.{Usage, ReadFault}
+use Rattle.xlsx_commands.specs.declared.error.ToolError.TheVariants.{InputTooLarge}
 use Rattle.xlsx_commands.specs.declared.error.ToolError.TheVariants.{NotAPackage, Workbook}
 use Rattle.xlsx_commands.specs.declared.error.ToolError.TheVariants.{WriteFault, OutOfMemory}
 

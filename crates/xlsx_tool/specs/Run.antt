@@ -10,7 +10,8 @@ use Rattle.package_text.specs.PackageText.{package_in}
 use Rattle.xlsx_tool.specs.Sink.{SinkState}
 use Rattle.xlsx_tool.specs.Source.{SourceState}
 use Rattle.xlsx_commands.specs.declared.error.ToolError.{ToolError}
-use Rattle.xlsx_commands.specs.declared.error.ToolError.TheVariants.{Usage, ReadFault, InputTooLarge}
+use Rattle.xlsx_commands.specs.declared.error.ToolError.TheVariants.{Usage, ReadFault}
+use Rattle.xlsx_commands.specs.declared.error.ToolError.TheVariants.{InputTooLarge}
 use Rattle.xlsx_commands.specs.declared.error.ToolError.TheVariants.{NotAPackage}
 use Rattle.xlsx_commands.specs.declared.error.ToolError.TheVariants.{WriteFault, OutOfMemory}
 

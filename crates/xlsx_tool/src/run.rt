@@ -1,7 +1,8 @@
 ghost use Rattle.std.specs.Prelude.{◌≡◌, ◌≢◌, true, is_some, IfOk, OnOk, IfErr};
 ghost use Rattle.xlsx_commands.specs.Command.{texts, command_meant, command_of, own_parts};
 ghost use Rattle.xlsx_tool.specs.Run.{Streams, Succeeds, Refuses, AnswersExactly, PackageRead};
-ghost use Rattle.xlsx_tool.specs.Run.{NoPackage, PackageFed, FeedingFails, OutputRead, ReadingFails};
+ghost use Rattle.xlsx_tool.specs.Run.{NoPackage, PackageFed, FeedingFails, OutputRead};
+ghost use Rattle.xlsx_tool.specs.Run.{ReadingFails};
 ghost use Rattle.xlsx_tool.specs.Run.{IsSent, SendFails, reads_nothing};
 ghost use Rattle.package_text.specs.PackageText.{package_in, package_of};
 ghost use Rattle.xlsx_commands.specs.declared.error.ToolError.TheVariants.{WriteFault};

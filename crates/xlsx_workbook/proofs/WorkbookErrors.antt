@@ -4,7 +4,8 @@ use Rattle.part_events.specs.Event.{Event}
 use Rattle.part_events.specs.JoinedText.{is_unknown}
 use Rattle.part_events.specs.declared.fault.XmlFault.TheVariants.{EndMismatch, Entity}
 use Rattle.xlsx_error.specs.declared.error.XlsxError.{XlsxError}
-use Rattle.xlsx_error.specs.declared.error.XlsxError.TheVariants.{OutOfMemory, Io, Xml, XmlAttr, XmlEof}
+use Rattle.xlsx_error.specs.declared.error.XlsxError.TheVariants.{OutOfMemory, Io, Xml, XmlAttr}
+use Rattle.xlsx_error.specs.declared.error.XlsxError.TheVariants.{XmlEof}
 use Rattle.xlsx_sections.specs.Names.{IsNameError}
 use Rattle.xlsx_sections.specs.PartSection.{IsStepError}
 use Rattle.xlsx_sections.specs.Refusal.{Refusal, RefusedAt, ElementFails}

@@ -3,7 +3,8 @@ ghost use Rattle.std.specs.Prelude.{string_bytes, IfOk, OnOk, IfErr, MatchResult
 ghost use Rattle.std.specs.Option.{option_copied};
 ghost use Rattle.part_events.specs.Event.{tag_of};
 ghost use Rattle.xlsx_sections.specs.Answers.{and_others, prepended, or_earlier, or_later};
-ghost use Rattle.xlsx_sections.specs.Refusal.{Refusal, plain, ElementFails, lookup_fault, placed_at};
+ghost use Rattle.xlsx_sections.specs.Refusal.{Refusal, plain, ElementFails, lookup_fault};
+ghost use Rattle.xlsx_sections.specs.Refusal.{placed_at};
 ghost use Rattle.xlsx_relationships.specs.KeptRelationships.{relationship_of, related_by_id};
 ghost use Rattle.xlsx_workbook.specs.KeptContents.{sheet_of_entry};
 ghost use Rattle.xlsx_workbook.specs.Sheets.{PlacedSheet, state_named, type_named, sheet_of};

@@ -1,7 +1,7 @@
-use Rattle.std.proofs.Common.{◌≡◌, ◌∷◌, ◌∙◌, length, Err, true, false, refl, sym, ap}
+use Rattle.std.proofs.Common.{◌≡◌, ◌∷◌, ◌∙◌, List, length, Err, true, false, refl, sym, ap}
 use Rattle.std.specs.Prelude.{IsSome}
 use Rattle.std.proofs.lemmas.Result.{err_from_is_err_and}
-use Rattle.part_events.specs.Event.{event_of, tag_of, leaf}
+use Rattle.part_events.specs.Event.{Event, event_of, tag_of, leaf}
 use Rattle.part_events.specs.JoinedText.{is_unknown}
 use Rattle.xlsx_sections.specs.Refusal.{Refusal, no_character}
 use Rattle.xlsx_sections.proofs.Refused.{refused_at_weaker}
@@ -23,15 +23,18 @@ returns-clause-ok c = λ wanted events.
     let kept = held wanted c.args.properties.now in
     elim c.match-event.branch [
       in-Start+in-Some-1 w ↦ rw (w.in-Start.is, w.started-is, w.properties-is, w.opened.ensures,
-          w.property.ensures) (behind_start listed wanted started kept (tag_of w.in-Start.tag) events)
+          w.property.ensures)
+          (behind_start listed wanted started kept (tag_of w.in-Start.tag) events)
       | in-Start+in-None-1 w ↦ rw (w.in-Start.is, w.started-is, w.properties-is, w.opened.ensures,
-          w.property.ensures) (behind_start listed wanted started kept (tag_of w.in-Start.tag) events)
+          w.property.ensures)
+          (behind_start listed wanted started kept (tag_of w.in-Start.tag) events)
       | in-End w ↦ rw (w.in-End.is, w.started-is, w.properties-is, w.take.ensures.after,
           w.keep_text.ensures.held wanted, w.take.ensures.value)
           (behind_end listed wanted started kept w.in-End.field-0.now events)
       | in-Text+in_ok-push_leaf-in-Text w ↦
           let own = leaf_event c.args.event w.in-Text.is in
-          let known : IsSome started → is_unknown (leaf own.0) ≡ false = λ some. ap is_unknown (sym own.1)
+          let known : IsSome started → is_unknown (leaf own.0) ≡ false = λ some.
+          ap is_unknown (sym own.1)
           ∙ w.in_ok-push_leaf-in-Text.ensures.known some in
           rw (w.started-is, w.properties-is, w.in_ok-push_leaf-in-Text.ensures.text, own.1)
           (behind_leaf listed wanted started kept own.0 events known)
@@ -53,7 +56,8 @@ returns-in_err-push_leaf-in-Text c =
           (λ (refusal : Refusal). IsSome started × (is_unknown (event_of c.args.event) ≡ true)
           × (refusal ≡ no_character (length events))) c.in_err-push_leaf-in-Text.field-0.0
           (λ refusal refuses wanted. rw (own.1, refuses.2)
-          (leaf_refused listed wanted started own.0 events refuses.0 (ap is_unknown (sym own.1) ∙ refuses.1)))
+          (leaf_refused listed wanted started own.0 events refuses.0
+          (ap is_unknown (sym own.1) ∙ refuses.1)))
           (c.in_err-push_leaf-in-Text.ensures.err (length events));
       kind = c.in_err-push_leaf-in-Text.ensures.kind;
     })
