@@ -7,7 +7,9 @@ use test_packages::{Part, RELATIONSHIPS, ROOT, SHEET, WORKBOOK, package_of};
 use xlsx_core::{OpenFailure, Property, WorkbookProperties, Xlsx};
 
 const CORE: &str = "docProps/core.xml";
+
 const PROGRAM: &str = "docProps/app.xml";
+
 const CUSTOM: &str = "docProps/custom.xml";
 
 const NAMED: [(&str, Property); 17] = [
@@ -60,10 +62,7 @@ fn told<P: Package>(alloc: Global, xlsx: &mut Xlsx<P>) -> Result<String, Fail> {
 }
 
 fn workbook_of(alloc: Global, part: Part<'_>, other: Part<'_>) -> Result<MemoryPackage, Fail> {
-    Ok(package_of(
-        alloc,
-        &[ROOT, RELATIONSHIPS, WORKBOOK, SHEET, part, other],
-    )?)
+    Ok(package_of(alloc, &[ROOT, RELATIONSHIPS, WORKBOOK, SHEET, part, other])?)
 }
 
 /// The name of a part, what stands in it, and what is told of the properties.
@@ -94,14 +93,38 @@ const CASES: [(&str, &str, &str); 33] = [
         "<a><Application>n</Application><AppVersion>o</AppVersion><Template>p</Template><Manager>q</Manager></a>",
         "application=n;app_version=o;template=p;manager=q;",
     ),
-    (PROGRAM, "<a><title>T</title><Company>D</Company></a>", "company=D;"),
-    (CORE, "<a><creator>x</creator><creator></creator></a>", "creator=x;"),
-    (CORE, "<a><creator>x</creator><creator>y</creator></a>", "creator=y;"),
+    (
+        PROGRAM,
+        "<a><title>T</title><Company>D</Company></a>",
+        "company=D;",
+    ),
+    (
+        CORE,
+        "<a><creator>x</creator><creator></creator></a>",
+        "creator=x;",
+    ),
+    (
+        CORE,
+        "<a><creator>x</creator><creator>y</creator></a>",
+        "creator=y;",
+    ),
     (CORE, "<a><creator>a<x/>b</creator></a>", ""),
     (CORE, "<a><creator>a<x>b</x></creator></a>", ""),
-    (CORE, "<a><creator><title>b</title></creator></a>", "title=b;"),
-    (CORE, "<a><creator><!bogus></creator></a>", "Xml(Entity { at: 2 })"),
-    (CORE, "<a><creator><!bogus><x/></creator></a>", "Xml(Entity { at: 2 })"),
+    (
+        CORE,
+        "<a><creator><title>b</title></creator></a>",
+        "title=b;",
+    ),
+    (
+        CORE,
+        "<a><creator><!bogus></creator></a>",
+        "Xml(Entity { at: 2 })",
+    ),
+    (
+        CORE,
+        "<a><creator><!bogus><x/></creator></a>",
+        "Xml(Entity { at: 2 })",
+    ),
     (CORE, "<a><!bogus><creator>x</creator></a>", "creator=x;"),
     (CORE, "<a><creator>x</a>", "Xml(EndMismatch { at: 3 })"),
     (CORE, "<a><creator>x", ""),
@@ -113,9 +136,17 @@ const CASES: [(&str, &str, &str); 33] = [
         "A:1;",
     ),
     (CUSTOM, r#"<p><property name="A"/></p>"#, "A:;"),
-    (CUSTOM, r#"<p><property name="A">x<v>1</v>y</property></p>"#, "A:1;"),
+    (
+        CUSTOM,
+        r#"<p><property name="A">x<v>1</v>y</property></p>"#,
+        "A:1;",
+    ),
     (CUSTOM, "<p><property><v>1</v></property></p>", ""),
-    (CUSTOM, r#"<p><property name="A"><v>1</v><w>2</w></property></p>"#, "A:12;"),
+    (
+        CUSTOM,
+        r#"<p><property name="A"><v>1</v><w>2</w></property></p>"#,
+        "A:12;",
+    ),
     (
         CUSTOM,
         r#"<p><property name="B"><v>1</v></property><property name="A"><v>2</v></property></p>"#,
@@ -131,8 +162,16 @@ const CASES: [(&str, &str, &str); 33] = [
         r#"<p><property name="A"><v>1</v><property name="B"><v>2</v></property></property></p>"#,
         "B:2;",
     ),
-    (CUSTOM, r#"<p><property name="a&amp;b"><v>1</v></property></p>"#, "a&b:1;"),
-    (CUSTOM, r#"<p><property name="&bogus;"/></p>"#, "Xml(Entity { at: 1 })"),
+    (
+        CUSTOM,
+        r#"<p><property name="a&amp;b"><v>1</v></property></p>"#,
+        "a&b:1;",
+    ),
+    (
+        CUSTOM,
+        r#"<p><property name="&bogus;"/></p>"#,
+        "Xml(Entity { at: 1 })",
+    ),
     (
         CUSTOM,
         r#"<p><property name="A"><v><!bogus></v></property></p>"#,
@@ -143,7 +182,11 @@ const CASES: [(&str, &str, &str); 33] = [
         r#"<p><property name="A"><!bogus><v>1</v></property></p>"#,
         "A:1;",
     ),
-    (CUSTOM, "<p><property x></property></p>", "XmlAttr(ExpectedEq(1))"),
+    (
+        CUSTOM,
+        "<p><property x></property></p>",
+        "XmlAttr(ExpectedEq(1))",
+    ),
     (CUSTOM, "<p></q>", "Xml(EndMismatch { at: 1 })"),
 ];
 
@@ -195,7 +238,11 @@ fn a_fault_in_properties_is_told_and_keeps_none(rt: HostRuntime) -> Result<(), F
     // Three parts are looked for, and of the two that are there 5 and 4 events and their ends taken.
     for call in OPENING..OPENING + 3 + 6 + 5 {
         let told = failing_told(rt.alloc(), call)?;
-        assert_eq!(rt; told.as_str(), "Io title=T;A:; title=T;A:; 1", "at call {call}");
+        assert_eq!(rt;
+            told.as_str(),
+            "Io title=T;A:; title=T;A:; 1",
+            "at call {call}"
+        );
     }
     Ok(())
 }

@@ -152,10 +152,8 @@ pub(crate) fn take_custom_event(
     match event {
         PartEvent::Start(tag) => take_start(alloc, place, tag, at)?,
         PartEvent::End(name) => take_end(properties, place, name)?,
-        PartEvent::Text(_)
-        | PartEvent::CharData(_)
-        | PartEvent::EntityRef(_)
-        | PartEvent::Other => push_leaf(place, event, at)?,
+        PartEvent::Text(_) | PartEvent::CharData(_) | PartEvent::EntityRef(_) | PartEvent::Other =>
+            push_leaf(place, event, at)?,
     }
     Ok(())
 }

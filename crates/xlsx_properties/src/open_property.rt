@@ -113,10 +113,8 @@ pub(crate) fn take_event(
     match event {
         PartEvent::Start(tag) => *started = opened(alloc, part.property(tag)),
         PartEvent::End(_) => keep_text(properties, started.take()),
-        PartEvent::Text(_)
-        | PartEvent::CharData(_)
-        | PartEvent::EntityRef(_)
-        | PartEvent::Other => push_leaf(started, event, at)?,
+        PartEvent::Text(_) | PartEvent::CharData(_) | PartEvent::EntityRef(_) | PartEvent::Other =>
+            push_leaf(started, event, at)?,
     }
     Ok(())
 }

@@ -22,14 +22,30 @@ returns-clause-ok c = λ wanted events.
     let started = open_in c.args.started.now in
     let kept = held wanted c.args.properties.now in
     elim c.match-event.branch [
-      in-Start+in-Some-1 w ↦ rw (w.in-Start.is, w.started-is, w.properties-is, w.opened.ensures,
-          w.property.ensures)
+      | in-Start+in-Some-1 w ↦ rw (
+        w.in-Start.is,
+        w.started-is,
+        w.properties-is,
+        w.opened.ensures,
+        w.property.ensures,
+      )
           (behind_start listed wanted started kept (tag_of w.in-Start.tag) events)
-      | in-Start+in-None-1 w ↦ rw (w.in-Start.is, w.started-is, w.properties-is, w.opened.ensures,
-          w.property.ensures)
+      | in-Start+in-None-1 w ↦ rw (
+        w.in-Start.is,
+        w.started-is,
+        w.properties-is,
+        w.opened.ensures,
+        w.property.ensures,
+      )
           (behind_start listed wanted started kept (tag_of w.in-Start.tag) events)
-      | in-End w ↦ rw (w.in-End.is, w.started-is, w.properties-is, w.take.ensures.after,
-          w.keep_text.ensures.held wanted, w.take.ensures.value)
+      | in-End w ↦ rw (
+        w.in-End.is,
+        w.started-is,
+        w.properties-is,
+        w.take.ensures.after,
+        w.keep_text.ensures.held wanted,
+        w.take.ensures.value,
+      )
           (behind_end listed wanted started kept w.in-End.field-0.now events)
       | in-Text+in_ok-push_leaf-in-Text w ↦
           let own = leaf_event c.args.event w.in-Text.is in

@@ -14,8 +14,8 @@ invariant-events g l =
     let listed = listed_in l.fn.part in
     record {
       keeps : KeepsEvents (λ (wanted : Property). held wanted l.fn.properties)
-      (λ (wanted : Property). held wanted l.properties) (property_in listed)
-      (λ (wanted : Property). continued listed wanted (open_in l.started)) old now;
+          (λ (wanted : Property). held wanted l.properties) (property_in listed)
+          (λ (wanted : Property). continued listed wanted (open_in l.started)) old now;
       custom : l.properties.custom_properties ≡ l.fn.properties.custom_properties;
     }
 

@@ -83,10 +83,13 @@ returns-clause-to_end g c = λ told.
     let first = c.in_ok-read_part.ensures.uses.parts in
     let second = c.in_ok-read_part-2.ensures.uses.parts in
     let still = first.is_told ∙ told in
-    omega (arith, c.in_ok-read_part.ensures.to_end told,
-    rw first.parts at (c.in_ok-read_part-2.ensures.to_end still),
-    rw (second.parts, first.parts) at
-    (c.in_ok-read_custom_part.ensures.to_end (second.is_told ∙ still)))
+    omega (
+      arith,
+      c.in_ok-read_part.ensures.to_end told,
+      rw first.parts at (c.in_ok-read_part-2.ensures.to_end still),
+      rw (second.parts, first.parts) at
+          (c.in_ok-read_custom_part.ensures.to_end (second.is_told ∙ still)),
+    )
 
 pub returns-clause-whole : goal.returns-clause-whole
 returns-clause-whole g c = λ told.
