@@ -61,7 +61,7 @@ fn told<P: Package>(alloc: Global, xlsx: &mut Xlsx<P>) -> Result<String, Fail> {
     }
 }
 
-fn workbook_of(alloc: Global, part: Part<'_>, other: Part<'_>) -> Result<MemoryPackage, Fail> {
+fn workbook_of<'a>(alloc: Global, part: Part<'a>, other: Part<'a>) -> Result<MemoryPackage, Fail> {
     Ok(package_of(alloc, &[ROOT, RELATIONSHIPS, WORKBOOK, SHEET, part, other])?)
 }
 
