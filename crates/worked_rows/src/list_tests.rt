@@ -8,8 +8,7 @@ use part_events::{FailingPackage, MemoryPackage, Package};
 use std::alloc::Global;
 use std::test::Fail;
 use test_packages::{
-    Part, RELATIONSHIPS_NAME, ROOT, SHEET_NAME, STRINGS_NAME, WORKBOOK_NAME, package_of,
-    package_with,
+    Part, ROOT, SHEET_NAME, STRINGS_NAME, WORKBOOK_NAME, package_of, package_with,
 };
 use xlsx_core::Xlsx;
 
@@ -21,7 +20,7 @@ const SHEETS: Part<'static> = (
 
 /// The first leads to the sheet that the tests name, the second to one with 7 in C3.
 const LINKS: Part<'static> = (
-    RELATIONSHIPS_NAME,
+    "xl/_rels/workbook.xml.rels",
     r#"<Relationships><Relationship Id="one" Type="x/worksheet" Target="worksheets/sheet1.xml"/><Relationship Id="two" Type="x/chartsheet" Target="sheet2.xml"/></Relationships>"#,
 );
 
