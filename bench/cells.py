@@ -3,20 +3,23 @@
 (docs/PERFORMANCE.md)."""
 
 import argparse
-import hashlib
 import os
 import shutil
 import sys
 import tempfile
 
 from measure import (
-    JSON_LOAD,
     LIMIT,
     OFFICE,
+    Listing,
+    Measured,
     add_program,
     add_repeats,
+    check,
     each,
     end,
+    growth_of,
+    head_of,
     measured,
     mib,
     program_of,
@@ -300,23 +303,6 @@ MIXES = {
 }
 
 
-class Listing:
-    """What the program must print."""
-
-    def __init__(self):
-        self.lines = 0
-        self.first = b""
-        self.last = b""
-        self.sum = hashlib.sha256()
-
-    def add(self, lines):
-        each = lines.splitlines(keepends=True)
-        self.lines += len(each)
-        self.first = self.first or each[0]
-        self.last = each[-1]
-        self.sum.update(lines)
-
-
 def write_package(path, limit, mix):
     """Writes a package with as many rows as fit into the limit. Answers its size, its rows and its
     listing."""
@@ -345,35 +331,10 @@ def write_package(path, limit, mix):
     return size, rows, listing
 
 
-def check(path, listing):
-    found = Listing()
-    with open(path, "rb") as lines:
-        for line in lines:
-            found.add(line)
-    if found.lines != listing.lines:
-        sys.exit(f"cells.py: {found.lines} lines in place of {listing.lines}")
-    for name in ("first", "last"):
-        if getattr(found, name) != getattr(listing, name):
-            sys.exit(f"cells.py: the {name} line is {getattr(found, name)!r}")
-    if found.sum.digest() != listing.sum.digest():
-        sys.exit("cells.py: a line between the first and the last is wrong")
-
-
-class Size:
+class Size(Measured):
     def __init__(self, folder, program, limit, mix):
-        self.words = [program, "cells", "S"]
-        self.package = os.path.join(folder, f"package-{limit}.json")
-        self.lines = os.path.join(folder, f"lines-{limit}.txt")
+        super().__init__(folder, limit, [program, "cells", "S"])
         self.size, self.rows, self.listing = write_package(self.package, limit, mix)
-        self.ours, self.json = [], []
-
-    def run(self):
-        self.ours.append(measured(self.words, self.package, self.lines))
-        check(self.lines, self.listing)
-        self.json.append(measured(JSON_LOAD, self.package))
-
-    def best(self):
-        return each(min, self.ours), each(min, self.json)
 
 
 # The runs that end with a stage: what the stage gives, whether the text is a package, the sheet,
@@ -412,41 +373,6 @@ def stage_rows(size, repeats):
 STAGE_HEAD = ["run to the end of", "seconds", "more", "peak MiB"]
 
 
-def row_of(name, size):
-    (seconds, _, peak), (json_seconds, _, json_peak) = size.best()
-    return [
-        name,
-        f"{size.size:,}",
-        f"{size.rows:,}",
-        f"{seconds:.2f}",
-        f"{json_seconds:.2f}",
-        f"{seconds / json_seconds:.2f}",
-        mib(peak),
-        mib(json_peak),
-        f"{peak / json_peak:.2f}",
-    ]
-
-
-def growth_of(half, whole):
-    pairs = zip(sum(half.best(), ()), sum(whole.best(), ()))
-    seconds, _, peak, json_seconds, _, json_peak = (f"{b / a:.2f}" for a, b in pairs)
-    size, rows = f"{whole.size / half.size:.2f}", f"{whole.rows / half.rows:.2f}"
-    return ["growth", size, rows, seconds, json_seconds, "", peak, json_peak, ""]
-
-
-HEAD = [
-    "text",
-    "bytes",
-    "rows",
-    "seconds",
-    "json.load",
-    "ratio",
-    "peak MiB",
-    "json.load",
-    "ratio",
-]
-
-
 def main():
     parser = argparse.ArgumentParser(description=__doc__)
     parser.add_argument(
@@ -478,8 +404,8 @@ def main():
         for _ in range(asked.repeats):
             half.run()
             whole.run()
-        rows = [row_of("half", half), row_of("whole", whole)]
-        table(HEAD, [*rows, growth_of(half, whole)])
+        rows = [half.row("half"), whole.row("whole")]
+        table(head_of("rows"), [*rows, growth_of(half, whole)])
 
 
 if __name__ == "__main__":

@@ -1,6 +1,7 @@
 """What the scripts of this folder share: package texts, the program, runs that are measured, and
 their table."""
 
+import hashlib
 import json
 import os
 import pathlib
@@ -44,6 +45,17 @@ OFFICE = ("_rels/.rels", list(relationships([("officeDocument", "xl/workbook.xml
 
 def spelled(value):
     return json.dumps(value, separators=(",", ":"))
+
+
+def write_part(out, name, events):
+    """Writes a part, and answers the number of its events."""
+    out.write(f'{{"name":{spelled(name)},"events":[')
+    count = 0
+    for event in events:
+        out.write(("," if count else "") + spelled(event))
+        count += 1
+    out.write("]}")
+    return count
 
 
 def add_repeats(parser, repeats):
@@ -106,6 +118,85 @@ def measured(words, stdin, stdout=os.devnull, stderr=None, statuses=(0,)):
 def each(choose, runs):
     """What is chosen of each thing that was measured of the runs, as the lowest."""
     return Run(*map(choose, zip(*runs)))
+
+
+class Listing:
+    """What the program must print."""
+
+    def __init__(self):
+        self.lines = 0
+        self.first = b""
+        self.last = b""
+        self.sum = hashlib.sha256()
+
+    def add(self, lines):
+        each = lines.splitlines(keepends=True)
+        self.lines += len(each)
+        self.first = self.first or each[0]
+        self.last = each[-1]
+        self.sum.update(lines)
+
+
+def check(path, listing):
+    """Compares what the program wrote with what it must print."""
+    found = Listing()
+    with open(path, "rb") as lines:
+        for line in lines:
+            found.add(line)
+    name_of_script = os.path.basename(sys.argv[0])
+    if found.lines != listing.lines:
+        sys.exit(f"{name_of_script}: {found.lines} lines in place of {listing.lines}")
+    for name in ("first", "last"):
+        if getattr(found, name) != getattr(listing, name):
+            sys.exit(f"{name_of_script}: the {name} line is {getattr(found, name)!r}")
+    if found.sum.digest() != listing.sum.digest():
+        sys.exit(f"{name_of_script}: a line between the first and the last is wrong")
+
+
+class Measured:
+    """A package text of some size and so many rows, with the listing that words must print of it,
+    and the runs on it: those of the program, each checked, and those of json.load of the text."""
+
+    def __init__(self, folder, name, words):
+        self.words = words
+        self.package = os.path.join(folder, f"package-{name}.json")
+        self.lines = os.path.join(folder, f"lines-{name}.txt")
+        self.ours, self.json = [], []
+
+    def run(self):
+        self.ours.append(measured(self.words, self.package, self.lines))
+        check(self.lines, self.listing)
+        self.json.append(measured(JSON_LOAD, self.package))
+
+    def best(self):
+        return each(min, self.ours), each(min, self.json)
+
+    def row(self, name):
+        (seconds, _, peak), (json_seconds, _, json_peak) = self.best()
+        return [
+            name,
+            f"{self.size:,}",
+            f"{self.rows:,}",
+            f"{seconds:.2f}",
+            f"{json_seconds:.2f}",
+            f"{seconds / json_seconds:.2f}",
+            mib(peak),
+            mib(json_peak),
+            f"{peak / json_peak:.2f}",
+        ]
+
+
+def growth_of(half, whole):
+    pairs = zip(sum(half.best(), ()), sum(whole.best(), ()))
+    seconds, _, peak, json_seconds, _, json_peak = (f"{b / a:.2f}" for a, b in pairs)
+    size, rows = f"{whole.size / half.size:.2f}", f"{whole.rows / half.rows:.2f}"
+    return ["growth", size, rows, seconds, json_seconds, "", peak, json_peak, ""]
+
+
+def head_of(rows):
+    """The head of a table of such rows, by what they count."""
+    measures = ["seconds", "json.load", "ratio", "peak MiB", "json.load", "ratio"]
+    return ["text", "bytes", rows, *measures]
 
 
 def mib(size):

@@ -19,9 +19,9 @@ from measure import (
     mib,
     program_of,
     relationships,
-    spelled,
     start,
     table,
+    write_part,
 )
 
 SHEETS, NAMES = 5_000, 50_000
@@ -59,17 +59,6 @@ def workbook(sheets, names):
         yield end("definedName")
     yield end("definedNames")
     yield end("workbook")
-
-
-def write_part(out, name, events):
-    """Writes a part, and answers the number of its events."""
-    out.write(f'{{"name":{spelled(name)},"events":[')
-    count = 0
-    for event in events:
-        out.write(("," if count else "") + spelled(event))
-        count += 1
-    out.write("]}")
-    return count
 
 
 def write_package(path, part_names, sheets, names):

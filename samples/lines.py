@@ -96,10 +96,39 @@ def themes_and_tints():
 
 
 def tables_links_and_merges():
-    """The cells alone: tables, links and merged areas aren't told."""
-    cells = "A1 Name B1 Qty A2 nut B2 3 A3 bolt B3 2 A4 Total A6 link B6 S!A1 A8 merged".split()
-    for reference, text in zip(cells[::2], cells[1::2]):
+    cells = "A1 Name B1 Qty A2 nut B2 3 A3 bolt B3 2 A4 Total A6 link B6 S!A1 A7 lost A8 merged"
+    for reference, text in zip(cells.split()[::2], cells.split()[1::2]):
         yield line(reference, f"n:{text}" if text.isdecimal() else f"s:{text}")
+
+
+def link(area, *texts):
+    return "\t".join([area, *("-" if text is None else f"={text}" for text in texts)]) + "\n"
+
+
+def links():
+    """Of each its area, its target, its location, its displayed text and its tooltip."""
+    yield link("A6:A6", "https://example.com/?a=1&b=2", None, None, "a&b")
+    yield link("B6:B6", None, "S!A1", "S!A1", None)
+    yield link("A7:A7", None, "Gone!B2", "lost", r" back\\slash ")
+    # XlsxWriter puts what stands behind the # into the location.
+    yield link("A8:B9", "https://example.com/", "part", None, None)
+
+
+def properties():
+    made = MADE.strftime("%Y-%m-%dT%H:%M:%SZ")
+    for name, text in (
+        ("creator", "Ann & Bo"),
+        ("last_modified_by", "Ann & Bo"),
+        ("created", made),
+        ("modified", made),
+        ("title", "tables_links_and_merges.xlsx"),
+        # What XlsxWriter says of itself.
+        ("application", "Microsoft Excel"),
+        ("app_version", "12.0000"),
+        ("custom:Checked", "true"),
+        ("custom:Owner", "Ann & Bo"),
+    ):
+        yield f"{name}\t={text}\n"
 
 
 def libreoffice():
@@ -127,6 +156,10 @@ LINES = {
     "chart_sheet": chart_sheet(),
     "shared_formulas": shared_formulas(),
     "tables_links_and_merges": tables_links_and_merges(),
+    "tables_links_and_merges.merges": ["A8:B9\n"],
+    "tables_links_and_merges.merges_of_T": ["A1:C1\n", "A2:A3\n"],
+    "tables_links_and_merges.links": links(),
+    "tables_links_and_merges.props": properties(),
     "themes_and_tints": themes_and_tints(),
 }
 

@@ -8,6 +8,7 @@ import pathlib
 import subprocess
 import sys
 import tempfile
+import zipfile
 
 import openpyxl
 import xlsxwriter
@@ -139,18 +140,36 @@ def inline_strings():
     book.close()
 
 
+def replaced(name, part, old, new):
+    """Writes a workbook again with another text in one of its parts."""
+    with zipfile.ZipFile(HERE / name) as made:
+        parts = {entry.filename: made.read(entry) for entry in made.infolist()}
+    before, found, behind = parts[part].partition(old)
+    assert found and old not in behind
+    (HERE / name).write_bytes(archive({**parts, part: before + new + behind}))
+
+
 def tables_links_and_merges():
-    """A table, links, merged cells, and properties of its own."""
-    book = written("tables_links_and_merges.xlsx")
+    """A table, links out of the workbook, inside it and to nowhere, one of them on an area, merged
+    cells on two sheets, and properties of its own."""
+    name = "tables_links_and_merges.xlsx"
+    book = written(name)
+    book.set_custom_property("Owner", "Ann & Bo")
     book.set_custom_property("Checked", True)
-    sheet = book.add_worksheet("S")
+    sheet, other = book.add_worksheet("S"), book.add_worksheet("T")
     names = [{"header": "Name", "total_string": "Total"}, {"header": "Qty"}]
     data = [["nut", 3], ["bolt", 2]]
     sheet.add_table("A1:B4", {"name": "Goods", "columns": names, "data": data, "total_row": True})
     sheet.write_url("A6", "https://example.com/?a=1&b=2", string="link", tip="a&b")
     sheet.write_url("B6", "internal:S!A1")
+    sheet.write_url("A7", "internal:Gone!B2", string="lost", tip=" back\\slash ")
     sheet.merge_range("A8:B9", "merged")
+    sheet.write_url("A8", "https://example.com/#part", string="merged")
+    other.merge_range("A1:C1", "header")
+    other.merge_range("A2:A3", "side")
     book.close()
+    # XlsxWriter writes the links of cells alone.
+    replaced(name, "xl/worksheets/sheet1.xml", b'hyperlink ref="A8"', b'hyperlink ref="A8:B9"')
 
 
 # Comma-separated values, as LibreOffice opens them.

@@ -50,6 +50,24 @@ MINIMAL = with_rows(
 )
 LINES = b"A1\ts:nut\t-\t-\nB1\ts:NUT\t=UPPER(A1)\t-\n"
 
+# A workbook with merged cells, links and a property.
+LISTED = {
+    **with_rows('<row r="2"><c r="A2" t="str"><v>nut</v></c><c r="B2"><v>3</v></c></row>'),
+    "xl/worksheets/_rels/sheet1.xml.rels": (
+        f'<Relationships><Relationship Id="rId9" Type="{TYPES}hyperlink" '
+        'Target="https://example.com"/></Relationships>'
+    ),
+    "docProps/core.xml": (
+        "<cp:coreProperties><dc:creator>Ann &amp; Bo</dc:creator></cp:coreProperties>"
+    ),
+}
+LISTED["xl/worksheets/sheet1.xml"] = LISTED["xl/worksheets/sheet1.xml"].replace(
+    "</sheetData>",
+    '</sheetData><mergeCells><mergeCell ref="A5:B6"/><mergeCell ref="D1"/></mergeCells>'
+    '<hyperlinks><hyperlink ref="A2" r:id="rId9" tooltip="a&amp;b"/>'
+    '<hyperlink ref="B2:B3" location="S!A1" display="go"/><hyperlink location="x"/></hyperlinks>',
+)
+
 # The markup of the package that is shipped in crates/xlsx_tool, as a spreadsheet program writes it.
 SALES = {
     **with_rows(

@@ -17,6 +17,7 @@ from fixtures import (
     BROKEN_THEME,
     BROKEN_THEME_LINES,
     LINES,
+    LISTED,
     MINIMAL,
     MIXED,
     MIXED_LINES,
@@ -134,6 +135,10 @@ class Edge:
         for words in ([], ["cells"], ["cells", "S", "S"], ["cell", "S"], ["Cells", "S"], [""]):
             self.assertEqual(self.run_on(PACKAGE, words), refusal(2), words)
         for words in (["sheets", "x"], ["sheets", ""], ["names", "S"], ["Sheets"], ["name"]):
+            self.assertEqual(self.run_on(PACKAGE, words), refusal(2), words)
+        for words in (["merges"], ["merges", "S", "S"], ["merge", "S"], ["props", "S"], ["prop"]):
+            self.assertEqual(self.run_on(PACKAGE, words), refusal(2), words)
+        for words in (["links"], ["links", "S", "S"], ["Links", "S"]):
             self.assertEqual(self.run_on(PACKAGE, words), refusal(2), words)
         for words in (["--help", "--version"], ["--help", "S"], ["cells", b"\xff"]):
             self.assertEqual(self.run_on(PACKAGE, words), refusal(2), words)
@@ -272,6 +277,23 @@ class Edge:
             parts = {name: text for name, text in {**MINIMAL, **changed}.items() if text}
             self.assertEqual(self.both_lists(parts), wanted, changed)
 
+    def test_lists_around_the_cells(self):
+        """A sheet's merged cells, its links and the workbook's properties; none of another one."""
+        self.assertEqual(self.run_on(PACKAGE, ["merges", "S"]), (0, b"", b""))
+        self.assertEqual(self.run_on(PACKAGE, ["links", "S"]), (0, b"", b""))
+        self.assertEqual(self.run_on(PACKAGE, ["props"]), (0, b"", b""))
+        package = package_text(LISTED)
+        self.assertEqual(self.run_on(package, ["merges", "S"]), (0, b"A5:B6\nD1:D1\n", b""))
+        links = (
+            b"A2:A2\t=https://example.com\t-\t-\t=a&b\n"
+            b"B2:B3\t-\t=S!A1\t=go\t-\n"
+        )
+        self.assertEqual(self.run_on(package, ["links", "S"]), (0, links, b""))
+        self.assertEqual(self.run_on(package, ["props"]), (0, b"creator\t=Ann & Bo\n", b""))
+        no_sheet = no_workbook(b"Worksheet 'Z' not found")
+        self.assertEqual(self.run_on(package, ["merges", "Z"]), no_sheet)
+        self.assertEqual(self.run_on(package, ["links", "Z"]), no_sheet)
+
     def test_a_faulty_theme_refuses_nothing(self):
         package = package_text(BROKEN_THEME)
         self.assertEqual(self.run_on(package), (0, BROKEN_THEME_LINES, b""))
@@ -376,6 +398,9 @@ class Edge:
         full = self.enter(open("/dev/full", "wb"))
         for words in (CELLS, ["--help"], ["--version"]):
             status, _, said = self.run_on(PACKAGE, words, stdout=full)
+            self.assertEqual((status, said), WRITE_FAULT, words)
+        for words in (["merges", "S"], ["links", "S"], ["props"]):
+            status, _, said = self.run_on(package_text(LISTED), words, stdout=full)
             self.assertEqual((status, said), WRITE_FAULT, words)
 
     def test_no_standard_output(self):

@@ -17,22 +17,34 @@ HERE = pathlib.Path(__file__).resolve().parent
 SAMPLES = HERE.parent / "samples"
 WORKBOOKS = sorted(SAMPLES.glob("*.xlsx"))
 
-# The sheet of each workbook whose lines stand beside it.
-SHEETS = {
-    "chart_sheet": "Data",
-    "dates_1900": "Dates",
-    "dates_1904": "Dates",
-    "inline_strings": "S",
-    "libreoffice": "libreoffice",
-    "rich_text": "Goods & prices",
-    "shared_formulas": "Sales",
-    "tables_links_and_merges": "S",
-    "themes_and_tints": "Fills",
-    "values_and_formulas": "S",
+# What prints the lines of each file of lines, of the workbook that it is named by.
+LINES = {
+    "chart_sheet": ["cells", "Data"],
+    "dates_1900": ["cells", "Dates"],
+    "dates_1904": ["cells", "Dates"],
+    "inline_strings": ["cells", "S"],
+    "libreoffice": ["cells", "libreoffice"],
+    "rich_text": ["cells", "Goods & prices"],
+    "shared_formulas": ["cells", "Sales"],
+    "tables_links_and_merges": ["cells", "S"],
+    "tables_links_and_merges.links": ["links", "S"],
+    "tables_links_and_merges.merges": ["merges", "S"],
+    "tables_links_and_merges.merges_of_T": ["merges", "T"],
+    "tables_links_and_merges.props": ["props"],
+    "themes_and_tints": ["cells", "Fills"],
+    "values_and_formulas": ["cells", "S"],
 }
 
 # The sheets that are no worksheets.
 CHARTS = {"Chart"}
+
+# The elements of a workbook's properties, in the order of their lines. The latter may stand in the
+# program's part, too.
+CORE = (
+    "creator lastModifiedBy created modified title subject description keywords category "
+    "contentStatus revision version"
+).split()
+PROGRAM = "Application AppVersion Company Template Manager".split()
 
 # How many texts stand behind the mark of an event.
 FORMS = {"s": 2, "e": 1, "t": 1, "d": 1, "r": 1, "o": 0}
@@ -79,6 +91,11 @@ def told_by_expat(markup):
     return told
 
 
+def snake(name):
+    """A name of capitals within, as `lastModifiedBy`, in words with `_` between them."""
+    return re.sub("(?<=.)(?=[A-Z])", "_", name).lower()
+
+
 class Samples(unittest.TestCase):
     def test_events_have_the_documented_forms(self):
         for path in WORKBOOKS:
@@ -114,17 +131,24 @@ class Samples(unittest.TestCase):
         for path in WORKBOOKS:
             self.assertLess(len(package_text(path)), LIMIT)
 
+    def check(self, path, words, wanted, *options):
+        """Tries the program on the package text of a workbook."""
+        ran = subprocess.run(
+            [OUT / "xlsx_tool", *words],
+            input=package_text(path, *options),
+            stdout=subprocess.PIPE,
+            stderr=subprocess.PIPE,
+        )
+        answer = ran.returncode, ran.stdout, ran.stderr
+        self.assertEqual(answer, (0, wanted, b""), (path.name, words))
+
     def test_workbooks_give_their_lines(self):
-        self.assertEqual({path.stem for path in SAMPLES.glob("*.lines")}, set(SHEETS))
-        for name, sheet in SHEETS.items():
-            ran = subprocess.run(
-                [OUT / "xlsx_tool", "cells", sheet],
-                input=package_text(SAMPLES / f"{name}.xlsx"),
-                stdout=subprocess.PIPE,
-                stderr=subprocess.PIPE,
-            )
-            wanted = (SAMPLES / f"{name}.lines").read_bytes()
-            self.assertEqual((ran.returncode, ran.stdout, ran.stderr), (0, wanted, b""), name)
+        """From the parts that are written without being asked for, and from all."""
+        self.assertEqual({path.stem for path in SAMPLES.glob("*.lines")}, set(LINES))
+        for name, words in LINES.items():
+            path = SAMPLES / f"{name.partition('.')[0]}.xlsx"
+            for options in ([], ["--all"]):
+                self.check(path, words, (SAMPLES / f"{name}.lines").read_bytes(), *options)
 
     def test_sheets_and_names_are_those_that_another_parser_tells(self):
         for path in WORKBOOKS:
@@ -137,15 +161,47 @@ class Samples(unittest.TestCase):
                     sheets += f"{pairs[0]['name']}\t{typ}\t{pairs[0].get('state', 'visible')}\n"
                 elif (kind, name) == ("start", "definedName"):
                     names += f"{pairs[0]['name']}\t{behind[1]}\n"
-            for command, wanted in (("sheets", sheets), ("names", names)):
-                ran = subprocess.run(
-                    [OUT / "xlsx_tool", command],
-                    input=package_text(path),
-                    stdout=subprocess.PIPE,
-                    stderr=subprocess.PIPE,
-                )
-                answer = ran.returncode, ran.stdout.decode(), ran.stderr
-                self.assertEqual(answer, (0, wanted, b""), (path.name, command))
+            self.check(path, ["sheets"], sheets.encode())
+            self.check(path, ["names"], names.encode())
+
+    def test_properties_are_those_that_another_parser_tells(self):
+        for path in WORKBOOKS:
+            with zipfile.ZipFile(path) as archive:
+                markup = {name: archive.read(name) for name in archive.namelist()}
+            said, named = {}, {}
+            for part, names in (("core", CORE + PROGRAM), ("app", PROGRAM), ("custom", ())):
+                told = told_by_expat(markup.get(f"docProps/{part}.xml", b"<a/>"))
+                own = None
+                for (kind, name, *pairs), behind in zip(told, told[1:]):
+                    own = pairs[0].get("name", own) if pairs else own
+                    if kind == "start" and behind[0] == "text":
+                        name = name.split(":")[-1]
+                        said.update({name: behind[1]} if name in names else {})
+                        named.update({own: behind[1]} if part == "custom" else {})
+            lines = [f"{snake(name)}\t={said[name]}\n" for name in CORE + PROGRAM if name in said]
+            lines += [f"custom:{name}\t={text}\n" for name, text in sorted(named.items())]
+            self.check(path, ["props"], "".join(lines).encode())
+
+    def test_merged_cells_are_those_that_another_parser_tells(self):
+        count = 0
+        for path in WORKBOOKS:
+            with zipfile.ZipFile(path) as archive:
+                sheets = told_by_expat(archive.read("xl/workbook.xml"))
+                related = told_by_expat(archive.read("xl/_rels/workbook.xml.rels"))
+                starts = [one[2] for one in related if one[2:] and "Id" in one[2]]
+                targets = {pairs["Id"]: pairs["Target"] for pairs in starts}
+                for event in sheets:
+                    if event[:2] != ("start", "sheet"):
+                        continue
+                    target = targets[event[2]["r:id"]].lstrip("/")
+                    part = target if target.startswith("xl/") else f"xl/{target}"
+                    lines = ""
+                    for kind, name, *pairs in told_by_expat(archive.read(part)):
+                        if (kind, name) == ("start", "mergeCell"):
+                            lines += f"{pairs[0]['ref']}\n"
+                            count += 1
+                    self.check(path, ["merges", event[2]["name"]], lines.encode())
+        self.assertEqual(count, 3)
 
     def test_a_chart_sheet_is_no_worksheet(self):
         ran = subprocess.run(

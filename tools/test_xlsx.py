@@ -49,8 +49,9 @@ echo "rt $* speaks of $(basename "$PWD")"
 [ ! -e "$FAILING" ] || [ "$1" != run ] || exit 1
 [ "$1" != run ] || cp "$STAND_IN" out/xlsx_tool
 """
+COMMANDS = ("cells", "merges", "links", "sheets", "names", "props")
 USAGE = """\
-usage: ./xlsx FILE.xlsx cells NAME       (or sheets, or names)
+usage: ./xlsx FILE.xlsx cells NAME       (or merges NAME, links NAME, sheets, names, props)
        ./xlsx cells NAME < package.json
        ./xlsx --help
 """
@@ -114,7 +115,7 @@ class Wrapper(unittest.TestCase):
 
     def proving(self, *proved):
         """What is said before and during a build in which these crates are proved."""
-        said = "xlsx: no proved program is there yet: proving takes some twenty minutes; "
+        said = "xlsx: no proved program is there yet: proving takes twenty to forty minutes; "
         said += "--unproved answers in a minute or two\n"
         said += f"xlsx: proving; what rt says goes to {self.log().resolve()}\n"
         for left, name in zip((1, 0), proved):
@@ -340,8 +341,8 @@ class Wrapper(unittest.TestCase):
     def test_the_words_that_are_commands_are_those_of_the_program(self):
         self.build(PROGRAM)
         for words in (
-            *([word] for word in ("cells", "sheets", "names", "--help", "--version", "x", "")),
-            *([word, "S"] for word in ("cells", "sheets", "names", "--help", "Cells", "")),
+            *([word] for word in (*COMMANDS, "--help", "--version", "x", "")),
+            *([word, "S"] for word in (*COMMANDS, "--help", "Cells", "")),
             ["cells", "S", "x"],
             ["cells", "--help"],
         ):

@@ -3,3 +3,4 @@ pub mod Equalities
 pub mod Finding
 pub mod Formats
 pub mod Placing
+pub mod Splitting

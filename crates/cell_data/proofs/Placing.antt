@@ -168,7 +168,7 @@ module _ {X : Type 0} where
       ∙ sym (get-from_entries position_total (reverse cells) q))) in
       sym (entries-from_sorted position_cmp cells sorted) ∙ ap entries maps
 
-  below_further : (x y : ℕ × ℕ) (es : List ((ℕ × ℕ) × X)) → position_cmp x y ≡ Less →
+  pub below_further : (x y : ℕ × ℕ) (es : List ((ℕ × ℕ) × X)) → position_cmp x y ≡ Less →
       below_all position_cmp y es ≡ true → below_all position_cmp x es ≡ true
   below_further x y [] less below = refl
   below_further x y (e ∷ es) less below =

@@ -5,3 +5,5 @@ pub mod NumberFormat
 pub mod Range
 pub mod RangeItems
 pub mod SignOf
+pub mod Splitting
+pub mod Table

@@ -7,6 +7,8 @@ mod format;
 mod range;
 mod range_iterators;
 mod sparse;
+mod split;
+mod table;
 mod value;
 
 pub use cell::Cell;
@@ -19,6 +21,8 @@ pub use format::{
 };
 pub use range::Range;
 pub use range_iterators::{Cells, RowCells, Rows, UsedCells};
+pub use split::split_at_position;
+pub use table::Table;
 pub use value::{
     CellErrorType, Data, DataRef, ExcelDateTime, ExcelDateTimeType, HeaderRow, UnknownCellError,
 };

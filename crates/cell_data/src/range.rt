@@ -30,7 +30,7 @@ fn is_between(start: (u32, u32), end: (u32, u32), pos: (u32, u32)) -> bool
 }
 
 impl<T> Range<T> {
-    ghost use Rattle.std.specs.Prelude.{◌≡◌, ◌+◌, ◌-◌, ◌<◌, is_none, IfOk, All, true};
+    ghost use Rattle.std.specs.Prelude.{◌≡◌, ◌+◌, ◌-◌, ◌<◌, is_none, IfOk, IfSome, All, true};
     ghost use Rattle.std.specs.FinMap.{find};
     ghost use Rattle.std.specs.Option.{option_map, option_copied, unwrap_or};
     ghost use Rattle.cell_data.specs.Range.{cells_of, bounds_of, blank_of, width_of, height_of};
@@ -78,6 +78,24 @@ impl<T> Range<T> {
         ensures { result ≡ option_map (λ area. area.end) (bounds_of self.now) }
     {
         self.bounds.map(|area| area.end)
+    }
+
+    /// The area, on a sheet, or none where there is no cell.
+    pub fn bounds(&self) -> Option<Dimensions>
+        ensures value { result ≡ bounds_of self.now }
+        ensures rows { IfSome result
+            (λ area. (area.start.0 ≤ area.end.0) × (area.end.0 < MAX_ROWS)) }
+        ensures columns { IfSome result
+            (λ area. (area.start.1 ≤ area.end.1) × (area.end.1 < MAX_COLUMNS)) }
+    {
+        self.bounds
+    }
+
+    /// The value that every cell of the area has that is not a used one.
+    pub fn blank(&self) -> &T
+        ensures { result.now ≡ blank_of self.now }
+    {
+        &self.blank
     }
 
     /// Whether the range has no area.
@@ -167,12 +185,13 @@ impl<T> Range<T> {
         ensures rising { is_rising (placed_cells result.now) ≡ true }
         ensures sheet { All IsInSheet result.now }
         ensures from { IsTrue (lie_from (start_of (bounds_of self.now)) (placed_cells result.now)) }
+        ensures inside { IsTrue (lie_inside (bounds_of self.now) (placed_cells result.now)) }
     {
         &self.cells
     }
 
     /// How many cells the area has.
-    pub(crate) fn cell_count(&self) -> usize
+    pub fn cell_count(&self) -> usize
         ensures { result ≡ box_count self.now }
     {
         self.height() * self.width()

@@ -1,5 +1,8 @@
 -- The lines of lists: texts with tabs between them.
-use Rattle.std.specs.Prelude.{ℕ, List, ◌++◌, codes}
+use Rattle.std.specs.Prelude.{ℕ, ◌<◌, List, ◌++◌, codes, Option, Some, None}
+use Rattle.cell_refs.specs.A1.{row_limit, column_limit}
+use Rattle.cell_refs.specs.Reference.{reference}
+use Rattle.cell_refs.specs.declared.dimensions.Dimensions.{Dimensions}
 use Rattle.escaped_text.specs.Escaped.{escaped}
 
 -- a field of a line behind its first
@@ -13,3 +16,45 @@ sheet_line name typ state = escaped name ++ (next_field typ ++ (next_field state
 -- the line of a defined name and its text
 abbrev pub name_line : List ℕ → List ℕ → List ℕ
 name_line name text = escaped name ++ (next_field (escaped text) ++ codes "\n")
+
+-- a text that is there, which may be empty
+abbrev pub text_field : List ℕ → List ℕ
+text_field text = codes "=" ++ escaped text
+
+-- one that may be missing
+abbrev pub optional_field : Option (List ℕ) → List ℕ
+optional_field None = codes "-"
+optional_field (Some text) = text_field text
+
+-- the row and the column are those of a cell of a worksheet
+abbrev pub IsCellOfWorksheet : ℕ × ℕ → Type 0
+IsCellOfWorksheet position = (position.0 < row_limit) × (position.1 < column_limit)
+
+-- both corners of an area are such cells
+abbrev pub LiesInWorksheet : Dimensions → Type 0
+LiesInWorksheet area = IsCellOfWorksheet area.start × IsCellOfWorksheet area.end
+
+-- an area by its two corners, as they were written
+abbrev pub area_field : Dimensions → List ℕ
+area_field area = reference area.start ++ (codes ":" ++ reference area.end)
+
+abbrev pub area_line : Dimensions → List ℕ
+area_line area = area_field area ++ codes "\n"
+
+-- the line of a link: its area, its target, its location, its displayed text and its tooltip
+abbrev pub link_line :
+    Dimensions → Option (List ℕ) → Option (List ℕ) → Option (List ℕ) → Option (List ℕ) → List ℕ
+link_line area target location displayed tooltip =
+    area_field area
+    ++ (next_field (optional_field target) ++ (next_field (optional_field location)
+    ++ (next_field (optional_field displayed) ++ (next_field (optional_field tooltip)
+    ++ codes "\n"))))
+
+-- the line of a property, by the name of its field and its text
+abbrev pub property_line : List ℕ → List ℕ → List ℕ
+property_line name text = name ++ (next_field (text_field text) ++ codes "\n")
+
+-- the line of a property that a user named
+abbrev pub custom_line : List ℕ → List ℕ → List ℕ
+custom_line name text =
+    codes "custom:" ++ (escaped name ++ (next_field (text_field text) ++ codes "\n"))

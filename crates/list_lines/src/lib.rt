@@ -3,7 +3,10 @@
 
 mod lines;
 
-pub use lines::{push_name_line, push_sheet_line};
+pub use lines::{
+    push_area_line, push_custom_line, push_link_line, push_name_line, push_property_line,
+    push_sheet_line,
+};
 
 #[cfg(test)]
 mod tests;

@@ -1,6 +1,10 @@
 ghost use Rattle.std.specs.Prelude.{◌≡◌, ◌++◌, string_bytes, OnOk};
-ghost use Rattle.list_lines.specs.Lines.{sheet_line, name_line};
+ghost use Rattle.std.specs.Option.{option_copied};
+ghost use Rattle.list_lines.specs.Lines.{next_field, text_field, optional_field, area_field};
+ghost use Rattle.list_lines.specs.Lines.{LiesInWorksheet, sheet_line, name_line, area_line};
+ghost use Rattle.list_lines.specs.Lines.{link_line, property_line, custom_line};
 
+use cell_refs::{Dimensions, push_reference};
 use escaped_text::push_escaped;
 use std::alloc::AllocError;
 
@@ -30,5 +34,93 @@ pub fn push_name_line(out: &mut String, name: &str, text: &str) -> Result<(), Al
     push_escaped(out, name)?;
     out.push_str("\t")?;
     push_escaped(out, text)?;
+    out.push_str("\n")
+}
+
+fn push_text_field(out: &mut String, text: &str) -> Result<(), AllocError>
+    ensures { OnOk result
+        (string_bytes out.new ≡ string_bytes out.old ++ text_field text.now) }
+{
+    out.push_str("=")?;
+    push_escaped(out, text)
+}
+
+fn push_area(out: &mut String, area: Dimensions) -> Result<(), AllocError>
+    requires { LiesInWorksheet area }
+    ensures { OnOk result
+        (string_bytes out.new ≡ string_bytes out.old ++ area_field area) }
+{
+    push_reference(out, area.start.0, area.start.1)?;
+    out.push_str(":")?;
+    push_reference(out, area.end.0, area.end.1)
+}
+
+/// Appends the line of an area: the references of its two corners, as they were written, with a
+/// colon between them.
+pub fn push_area_line(out: &mut String, area: Dimensions) -> Result<(), AllocError>
+    requires { LiesInWorksheet area }
+    ensures { OnOk result (string_bytes out.new ≡ string_bytes out.old ++ area_line area) }
+{
+    push_area(out, area)?;
+    out.push_str("\n")
+}
+
+/// Appends a tab, and behind it a text, or `-` where there is none.
+fn push_optional(out: &mut String, text: Option<&str>) -> Result<(), AllocError>
+    ensures { let field = optional_field (option_copied text.entry) in
+        OnOk result (string_bytes out.new ≡ string_bytes out.old ++ next_field field) }
+{
+    out.push_str("\t")?;
+    match text {
+        Some(text) => push_text_field(out, text),
+        None => out.push_str("-"),
+    }
+}
+
+/// Appends the line of a link: its area, its target, its location, its displayed text and its
+/// tooltip, each of the four escaped behind `=`, or `-` where there is none.
+pub fn push_link_line(
+    out: &mut String,
+    area: Dimensions,
+    target: Option<&str>,
+    location: Option<&str>,
+    displayed: Option<&str>,
+    tooltip: Option<&str>,
+) -> Result<(), AllocError>
+    requires { LiesInWorksheet area }
+    ensures { let printed = link_line area (option_copied target.entry)
+        (option_copied location.entry) (option_copied displayed.entry)
+        (option_copied tooltip.entry) in
+        OnOk result (string_bytes out.new ≡ string_bytes out.old ++ printed) }
+{
+    push_area(out, area)?;
+    push_optional(out, target)?;
+    push_optional(out, location)?;
+    push_optional(out, displayed)?;
+    push_optional(out, tooltip)?;
+    out.push_str("\n")
+}
+
+/// Appends the line of a property: the name of its field, and its text, escaped, behind `=`.
+pub fn push_property_line(out: &mut String, name: &str, text: &str) -> Result<(), AllocError>
+    ensures { OnOk result
+        (string_bytes out.new ≡ string_bytes out.old ++ property_line name.now text.now) }
+{
+    out.push_str(name)?;
+    out.push_str("\t")?;
+    push_text_field(out, text)?;
+    out.push_str("\n")
+}
+
+/// Appends the line of a property that a user named: `custom:` and its name, and its text, behind
+/// `=`, both escaped.
+pub fn push_custom_line(out: &mut String, name: &str, text: &str) -> Result<(), AllocError>
+    ensures { OnOk result
+        (string_bytes out.new ≡ string_bytes out.old ++ custom_line name.now text.now) }
+{
+    out.push_str("custom:")?;
+    push_escaped(out, name)?;
+    out.push_str("\t")?;
+    push_text_field(out, text)?;
     out.push_str("\n")
 }

@@ -1,4 +1,8 @@
-use crate::{push_name_line, push_sheet_line};
+use crate::{
+    push_area_line, push_custom_line, push_link_line, push_name_line, push_property_line,
+    push_sheet_line,
+};
+use cell_refs::Dimensions;
 use std::test::Fail;
 
 #[test]
@@ -16,6 +20,49 @@ fn lists_have_their_lines(rt: HostRuntime) -> Result<(), Fail> {
     }
     let wanted = "lists:\nS\tworksheet\thidden\ntab\\there\\\\\tchartsheet\tvisible\n\
         \tdialogsheet\tveryHidden\nQ\tS!$A$1\ntwo\\nlines\t\\r\n\t\n";
+    assert_eq!(rt; out.as_str(), wanted);
+    Ok(())
+}
+
+const ONE_CELL: Dimensions = Dimensions {
+    start: (0, 3),
+    end: (0, 3),
+};
+
+const TURNED: Dimensions = Dimensions {
+    start: (1_048_575, 16_383),
+    end: (0, 0),
+};
+
+#[test]
+fn areas_and_links_have_their_lines(rt: HostRuntime) -> Result<(), Fail> {
+    let mut out = String::from_str(rt.alloc(), "lists:\n")?;
+    push_area_line(&mut out, ONE_CELL)?;
+    push_area_line(&mut out, TURNED)?;
+    for (target, tooltip) in [
+        (Some("https://example.com"), Some("a&b")),
+        (None, Some("")),
+        (Some("tab\there"), None),
+    ] {
+        push_link_line(&mut out, ONE_CELL, target, None, Some("back\\"), tooltip)?;
+    }
+    let wanted = "lists:\nD1:D1\nXFD1048576:A1\n\
+        D1:D1\t=https://example.com\t-\t=back\\\\\t=a&b\n\
+        D1:D1\t-\t-\t=back\\\\\t=\n\
+        D1:D1\t=tab\\there\t-\t=back\\\\\t-\n";
+    assert_eq!(rt; out.as_str(), wanted);
+    Ok(())
+}
+
+#[test]
+fn properties_have_their_lines(rt: HostRuntime) -> Result<(), Fail> {
+    let mut out = String::from_str(rt.alloc(), "lists:\n")?;
+    push_property_line(&mut out, "creator", "Ann & Bo")?;
+    for (name, text) in [("Checked", "true"), ("two\nlines", "\r"), ("", "")] {
+        push_custom_line(&mut out, name, text)?;
+    }
+    let wanted = "lists:\ncreator\t=Ann & Bo\ncustom:Checked\t=true\n\
+        custom:two\\nlines\t=\\r\ncustom:\t=\n";
     assert_eq!(rt; out.as_str(), wanted);
     Ok(())
 }

@@ -5,6 +5,7 @@ pub mod Nested
 pub mod Onward
 pub mod Opened
 pub mod Outermost
+pub mod PartNames
 pub mod Parts
 pub mod Sections
 pub mod Spans

@@ -1,5 +1,5 @@
--- What a call that lends its package can say of a fault. A refusal doesn't hand the package back, so
--- nothing is said of what it is then.
+-- What a call that lends its package can say of a fault. A refusal doesn't hand the package back,
+-- so nothing is said of what it is then.
 use Rattle.std.specs.Prelude.{◌≡◌}
 use Rattle.part_events.specs.Package.{PackageState, SameParts, HasCause}
 

@@ -8,6 +8,7 @@ pub mod NestingLaws
 pub mod OpenNames
 pub mod Nesting
 pub mod Package
+pub mod PartNames
 pub mod Reader
 pub mod Reading
 pub mod Section

@@ -10,6 +10,7 @@ mod laws;
 mod memory;
 mod open_names;
 mod package;
+mod part_names;
 mod reader;
 mod stored;
 mod text;

@@ -1,11 +1,10 @@
-ghost use Rattle.std.specs.Prelude.{◌≡◌, ◌<◌, ◌++◌, ◌∷◌, [], length, Some, None, IfSome, IfNone};
-ghost use Rattle.std.specs.Prelude.{OnOk, OnErr};
+ghost use Rattle.std.specs.Prelude.{◌≡◌, ◌<◌, ◌++◌, ◌∷◌, [], length, OnOk, OnErr};
 ghost use Rattle.part_events.specs.Event.{event_of};
-ghost use Rattle.part_events.specs.Package.{part_of};
-ghost use Rattle.part_events.specs.Memory.{part_at, state_of, closed, with_event};
+ghost use Rattle.part_events.specs.Memory.{state_of, closed, with_event};
 
 use crate::event::PartEvent;
 use crate::package::{Package, PackageFailed};
+use crate::part_names::PartNames;
 use crate::stored::StoredPart;
 use std::alloc::{AllocError, Global};
 use std::marker::Model;
@@ -25,32 +24,21 @@ pub struct Place {
 pub struct MemoryPackage {
     alloc: Global,
     parts: Vec<StoredPart>,
+    names: PartNames,
     place: Option<Place>,
     taken: u64,
 }
 
 impl Model for MemoryPackage {
     ghost use Rattle.part_events.specs.Memory.{Contents, IsPlace};
+    ghost use Rattle.part_events.specs.PartNames.{FindsParts};
 
     ghost Value = { Contents };
 
     ghost view = { λ a. record { parts = a.parts.items; place = a.place; taken = a.taken } };
 
-    ghost invariant = { λ a. IsPlace a.parts.items a.place };
-}
-
-fn find_part(parts: &[StoredPart], name: &str) -> Option<usize>
-    ensures within { IfSome result (λ place. place < length parts.now) }
-    ensures found { IfSome result (λ place. part_of parts.now name.now
-        ≡ Some (part_at parts.now place).events) }
-    ensures absent { IfNone result (part_of parts.now name.now ≡ None) }
-{
-    for (place, part) in parts.iter().enumerate() {
-        if part.has_name(name) {
-            return Some(place);
-        }
-    }
-    None
+    ghost invariant = { λ a. IsPlace a.parts.items a.place
+        × FindsParts a.names a.parts.items };
 }
 
 impl MemoryPackage {
@@ -61,6 +49,7 @@ impl MemoryPackage {
         MemoryPackage {
             alloc,
             parts: Vec::new(alloc),
+            names: PartNames::new(alloc),
             place: None,
             taken: 0,
         }
@@ -73,7 +62,12 @@ impl MemoryPackage {
         ensures err { OnErr result (self.new ≡ self.old) }
     {
         let part = StoredPart::new(self.alloc, name)?;
+        let place = self.parts.len();
         self.parts.push(part)?;
+        if let Err(error) = self.names.push(self.alloc, name, place) {
+            self.parts.pop();
+            return Err(error);
+        }
         self.place = None;
         Ok(())
     }
@@ -110,7 +104,7 @@ impl Package for MemoryPackage {
     ghost state = { state_of };
 
     fn open(&mut self, name: &str) -> Result<bool, PackageFailed> {
-        match find_part(&self.parts, name) {
+        match self.names.place(name) {
             Some(part) => {
                 self.place = Some(Place {
                     part,

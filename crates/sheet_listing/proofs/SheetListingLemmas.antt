@@ -1,8 +1,8 @@
 -- A step through three lists of cells takes the first line of their listing.
-use Rattle.std.proofs.Common.{◌≡◌, ℕ, suc, ◌+◌, ◌<◌, ◌≤◌, Bool, true, false, cond, ◌&&◌, ◌||◌}
+use Rattle.std.proofs.Common.{◌≡◌, ℕ, ◌+◌, ◌<◌, ◌≤◌, Bool, true, false, cond, ◌&&◌, ◌||◌}
 use Rattle.std.proofs.Common.{List, [], ◌∷◌, ◌++◌, length, Some, None, Option, refl, sym, ap, ◌∙◌}
 use Rattle.std.proofs.Common.{subst, arith, append_assoc, string_bytes}
-use Rattle.std.specs.Prelude.{map, is_some, nat_eq, String, MatchOption, ◌⊎◌, All}
+use Rattle.std.specs.Prelude.{map, is_some, String, MatchOption, ◌⊎◌, All}
 use Rattle.std.proofs.Common.{inl, inr}
 use Rattle.std.specs.declared.alloc.Global.{Global}
 use Rattle.std.specs.declared.cmp.Ordering.{Ordering}
@@ -13,25 +13,26 @@ use Rattle.std.specs.FinMap.{len-empty, get-entries, get-from_entries, entries_s
 use Rattle.std.specs.FinMap.Entries.{by_order, below_all, same_entries}
 use Rattle.std.specs.List.{flat_map}
 use Rattle.std.specs.Option.{option_map, option_or, unwrap_or}
-use Rattle.std.specs.Ordering.{is_lt, is_le, is_eq, ordering_reverse, eq_by_cmp}
-use Rattle.std.proofs.lemmas.Bool.Decides.{nat_tests}
+use Rattle.std.specs.Ordering.{is_lt, is_le, eq_by_cmp}
 use Rattle.std.proofs.lemmas.List.{append-nil, length-map, map-append}
 use Rattle.cell_refs.specs.declared.TheConstants.{MAX_ROWS, MAX_COLUMNS}
 use Rattle.std.proofs.lemmas.List.Elements.{All-head, All-push, All-same}
 use Rattle.cell_data.specs.Cells.{cell_entry, placed_cells, IsInSheet}
 use Rattle.cell_data.specs.declared.cell.Cell.{Cell}
 use Rattle.cell_data.proofs.Placing.{position_total, position_same, and_both, to_T, from_T}
-use Rattle.cell_data.proofs.Placing.{less_from, none_behind, found_in_two}
+use Rattle.cell_data.proofs.Placing.{less_from, found_in_two}
+use Rattle.cell_data.proofs.Splitting.{below_cons, past, at_first}
+use Rattle.cell_data.specs.Splitting.{AreInOrder, StandsFirst, given, Splits}
 use Rattle.cell_data.specs.CellValue.{CellValue, nothing, value_of_data}
-use Rattle.cell_refs.specs.Positions.{position_cmp, is_rising}
+use Rattle.cell_refs.specs.Positions.{position_cmp}
 use Rattle.cell_data.specs.declared.value.Data.{Data}
 use Rattle.cell_styles.specs.StyleItems.{styled_entry}
 use Rattle.cell_styles.specs.StyleMap.{StyledCell, IsOnSheet}
 use Rattle.cell_styles.specs.declared.style.Style.{Style}
 use Rattle.sheet_listing.specs.SheetListing.{line_of, value_placed, formula_placed, id_placed, used}
 use Rattle.sheet_listing.specs.SheetListing.{lines_with, fill_field, cell_values, cell_formulas}
-use Rattle.sheet_listing.specs.SheetListing.{value_given, formula_given, id_given, given}
-use Rattle.sheet_listing.specs.SheetListing.{Splits, AreInOrder, IsFirstOf, IsOfFirst, StandsFirst}
+use Rattle.sheet_listing.specs.SheetListing.{value_given, formula_given, id_given}
+use Rattle.sheet_listing.specs.SheetListing.{IsFirstOf, IsOfFirst}
 use Rattle.sheet_listing.specs.SheetListing.{StandsUpTo, IsEarlier, first_place}
 
 and_true : (b : Bool) → (b && true) ≡ b
@@ -62,11 +63,6 @@ module _ {X : Type 0} where
   found_entries q es =
       sym (get-entries (from_entries {R = position_cmp} es) q)
       ∙ get-from_entries position_total es q
-
-  below_cons : (x : ℕ × ℕ) (e : (ℕ × ℕ) × X) (es : List ((ℕ × ℕ) × X)) →
-      is_lt (position_cmp x e.0) ≡ true → below_all position_cmp x es ≡ true →
-      below_all position_cmp x (e ∷ es) ≡ true
-  below_cons x e es first rest = ap (λ t. t && below_all position_cmp x es) first ∙ rest
 
   below_by_order : (x : ℕ × ℕ) (o : Ordering) (a b c : List ((ℕ × ℕ) × X)) →
       below_all position_cmp x a ≡ true → below_all position_cmp x b ≡ true →
@@ -103,22 +99,6 @@ module _ {X : Type 0} where
       ap (below_all position_cmp x)
       (entries-insert position_total (from_entries {R = position_cmp} es) e.0 e.1)
       ∙ below_put x e.0 e.1 _ own (below_entries x es others)
-
-  -- what stands behind the first cell is found as before
-  past : (p : ℕ × ℕ) (v : Option X) (q : ℕ × ℕ) (es : List ((ℕ × ℕ) × X)) →
-      is_lt (position_cmp p q) ≡ true →
-      find position_cmp q (given p v ++ es) ≡ find position_cmp q es
-  past p None q es less = refl
-  past p (Some v) q es less =
-      let apart : eq_by_cmp position_cmp q p ≡ false =
-      ap is_eq (position_total.antisymm q p ∙ ap ordering_reverse (less_from _ less)) in
-      ap (λ t. cond t (Some v) (find position_cmp q es)) apart
-
-  at_first : (p : ℕ × ℕ) (v : Option X) (es : List ((ℕ × ℕ) × X)) →
-      below_all position_cmp p es ≡ true → find position_cmp p (given p v ++ es) ≡ v
-  at_first p None es below = none_behind p p es (tied_itself position_total p) below
-  at_first p (Some v) es below =
-      ap (λ t. cond t (Some v) (find position_cmp p es)) (ap is_eq (tied_itself position_total p))
 
 module _ {X : Type 0} where
   below_used : (x : ℕ × ℕ) (es : List ((ℕ × ℕ) × X)) → below_all position_cmp x es ≡ true →
@@ -430,82 +410,6 @@ shorter p v f d values vs formulas fs ids ds first splits_v splits_f splits_d =
           let fewer = first_shorter p d ids ds of_ids splits_d in
           omega (arith, fewer, in_values, in_formulas)
     ]
-
-order_behind : {X : Type 0} (cell : Cell X) (behind : List (Cell X)) →
-    AreInOrder (cell ∷ behind) → AreInOrder behind
-order_behind cell behind order = record {
-  rising = (and_both (below_all position_cmp cell.pos (placed_cells behind))
-      (is_rising (placed_cells behind)) order.rising).1;
-  sheet = λ k d below. order.sheet (suc k) d (omega arith);
-}
-
--- the first cell stands at the position
-pub splits_first : {X : Type 0} (p : ℕ × ℕ) (cell : Cell X) (cells behind : List (Cell X)) →
-    cells ≡ cell ∷ behind → cell.pos ≡ p → AreInOrder cells → Splits p cells (Some cell.val) behind
-splits_first p cell cells behind whole at order =
-    let own : AreInOrder (cell ∷ behind) = subst AreInOrder whole order in
-    let (below, rest) =
-    and_both (below_all position_cmp cell.pos (placed_cells behind))
-    (is_rising (placed_cells behind)) own.rising in
-    record {
-      whole = ap placed_cells whole ∙ (λ i. (at i, cell.val) ∷ placed_cells behind);
-      below = subst (λ q. below_all position_cmp q (placed_cells behind) ≡ true) at below;
-      order = order_behind cell behind own;
-    }
-
-further_below : {X : Type 0} (p q : ℕ × ℕ) (es : List ((ℕ × ℕ) × X)) →
-    position_cmp p q ≡ Less → below_all position_cmp q es ≡ true →
-    below_all position_cmp p es ≡ true
-further_below p q [] less below = refl
-further_below p q (e ∷ es) less below =
-    let (own, others) =
-    and_both (is_lt (position_cmp q e.0)) (below_all position_cmp q es) below in
-    below_cons p e es (ap is_lt (position_total.trans p q e.0 less (less_from _ own)))
-    (further_below p q es less others)
-
-less_or_tied : (o : Ordering) → is_le o ≡ true → (o ≡ Equal → ⊥) → o ≡ Less
-less_or_tied Less le apart = refl
-less_or_tied Equal le apart = absurd (apart refl)
-less_or_tied Greater le apart = absurd (cc)
-
--- the first cell stands behind the position
-pub splits_later : {X : Type 0} (p : ℕ × ℕ) (cell : Cell X) (cells behind : List (Cell X)) →
-    cells ≡ cell ∷ behind → (cell.pos ≡ p → ⊥) → StandsFirst p (placed_cells cells) →
-    AreInOrder cells → Splits p cells None cells
-splits_later p cell cells behind whole apart first order =
-    let own : AreInOrder (cell ∷ behind) = subst AreInOrder whole order in
-    let (below, rest) =
-    and_both (below_all position_cmp cell.pos (placed_cells behind))
-    (is_rising (placed_cells behind)) own.rising in
-    let le : is_le (position_cmp p cell.pos) ≡ true =
-    subst (λ cs. StandsFirst p (placed_cells cs)) whole first in
-    let less : position_cmp p cell.pos ≡ Less =
-    less_or_tied _ le (λ tied. apart (sym (position_same p cell.pos tied))) in
-    record {
-      whole = refl;
-      below = subst (λ cs. below_all position_cmp p (placed_cells cs) ≡ true) (sym whole)
-          (below_cons p (cell_entry cell) (placed_cells behind) (ap is_lt less)
-          (further_below p cell.pos (placed_cells behind) less below));
-      order = order;
-    }
-
-pub same_position : (a b : ℕ × ℕ) (test : Bool) → test ≡ (nat_eq a.0 b.0 && nat_eq a.1 b.1) →
-    test ≡ true → a ≡ b
-same_position a b test is holds =
-    let (rows, columns) = and_both (nat_eq a.0 b.0) (nat_eq a.1 b.1) (sym is ∙ holds) in
-    let row : a.0 ≡ b.0 = grind (arith, nat_tests, rows) in
-    let column : a.1 ≡ b.1 = grind (arith, nat_tests, columns) in
-    λ i. (row i, column i)
-
-pub other_position : (a b : ℕ × ℕ) (test : Bool) → test ≡ (nat_eq a.0 b.0 && nat_eq a.1 b.1) →
-    test ≡ false → a ≡ b → ⊥
-other_position a b test is fails same =
-    let rows : nat_eq a.0 b.0 ≡ true = grind (arith, nat_tests, ap (λ (p : ℕ × ℕ). p.0) same) in
-    let columns : nat_eq a.1 b.1 ≡ true = grind (arith, nat_tests, ap (λ (p : ℕ × ℕ). p.1) same) in
-    let both : (nat_eq a.0 b.0 && nat_eq a.1 b.1) ≡ true =
-    ap (λ t. t && nat_eq a.1 b.1) rows ∙ columns in
-    let clash : false ≡ true = sym fails ∙ (is ∙ both) in
-    absurd (cc)
 
 -- ---- the first position of three lists
 

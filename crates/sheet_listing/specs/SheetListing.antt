@@ -2,10 +2,9 @@
 -- position that has a value, a formula or a style id above 0, row by row.
 use Rattle.std.specs.Prelude.{◌≡◌, ℕ, ◌<◌, Bool, true, false, ◌||◌, ◌++◌, codes, map}
 use Rattle.std.specs.Prelude.{if◌then◌else◌, List, [], ◌∷◌, Option, Some, None, is_some}
-use Rattle.std.specs.Prelude.{All, String, string_bytes, ◌⊎◌, nat_lt, option_and_then}
+use Rattle.std.specs.Prelude.{String, string_bytes, ◌⊎◌, nat_lt, option_and_then}
 use Rattle.std.specs.Ordering.{is_le}
 use Rattle.std.specs.FinMap.{find, from_entries, keys}
-use Rattle.std.specs.FinMap.Entries.{below_all}
 use Rattle.std.specs.Fmt.{signed_decimal}
 use Rattle.std.specs.List.{flat_map}
 use Rattle.std.specs.Option.{option_map, unwrap_or}
@@ -15,9 +14,10 @@ use Rattle.cell_refs.specs.declared.TheConstants.{MAX_ROWS, MAX_COLUMNS}
 use Rattle.cell_data.specs.CellError.{cell_error_text}
 use Rattle.cell_data.specs.CellValue.{CellValue, nothing, integer, number, text, shared_text, truth}
 use Rattle.cell_data.specs.CellValue.{time, iso_time, failure, value_of_data}
-use Rattle.cell_data.specs.Cells.{placed_cells, IsInSheet}
+use Rattle.cell_data.specs.Cells.{placed_cells}
+use Rattle.cell_data.specs.Splitting.{StandsFirst}
 use Rattle.decimals.specs.Decimals.{printed}
-use Rattle.cell_refs.specs.Positions.{position_cmp, is_rising}
+use Rattle.cell_refs.specs.Positions.{position_cmp}
 use Rattle.cell_data.specs.declared.cell.Cell.{Cell}
 use Rattle.cell_data.specs.declared.value.Data.{Data}
 use Rattle.cell_data.specs.declared.value.ExcelDateTimeType.{ExcelDateTimeType}
@@ -154,16 +154,6 @@ id_given id = unwrap_or id 0
 
 -- ---- the steps through the lists
 
--- cells row by row, on a sheet
-pub record AreInOrder {X : Type 0} (cells : List (Cell X)) : Type 0 where
-  pub rising : is_rising (placed_cells cells) ≡ true
-  pub sheet : All IsInSheet cells
-
--- no cell stands before the position
-abbrev pub StandsFirst : {X : Type 0} → ℕ × ℕ → List ((ℕ × ℕ) × X) → Type 0
-StandsFirst position [] = Unit {0}
-StandsFirst position (cell ∷ cells) = is_le (position_cmp position cell.0) ≡ true
-
 -- the first cell stands at the position
 abbrev pub IsOfFirst : {X : Type 0} → ℕ × ℕ → List ((ℕ × ℕ) × X) → Type 0
 IsOfFirst position [] = ⊥
@@ -185,11 +175,6 @@ abbrev pub first_place : {X : Type 0} → List (Cell X) → Option (ℕ × ℕ)
 first_place [] = None
 first_place (cell ∷ cells) = Some cell.pos
 
--- a cell at the position, or none
-abbrev pub given : {X : Type 0} → ℕ × ℕ → Option X → List ((ℕ × ℕ) × X)
-given position None = []
-given position (Some value) = (position, value) ∷ []
-
 -- a position among those that the lists begin with
 abbrev pub IsOfSome :
     {X Y Z : Type 0} → ℕ × ℕ → List ((ℕ × ℕ) × X) → List ((ℕ × ℕ) × Y) → List ((ℕ × ℕ) × Z)
@@ -207,11 +192,3 @@ pub record IsFirstOf
   pub before_formulas : StandsFirst position (placed_cells formulas)
   pub before_ids : StandsFirst position (placed_cells ids)
   pub is_used : IsOfSome position (placed_cells values) (placed_cells formulas) (placed_cells ids)
-
--- the cell at the position and the ones behind it
-pub record Splits
-    {X : Type 0} (position : ℕ × ℕ) (cells : List (Cell X)) (value : Option X)
-    (behind : List (Cell X)) : Type 0 where
-  pub whole : placed_cells cells ≡ given position value ++ placed_cells behind
-  pub below : below_all position_cmp position (placed_cells behind) ≡ true
-  pub order : AreInOrder behind

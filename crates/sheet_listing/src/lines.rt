@@ -5,6 +5,7 @@ ghost use Rattle.std.specs.Option.{option_copied};
 ghost use Rattle.cell_data.specs.CellValue.{value_of_data, time_value};
 ghost use Rattle.cell_data.specs.Cells.{placed_cells};
 ghost use Rattle.cell_data.specs.Range.{cells_of};
+ghost use Rattle.cell_data.specs.Splitting.{AreInOrder};
 ghost use Rattle.cell_refs.specs.Reference.{reference};
 ghost use Rattle.cell_styles.specs.Fill.{fill_color};
 ghost use Rattle.cell_styles.specs.StyleMap.{style_at};
@@ -13,13 +14,13 @@ ghost use Rattle.sheet_listing.specs.SheetListing.{kind_text, calendar_text, val
 ghost use Rattle.sheet_listing.specs.SheetListing.{formula_field};
 ghost use Rattle.sheet_listing.specs.SheetListing.{field, line, line_of, listing};
 ghost use Rattle.sheet_listing.specs.SheetListing.{cell_values, cell_formulas};
-ghost use Rattle.sheet_listing.specs.SheetListing.{value_given, formula_given, AreInOrder};
+ghost use Rattle.sheet_listing.specs.SheetListing.{value_given, formula_given};
 ghost use Rattle.sheet_listing.specs.SheetListing.{IsFirstOf};
-ghost use Rattle.sheet_listing.specs.SheetListing.{StandsFirst, Splits, IsEarlier, first_place};
+ghost use Rattle.sheet_listing.specs.SheetListing.{IsEarlier, first_place};
 ghost use Rattle.sheet_listing.specs.SheetListing.{shown_color, fill_shown, fill_field, id_given};
 ghost use Rattle.sheet_listing.specs.SheetListing.{lines_with, placed_ids};
 
-use cell_data::{Cell, Data, ExcelDateTime, ExcelDateTimeType, Range};
+use cell_data::{Cell, Data, ExcelDateTime, ExcelDateTimeType, Range, split_at_position};
 use cell_refs::{MAX_COLUMNS, MAX_ROWS, push_reference};
 use cell_styles::{Color, Fill, Style, StyleRange};
 use escaped_text::push_escaped;
@@ -281,22 +282,6 @@ fn first_position(
 {
     let behind_values = earlier(first_place(formulas), first_place(ids));
     earlier(first_place(values), behind_values)
-}
-
-/// What the first cell has, where it stands at the position, and the cells behind.
-fn split_at_position<T>(cells: &[Cell<T>], position: (u32, u32)) -> (Option<&T>, &[Cell<T>])
-    requires order { AreInOrder cells.now }
-    requires first { StandsFirst position (placed_cells cells.now) }
-    ensures { Splits position cells.now (option_copied result.0) result.1.now }
-{
-    let Some((cell, behind)) = cells.split_first() else {
-        return (None, cells);
-    };
-    if cell.pos == position {
-        (Some(&cell.val), behind)
-    } else {
-        (None, cells)
-    }
 }
 
 /// Appends the lines of the positions that some list has, row by row.

@@ -1,15 +1,20 @@
 -- What callers take of a sheet's cells.
-use Rattle.std.specs.Prelude.{ℕ, List, ◌∷◌, Bool, true, false, Option}
+use Rattle.std.specs.Prelude.{◌≡◌, ◌⊎◌, ℕ, List, [], ◌∷◌, ◌++◌, Bool, true, false, Option, Some}
+use Rattle.std.specs.Prelude.{None, Result, Ok}
 use Rattle.std.specs.List.{find}
 use Rattle.cell_data.specs.CellValue.{CellValue, failure}
 use Rattle.cell_data.specs.declared.cell.Cell.{Cell}
 use Rattle.cell_data.specs.declared.value.DataRef.{DataRef}
+use Rattle.xlsx_error.specs.declared.error.XlsxError.{XlsxError}
+use Rattle.xlsx_sections.specs.Answers.{prepended}
+use Rattle.xlsx_sections.specs.Refusal.{Refusal}
 use Rattle.xlsx_values.specs.Value.{Grounds}
 use Rattle.xlsx_formulas.specs.Formula.{FormulaText}
-use Rattle.xlsx_cells.specs.CellsReader.{IsValued, IsValuedFormula}
+use Rattle.xlsx_cells.specs.CellsReader.{IsValued, IsValuedFormula, values_alone}
+use Rattle.xlsx_cells.specs.CellsReader.{values_and_formulas}
 use Rattle.xlsx_cells.specs.Marks.{Mark, cell, behind_marks}
 use Rattle.xlsx_cells.specs.Position.{NoCell}
-use Rattle.xlsx_cells.specs.Stream.{Stream, TakesCell}
+use Rattle.xlsx_cells.specs.Stream.{Stream, TakesCell, EndsData, PassesCell, NextCellFails}
 use Rattle.xlsx_cells.specs.declared.cell_records.XlsxCellFormula.{XlsxCellFormula}
 
 -- the value of a cell is an error
@@ -17,9 +22,16 @@ abbrev pub is_error : (ℕ × ℕ) × CellValue → Bool
 is_error (place, failure error) = true
 is_error (place, value) = false
 
--- the first cell whose value is one
-abbrev pub first_error : List ((ℕ × ℕ) × CellValue) → Option ((ℕ × ℕ) × CellValue)
-first_error cells = find is_error cells
+-- The first cell whose value is one, or that there is none. What stands behind it may be refused.
+abbrev pub IsFirstError :
+    Option ((ℕ × ℕ) × CellValue) → Result (List ((ℕ × ℕ) × CellValue)) Refusal → Type 0
+IsFirstError None values =
+    (all : List ((ℕ × ℕ) × CellValue)) × (values ≡ Ok all) × (find is_error all ≡ None)
+IsFirstError (Some own) values =
+    (sound : List ((ℕ × ℕ) × CellValue))
+    × (others : Result (List ((ℕ × ℕ) × CellValue)) Refusal)
+    × (values ≡ prepended (sound ++ own ∷ []) others) × (find is_error sound ≡ None)
+    × (is_error own ≡ true)
 
 -- two cells were taken, the second with its formula by those kept before both
 pub record TakesBoth
@@ -30,3 +42,19 @@ pub record TakesBoth
   pub second :
       TakesCell NoCell (cell first.element ∷ behind_marks first.takes.front.passed before) earlier
       mid new (IsValuedFormula grounds earlier found.1)
+
+-- the data end behind none or one
+abbrev pub LacksTwo :
+    Grounds → List Mark → List FormulaText → Stream → Stream → Type 0
+LacksTwo grounds before earlier old new =
+    (old.is_done ≡ false → EndsData NoCell before old new)
+    ⊎ ((mid : Stream) × (own : Cell DataRef)
+    × (first : TakesCell NoCell before earlier old mid (IsValued grounds own))
+    × EndsData NoCell (cell first.element ∷ behind_marks first.takes.front.passed before) mid new)
+
+-- the first of them is refused, or the second behind it
+abbrev pub TwoFail : Grounds → Stream → Stream → XlsxError → Type 0
+TwoFail grounds old new error =
+    NextCellFails values_alone grounds old new.reading error
+    ⊎ ((mid : Stream) × (pos : ℕ × ℕ) × PassesCell pos old mid
+    × NextCellFails values_and_formulas grounds mid new.reading error)

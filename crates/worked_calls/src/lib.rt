@@ -9,7 +9,7 @@ mod whole_cells;
 
 pub use counting::formula_count;
 pub use in_memory::{cells_in_memory, part_in_memory, sheet_in_memory};
-pub use taking::{first_error, formulas_taken, two_taken, values_taken};
+pub use taking::{first_error, formulas_taken, two_taken};
 pub use whole_cells::full_cells;
 
 #[cfg(test)]

@@ -1,13 +1,14 @@
-ghost use Rattle.std.specs.Prelude.{◌≡◌, ℕ, [], List, map, true, Ok, IfOk, IfSome, option_map};
-ghost use Rattle.cell_data.specs.CellValue.{CellValue};
+ghost use Rattle.std.specs.Prelude.{◌≡◌, [], List, map, true, Ok, IfOk, IfErr, IfSome, IfNone};
+ghost use Rattle.std.specs.Prelude.{option_map};
 ghost use Rattle.xlsx_formulas.specs.Formula.{FormulaText};
 ghost use Rattle.xlsx_cells.specs.CellsReader.{stream_by, grounds_by};
+ghost use Rattle.xlsx_cells.specs.CellsReader.{values_alone, values_and_formulas};
 ghost use Rattle.xlsx_cells.specs.Marks.{Mark};
 ghost use Rattle.xlsx_cells.specs.Sheet.{values_in};
 ghost use Rattle.xlsx_cells.specs.Stream.{IsStreaming, IsGoing, StandsBehind, data_ahead};
-ghost use Rattle.xlsx_cells.specs.SheetPart.{value_entry};
+ghost use Rattle.xlsx_cells.specs.SheetPart.{value_entry, DataFails};
 ghost use Rattle.xlsx_cells.specs.WholeReadings.{formula_value_entry};
-ghost use Rattle.worked_calls.specs.Taking.{TakesBoth, is_error, first_error};
+ghost use Rattle.worked_calls.specs.Taking.{TakesBoth, LacksTwo, TwoFail, is_error, IsFirstError};
 
 use cell_data::{Cell, DataRef};
 use part_events::Package;
@@ -15,25 +16,7 @@ use std::alloc::Global;
 use xlsx_cells::{XlsxCellFormula, XlsxCellReader};
 use xlsx_error::XlsxError;
 
-/// The cells of a sheet with their values, of which the reader has taken none.
-pub fn values_taken<P: Package>(
-    alloc: Global,
-    reader: &mut XlsxCellReader<'_, P>,
-) -> Result<Vec<Cell<DataRef>>, XlsxError>
-    requires going { IsGoing (stream_by P.state reader.old) }
-    requires fresh { StandsBehind [] [] (stream_by P.state reader.old) }
-    ensures values { let old = stream_by P.state reader.old in
-        old.reading.source.is_told ≡ true → IfOk result (λ cells.
-        values_in (grounds_by reader.old) (data_ahead old) ≡ Ok (map value_entry cells.items)) }
-{
-    let mut cells = Vec::new(alloc);
-    'cells: while let Some(cell) = reader.next_cell()? {
-        cells.push(cell)?;
-    }
-    Ok(cells)
-}
-
-/// The same with their formulas.
+/// The cells of a sheet with their values and their formulas, of which the reader has taken none.
 pub fn formulas_taken<P: Package>(
     alloc: Global,
     reader: &mut XlsxCellReader<'_, P>,
@@ -42,7 +25,10 @@ pub fn formulas_taken<P: Package>(
     requires fresh { StandsBehind [] [] (stream_by P.state reader.old) }
     ensures values { let old = stream_by P.state reader.old in
         old.reading.source.is_told ≡ true → IfOk result (λ cells.
-        values_in (grounds_by reader.old) (data_ahead old) ≡ Ok (map formula_value_entry cells.items)) }
+        values_in (grounds_by reader.old) (data_ahead old)
+        ≡ Ok (map formula_value_entry cells.items)) }
+    ensures err { IfErr result (DataFails values_and_formulas (grounds_by reader.old)
+        (stream_by P.state reader.old) (stream_by P.state reader.new)) }
 {
     let mut cells = Vec::new(alloc);
     'cells: while let Some(cell) = reader.next_cell_with_formula()? {
@@ -58,21 +44,24 @@ fn is_error(cell: &Cell<DataRef>) -> bool
     matches!(cell.val, DataRef::Error(_))
 }
 
-/// The first cell whose value is an error, where there is one. Nothing behind it is read.
+/// The first cell whose value is an error, where there is one. Nothing behind it is read, and so
+/// refuses nothing.
 pub fn first_error<P: Package>(
     reader: &mut XlsxCellReader<'_, P>,
 ) -> Result<Option<Cell<DataRef>>, XlsxError>
     requires going { IsGoing (stream_by P.state reader.old) }
     requires fresh { StandsBehind [] [] (stream_by P.state reader.old) }
     ensures found { let old = stream_by P.state reader.old in
-        old.reading.source.is_told ≡ true → (all : List ((ℕ × ℕ) × CellValue)) →
-        values_in (grounds_by reader.old) (data_ahead old) ≡ Ok all → IfOk result
-        (λ found. option_map value_entry found ≡ first_error all) }
+        old.reading.source.is_told ≡ true → IfOk result (λ found. IsFirstError
+        (option_map value_entry found) (values_in (grounds_by reader.old) (data_ahead old))) }
+    ensures err { IfErr result (DataFails values_alone (grounds_by reader.old)
+        (stream_by P.state reader.old) (stream_by P.state reader.new)) }
 {
     'cells: while let Some(cell) = reader.next_cell()? {
         if is_error(&cell) {
             return Ok(Some(cell));
         }
+        drop(cell);
     }
     Ok(None)
 }
@@ -89,6 +78,14 @@ pub fn two_taken<P: Package>(
         old.reading.source.is_told ≡ true → (before : List Mark) (earlier : List FormulaText) →
         StandsBehind before earlier old → IfOk result
         (λ found. IfSome found (TakesBoth (grounds_by reader.old) before earlier old new)) }
+    ensures none { let old = stream_by P.state reader.old in
+        let new = stream_by P.state reader.new in
+        old.reading.source.is_told ≡ true → (before : List Mark) (earlier : List FormulaText) →
+        StandsBehind before earlier old → IfOk result
+        (λ found. IfNone found (LacksTwo (grounds_by reader.old) before earlier old new)) }
+    ensures err { let old = stream_by P.state reader.old in
+        let new = stream_by P.state reader.new in
+        IfErr result (TwoFail (grounds_by reader.old) old new) }
 {
     let Some(first) = reader.next_cell()? else {
         return Ok(None);

@@ -3,6 +3,10 @@
 #![tactic(auto)]
 
 #[cfg(test)]
+mod link_tests;
+#[cfg(test)]
 mod merge_tests;
 #[cfg(test)]
 mod property_tests;
+#[cfg(test)]
+mod table_tests;

@@ -11,6 +11,8 @@ mod listing_tests;
 #[cfg(test)]
 mod range_tests;
 #[cfg(test)]
+mod row_tests;
+#[cfg(test)]
 mod style_tests;
 #[cfg(test)]
 mod value_tests;

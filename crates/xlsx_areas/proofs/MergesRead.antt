@@ -1,6 +1,6 @@
 -- Which refusals of the layers below are refusals of merged cells, and what a faulty section says.
-use Rattle.std.proofs.Common.{◌≡◌, List, ℕ, [], codes, refl}
-use Rattle.part_events.specs.declared.fault.XmlFault.TheVariants.{EndMismatch, Entity}
+use Rattle.std.proofs.Common.{[]}
+use Rattle.part_events.specs.declared.fault.XmlFault.TheVariants.{EndMismatch}
 use Rattle.xlsx_error.specs.declared.error.XlsxError.{XlsxError}
 use Rattle.xlsx_error.specs.declared.error.XlsxError.TheVariants.{OutOfMemory, Io, Xml, XmlEof}
 use Rattle.xlsx_sections.specs.PartSection.{IsStepError}

@@ -1,5 +1,5 @@
 -- Which refusals merged cells have, and when.
-use Rattle.std.specs.Prelude.{◌≡◌, ⊤, [], codes, List, ℕ, Option, None}
+use Rattle.std.specs.Prelude.{◌≡◌, ⊤, [], codes, List, ℕ, None}
 use Rattle.part_events.specs.Event.{Event}
 use Rattle.part_events.specs.Package.{PackageState, part_of}
 use Rattle.part_events.specs.declared.fault.XmlFault.TheVariants.{EndMismatch}

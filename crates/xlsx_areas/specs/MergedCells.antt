@@ -3,33 +3,23 @@ use Rattle.std.specs.Prelude.{ℕ, List, [], ◌∷◌, Bool, if◌then◌else�
 use Rattle.std.specs.Prelude.{Result}
 use Rattle.std.specs.Prelude.{Ok, Err, option_and_then}
 use Rattle.attr_text.specs.Attributes.{value_of}
-use Rattle.attr_text.specs.declared.fault.AttrFault.{AttrFault}
 use Rattle.cell_refs.specs.A1.{area}
 use Rattle.cell_refs.specs.declared.dimensions.Dimensions.{Dimensions}
-use Rattle.cell_refs.specs.declared.error.RefError.{RefError}
 use Rattle.part_events.specs.Event.{Tag, Event}
 use Rattle.part_events.specs.Package.{Part, part_of}
 use Rattle.part_events.specs.Section.{PlacedTag, starts_by, is_named}
 use Rattle.xlsx_sections.specs.Answers.{some_answers}
 use Rattle.xlsx_sections.specs.PartSection.{PartSection, section_in, inside_of, has_end}
-use Rattle.xlsx_sections.specs.Refusal.{Refusal, plain, lookup_fault, misplaced}
+use Rattle.xlsx_sections.specs.Placed.{named_by}
+use Rattle.xlsx_sections.specs.Refusal.{Refusal}
 use Rattle.xlsx_parts.specs.PartSaid.{section_said_or, whole_said}
 
 abbrev pub is_merge : Tag → Bool
 is_merge tag = is_named (codes "mergeCell" ∷ []) tag
 
-abbrev pub area_named : Result Dimensions RefError → Result (Option Dimensions) Refusal
-area_named (Ok found) = Ok (Some found)
-area_named (Err fault) = Err (plain (misplaced fault))
-
-abbrev pub merge_by : Result (Option (List ℕ)) AttrFault → Result (Option Dimensions) Refusal
-merge_by (Ok None) = Ok None
-merge_by (Ok (Some written)) = area_named (area written)
-merge_by (Err fault) = Err (plain (lookup_fault fault))
-
 -- the area of a start; one without `ref` is passed over
 abbrev pub merge_of : PlacedTag → Result (Option Dimensions) Refusal
-merge_of start = merge_by (value_of (codes "ref") start.tag.attributes)
+merge_of start = named_by area (value_of (codes "ref") start.tag.attributes)
 
 -- the areas of the merged cells among these events, in order
 abbrev pub merges_in : List Event → Result (List Dimensions) Refusal

@@ -1,24 +1,17 @@
 -- The merged cells of the sheets of a workbook.
-use Rattle.std.specs.Prelude.{ℕ, List, [], map, Bool, Option, option_map, string_bytes, String}
+use Rattle.std.specs.Prelude.{ℕ, List, [], map, Bool, Option, option_map, string_bytes}
 use Rattle.std.specs.List.{filter}
 use Rattle.std.specs.Str.{bytes_eq}
 use Rattle.cell_refs.specs.declared.dimensions.Dimensions.{Dimensions}
 use Rattle.part_events.specs.Package.{Part, part_of}
 use Rattle.xlsx_error.specs.declared.error.XlsxError.{XlsxError}
 use Rattle.xlsx_parts.specs.PartSaid.{unless_absent, all_said}
+use Rattle.xlsx_parts.specs.SheetPaths.{SheetPath, sheet_at}
 use Rattle.xlsx_parts.specs.WholePart.{IfThere, SomeCause}
 use Rattle.xlsx_areas.specs.MergeErrors.{RegionsCause}
 use Rattle.xlsx_areas.specs.MergedCells.{regions_at}
 use Rattle.xlsx_areas.specs.declared.regions.MergedRegion.{MergedRegion}
 use Rattle.xlsx_areas.specs.declared.regions.MergedRegions.{MergedRegions}
-
--- a sheet: its name, and the path of its part
-pub record SheetPath : Type 0 where
-  pub name : List ℕ
-  pub path : List ℕ
-
-abbrev pub sheet_at : List ℕ → List ℕ → SheetPath
-sheet_at name path = record { name = name; path = path }
 
 -- an area of merged cells in a sheet
 pub record Region : Type 0 where

@@ -4,7 +4,8 @@ ghost use Rattle.part_events.specs.Package.{Uses, UsesPackage, event_count};
 ghost use Rattle.xlsx_error.specs.declared.error.XlsxError.TheVariants.{Io, OutOfMemory};
 ghost use Rattle.xlsx_sections.specs.Failing.{FailsBy};
 ghost use Rattle.xlsx_areas.specs.MergeErrors.{IsRegionsError};
-ghost use Rattle.xlsx_areas.specs.Regions.{Region, sheet_at, region_in, region_of, regions_on};
+ghost use Rattle.xlsx_parts.specs.SheetPaths.{sheet_at};
+ghost use Rattle.xlsx_areas.specs.Regions.{Region, region_in, region_of, regions_on};
 ghost use Rattle.xlsx_areas.specs.Regions.{SheetRegionsCause, is_of_sheet};
 
 use crate::merged_parts::read_regions;

@@ -42,8 +42,7 @@ use Rattle.xlsx_cells.specs.Stream.{LacksUnwantedText}
 use Rattle.xlsx_cells.specs.StyleIds.{placed_id, ids_in, HoldsIds}
 use Rattle.xlsx_cells.specs.declared.cell_read.CellText.{CellText}
 use Rattle.xlsx_cells.specs.declared.children.Wants.{Wants}
-use Rattle.xlsx_cells.proofs.Fronts.{behind_append, mark_weaker, front_over, taken_weaker}
-use Rattle.xlsx_cells.proofs.Fronts.{refused_behind_front}
+use Rattle.xlsx_cells.proofs.Fronts.{mark_weaker, no_cell, refused_further}
 
 -- rows that were passed have no answer
 pub answers_passed : {A : Type 0} (answer : List Mark → Element → Result A Refusal)
@@ -138,10 +137,6 @@ used_formulas_further [] others = refl
 used_formulas_further (first ∷ passed) others =
     rw (used_formulas_further passed others)
     (used_value_if (is_empty first.1) first (used_formulas passed) (used_formulas others))
-
-no_cell : (before : List Mark) (element : Element) → NoCell before element
-    → IsPlaced before element
-no_cell before element is = absurd is
 
 -- a mark that a step takes is one of the marks
 pub taken_is_mark : (refused : List Mark → Element → Refusal → Type 0) (before others : List Mark)
@@ -269,11 +264,8 @@ collected_further wants grounds count old mid new values formulas ids read been 
                 ∙ sym (filter-append (is_explicit count) so_far.passed (own ∷ []));
           };
       refused = λ refusal is. been.refused refusal
-          (refused_behind_front (IsCellRefused wants grounds) refusal
-          (front_over (taken_weaker no_cell takes.takes) (read.pos, takes.holds.placed))
-          (subst (λ (own : List Mark). IsMarkRefused IsPlaced (IsCellRefused wants grounds) own
-          (marks_ahead new) refusal)
-          (sym (behind_append front.passed (cell element ∷ []) been.before)) is));
+          (refused_further (IsCellRefused wants grounds) refusal takes.takes
+          (read.pos, takes.holds.placed) is);
     }
 
 no_entries : {A B : Type 0} (entry : A → B) (cells : List A) → map entry cells ≡ [] → cells ≡ []

@@ -7,7 +7,7 @@ use Rattle.xlsx_sections.specs.Refusal.{Refusal}
 use Rattle.xlsx_cells.specs.Finding.{BehindRow, IsMarkRefused, PassesTo, TakesElement, LacksCell}
 use Rattle.xlsx_cells.specs.Finding.{open_mark}
 use Rattle.xlsx_cells.specs.Marks.{Mark, row_start, row_end, cell, is_cell, marks, behind_marks}
-use Rattle.xlsx_cells.specs.Position.{row_named, PassesMarks}
+use Rattle.xlsx_cells.specs.Position.{row_named, PassesMarks, IsPlaced, NoCell}
 
 pub behind_append : (first second before : List Mark) → behind_marks (first ++ second) before
     ≡ behind_marks second (behind_marks first before)
@@ -172,6 +172,23 @@ pub refused_behind_front : {passes : List Mark → Element → Type 0} {before :
 refused_behind_front {passes = passes} {before = before} {new = new} refused refusal front is =
     subst (λ (all : List Mark). IsMarkRefused passes refused before all refusal) (sym front.marks)
     (refused_behind passes refused front.passed before (marks new) refusal front.fact is)
+
+pub no_cell : (before : List Mark) (element : Element) → NoCell before element
+    → IsPlaced before element
+no_cell before element is = absurd is
+
+-- what is refused behind a cell that was taken
+pub refused_further : {before : List Mark} {element : Element} {old new : List Event}
+    (refused : List Mark → Element → Refusal → Type 0) (refusal : Refusal)
+    → (takes : TakesElement NoCell before element old new)
+    → IsPlaced (behind_marks takes.front.passed before) element
+    → IsMarkRefused IsPlaced refused (cell element ∷ behind_marks takes.front.passed before)
+    (marks new) refusal
+    → IsMarkRefused IsPlaced refused before (marks old) refusal
+refused_further {before = before} {element = element} {new = new} refused refusal takes placed is =
+    refused_behind_front refused refusal (front_over (taken_weaker no_cell takes) placed)
+    (subst (λ (own : List Mark). IsMarkRefused IsPlaced refused own (marks new) refusal)
+    (sym (behind_append takes.front.passed (cell element ∷ []) before)) is)
 
 -- all marks are passed where those behind the front are
 pub passes_all : {passes : List Mark → Element → Type 0} {before : List Mark}

@@ -1,74 +1,147 @@
 -- Readings of all cells of a sheet's data, one by one.
 use Rattle.std.proofs.Common.{◌≡◌, ℕ, List, [], ◌∷◌, ◌++◌, Result, Ok, refl, ◌∙◌, ap, sym, map}
+use Rattle.std.proofs.Common.{true, subst}
 use Rattle.cell_data.specs.CellValue.{CellValue}
 use Rattle.cell_data.specs.declared.cell.Cell.{Cell}
 use Rattle.cell_data.specs.declared.value.DataRef.{DataRef}
 use Rattle.part_events.specs.Event.{Event}
 use Rattle.part_events.specs.Section.{Element}
+use Rattle.xlsx_error.specs.declared.error.XlsxError.{XlsxError}
 use Rattle.xlsx_sections.specs.Answers.{and_others, prepended}
+use Rattle.xlsx_sections.specs.Elements.{KeepsElements}
 use Rattle.xlsx_sections.specs.Refusal.{Refusal}
+use Rattle.xlsx_sections.proofs.ElementsRead.{keeps_none}
 use Rattle.xlsx_sections.proofs.Kept.{prepended-nil}
 use Rattle.xlsx_values.specs.Value.{Grounds, cell_value}
 use Rattle.xlsx_formulas.specs.Formula.{FormulaText, behind_formulas}
 use Rattle.xlsx_cells.specs.CellsReader.{IsValued, IsValuedFormula}
-use Rattle.xlsx_cells.specs.Marks.{Mark, cell, marks, behind_marks}
-use Rattle.xlsx_cells.specs.Position.{cell_position, NoCell}
+use Rattle.xlsx_cells.specs.Finding.{IsMarkRefused}
+use Rattle.xlsx_cells.specs.Marks.{Mark, cell, is_cell, marks, behind_marks}
+use Rattle.xlsx_cells.specs.Position.{cell_position, IsPlaced, NoCell}
 use Rattle.xlsx_cells.specs.Sheet.{answers_from, placed_value, values_in}
-use Rattle.xlsx_cells.specs.SheetPart.{value_entry}
+use Rattle.xlsx_cells.specs.SheetPart.{value_entry, DataFails}
 use Rattle.xlsx_cells.specs.Stream.{Stream, StandsBehind, TakesCell, EndsData, marks_ahead}
-use Rattle.xlsx_cells.specs.Stream.{data_ahead}
+use Rattle.xlsx_cells.specs.Stream.{data_ahead, IsGoing, IsCellRefused, NextCellFails, PassesCell}
 use Rattle.xlsx_cells.specs.WholeReadings.{TakesAll, formula_value_entry}
 use Rattle.xlsx_cells.specs.declared.cell_records.XlsxCellFormula.{XlsxCellFormula}
+use Rattle.xlsx_cells.specs.declared.children.Wants.{Wants}
 use Rattle.xlsx_cells.proofs.Collecting.{answer_kept, answers_whole, answers_passed, no_answers}
+use Rattle.xlsx_cells.proofs.Collecting.{keeps_on, step_refused, taken_is_mark}
+use Rattle.xlsx_cells.proofs.Fronts.{refused_further}
 
 -- cells with these values were taken from the start of the data on
-pub record HasValues
-    (grounds : Grounds) (old now : Stream) (values : List ((ℕ × ℕ) × CellValue)) : Type 0 where
+pub record ValuesTaken
+    (wants : Wants) (grounds : Grounds) (old now : Stream) (values : List ((ℕ × ℕ) × CellValue))
+    : Type 0 where
   pub before : List Mark
   pub earlier : List FormulaText
   pub stands : StandsBehind before earlier now
   pub all :
       prepended values (answers_from (placed_value grounds) before (marks_ahead now))
       ≡ values_in grounds (data_ahead old)
+  pub refused :
+      (refusal : Refusal) →
+      IsMarkRefused IsPlaced (IsCellRefused wants grounds) before (marks_ahead now) refusal →
+      IsMarkRefused IsPlaced (IsCellRefused wants grounds) [] (marks_ahead old) refusal
 
-pub values_none : (grounds : Grounds) (old : Stream) → StandsBehind [] [] old
-    → HasValues grounds old old []
-values_none grounds old stands = record {
+pub values_none : (wants : Wants) (grounds : Grounds) (old : Stream) → StandsBehind [] [] old
+    → ValuesTaken wants grounds old old []
+values_none wants grounds old stands = record {
   before = [];
   earlier = [];
   stands = stands;
   all = prepended-nil (answers_from (placed_value grounds) [] (marks_ahead old));
+  refused = λ refusal is. is;
 }
 
-pub values_further : {grounds : Grounds} {old mid new : Stream}
+pub values_further : {wants : Wants} {grounds : Grounds} {old mid new : Stream}
     {values : List ((ℕ × ℕ) × CellValue)}
     {fact : List Mark → Element → List FormulaText → Type 0} (own : (ℕ × ℕ) × CellValue)
-    → (been : HasValues grounds old mid values)
+    → (been : ValuesTaken wants grounds old mid values)
     → TakesCell NoCell been.before been.earlier mid new fact
     → ((before : List Mark) (element : Element) (kept : List FormulaText)
     → fact before element kept → (cell_position before element.tag ≡ Ok own.0)
     × (cell_value grounds element.tag element.inside ≡ Ok own.1))
-    → HasValues grounds old new (values ++ own ∷ [])
-values_further {grounds = grounds} {mid = mid} {new = new} {values = values} own been takes says =
+    → ValuesTaken wants grounds old new (values ++ own ∷ [])
+values_further {wants = wants} {grounds = grounds} {mid = mid} {new = new} {values = values} own
+    been takes says =
     let front = takes.takes.front in
     let behind = behind_marks front.passed been.before in
-    let is = says behind takes.element takes.kept takes.holds in
+    let element = takes.element in
+    let is = says behind element takes.kept takes.holds in
     record {
-      before = cell takes.element ∷ behind;
+      before = cell element ∷ behind;
       earlier = behind_formulas takes.kept been.earlier;
       stands = takes.stands;
       all = answer_kept (placed_value grounds) values own front.passed been.before
-          (marks_ahead new) (marks_ahead mid) takes.element _ front.fact
+          (marks_ahead new) (marks_ahead mid) element _ front.fact
           (front.marks ∙ ap (λ (others : List Mark). front.passed ++ others) takes.takes.next)
           (rw (is.0, is.1) refl) been.all;
+      refused = λ refusal own_is. been.refused refusal
+          (refused_further (IsCellRefused wants grounds) refusal takes.takes (own.0, is.0)
+          own_is);
     }
 
 -- no cell is left
-pub values_whole : {grounds : Grounds} {old mid new : Stream}
-    {values : List ((ℕ × ℕ) × CellValue)} → (been : HasValues grounds old mid values)
+pub values_whole : {wants : Wants} {grounds : Grounds} {old mid new : Stream}
+    {values : List ((ℕ × ℕ) × CellValue)} → (been : ValuesTaken wants grounds old mid values)
     → EndsData NoCell been.before mid new → values_in grounds (data_ahead old) ≡ Ok values
 values_whole {grounds = grounds} {mid = mid} {values = values} been ends =
     answers_whole (placed_value grounds) values been.before (marks_ahead mid) _ ends.rows been.all
+
+-- ---- a reader of all cells
+
+-- some were taken, and the reader stands behind them
+pub record TookValues
+    (wants : Wants) (grounds : Grounds) (old now : Stream) (values : List ((ℕ × ℕ) × CellValue))
+    : Type 0 where
+  pub base : now.base ≡ old.base
+  pub keeps : KeepsElements is_cell old.base old.reading now.reading
+  pub going : IsGoing now
+  pub taken : old.reading.source.is_told ≡ true → ValuesTaken wants grounds old now values
+
+pub took_none : (wants : Wants) (grounds : Grounds) (old : Stream) → IsGoing old
+    → StandsBehind [] [] old → TookValues wants grounds old old []
+took_none wants grounds old going stands = record {
+  base = refl;
+  keeps = keeps_none is_cell old.base old.reading going.reading going.within;
+  going = going;
+  taken = λ told. values_none wants grounds old stands;
+}
+
+-- what was told to the reader is told still
+pub told_still : {wants : Wants} {grounds : Grounds} {old mid : Stream}
+    {values : List ((ℕ × ℕ) × CellValue)} → TookValues wants grounds old mid values
+    → old.reading.source.is_told ≡ true → mid.reading.source.is_told ≡ true
+told_still been told = been.keeps.section.reads.moves.parts.is_told ∙ told
+
+-- one cell more
+pub took_further : {wants : Wants} {grounds : Grounds} {old mid new : Stream}
+    {values more : List ((ℕ × ℕ) × CellValue)} {pos : ℕ × ℕ}
+    → (been : TookValues wants grounds old mid values) → PassesCell pos mid new
+    → (old.reading.source.is_told ≡ true → ValuesTaken wants grounds old new more)
+    → TookValues wants grounds old new more
+took_further {old = old} {mid = mid} {new = new} been stands taken = record {
+  base = stands.base ∙ been.base;
+  keeps = keeps_on been.keeps
+      (subst (λ (n : ℕ). KeepsElements is_cell n mid.reading new.reading) been.base
+      stands.elements);
+  going = stands.goes_on;
+  taken = taken;
+}
+
+-- a step is refused, and so are the data
+pub took_refused : {wants : Wants} {grounds : Grounds} {old mid : Stream}
+    {values : List ((ℕ × ℕ) × CellValue)} (new : Stream) (error : XlsxError)
+    → TookValues wants grounds old mid values → NextCellFails wants grounds mid new.reading error
+    → DataFails wants grounds old new error
+took_refused {wants = wants} {grounds = grounds} {old = old} {mid = mid} new error been fails =
+    step_refused wants grounds old mid new error been.going been.base been.keeps
+    (λ told refusal is.
+    let taken = been.taken told in
+    taken.refused refusal (taken_is_mark (IsCellRefused wants grounds) taken.before
+    (marks_ahead mid) refusal (is taken.before taken.stands.counters)))
+    fails
 
 -- ---- readings by two calls
 

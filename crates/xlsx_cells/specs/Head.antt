@@ -23,9 +23,9 @@ use Rattle.xlsx_error.specs.declared.error.XlsxError.TheVariants.{ColumnNumberOv
 use Rattle.xlsx_error.specs.declared.error.XlsxError.TheVariants.{RowNumberOverflow}
 use Rattle.xlsx_sections.specs.Answers.{last_answer}
 use Rattle.xlsx_sections.specs.Failing.{FailsBy}
+use Rattle.xlsx_sections.specs.Placed.{some_placed}
 use Rattle.xlsx_sections.specs.Refusal.{Refusal, plain, RefusedAs, lookup_fault, lacks_area}
 use Rattle.xlsx_cells.specs.Counting.{IsRefused}
-use Rattle.xlsx_cells.specs.Position.{some_placed}
 use Rattle.xlsx_cells.specs.declared.head.Head.{Head}
 
 abbrev pub is_sheet_data : Tag → Bool

@@ -3,27 +3,14 @@
 use Rattle.std.specs.Prelude.{◌≡◌, ℕ, suc, ◌+◌, nat_le, List, [], ◌∷◌, if◌then◌else◌, codes, Option}
 use Rattle.std.specs.Prelude.{Some, None, Result, Ok, Err}
 use Rattle.attr_text.specs.Attributes.{value_of}
-use Rattle.attr_text.specs.declared.fault.AttrFault.{AttrFault}
 use Rattle.cell_refs.specs.A1.{corner, row_of}
 use Rattle.cell_refs.specs.declared.TheConstants.{MAX_ROWS, MAX_COLUMNS}
-use Rattle.cell_refs.specs.declared.error.RefError.{RefError}
 use Rattle.cell_refs.specs.declared.error.RefError.TheVariants as ref
 use Rattle.part_events.specs.Event.{Tag}
 use Rattle.part_events.specs.Section.{Element}
-use Rattle.xlsx_sections.specs.Refusal.{Refusal, plain, lookup_fault, misplaced}
+use Rattle.xlsx_sections.specs.Placed.{named_by}
+use Rattle.xlsx_sections.specs.Refusal.{Refusal, plain, misplaced}
 use Rattle.xlsx_cells.specs.Marks.{Mark, row_start, row_end, cell}
-
-abbrev pub some_placed : {A : Type 0} → Result A RefError → Result (Option A) Refusal
-some_placed (Ok place) = Ok (Some place)
-some_placed (Err fault) = Err (plain (misplaced fault))
-
--- what an attribute names that may be absent
-abbrev pub named_by :
-    {A : Type 0} → (List ℕ → Result A RefError) → Result (Option (List ℕ)) AttrFault →
-    Result (Option A) Refusal
-named_by read (Ok None) = Ok None
-named_by read (Ok (Some written)) = some_placed (read written)
-named_by read (Err fault) = Err (plain (lookup_fault fault))
 
 -- the row that the start of a row names, and the position that the start of a cell names
 abbrev pub row_named : Tag → Result (Option ℕ) Refusal

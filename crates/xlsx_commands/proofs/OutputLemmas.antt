@@ -1,23 +1,24 @@
 -- The rows of the commands: what each call gives and what it is refused for.
-use Rattle.std.proofs.Common.{◌≡◌, ℕ, List, map, refl, subst, arith}
+use Rattle.std.proofs.Common.{◌≡◌, ℕ, List, map, refl, subst, Option, Some}
 use Rattle.std.specs.Prelude.{Result, Err, IfErr}
-use Rattle.part_events.specs.Memory.{Contents, state_of}
 use Rattle.part_events.specs.Package.{Part}
 use Rattle.cell_data.specs.CellValue.{CellValue}
 use Rattle.cell_styles.specs.StyleMap.{StyleMap}
 use Rattle.sheet_listing.specs.SheetListing.{listing}
 use Rattle.xlsx_error.specs.declared.error.XlsxError.{XlsxError}
-use Rattle.xlsx_error.specs.declared.error.XlsxError.TheVariants as workbook
-use Rattle.xlsx_open.specs.Opening.{Opening, OpensAs, OpensSoundly, OpeningCause, OpeningFails}
-use Rattle.xlsx_open.specs.Opening.{without_path}
-use Rattle.xlsx_core.specs.SheetReading.{ReadsAs, IsReadable, SheetCause, SheetFails}
+use Rattle.xlsx_areas.specs.Hyperlinks.{Link}
+use Rattle.xlsx_open.specs.Opening.{OpensSoundly, without_path}
+use Rattle.xlsx_core.specs.Links.{links_placed, PlacedLinksCause}
+use Rattle.xlsx_core.specs.SheetReading.{ReadsAs, IsReadable, SheetCause}
 use Rattle.xlsx_commands.specs.BookLists.{sheet_lines, name_lines}
-use Rattle.xlsx_commands.specs.Command.{Command, cells, sheets, names}
+use Rattle.xlsx_commands.specs.Command.{Command, cells, sheets, names, merges, links, props}
 use Rattle.xlsx_commands.specs.Outputs.{IsOutput, RefusedWorkbookCause, OutputCause, HasOutput}
-use Rattle.xlsx_commands.specs.Outputs.{CallFails}
-use Rattle.xlsx_commands.specs.Status.{of_workbook}
+use Rattle.xlsx_commands.specs.PropertyLists.{text_of_name}
+use Rattle.xlsx_commands.specs.SheetLists.{MergesPathCause}
 use Rattle.xlsx_commands.specs.declared.error.ToolError.{ToolError}
 use Rattle.xlsx_commands.specs.declared.error.ToolError.TheVariants.{Workbook}
+use Rattle.xlsx_commands.proofs.NamedSheets.{OpeningsNever, MergesNever, named_never, merges_never}
+use Rattle.xlsx_commands.proofs.PropertiesListed.{PropertiesNever, listed_never}
 
 pub err_at :
     {A E : Type 0} (result : Result A E) (e : E) (P : E → Type 0)
@@ -25,16 +26,6 @@ pub err_at :
 err_at {A = A} {E = E} result e P is holds = subst (λ (r : Result A E). IfErr r P) is holds
 
 -- ---- cells
-
--- why a sheet of a package in memory isn't read is why its lines aren't had
-pub workbook_fails :
-    (name : List ℕ) (old new : Contents) (error : XlsxError)
-    → SheetFails name (state_of old) (state_of new) error
-    → CallFails (SheetCause old.parts name) (of_workbook error)
-workbook_fails name old new workbook.Io fails = absurd (omega (arith, fails))
-workbook_fails name old new workbook.OutOfMemory fails = tt
-workbook_fails name old new (workbook.WorksheetNotFound asked) fails = fails refl
-workbook_fails name old new error fails = fails refl
 
 pub lines_of_readable : (parts : List Part) (name : List ℕ)
     → IsReadable parts name → HasOutput (cells name) parts
@@ -65,14 +56,6 @@ SheetsNever =
 
 -- ---- sheets and names
 
--- why a package in memory isn't opened is why its lists aren't had
-pub opening_fails :
-    (old new : Contents) (error : XlsxError) → OpeningFails (state_of old) (state_of new) error
-    → CallFails (OpeningCause old.parts) (of_workbook error)
-opening_fails old new workbook.Io fails = absurd (omega (arith, fails))
-opening_fails old new workbook.OutOfMemory fails = tt
-opening_fails old new error fails = fails refl
-
 pub lists_of_opened : (parts : List Part)
     → OpensSoundly parts → HasOutput sheets parts × HasOutput names parts
 unfolding IsOutput
@@ -92,31 +75,51 @@ pub opens_by_names : (parts : List Part) → HasOutput names parts → OpensSoun
 unfolding IsOutput
 opens_by_names parts (output, lines) = (lines.opening, lines.opens)
 
--- a workbook that opens isn't refused, as each is
-abbrev pub OpeningsNever : Type 0
-OpeningsNever =
-    (parts : List Part) (opening : Opening) (error : XlsxError)
-    → OpensAs parts opening → OpeningCause parts error → ⊥
+-- ---- links
+
+-- links that are taken aren't refused, as each is
+abbrev pub LinksNever : Type 0
+LinksNever =
+    (name : List ℕ) (path : Option (List ℕ)) (parts : List Part) (all : List Link)
+    (error : XlsxError)
+    → links_placed path parts ≡ Some all → PlacedLinksCause name path parts error → ⊥
 
 -- ---- all commands
 
+-- what is read of a workbook isn't refused
+pub record AreNever : Type 0 where
+  pub sheets : SheetsNever
+  pub openings : OpeningsNever
+  pub merges : MergesNever
+  pub links : LinksNever
+  pub properties : PropertiesNever
+
 -- a line for each command
 workbook_never :
-    SheetsNever → OpeningsNever → (command : Command) (parts : List Part) (output : List ℕ)
-    (error : XlsxError)
+    AreNever → (command : Command) (parts : List Part) (output : List ℕ) (error : XlsxError)
     → IsOutput command parts output → RefusedWorkbookCause command parts error → ⊥
 unfolding IsOutput RefusedWorkbookCause
-workbook_never read opened (cells name) parts output error prints cause =
-    read parts name prints.values prints.formulas prints.styles error prints.reads cause
-workbook_never read opened sheets parts output error prints cause =
-    opened parts prints.opening error prints.opens cause
-workbook_never read opened names parts output error prints cause =
-    opened parts prints.opening error prints.opens cause
+workbook_never never (cells name) parts output error prints cause =
+    never.sheets parts name prints.values prints.formulas prints.styles error prints.reads cause
+workbook_never never sheets parts output error prints cause =
+    never.openings parts prints.opening error prints.opens cause
+workbook_never never names parts output error prints cause =
+    never.openings parts prints.opening error prints.opens cause
+workbook_never never (merges name) parts output error prints cause =
+    let (path, opens, taken) = prints.has in
+    named_never (MergesPathCause name) parts name path error never.openings opens
+    (merges_never name path parts prints.areas error never.merges taken) cause
+workbook_never never (links name) parts output error prints cause =
+    let (path, opens, taken) = prints.has in
+    named_never (PlacedLinksCause name) parts name path error never.openings opens
+    (never.links name path parts prints.links error taken) cause
+workbook_never never props parts output error prints cause =
+    listed_never parts prints.texts (text_of_name prints.customs) error never.openings
+    never.properties prints.opens prints.say cause
 
 pub never_both :
-    SheetsNever → OpeningsNever → (command : Command) (parts : List Part) (output : List ℕ)
-    (error : ToolError)
+    AreNever → (command : Command) (parts : List Part) (output : List ℕ) (error : ToolError)
     → IsOutput command parts output → OutputCause command parts error → ⊥
-never_both read opened command parts output (Workbook error) prints cause =
-    workbook_never read opened command parts output error prints cause
-never_both read opened command parts output _ prints cause = absurd cause
+never_both never command parts output (Workbook error) prints cause =
+    workbook_never never command parts output error prints cause
+never_both never command parts output _ prints cause = absurd cause

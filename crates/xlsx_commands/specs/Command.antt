@@ -16,21 +16,31 @@ pub data Command : Type 0 where
   cells : List ℕ → Command
   sheets : Command
   names : Command
+  merges : List ℕ → Command
+  links : List ℕ → Command
+  props : Command
 
 abbrev pub command_meant : Asked → Command
 command_meant (asked.Cells name) = cells name.now
 command_meant asked.Sheets = sheets
 command_meant asked.Names = names
+command_meant (asked.Merges name) = merges name.now
+command_meant (asked.Links name) = links name.now
+command_meant asked.Props = props
 
 -- a command of one word
 abbrev pub bare_command : List ℕ → Option Command
 bare_command word =
     if bytes_eq word (codes "sheets") then Some sheets
-    else (if bytes_eq word (codes "names") then Some names else None)
+    else (if bytes_eq word (codes "names") then Some names
+    else (if bytes_eq word (codes "props") then Some props else None))
 
 -- a command of two
 abbrev pub named_command : List ℕ → List ℕ → Option Command
-named_command word name = if bytes_eq word (codes "cells") then Some (cells name) else None
+named_command word name =
+    if bytes_eq word (codes "cells") then Some (cells name)
+    else (if bytes_eq word (codes "merges") then Some (merges name)
+    else (if bytes_eq word (codes "links") then Some (links name) else None))
 
 -- the command that words are; no other words are one
 abbrev pub command_of : List (List ℕ) → Option Command
@@ -44,3 +54,6 @@ unfoldable pub own_parts : Command → Option (List Part)
 own_parts (cells name) = None
 own_parts sheets = None
 own_parts names = None
+own_parts (merges name) = None
+own_parts (links name) = None
+own_parts props = None

@@ -1,4 +1,6 @@
 pub mod BookLists
 pub mod Command
 pub mod Outputs
+pub mod PropertyLists
+pub mod SheetLists
 pub mod Status

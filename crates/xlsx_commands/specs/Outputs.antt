@@ -8,7 +8,10 @@ use Rattle.sheet_listing.specs.SheetListing.{listing}
 use Rattle.xlsx_open.specs.Opening.{OpeningCause}
 use Rattle.xlsx_core.specs.SheetReading.{ReadsAs, SheetCause}
 use Rattle.xlsx_commands.specs.BookLists.{AreSheetLines, AreNameLines}
-use Rattle.xlsx_commands.specs.Command.{Command, cells, sheets, names}
+use Rattle.xlsx_commands.specs.Command.{Command, cells, sheets, names, merges, links, props}
+use Rattle.xlsx_commands.specs.PropertyLists.{ArePropertyLines, ListedPropertiesCause}
+use Rattle.xlsx_commands.specs.SheetLists.{AreMergeLines, NamedMergesCause, AreLinkLines}
+use Rattle.xlsx_commands.specs.SheetLists.{NamedLinksCause}
 use Rattle.xlsx_commands.specs.declared.error.ToolError.{ToolError}
 use Rattle.xlsx_commands.specs.declared.error.ToolError.TheVariants.{Workbook, OutOfMemory}
 
@@ -27,12 +30,18 @@ unfoldable pub IsOutput : Command → List Part → List ℕ → Type 0
 IsOutput (cells name) parts output = AreLinesOf parts name output
 IsOutput sheets parts output = AreSheetLines parts output
 IsOutput names parts output = AreNameLines parts output
+IsOutput (merges name) parts output = AreMergeLines parts name output
+IsOutput (links name) parts output = AreLinkLines parts name output
+IsOutput props parts output = ArePropertyLines parts output
 
 -- why its workbook refuses it
 unfoldable pub RefusedWorkbookCause : Command → List Part → XlsxError → Type 0
 RefusedWorkbookCause (cells name) parts error = SheetCause parts name error
 RefusedWorkbookCause sheets parts error = OpeningCause parts error
 RefusedWorkbookCause names parts error = OpeningCause parts error
+RefusedWorkbookCause (merges name) parts error = NamedMergesCause parts name error
+RefusedWorkbookCause (links name) parts error = NamedLinksCause parts name error
+RefusedWorkbookCause props parts error = ListedPropertiesCause parts error
 
 -- ---- what the rows make
 

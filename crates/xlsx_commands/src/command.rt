@@ -11,6 +11,12 @@ pub enum Command<'a> {
     Sheets,
     /// The workbook's defined names.
     Names,
+    /// The merged cells of the worksheet of this name.
+    Merges(&'a str),
+    /// The links of the worksheet of this name.
+    Links(&'a str),
+    /// The workbook's properties.
+    Props,
 }
 
 fn bare_command(word: &str) -> Option<Command<'_>>
@@ -19,6 +25,7 @@ fn bare_command(word: &str) -> Option<Command<'_>>
     match word {
         "sheets" => Some(Command::Sheets),
         "names" => Some(Command::Names),
+        "props" => Some(Command::Props),
         _ => None,
     }
 }
@@ -29,6 +36,8 @@ fn named_command<'a>(word: &str, name: &'a str) -> Option<Command<'a>>
 {
     match word {
         "cells" => Some(Command::Cells(name)),
+        "merges" => Some(Command::Merges(name)),
+        "links" => Some(Command::Links(name)),
         _ => None,
     }
 }

@@ -1,9 +1,11 @@
 ghost use Rattle.std.specs.Prelude.{◌≡◌};
 ghost use Rattle.xlsx_commands.specs.Status.{status_of};
 
+use part_events::MemoryPackage;
 use std::alloc::{AllocError, AllocFailed};
 use std::error::Error;
 use std::fmt;
+use xlsx_core::OpenFailure;
 use xlsx_error::XlsxError;
 
 /// Why the program fails (docs/FORMAT.md).
@@ -91,5 +93,15 @@ impl From<XlsxError> for ToolError {
             XlsxError::OutOfMemory => ToolError::OutOfMemory,
             other => ToolError::Workbook(other),
         }
+    }
+}
+
+impl From<OpenFailure<MemoryPackage>> for ToolError {
+    ghost use Rattle.xlsx_commands.specs.Status.{of_workbook};
+
+    ghost from_gives = { λ failure e. e ≡ of_workbook failure.error };
+
+    fn from(failure: OpenFailure<MemoryPackage>) -> ToolError {
+        ToolError::from(failure.error)
     }
 }

@@ -7,8 +7,13 @@ ghost use Rattle.xlsx_commands.specs.Command.{Command, cells, sheets, names};
 ghost use Rattle.xlsx_commands.specs.Outputs.{AreLinesOf, IsOutput, OutputCause, HasOutput};
 ghost use Rattle.xlsx_commands.specs.declared.error.ToolError.{ToolError};
 
-use xlsx_core::{readable_sheets_are_not_refused, sheets_are_read_alike, sheets_go_by_their_parts};
+use xlsx_areas::merges_have_no_cause_of_a_refusal;
+use xlsx_core::{
+    links_that_are_taken_are_not_refused, readable_sheets_are_not_refused, sheets_are_read_alike,
+    sheets_go_by_their_parts,
+};
 use xlsx_open::openings_have_no_cause_of_a_refusal;
+use xlsx_properties::properties_have_no_cause_of_a_refusal;
 
 /// A package that has an output for a command has no cause of a refusal of it.
 pub fn causes_leave_no_output()
@@ -17,6 +22,9 @@ pub fn causes_leave_no_output()
 {
     readable_sheets_are_not_refused();
     openings_have_no_cause_of_a_refusal();
+    merges_have_no_cause_of_a_refusal();
+    links_that_are_taken_are_not_refused();
+    properties_have_no_cause_of_a_refusal();
 }
 
 /// A package has an output for `cells NAME` exactly where its sheet NAME is readable.

@@ -7,7 +7,10 @@ mod cell_lines;
 mod command;
 mod error;
 mod laws;
+mod link_lines;
+mod merge_lines;
 mod output;
+mod property_lines;
 
 pub use command::{Command, command_of};
 pub use error::ToolError;

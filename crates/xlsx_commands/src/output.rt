@@ -6,6 +6,9 @@ use crate::book_lists::{name_lines, sheet_lines};
 use crate::cell_lines::cell_lines;
 use crate::command::Command;
 use crate::error::ToolError;
+use crate::link_lines::link_lines;
+use crate::merge_lines::merge_lines;
+use crate::property_lines::property_lines;
 use part_events::MemoryPackage;
 use std::alloc::Global;
 
@@ -18,6 +21,9 @@ pub fn own_package(alloc: Global, command: Command<'_>) -> Option<MemoryPackage>
         Command::Cells(_) => None,
         Command::Sheets => None,
         Command::Names => None,
+        Command::Merges(_) => None,
+        Command::Links(_) => None,
+        Command::Props => None,
     }
 }
 
@@ -36,5 +42,8 @@ pub fn output_of(
         Command::Cells(name) => cell_lines(alloc, package, name),
         Command::Sheets => sheet_lines(alloc, package),
         Command::Names => name_lines(alloc, package),
+        Command::Merges(name) => merge_lines(alloc, package, name),
+        Command::Links(name) => link_lines(alloc, package, name),
+        Command::Props => property_lines(alloc, package),
     }
 }

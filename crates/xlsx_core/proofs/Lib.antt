@@ -1,6 +1,7 @@
 pub mod Agreeing
 pub mod LastOfEach
 pub mod LeastAreas
+pub mod LinksTaken
 pub mod RangesMade
 pub mod RangesRead
 pub mod SheetLaws

@@ -87,7 +87,7 @@ same_workbook parts path related one two first second =
     (λ inside. IsOpening (folder_of path) related inside two) (nothing_alike one two)
     (opened_alike (folder_of path) related one two) first second
 
-are_alike : (parts : List Part) (one two : Opening) → OpensAs parts one → OpensAs parts two
+pub are_alike : (parts : List Part) (one two : Opening) → OpensAs parts one → OpensAs parts two
     → AreAlike one two
 are_alike parts one two first second =
     let path = same_path parts second.path first.path second.found first.found in

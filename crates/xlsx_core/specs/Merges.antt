@@ -10,7 +10,8 @@ use Rattle.xlsx_error.specs.declared.error.XlsxError.TheVariants.{OutOfMemory, W
 use Rattle.xlsx_sections.specs.Failing.{FailsBy}
 use Rattle.xlsx_areas.specs.MergeErrors.{MergesCause, BreaksBefore, IsMergesError}
 use Rattle.xlsx_areas.specs.MergedCells.{merges_of, merges_or_none_of}
-use Rattle.xlsx_areas.specs.Regions.{SheetPath, sheet_at, all_regions, region_of, AllRegionsCause}
+use Rattle.xlsx_parts.specs.SheetPaths.{SheetPath, sheet_at}
+use Rattle.xlsx_areas.specs.Regions.{all_regions, region_of, AllRegionsCause}
 use Rattle.xlsx_areas.specs.declared.regions.MergedRegion.{MergedRegion}
 use Rattle.xlsx_workbook.specs.declared.sheet.Sheet.{Sheet}
 use Rattle.xlsx_core.specs.SheetReading.{PlacedCause, events_at}
@@ -86,6 +87,6 @@ abbrev pub HoldsRegions :
     List Part → List SheetPath → Vec MergedRegion Global → Type 0
 HoldsRegions parts sheets kept = all_regions parts sheets ≡ Some (map region_of kept.items)
 
-abbrev pub RegionsFail :
+abbrev pub AllRegionsFail :
     List SheetPath → PackageState → PackageState → XlsxError → Type 0
-RegionsFail sheets old new error = FailsBy (AllRegionsCause old.parts sheets) old new error
+AllRegionsFail sheets old new error = FailsBy (AllRegionsCause old.parts sheets) old new error

@@ -128,7 +128,7 @@ abbrev pub AnswersCells :
     List StyledCell → List Event → Type 0
 AnswersCells wants grounds count values formulas ids events =
     HoldsWanted wants grounds count events values formulas ids
-    ⊎ (IsNoWorksheet events × (values ≡ []) × (formulas ≡ []))
+    ⊎ (IsNoWorksheet events × (values ≡ []) × (formulas ≡ []) × (ids ≡ []))
 
 abbrev pub AnswersValues : Grounds → List Event → List ((ℕ × ℕ) × CellValue) → Type 0
 AnswersValues grounds events values =

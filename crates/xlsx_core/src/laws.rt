@@ -1,4 +1,4 @@
-ghost use Rattle.std.specs.Prelude.{◌≡◌, ℕ, List, Option};
+ghost use Rattle.std.specs.Prelude.{◌≡◌, ℕ, List, Option, Some};
 ghost use Rattle.part_events.specs.Package.{Part};
 ghost use Rattle.cell_data.specs.CellValue.{CellValue};
 ghost use Rattle.cell_data.specs.Range.{bounds_of};
@@ -12,6 +12,8 @@ ghost use Rattle.xlsx_core.specs.Agreement.{HaveSameSheet};
 ghost use Rattle.xlsx_core.specs.SheetReading.{SayTheSame, ReadsAs, IsReadable, SheetCause};
 ghost use Rattle.xlsx_core.specs.SheetReading.{PlacedCause};
 ghost use Rattle.xlsx_core.specs.SheetReading.{value_pairs, place_pairs, formula_pairs};
+ghost use Rattle.xlsx_areas.specs.Hyperlinks.{Link};
+ghost use Rattle.xlsx_core.specs.Links.{links_placed, PlacedLinksCause};
 ghost use Rattle.xlsx_core.specs.Listing.{IsListedAs, IsLeftOut};
 ghost use Rattle.xlsx_core.specs.Worksheets.{HasLeastRanges, ReadsValues, ReadsPlaces};
 ghost use Rattle.xlsx_core.specs.Worksheets.{ReadsFormulas, ReadsStyles, RangeCause};
@@ -24,6 +26,8 @@ ghost use Rattle.xlsx_workbook.specs.declared.sheet.Sheet.{Sheet};
 ghost use Rattle.xlsx_core.specs.declared.sheet_reading.SheetReading.{SheetReading};
 ghost use Rattle.xlsx_cells.specs.Sheet.{with_texts};
 ghost use Rattle.xlsx_values.specs.Value.{Grounds};
+
+use xlsx_areas::links_have_no_cause_of_a_refusal;
 
 /// A sheet that can be read has no cause to be refused.
 pub fn readable_sheets_are_not_refused()
@@ -93,6 +97,15 @@ pub fn worksheets_that_are_read_are_not_refused()
         ReadsStyles palette path parts styles →
         PlacedCause name path (SheetPartCause styles_alone grounds) parts error → ⊥ }
 {}
+
+/// A sheet whose hyperlinks are taken has no cause to be refused for them.
+pub fn links_that_are_taken_are_not_refused()
+    ensures { (name : List ℕ) (path : Option (List ℕ)) (parts : List Part) (links : List Link)
+        (error : XlsxError) → links_placed path parts ≡ Some links →
+        PlacedLinksCause name path parts error → ⊥ }
+{
+    links_have_no_cause_of_a_refusal();
+}
 
 /// No sheet that is listed with its range is one that is left out.
 pub fn worksheets_are_listed_or_left_out()

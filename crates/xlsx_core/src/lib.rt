@@ -2,6 +2,7 @@
 #![tactic(auto)]
 
 mod laws;
+mod links;
 mod lists;
 mod merges;
 mod placed_sheet;
@@ -13,13 +14,13 @@ mod worksheets;
 mod xlsx;
 
 pub use laws::{
-    ranges_differ_by_texts, readable_sheets_are_not_refused, sheets_are_read_alike,
-    sheets_go_by_their_parts, worksheets_are_listed_or_left_out,
+    links_that_are_taken_are_not_refused, ranges_differ_by_texts, readable_sheets_are_not_refused,
+    sheets_are_read_alike, sheets_go_by_their_parts, worksheets_are_listed_or_left_out,
     worksheets_that_are_read_are_not_refused,
 };
 pub use sheet_reading::{SheetAnswer, SheetReading, read_sheet};
 pub use xlsx::{OpenFailure, Xlsx};
-pub use xlsx_areas::{MergedRegion, MergedRegions};
+pub use xlsx_areas::{Hyperlink, MergedRegion, MergedRegions};
 pub use xlsx_cells::{SheetCursor, XlsxCellFormula, XlsxCellFormulaMetadataRecord, XlsxCellReader};
 pub use xlsx_error::XlsxError;
 pub use xlsx_formulas::XlsxFormulaMetadata;

@@ -10,11 +10,11 @@ ghost use Rattle.xlsx_areas.specs.Regions.{all_regions, region_of, regions_left,
 ghost use Rattle.xlsx_core.specs.Merges.{sheet_paths, sheets_of_book, name_at, path_at};
 ghost use Rattle.xlsx_core.specs.Merges.{merges_placed, merges_or_none_placed, PlacedMergesFail};
 ghost use Rattle.xlsx_core.specs.Merges.{IsPlacedMergesError, IsIndexError, NumberedMergesFail};
-ghost use Rattle.xlsx_core.specs.Merges.{PlacedBreaks, HoldsRegions, RegionsFail};
+ghost use Rattle.xlsx_core.specs.Merges.{PlacedBreaks, HoldsRegions, AllRegionsFail};
 ghost use Rattle.xlsx_core.specs.SheetReading.{events_at};
 ghost use Rattle.xlsx_core.specs.Worksheets.{path_of, KeepsBook, KeepsWorkbook};
 
-use crate::placed_sheet::path_named;
+use crate::placed_sheet::{numbered_sheet, path_named};
 use crate::xlsx::Xlsx;
 use cell_refs::Dimensions;
 use part_events::Package;
@@ -94,7 +94,7 @@ fn all_regions<P: Package>(
     ensures regions { let old = P.state «package».old in
         old.is_told ≡ true →
         IfOk result (HoldsRegions old.parts (sheet_paths sheets.now paths.now)) }
-    ensures err { IfErr result (RegionsFail (sheet_paths sheets.now paths.now)
+    ensures err { IfErr result (AllRegionsFail (sheet_paths sheets.now paths.now)
         (P.state «package».old) (P.state «package».new)) }
     ensures counts { IfErr result
         (KeepsFaults Io (P.state «package».old) (P.state «package».new)) }
@@ -169,10 +169,7 @@ impl<P: Package> Xlsx<P> {
             MatchOption (name_at self.old id) (IsIndexError id error)
             (λ name. IsPlacedMergesError name error)) }
     {
-        let Some(sheet) = self.metadata.sheets.get(id) else {
-            let text = format!(in self.alloc; "Sheet index {id} out of range")?;
-            return Err(XlsxError::WorksheetNotFound(text));
-        };
+        let sheet = numbered_sheet(self.alloc, &self.metadata.sheets, id)?;
         let name = sheet.name.as_str();
         let path = path_named(&self.metadata.sheets, &self.paths, name);
         placed_merges(self.alloc, &mut self.package, path, name)
@@ -256,7 +253,7 @@ impl<P: Package> Xlsx<P> {
             ((P.state self.new.package).faults ≡ (P.state self.old.package).faults) }
         ensures properties { self.new.lists.properties ≡ self.old.lists.properties }
         ensures unchanged { OnErr result (KeepsWorkbook self.old self.new) }
-        ensures err { IfErr result (RegionsFail (sheets_of_book self.old)
+        ensures err { IfErr result (AllRegionsFail (sheets_of_book self.old)
             (P.state self.old.package) (P.state self.new.package)) }
         ensures counts { IfErr result
             (KeepsFaults Io (P.state self.old.package) (P.state self.new.package)) }
@@ -275,7 +272,7 @@ impl<P: Package> Xlsx<P> {
         self.lists.regions.is_some()
     }
 
-    /// The regions that were loaded, in order.
+    /// The regions that were loaded, in order. It can be called once `merged_regions_loaded`.
     pub fn merged_regions(&self) -> &[MergedRegion]
         requires { IsSome self.now.lists.regions }
         ensures { IsSomeAnd self.now.lists.regions (λ kept. result.now ≡ kept.items) }
@@ -286,7 +283,7 @@ impl<P: Package> Xlsx<P> {
         }
     }
 
-    /// Those of the sheets of this name.
+    /// Those of the sheets of this name. It can be called once `merged_regions_loaded`.
     pub fn merged_regions_by_sheet<'a>(&'a self, name: &'a str) -> MergedRegions<'a>
         requires { IsSome self.now.lists.regions }
         ensures { IsSomeAnd self.now.lists.regions (λ kept.

@@ -1,5 +1,5 @@
 ghost use Rattle.std.specs.Prelude.{◌≡◌, true, false, option_map, IfOk, OnOk, IfErr, IsSomeAnd};
-ghost use Rattle.std.specs.Prelude.{length, map, string_bytes};
+ghost use Rattle.std.specs.Prelude.{length, map, string_bytes, slice_get, Some, None};
 ghost use Rattle.std.specs.Option.{option_copied};
 ghost use Rattle.part_events.specs.Package.{SameParts, KeepsFaults};
 ghost use Rattle.xlsx_error.specs.declared.error.XlsxError.TheVariants.{Io};
@@ -9,6 +9,7 @@ ghost use Rattle.xlsx_cells.specs.SheetPart.{LieInSheet};
 ghost use Rattle.xlsx_cells.specs.CellsReader.{values_alone};
 ghost use Rattle.xlsx_cells.specs.Ends.{reads_children};
 ghost use Rattle.xlsx_cells.specs.Stream.{stream};
+ghost use Rattle.xlsx_core.specs.Merges.{IsIndexError};
 ghost use Rattle.xlsx_core.specs.Opened.{path_listed};
 ghost use Rattle.xlsx_core.specs.SheetReading.{events_at, grounds_with};
 ghost use Rattle.xlsx_core.specs.SheetReading.{PlacedHeadFails, PlacedSheetFails};
@@ -39,6 +40,23 @@ pub fn path_named<'a>(sheets: &[Sheet], paths: &'a [String], name: &str) -> Opti
         rest = others;
     }
     None
+}
+
+/// The sheet at this index, counted from 0.
+///
+/// Fails with `WorksheetNotFound("Sheet index N out of range")` past the last one.
+pub fn numbered_sheet(alloc: Global, sheets: &[Sheet], index: usize) -> Result<&Sheet, XlsxError>
+    ensures found { IfOk result (λ sheet. slice_get sheets.now index ≡ Some sheet.now) }
+    ensures err { IfErr result (λ error. slice_get sheets.now index ≡ None) }
+    ensures kind { IfErr result (IsIndexError index) }
+{
+    match sheets.get(index) {
+        Some(sheet) => Ok(sheet),
+        None => {
+            let text = format!(in alloc; "Sheet index {index} out of range")?;
+            Err(XlsxError::WorksheetNotFound(text))
+        }
+    }
 }
 
 /// Opens the part of the sheet of this name at its path, and reads on behind the start of its

@@ -20,7 +20,7 @@ use Rattle.xlsx_sections.specs.NumberText.{number_text}
 use Rattle.xlsx_sections.specs.Refusal.{Refusal, plain, lookup_fault}
 use Rattle.xlsx_styles.specs.Alignments.{alignment_of, protection_of}
 use Rattle.xlsx_styles.specs.Fonts.{FontSaid, said_of}
-use Rattle.xlsx_styles.specs.Texts.{number_below}
+use Rattle.xlsx_sections.specs.NumberText.{number_below}
 use Rattle.xlsx_formats.specs.FormatCodes.{WrittenFormat, code_written}
 use Rattle.xlsx_formats.specs.declared.formatting.Formatting.{Formatting}
 use Rattle.xlsx_formats.specs.declared.formatting.NamedLists.{NamedLists}

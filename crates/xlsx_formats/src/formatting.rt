@@ -11,7 +11,7 @@ ghost use Rattle.xlsx_sections.specs.Elements.{ElementReadFails};
 ghost use Rattle.xlsx_sections.specs.PartSection.{always};
 ghost use Rattle.xlsx_sections.specs.Refusal.{Refusal, ElementFails};
 ghost use Rattle.xlsx_styles.specs.Errors.{IsPlainError};
-ghost use Rattle.xlsx_styles.specs.Texts.{number_below};
+ghost use Rattle.xlsx_sections.specs.NumberText.{number_below};
 ghost use Rattle.xlsx_formats.specs.FormatCodes.{WrittenFormat, code_kept, AreCodes};
 ghost use Rattle.xlsx_formats.specs.Formattings.{NamedSaid, numbered, format_named};
 ghost use Rattle.xlsx_formats.specs.Formattings.{number_format_named, formatting_keys};

@@ -1,3 +1,5 @@
+pub mod ElementsFound
+pub mod FirstStarts
 pub mod ManySaid
 pub mod SaidRead
 pub mod SoundParts

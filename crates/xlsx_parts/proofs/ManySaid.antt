@@ -1,8 +1,9 @@
 -- What many say, one behind the other, is put together one by one.
 use Rattle.std.proofs.Common.{◌≡◌, List, [], ◌∷◌, ◌++◌, Option, Some, None, refl, sym, ◌∙◌, ap}
-use Rattle.std.proofs.Common.{append_assoc, append-nil}
-use Rattle.std.specs.Prelude.{option_map}
+use Rattle.std.proofs.Common.{append_assoc, append-nil, inl, inr}
+use Rattle.xlsx_error.specs.declared.error.XlsxError.{XlsxError}
 use Rattle.xlsx_parts.specs.PartSaid.{put_together, all_said}
+use Rattle.xlsx_parts.specs.WholePart.{SomeCause}
 
 behind_both : {A : Type 0} (kept found : List A) (others : Option (List A))
     → put_together (Some (kept ++ found)) others
@@ -30,3 +31,24 @@ said_of_none said kept = ap (λ (all : List _). Some all) (append-nil kept)
 pub said_before : {A : Type 0} (others : Option (List A)) → put_together (Some []) others ≡ others
 said_before None = refl
 said_before (Some more) = refl
+
+-- what was put together says something by each of both
+both_said : {A : Type 0} (first others : Option (List A)) (all : List A)
+    → put_together first others ≡ Some all
+    → (a : List A) × (b : List A) × (first ≡ Some a) × (others ≡ Some b)
+both_said None others all is = absurd (cc)
+both_said (Some a) None all is = absurd (cc)
+both_said (Some a) (Some b) all is = (a, b, refl, refl)
+
+-- where many say something, none has a cause, if one that says something has none
+pub no_some_cause : {X A : Type 0} (said : X → Option (List A)) (cause : X → XlsxError → Type 0)
+    (xs : List X) (error : XlsxError) (all : List A)
+    → ((x : X) (own : List A) → said x ≡ Some own → cause x error → ⊥)
+    → all_said said xs ≡ Some all → SomeCause cause xs error → ⊥
+no_some_cause said cause [] error all never says is = is
+no_some_cause said cause (x ∷ xs) error all never says (inl own) =
+    let both = both_said (said x) (all_said said xs) all says in
+    never x both.0 both.2 own
+no_some_cause said cause (x ∷ xs) error all never says (inr others) =
+    let both = both_said (said x) (all_said said xs) all says in
+    no_some_cause said cause xs error both.1 never both.3 others

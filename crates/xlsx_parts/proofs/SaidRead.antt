@@ -21,7 +21,7 @@ use Rattle.xlsx_sections.specs.SectionEvents.{section_events}
 use Rattle.xlsx_sections.proofs.Failing.{fails_by_weaker, same_parts}
 use Rattle.xlsx_parts.specs.PartSaid.{ok_or_none, section_said, section_said_or, is_whole, if_whole}
 use Rattle.xlsx_parts.specs.PartSaid.{lacking_or, whole_said}
-use Rattle.xlsx_parts.specs.WholePart.{OpensPart, IsBroken, LackingCause, IfThere, FindFails}
+use Rattle.xlsx_parts.specs.WholePart.{OpensPart, IsBroken, LackingCause, IfThere, FindSectionFails}
 
 closed_there : (events : List Event) (found : Option (List Event)) (s : PartSection)
     → option_map (section_from events) found ≡ Some s → has_end s ≡ true
@@ -90,7 +90,7 @@ section_lacking_refused name old mid ending refused new error same found fails =
 
 -- its start isn't found, since the nesting breaks
 pub find_lacking_refused : (name : List ℕ) (ending : Ending) (refused : Refusing)
-    (old new : Reading) (error : XlsxError) → FindFails name old new error
+    (old new : Reading) (error : XlsxError) → FindSectionFails name old new error
     → FailsBy (LackingCause name ending refused (events_of old)) old.source new.source error
 find_lacking_refused name ending refused old new error fails =
     fails_by_weaker (LackingCause name ending refused (events_of old))

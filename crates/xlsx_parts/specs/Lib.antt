@@ -1,2 +1,4 @@
+pub mod FirstElement
 pub mod PartSaid
+pub mod SheetPaths
 pub mod WholePart

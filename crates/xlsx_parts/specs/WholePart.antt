@@ -73,8 +73,8 @@ FindsSection name false old new =
     × (new.at ≡ length (events_of old))
 
 -- it can't be looked for, since the nesting breaks before
-abbrev pub FindFails : List ℕ → Reading → Reading → XlsxError → Type 0
-FindFails name old new error =
+abbrev pub FindSectionFails : List ℕ → Reading → Reading → XlsxError → Type 0
+FindSectionFails name old new error =
     FailsBy (λ own. (section_in name (events_of old) ≡ None) × IsBroken (events_of old) own)
     old.source new.source error
 

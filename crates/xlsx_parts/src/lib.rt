@@ -1,6 +1,8 @@
 //! Parts that are read whole, and sections that a part may lack.
 #![tactic(auto)]
 
+mod first_element;
 mod parts;
 
+pub use first_element::find_element;
 pub use parts::{find_section, next_event_of_part, next_start_of_part, open_part};

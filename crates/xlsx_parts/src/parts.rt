@@ -6,7 +6,8 @@ ghost use Rattle.xlsx_error.specs.declared.error.XlsxError.TheVariants.{Io};
 ghost use Rattle.xlsx_sections.specs.Elements.{KeepsStarts};
 ghost use Rattle.xlsx_sections.specs.Failing.{SoundFails};
 ghost use Rattle.xlsx_sections.specs.PartSection.{KeepsSection};
-ghost use Rattle.xlsx_parts.specs.WholePart.{OpensPart, FindsSection, FindFails, StandsInPart};
+ghost use Rattle.xlsx_parts.specs.WholePart.{OpensPart, FindsSection, FindSectionFails};
+ghost use Rattle.xlsx_parts.specs.WholePart.{StandsInPart};
 ghost use Rattle.xlsx_parts.specs.WholePart.{StepsInPart, StandsAtPartEvent, StepsToPartEvent};
 ghost use Rattle.xlsx_parts.specs.WholePart.{StepFails, IsBreakError};
 
@@ -62,7 +63,7 @@ pub fn find_section<P: Package>(
         old.source.is_told ≡ true → IfOk result (λ found. FindsSection name.now found old new) }
     ensures err { let old = reading (P.state «package».old) cursor.old in
         let new = reading (P.state «package».new) cursor.new in
-        IfErr result (FindFails name.now old new) }
+        IfErr result (FindSectionFails name.now old new) }
     ensures kind { IfErr result IsBreakError }
 {
     match cursor.next_start(package, 0, &[name])? {

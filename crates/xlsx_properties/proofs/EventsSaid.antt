@@ -1,17 +1,17 @@
 -- How a part is read event by event for what it says by keys.
 use Rattle.std.proofs.Common.{◌≡◌, ◌∷◌, ◌∙◌, [], ℕ, suc, ◌+◌, List, length, true, Option, None}
 use Rattle.std.proofs.Common.{Some}
-use Rattle.std.proofs.Common.{Result, Ok, Err, refl, sym, ap, arith}
+use Rattle.std.proofs.Common.{Result, Ok, Err, sym, ap}
 use Rattle.part_events.specs.Event.{Event}
 use Rattle.part_events.specs.Nesting.{whole}
 use Rattle.part_events.specs.Package.{PackageState}
-use Rattle.part_events.specs.Reading.{Reading, IsReading, events_of}
+use Rattle.part_events.specs.Reading.{Reading, events_of}
 use Rattle.part_events.specs.Walk.{section_ahead}
 use Rattle.part_events.specs.declared.fault.XmlFault.TheVariants.{EndMismatch}
 use Rattle.xlsx_error.specs.declared.error.XlsxError.{XlsxError}
 use Rattle.xlsx_error.specs.declared.error.XlsxError.TheVariants.{OutOfMemory, Io, Xml}
 use Rattle.xlsx_sections.specs.Answers.{or_earlier, or_later}
-use Rattle.xlsx_sections.specs.PartSection.{KeepsSection, last_of, section_left}
+use Rattle.xlsx_sections.specs.PartSection.{KeepsSection}
 use Rattle.xlsx_sections.specs.Refusal.{Refusal, RefusedAs, RefusedAt}
 use Rattle.xlsx_sections.specs.Steps.{IsEventInside}
 use Rattle.xlsx_sections.proofs.Refused.{refused_weaker}

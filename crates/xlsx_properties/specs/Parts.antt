@@ -65,3 +65,11 @@ pub record AreWhole (parts : List Part) : Type 0 where
   pub core : IsWholeIfThere (part_of parts core_part)
   pub program : IsWholeIfThere (part_of parts program_part)
   pub custom : IsWholeIfThere (part_of parts custom_part)
+
+-- the parts say these texts of the properties and of the names that users gave
+pub record SayProperties
+    (parts : List Part) (texts : Property → Option (List ℕ))
+    (customs : List ℕ → Option (List ℕ)) : Type 0 where
+  pub whole : AreWhole parts
+  pub said : (own : Property) → property_said parts own ≡ Ok (texts own)
+  pub custom : (name : List ℕ) → custom_said parts name ≡ Ok (customs name)

@@ -57,5 +57,27 @@ order_of Company = 14
 order_of Template = 15
 order_of Manager = 16
 
+-- each property with the name of its field, in that order
+abbrev pub named_properties : List (List ℕ × Property)
+named_properties =
+    (codes "creator", Creator)
+    ∷ (codes "last_modified_by", LastModifiedBy)
+    ∷ (codes "created", Created)
+    ∷ (codes "modified", Modified)
+    ∷ (codes "title", Title)
+    ∷ (codes "subject", Subject)
+    ∷ (codes "description", Description)
+    ∷ (codes "keywords", Keywords)
+    ∷ (codes "category", Category)
+    ∷ (codes "content_status", ContentStatus)
+    ∷ (codes "revision", Revision)
+    ∷ (codes "version", Version)
+    ∷ (codes "application", Application)
+    ∷ (codes "app_version", AppVersion)
+    ∷ (codes "company", Company)
+    ∷ (codes "template", Template)
+    ∷ (codes "manager", Manager)
+    ∷ []
+
 abbrev pub is_same : Property → Property → Bool
 is_same wanted own = order_of wanted == order_of own

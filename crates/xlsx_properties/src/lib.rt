@@ -3,6 +3,7 @@
 #![tactic(auto)]
 
 mod custom_part;
+mod laws;
 mod open_custom;
 mod open_property;
 mod property;
@@ -10,6 +11,7 @@ mod property_part;
 mod read;
 mod workbook_properties;
 
-pub use property::Property;
+pub use laws::properties_have_no_cause_of_a_refusal;
+pub use property::{Property, named_properties};
 pub use read::read_properties;
 pub use workbook_properties::WorkbookProperties;

@@ -1,6 +1,7 @@
-ghost use Rattle.std.specs.Prelude.{◌≡◌, None};
+ghost use Rattle.std.specs.Prelude.{◌≡◌, map, slice_get, None, Some};
 ghost use Rattle.xlsx_sections.specs.Names.{named};
 ghost use Rattle.xlsx_properties.specs.Property.{core_properties, program_properties};
+ghost use Rattle.xlsx_properties.specs.Property.{named_properties, order_of};
 
 /// A property that the core part of a workbook may have; from `Application` on those that the
 /// program's part may have, too.
@@ -61,4 +62,33 @@ pub(crate) fn core_property(name: &str) -> Option<Property>
         "version" => Some(Property::Version),
         _ => program_property(name),
     }
+}
+
+const NAMED: [(&str, Property); 17] = [
+    ("creator", Property::Creator),
+    ("last_modified_by", Property::LastModifiedBy),
+    ("created", Property::Created),
+    ("modified", Property::Modified),
+    ("title", Property::Title),
+    ("subject", Property::Subject),
+    ("description", Property::Description),
+    ("keywords", Property::Keywords),
+    ("category", Property::Category),
+    ("content_status", Property::ContentStatus),
+    ("revision", Property::Revision),
+    ("version", Property::Version),
+    ("application", Property::Application),
+    ("app_version", Property::AppVersion),
+    ("company", Property::Company),
+    ("template", Property::Template),
+    ("manager", Property::Manager),
+];
+
+/// Each property with the name of its field in `WorkbookProperties`, in the order of these.
+pub fn named_properties() -> &'static [(&'static str, Property)]
+    ensures named { map (λ own. (own.0.now, own.1)) result.now ≡ named_properties }
+    ensures all { (own : Property) →
+        slice_get (map (λ one. one.1) named_properties) (order_of own) ≡ Some own }
+{
+    &NAMED
 }

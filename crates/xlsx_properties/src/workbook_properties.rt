@@ -4,7 +4,7 @@ ghost use Rattle.std.specs.Str.{bytes_eq};
 ghost use Rattle.xlsx_error.specs.declared.error.XlsxError.TheVariants.{OutOfMemory};
 ghost use Rattle.std.specs.Option.{option_copied};
 ghost use Rattle.xlsx_properties.specs.Property.{is_same};
-ghost use Rattle.xlsx_properties.specs.Kept.{held, custom_held, custom_texts};
+ghost use Rattle.xlsx_properties.specs.Kept.{held, custom_held, AreSame};
 ghost use Rattle.xlsx_properties.specs.declared.property.Property.{Property};
 
 use crate::property::Property;
@@ -161,6 +161,7 @@ impl WorkbookProperties {
     /// Takes the texts of another one's properties, but for those that users named.
     fn copy_texts(&mut self, alloc: Global, source: &WorkbookProperties) -> Result<(), AllocError>
         ensures held { OnOk result ((own : Property) → held own self.new ≡ held own source.now) }
+        ensures custom { self.new.custom_properties ≡ self.old.custom_properties }
     {
         self.creator = copied(alloc, &source.creator)?;
         self.last_modified_by = copied(alloc, &source.last_modified_by)?;
@@ -184,16 +185,11 @@ impl WorkbookProperties {
 
     /// A copy in memory of its own.
     pub fn clone_in(&self, alloc: Global) -> Result<WorkbookProperties, AllocError>
-        ensures held { IfOk result (λ copy. (own : Property) →
-            held own copy ≡ held own self.now) }
-        ensures custom { IfOk result (λ copy.
-            custom_texts copy ≡ custom_texts self.now) }
-        ensures named { IfOk result (λ copy. (name : List ℕ) →
-            custom_held name copy ≡ custom_held name self.now) }
+        ensures { IfOk result (λ copy. AreSame copy self.now) }
     {
         let mut copy = WorkbookProperties::new(alloc);
-        copy.copy_texts(alloc, self)?;
         copy.custom_properties = self.custom_properties.clone()?;
+        copy.copy_texts(alloc, self)?;
         Ok(copy)
     }
 }

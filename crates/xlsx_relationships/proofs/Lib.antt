@@ -1,2 +1,5 @@
 pub mod Pieces
+pub mod RelatedRead
 pub mod RelationshipErrors
+pub mod SoundTargets
+pub mod TargetsKept

@@ -1,4 +1,6 @@
 pub mod KeptRelationships
+pub mod LinkTargets
 pub mod Paths
+pub mod RelatedParts
 pub mod RelationshipErrors
 pub mod Relationships

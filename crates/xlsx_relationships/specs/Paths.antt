@@ -1,7 +1,8 @@
 -- The pieces of a part's path.
-use Rattle.std.specs.Prelude.{ℕ, ◌-◌, List, [], ◌∷◌, length, take, Bool, ◌==◌, if◌then◌else◌}
-use Rattle.std.specs.Prelude.{Option, Some, None, unwrap_or}
+use Rattle.std.specs.Prelude.{ℕ, ◌-◌, List, [], ◌∷◌, ◌++◌, length, take, codes, Bool, ◌==◌}
+use Rattle.std.specs.Prelude.{if◌then◌else◌, Option, Some, None, unwrap_or}
 use Rattle.std.specs.List.{after_last}
+use Rattle.std.specs.Str.{bytes_eq}
 
 abbrev pub is_slash : ℕ → Bool
 is_slash byte = byte == 47
@@ -25,3 +26,14 @@ front_pieces path = take (length path - length (last_piece path)) path
 -- the folder of the part at this path, with the slash at its end and none at its front
 abbrev pub folder_of : List ℕ → List ℕ
 folder_of path = without_slash (front_pieces path)
+
+-- the folder of any other part, with the slash at its end and what stands at its front; a slash
+-- alone is none
+abbrev pub part_folder : List ℕ → List ℕ
+part_folder path =
+    if bytes_eq (front_pieces path) (codes "/") then [] else front_pieces path
+
+-- where the relationships of the part at this path are
+abbrev pub relationships_beside : List ℕ → List ℕ
+relationships_beside path =
+    ((part_folder path ++ codes "_rels/") ++ last_piece path) ++ codes ".rels"

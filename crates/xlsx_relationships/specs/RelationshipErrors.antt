@@ -17,3 +17,13 @@ IsRelationshipsError (XmlEof element) = element.now ≡ codes "Relationships"
 IsRelationshipsError (FileNotFound path) = ⊤
 IsRelationshipsError RelationshipNotFound = ⊤
 IsRelationshipsError _ = ⊥
+
+-- and those that the targets of hyperlinks can have, where the part may be absent
+abbrev pub IsTargetsError : XlsxError → Type 0
+IsTargetsError OutOfMemory = ⊤
+IsTargetsError Io = ⊤
+IsTargetsError (Xml (EndMismatch at)) = ⊤
+IsTargetsError (Xml (Entity at)) = ⊤
+IsTargetsError (XmlAttr fault) = ⊤
+IsTargetsError (XmlEof element) = element.now ≡ codes "Relationships"
+IsTargetsError _ = ⊥

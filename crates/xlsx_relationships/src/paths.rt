@@ -1,6 +1,7 @@
 ghost use Rattle.std.specs.Prelude.{◌≡◌, ◌++◌, string_bytes, IfOk};
 ghost use Rattle.std.specs.Option.{option_copied};
 ghost use Rattle.xlsx_relationships.specs.Paths.{behind_slash, last_piece, front_pieces, folder_of};
+ghost use Rattle.xlsx_relationships.specs.Paths.{part_folder, relationships_beside};
 
 use std::alloc::{AllocError, Global};
 
@@ -49,4 +50,22 @@ pub fn joined(alloc: Global, front: &str, end: &str) -> Result<String, AllocErro
     let mut path = String::from_str(alloc, front)?;
     path.push_str(end)?;
     Ok(path)
+}
+
+/// The folder of any part, as `folder_of` but with what stands at its front. A slash alone is none.
+pub fn part_folder(path: &str) -> &str
+    ensures { result.now ≡ part_folder path.now }
+{
+    let front = front_pieces(path);
+    if front == "/" { "" } else { front }
+}
+
+/// Where the relationships of the part at this path are (ECMA-376 part 2, section 9.3.4).
+pub fn relationships_beside(alloc: Global, path: &str) -> Result<String, AllocError>
+    ensures { IfOk result (λ part. string_bytes part ≡ relationships_beside path.now) }
+{
+    let mut part = joined(alloc, part_folder(path), "_rels/")?;
+    part.push_str(last_piece(path))?;
+    part.push_str(".rels")?;
+    Ok(part)
 }

@@ -7,6 +7,7 @@ pub mod Failing
 pub mod Names
 pub mod NumberText
 pub mod PartSection
+pub mod Placed
 pub mod Refusal
 pub mod SectionEvents
 pub mod Steps

@@ -20,7 +20,7 @@ use Rattle.xlsx_error.specs.declared.error.XlsxError.TheVariants.{RangeWithoutCo
 use Rattle.xlsx_error.specs.declared.error.XlsxError.TheVariants.{ColumnNumberOverflow}
 use Rattle.xlsx_error.specs.declared.error.XlsxError.TheVariants.{RowNumberOverflow, UnexpectedNode}
 use Rattle.xlsx_error.specs.declared.error.XlsxError.TheVariants.{Unexpected, CellTAttribute}
-use Rattle.xlsx_error.specs.declared.error.XlsxError.TheVariants.{CellError, ParseFloat}
+use Rattle.xlsx_error.specs.declared.error.XlsxError.TheVariants.{CellError, ParseFloat, ParseInt}
 
 -- a refusal of which its error tells whole
 pub data PlainRefusal : Type 0 where
@@ -49,6 +49,8 @@ pub data PlainRefusal : Type 0 where
   wrong_number : List ℕ → PlainRefusal
   -- a cell with a value has this type, which is none
   wrong_type : List ℕ → PlainRefusal
+  -- this text counts no rows
+  wrong_count : List ℕ → PlainRefusal
 
 pub data Refusal : Type 0 where
   -- a reference in one of its texts has no character; so many events of the section stand behind
@@ -97,6 +99,7 @@ plain_told (Unexpected text) = told_by text.now unexpected
 plain_told (CellTAttribute typ) = Some (wrong_type (string_bytes typ))
 plain_told (CellError written) = Some (wrong_error (string_bytes written))
 plain_told (ParseFloat written) = Some (wrong_number (string_bytes written))
+plain_told (ParseInt written) = Some (wrong_count (string_bytes written))
 plain_told _ = None
 
 -- An error tells of a refusal, in a section whose end is event number `last` of its part, or would

@@ -14,7 +14,8 @@ use Rattle.cell_styles.specs.declared.alignment.VerticalAlignment.{VerticalAlign
 use Rattle.cell_styles.specs.declared.alignment.VerticalAlignment.TheVariants as vertical
 use Rattle.cell_styles.specs.declared.protection.Protection.{Protection}
 use Rattle.xlsx_sections.specs.Names.{named}
-use Rattle.xlsx_styles.specs.Texts.{truth_or, number_below}
+use Rattle.xlsx_sections.specs.NumberText.{number_below}
+use Rattle.xlsx_styles.specs.Texts.{truth_or}
 
 -- ECMA-376 part 1, section 18.18.40
 abbrev pub horizontal_named : Option (List ℕ) → HorizontalAlignment

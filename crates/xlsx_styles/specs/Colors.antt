@@ -12,7 +12,7 @@ use Rattle.part_events.specs.Section.{is_named}
 use Rattle.decimals.specs.Decimals.{decimal_of}
 use Rattle.cell_styles.specs.Color.{color_of_argb}
 use Rattle.cell_styles.specs.declared.color.Color.{Color}
-use Rattle.xlsx_styles.specs.Texts.{number_below}
+use Rattle.xlsx_sections.specs.NumberText.{number_below}
 use Rattle.xlsx_styles.specs.Tint.{Fraction, number_fraction}
 
 -- a start that says a color

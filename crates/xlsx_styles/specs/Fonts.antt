@@ -22,7 +22,8 @@ use Rattle.xlsx_sections.specs.Refusal.{Refusal, plain, lookup_fault, decoded_at
 use Rattle.xlsx_sections.specs.Changes.{all_changes, or_fault, changed_with}
 use Rattle.xlsx_styles.specs.Colors.{color_of, is_color}
 use Rattle.xlsx_sections.specs.Names.{named}
-use Rattle.xlsx_styles.specs.Texts.{truth_or, number_below}
+use Rattle.xlsx_sections.specs.NumberText.{number_below}
+use Rattle.xlsx_styles.specs.Texts.{truth_or}
 
 -- a font, its size as a number, its mantissa and its power of ten
 pub record FontSaid : Type 0 where

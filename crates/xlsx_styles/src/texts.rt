@@ -1,6 +1,7 @@
 ghost use Rattle.std.specs.Prelude.{◌≡◌};
 ghost use Rattle.std.specs.Option.{option_copied};
-ghost use Rattle.xlsx_styles.specs.Texts.{is_truth, truth_or, number_below};
+ghost use Rattle.xlsx_sections.specs.NumberText.{number_below};
+ghost use Rattle.xlsx_styles.specs.Texts.{is_truth, truth_or};
 
 use xlsx_sections::number_text;
 

@@ -12,12 +12,19 @@ use Rattle.xlsx_tool.specs.Sink.{SinkState}
 unfoldable pub help_text : List ℕ
 help_text =
     codes "Usage: xlsx_tool cells NAME < package.json\n"
+    ++ (codes "       xlsx_tool merges NAME < package.json\n"
+    ++ (codes "       xlsx_tool links NAME < package.json\n"
     ++ (codes "       xlsx_tool sheets < package.json\n"
-    ++ (codes "       xlsx_tool names < package.json\n\n"
-    ++ (codes "cells prints a line for each cell of worksheet NAME with a value, a formula or a\n"
-    ++ (codes "style: its position, value, formula and fill. sheets prints a line for each\n"
-    ++ (codes "sheet: its name, type and state. names prints a line for each defined name: the\n"
-    ++ codes "name and its text. The fields of a line have tabs between them.\n")))))
+    ++ (codes "       xlsx_tool names < package.json\n"
+    ++ (codes "       xlsx_tool props < package.json\n\n"
+    ++ (codes "One line is printed, of the worksheet NAME or of the workbook, for each\n\n"
+    ++ (codes "  cells   cell with a value, a formula or a style: position, value, formula, fill\n"
+    ++ (codes "  merges  area of merged cells: its corners\n"
+    ++ (codes "  links   link: its area, target, location, displayed text, tooltip\n"
+    ++ (codes "  sheets  sheet: its name, type, state\n"
+    ++ (codes "  names   defined name: the name, its text\n"
+    ++ (codes "  props   property of the workbook: its name, its text\n\n"
+    ++ codes "The fields of a line have tabs between them.\n"))))))))))))
 
 abbrev pub version_text : List ℕ
 version_text = codes "xlsx_tool 0.1.0\n"

@@ -17,13 +17,22 @@ use xlsx_commands::ToolError;
 
 const HELP: &str = "\
 Usage: xlsx_tool cells NAME < package.json
+       xlsx_tool merges NAME < package.json
+       xlsx_tool links NAME < package.json
        xlsx_tool sheets < package.json
        xlsx_tool names < package.json
+       xlsx_tool props < package.json
 
-cells prints a line for each cell of worksheet NAME with a value, a formula or a
-style: its position, value, formula and fill. sheets prints a line for each
-sheet: its name, type and state. names prints a line for each defined name: the
-name and its text. The fields of a line have tabs between them.
+One line is printed, of the worksheet NAME or of the workbook, for each
+
+  cells   cell with a value, a formula or a style: position, value, formula, fill
+  merges  area of merged cells: its corners
+  links   link: its area, target, location, displayed text, tooltip
+  sheets  sheet: its name, type, state
+  names   defined name: the name, its text
+  props   property of the workbook: its name, its text
+
+The fields of a line have tabs between them.
 ";
 
 const VERSION: &str = "xlsx_tool 0.1.0\n";

@@ -1,6 +1,6 @@
 use Rattle.std.proofs.Common.{◌≡◌, ◌+◌, ◌++◌, length, string_bytes}
 use Rattle.cell_styles.specs.StyleMap.{style_at}
-use Rattle.sheet_listing.specs.SheetListing.{AreInOrder}
+use Rattle.cell_data.specs.Splitting.{AreInOrder}
 use Rattle.sheet_listing.proofs.SheetListingLemmas.{lines_left}
 use Rattle.sheet_listing.proofs.lines.push_lines.Given as goal
 

@@ -1,112 +1,83 @@
-use Rattle.std.proofs.Common.{[], refl, sym, ◌∙◌}
-use Rattle.xlsx_cells.specs.CellsReader.{stream_by, grounds_by, IsValued}
+use Rattle.std.proofs.Common.{◌≡◌, ◌++◌, ◌∷◌, [], refl, sym, ◌∙◌, subst}
+use Rattle.std.proofs.lemmas.Result.{err_from_is_err_and}
+use Rattle.xlsx_values.specs.Value.{Grounds}
+use Rattle.xlsx_cells.specs.CellsReader.{stream_by, grounds_by, IsValued, values_alone}
 use Rattle.xlsx_cells.specs.Position.{NoCell}
-use Rattle.xlsx_cells.specs.Stream.{PassesCell, TakesCell, EndsData}
-use Rattle.xlsx_cells.proofs.WholeReadings.{values_none}
-use Rattle.worked_calls.proofs.FirstErrors.{no_error_further, error_found, no_error_left}
+use Rattle.xlsx_cells.specs.SheetPart.{value_entry}
+use Rattle.xlsx_cells.specs.Stream.{PassesCell, TakesCell, EndsData, NextCellFails}
+use Rattle.xlsx_cells.proofs.WholeReadings.{took_none, took_further, took_refused, told_still}
+use Rattle.worked_calls.proofs.FirstErrors.{values_and_one, none_further, error_found}
+use Rattle.worked_calls.proofs.FirstErrors.{no_error_left}
 use Rattle.worked_calls.proofs.taking.first_error.Goals as goal
 
 pub cells-init : goal.cells-init
 cells-init g c =
     let old = stream_by g.P.Package.state c.args.reader.now in
+    let grounds = grounds_by c.args.reader.now in
     record {
       hold = refl;
-      still = λ told. told;
-      going = c.requires.going;
-      sound = λ told. record {
-        sound = [];
-        been = values_none (grounds_by c.args.reader.now) old c.requires.fresh;
-        none = refl;
-      };
-    }
-
-pub cells-preserved-else-is_error : goal.cells-preserved-else-is_error
-cells-preserved-else-is_error g c =
-    let mid = stream_by g.P.Package.state c.cells.reader in
-    let new = stream_by g.P.Package.state c.next_cell.new.self in
-    let now = c.cells.invariant in
-    let own = c.in-Some.cell in
-    let stands : PassesCell own.pos mid new = rw c.in-Some.is at c.in_ok-cell.ensures.stands in
-    record {
-      hold = c.in_ok-cell.ensures.hold.grounds ∙ now.hold;
-      still = λ told. c.in_ok-cell.ensures.reads.moves.parts.is_told ∙ now.still told;
-      going = stands.goes_on;
-      sound = λ told.
-          let so_far = now.sound told in
-          let takes : TakesCell NoCell so_far.been.before so_far.been.earlier mid new
-          (IsValued (grounds_by c.cells.reader) own) =
-          rw c.in-Some.is at (c.in_ok-cell.ensures.takes (now.still told) so_far.been.before
-          so_far.been.earlier so_far.been.stands) in
-          no_error_further own now.hold so_far takes
-          (sym c.is_error.ensures ∙ c.if-is_error.false);
-    }
-
-pub cells-preserved-else-is_error-2 : goal.cells-preserved-else-is_error-2
-cells-preserved-else-is_error-2 g c =
-    let mid = stream_by g.P.Package.state c.cells.reader in
-    let new = stream_by g.P.Package.state c.next_cell.new.self in
-    let now = c.cells.invariant in
-    let own = c.in-Some.cell in
-    let stands : PassesCell own.pos mid new = rw c.in-Some.is at c.in_ok-cell.ensures.stands in
-    record {
-      hold = c.in_ok-cell.ensures.hold.grounds ∙ now.hold;
-      still = λ told. c.in_ok-cell.ensures.reads.moves.parts.is_told ∙ now.still told;
-      going = stands.goes_on;
-      sound = λ told.
-          let so_far = now.sound told in
-          let takes : TakesCell NoCell so_far.been.before so_far.been.earlier mid new
-          (IsValued (grounds_by c.cells.reader) own) =
-          rw c.in-Some.is at (c.in_ok-cell.ensures.takes (now.still told) so_far.been.before
-          so_far.been.earlier so_far.been.stands) in
-          no_error_further own now.hold so_far takes
-          (sym c.is_error.ensures ∙ c.if-is_error.false);
+      took = ([], refl, took_none values_alone grounds old c.requires.going c.requires.fresh);
     }
 
 pub cells-preserved : goal.cells-preserved
 cells-preserved g c =
+    let old = stream_by g.P.Package.state c.args.reader.now in
     let mid = stream_by g.P.Package.state c.cells.reader in
     let new = stream_by g.P.Package.state c.next_cell.new.self in
     let now = c.cells.invariant in
+    let took = now.took.2 in
     let own = c.in-Some.cell in
     let stands : PassesCell own.pos mid new = rw c.in-Some.is at c.in_ok-cell.ensures.stands in
     record {
       hold = c.in_ok-cell.ensures.hold.grounds ∙ now.hold;
-      still = λ told. c.in_ok-cell.ensures.reads.moves.parts.is_told ∙ now.still told;
-      going = stands.goes_on;
-      sound = λ told.
-          let so_far = now.sound told in
-          let takes : TakesCell NoCell so_far.been.before so_far.been.earlier mid new
-          (IsValued (grounds_by c.cells.reader) own) =
-          rw c.in-Some.is at (c.in_ok-cell.ensures.takes (now.still told) so_far.been.before
-          so_far.been.earlier so_far.been.stands) in
-          no_error_further own now.hold so_far takes
-          (sym c.is_error.ensures ∙ c.if-is_error.false);
+      took = (
+        now.took.0 ++ value_entry own ∷ [],
+        none_further now.took.0 (value_entry own) now.took.1
+            (sym c.is_error.ensures ∙ c.if-is_error.false),
+        took_further took stands (λ told.
+            let been = took.taken told in
+            let takes : TakesCell NoCell been.before been.earlier mid new
+            (IsValued (grounds_by c.cells.reader) own) =
+            rw c.in-Some.is at (c.in_ok-cell.ensures.takes (told_still took told) been.before
+            been.earlier been.stands) in
+            values_and_one own now.hold been takes),
+      );
     }
 
-pub returns-then-is_error : goal.returns-then-is_error
-returns-then-is_error g c = record {
-  found = λ told all is.
-      let mid = stream_by g.P.Package.state c.cells.reader in
-      let new = stream_by g.P.Package.state c.next_cell.new.self in
-      let now = c.cells.invariant in
-      let own = c.in-Some.cell in
-      let so_far = now.sound told in
-      let takes : TakesCell NoCell so_far.been.before so_far.been.earlier mid new
-      (IsValued (grounds_by c.cells.reader) own) =
-      rw c.in-Some.is at (c.in_ok-cell.ensures.takes (now.still told) so_far.been.before
-      so_far.been.earlier so_far.been.stands) in
-      error_found own all now.hold so_far takes (sym c.is_error.ensures ∙ c.if-is_error.true) is;
-}
+pub returns-then-is_error-clause-found : goal.returns-then-is_error-clause-found
+returns-then-is_error-clause-found g c = λ told.
+    let mid = stream_by g.P.Package.state c.cells.reader in
+    let new = stream_by g.P.Package.state c.next_cell.new.self in
+    let now = c.cells.invariant in
+    let took = now.took.2 in
+    let own = c.in-Some.cell in
+    let been = took.taken told in
+    let takes : TakesCell NoCell been.before been.earlier mid new
+    (IsValued (grounds_by c.cells.reader) own) =
+    rw c.in-Some.is at (c.in_ok-cell.ensures.takes (told_still took told) been.before
+    been.earlier been.stands) in
+    error_found now.took.0 (value_entry own) (values_and_one own now.hold been takes) now.took.1
+    (sym c.is_error.ensures ∙ c.if-is_error.true)
 
-pub returns : goal.returns
-returns g c = record {
-  found = λ told all is.
-      let mid = stream_by g.P.Package.state c.cells.reader in
-      let new = stream_by g.P.Package.state c.next_cell.new.self in
-      let now = c.cells.invariant in
-      let so_far = now.sound told in
-      let ends : EndsData NoCell so_far.been.before mid new = rw c.in_default.is at
-      (c.in_ok-cell.ensures.takes (now.still told) so_far.been.before so_far.been.earlier
-      so_far.been.stands) now.going.done in
-      no_error_left all so_far ends is;
-}
+pub returns-clause-found : goal.returns-clause-found
+returns-clause-found g c = λ told.
+    let mid = stream_by g.P.Package.state c.cells.reader in
+    let new = stream_by g.P.Package.state c.next_cell.new.self in
+    let now = c.cells.invariant in
+    let took = now.took.2 in
+    let been = took.taken told in
+    let ends : EndsData NoCell been.before mid new = rw c.in_default.is at
+    (c.in_ok-cell.ensures.takes (told_still took told) been.before been.earlier been.stands)
+    took.going.done in
+    no_error_left been now.took.1 ends
+
+pub returns-in_err-cell-clause-err : goal.returns-in_err-cell-clause-err
+returns-in_err-cell-clause-err g c =
+    let mid = stream_by g.P.Package.state c.cells.reader in
+    let new = stream_by g.P.Package.state c.next_cell.new.self in
+    let error = c.in_err-cell.field-0.0 in
+    let now = c.cells.invariant in
+    let p = err_from_is_err_and c.from_residual.result c.from_residual.ensures.1 in
+    rw (p.1, p.2) (took_refused new error now.took.2
+    (subst (λ (grounds : Grounds). NextCellFails values_alone grounds mid new.reading error)
+    now.hold c.in_err-cell.ensures.err))

@@ -1,7 +1,9 @@
-use Rattle.std.proofs.Common.{◌≡◌, true}
-use Rattle.xlsx_cells.specs.CellsReader.{stream_by, grounds_by}
-use Rattle.xlsx_cells.specs.Stream.{IsGoing}
-use Rattle.worked_calls.proofs.FirstErrors.{HasNoError}
+use Rattle.std.proofs.Common.{◌≡◌, ℕ, List, None}
+use Rattle.std.specs.List.{find}
+use Rattle.cell_data.specs.CellValue.{CellValue}
+use Rattle.xlsx_cells.specs.CellsReader.{stream_by, grounds_by, values_alone}
+use Rattle.xlsx_cells.proofs.WholeReadings.{TookValues}
+use Rattle.worked_calls.specs.Taking.{is_error}
 use Rattle.worked_calls.proofs.taking.first_error.Given as goal
 
 abbrev pub invariant-cells : goal.invariant-cells
@@ -10,9 +12,8 @@ invariant-cells g l =
     let now = stream_by g.P.Package.state l.reader in
     record {
       hold : grounds_by l.reader ≡ grounds_by l.fn.reader;
-      still : old.reading.source.is_told ≡ true → now.reading.source.is_told ≡ true;
-      going : IsGoing now;
-      sound : old.reading.source.is_told ≡ true → HasNoError (grounds_by l.fn.reader) old now;
+      took : (sound : List ((ℕ × ℕ) × CellValue)) × (find is_error sound ≡ None)
+          × TookValues values_alone (grounds_by l.fn.reader) old now sound;
     }
 
 abbrev pub decreases-cells : goal.decreases-cells

@@ -1,24 +1,24 @@
 use Rattle.std.proofs.Common.{◌≡◌, ℕ, List, Ok, ◌∷◌, [], map, refl, sym, ap, ◌∙◌, subst}
-use Rattle.cell_data.specs.CellValue.{CellValue}
 use Rattle.std.proofs.lemmas.List.{map-append}
+use Rattle.std.proofs.lemmas.Result.{err_from_is_err_and}
+use Rattle.cell_data.specs.CellValue.{CellValue}
 use Rattle.xlsx_values.specs.Value.{Grounds, cell_value}
-use Rattle.xlsx_cells.specs.CellsReader.{stream_by, grounds_by, IsValuedFormula}
+use Rattle.xlsx_cells.specs.CellsReader.{stream_by, grounds_by, values_and_formulas, IsValuedFormula}
 use Rattle.xlsx_cells.specs.Position.{NoCell}
-use Rattle.xlsx_cells.specs.Stream.{PassesCell, TakesCell, EndsData}
-use Rattle.xlsx_cells.proofs.WholeReadings.{HasValues, values_none, values_further}
-use Rattle.xlsx_cells.proofs.WholeReadings.{values_whole}
 use Rattle.xlsx_cells.specs.WholeReadings.{formula_value_entry}
+use Rattle.xlsx_cells.specs.Stream.{PassesCell, TakesCell, EndsData, NextCellFails}
+use Rattle.xlsx_cells.proofs.WholeReadings.{ValuesTaken, values_further, values_whole}
+use Rattle.xlsx_cells.proofs.WholeReadings.{took_none, took_further, took_refused, told_still}
 use Rattle.worked_calls.proofs.taking.formulas_taken.Goals as goal
 
 pub cells-init : goal.cells-init
 cells-init g c =
     let old = stream_by g.P.Package.state c.args.reader.now in
+    let grounds = grounds_by c.args.reader.now in
     record {
       hold = refl;
-      still = λ told. told;
-      going = c.requires.going;
-      taken = λ told.
-          rw c.new-cells.ensures.items (values_none (grounds_by c.args.reader.now) old c.requires.fresh);
+      took = rw c.new-cells.ensures.items
+          (took_none values_and_formulas grounds old c.requires.going c.requires.fresh);
     }
 
 pub cells-preserved : goal.cells-preserved
@@ -31,15 +31,13 @@ cells-preserved g c =
     let stands : PassesCell own.pos mid new = rw c.in-Some.is at c.in_ok-cell.ensures.stands in
     record {
       hold = c.in_ok-cell.ensures.hold.grounds ∙ now.hold;
-      still = λ told. c.in_ok-cell.ensures.reads.moves.parts.is_told ∙ now.still told;
-      going = stands.goes_on;
-      taken = λ told.
-          let been = now.taken told in
+      took = took_further now.took stands (λ told.
+          let been = now.took.taken told in
           let takes : TakesCell NoCell been.before been.earlier mid new
           (IsValuedFormula (grounds_by c.cells.reader) been.earlier own) =
-          rw c.in-Some.is at (c.in_ok-cell.ensures.takes (now.still told) been.before been.earlier
-          been.stands) in
-          subst (λ (entries : List ((ℕ × ℕ) × CellValue)). HasValues
+          rw c.in-Some.is at (c.in_ok-cell.ensures.takes (told_still now.took told) been.before
+          been.earlier been.stands) in
+          subst (λ (entries : List ((ℕ × ℕ) × CellValue)). ValuesTaken values_and_formulas
           (grounds_by c.args.reader.now) old new entries)
           (sym (ap (map formula_value_entry) c.in_ok-push.ensures.items
           ∙ map-append formula_value_entry c.cells.cells.items (own ∷ [])))
@@ -48,18 +46,27 @@ cells-preserved g c =
             is.placed,
             subst (λ (grounds : Grounds). cell_value grounds element.tag element.inside
                 ≡ Ok (formula_value_entry own).1) now.hold is.valued,
-          )));
+          ))));
     }
 
-pub returns : goal.returns
-returns g c = record {
-  values = λ told.
-      let mid = stream_by g.P.Package.state c.cells.reader in
-      let new = stream_by g.P.Package.state c.next_cell_with_formula.new.self in
-      let now = c.cells.invariant in
-      let been = now.taken told in
-      let ends : EndsData NoCell been.before mid new = rw c.in_default.is at
-      (c.in_ok-cell.ensures.takes (now.still told) been.before been.earlier been.stands)
-      now.going.done in
-      values_whole been ends;
-}
+pub returns-clause-values : goal.returns-clause-values
+returns-clause-values g c = λ told.
+    let mid = stream_by g.P.Package.state c.cells.reader in
+    let new = stream_by g.P.Package.state c.next_cell_with_formula.new.self in
+    let now = c.cells.invariant in
+    let been = now.took.taken told in
+    let ends : EndsData NoCell been.before mid new = rw c.in_default.is at
+    (c.in_ok-cell.ensures.takes (told_still now.took told) been.before been.earlier been.stands)
+    now.took.going.done in
+    values_whole been ends
+
+pub returns-in_err-cell-clause-err : goal.returns-in_err-cell-clause-err
+returns-in_err-cell-clause-err g c =
+    let mid = stream_by g.P.Package.state c.cells.reader in
+    let new = stream_by g.P.Package.state c.next_cell_with_formula.new.self in
+    let error = c.in_err-cell.field-0.0 in
+    let now = c.cells.invariant in
+    let p = err_from_is_err_and c.from_residual.result c.from_residual.ensures.1 in
+    rw (p.1, p.2) (took_refused new error now.took
+    (subst (λ (grounds : Grounds). NextCellFails values_and_formulas grounds mid new.reading error) now.hold
+    c.in_err-cell.ensures.err))

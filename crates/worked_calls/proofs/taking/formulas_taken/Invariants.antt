@@ -1,8 +1,7 @@
-use Rattle.std.proofs.Common.{◌≡◌, true, map}
-use Rattle.xlsx_cells.specs.CellsReader.{stream_by, grounds_by}
-use Rattle.xlsx_cells.specs.Stream.{IsGoing}
-use Rattle.xlsx_cells.proofs.WholeReadings.{HasValues}
+use Rattle.std.proofs.Common.{◌≡◌, map}
+use Rattle.xlsx_cells.specs.CellsReader.{stream_by, grounds_by, values_and_formulas}
 use Rattle.xlsx_cells.specs.WholeReadings.{formula_value_entry}
+use Rattle.xlsx_cells.proofs.WholeReadings.{TookValues}
 use Rattle.worked_calls.proofs.taking.formulas_taken.Given as goal
 
 abbrev pub invariant-cells : goal.invariant-cells
@@ -11,10 +10,8 @@ invariant-cells g l =
     let now = stream_by g.P.Package.state l.reader in
     record {
       hold : grounds_by l.reader ≡ grounds_by l.fn.reader;
-      still : old.reading.source.is_told ≡ true → now.reading.source.is_told ≡ true;
-      going : IsGoing now;
-      taken : old.reading.source.is_told ≡ true →
-          HasValues (grounds_by l.fn.reader) old now (map formula_value_entry l.cells.items);
+      took : TookValues values_and_formulas (grounds_by l.fn.reader) old now
+          (map formula_value_entry l.cells.items);
     }
 
 abbrev pub decreases-cells : goal.decreases-cells

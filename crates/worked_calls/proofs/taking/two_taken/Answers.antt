@@ -1,10 +1,12 @@
-use Rattle.std.proofs.Common.{◌∷◌, List, ◌∙◌, subst}
+use Rattle.std.proofs.Common.{◌≡◌, ◌∷◌, List, ◌∙◌, subst, inl, inr}
+use Rattle.std.proofs.lemmas.Result.{err_from_is_err_and}
 use Rattle.xlsx_values.specs.Value.{Grounds}
 use Rattle.xlsx_formulas.specs.Formula.{FormulaText, behind_formulas}
 use Rattle.xlsx_cells.specs.CellsReader.{stream_by, grounds_by, IsValued, IsValuedFormula}
+use Rattle.xlsx_cells.specs.CellsReader.{values_and_formulas}
 use Rattle.xlsx_cells.specs.Marks.{cell, behind_marks}
 use Rattle.xlsx_cells.specs.Position.{NoCell}
-use Rattle.xlsx_cells.specs.Stream.{TakesCell, StandsBehind}
+use Rattle.xlsx_cells.specs.Stream.{TakesCell, StandsBehind, PassesCell, EndsData, NextCellFails}
 use Rattle.worked_calls.proofs.taking.two_taken.Goals as goal
 
 pub returns-clause-takes : goal.returns-clause-takes
@@ -30,3 +32,28 @@ returns-clause-takes g c = λ told before earlier kept.
           (IsValuedFormula own earlier c.in-Some-2.second)) c.in_ok-first.ensures.hold.grounds
           second;
     }
+
+pub returns-in_default-clause-none : goal.returns-in_default-clause-none
+returns-in_default-clause-none g c = λ told before earlier kept.
+    inl (rw c.in_default.is at (c.in_ok-first.ensures.takes told before earlier kept))
+
+pub returns-in_default-2-clause-none : goal.returns-in_default-2-clause-none
+returns-in_default-2-clause-none g c = λ told before earlier kept.
+    let old = stream_by g.P.Package.state c.args.reader.now in
+    let mid = stream_by g.P.Package.state c.next_cell.new.self in
+    let own = c.in-Some.first in
+    let first : TakesCell NoCell before earlier old mid (IsValued (grounds_by c.args.reader.now) own) =
+    rw c.in-Some.is at (c.in_ok-first.ensures.takes told before earlier kept) in
+    let passes : PassesCell own.pos old mid = rw c.in-Some.is at c.in_ok-first.ensures.stands in
+    let behind = cell first.element ∷ behind_marks first.takes.front.passed before in
+    let stands : StandsBehind behind earlier mid =
+    subst (λ (kept : List FormulaText). StandsBehind behind (behind_formulas kept earlier) mid)
+    first.holds.none first.stands in
+    inr (
+      mid,
+      own,
+      first,
+      (rw c.in_default-2.is at (c.in_ok-second.ensures.takes
+          (c.in_ok-first.ensures.reads.moves.parts.is_told ∙ told) behind earlier stands))
+          passes.goes_on.done,
+    )

@@ -1,7 +1,7 @@
 use Rattle.std.proofs.Common.{◌≡◌, List, Ok, subst}
 use Rattle.std.proofs.lemmas.Result.{err_from_is_err_and}
 use Rattle.part_events.specs.Event.{Event}
-use Rattle.part_events.specs.Reading.{reading, events_of}
+use Rattle.part_events.specs.Reading.{reading}
 use Rattle.xlsx_sections.proofs.StartsSaid.{at_start}
 use Rattle.xlsx_parts.specs.WholePart.{IsMeaningRefused}
 use Rattle.xlsx_parts.proofs.SaidRead.{whole_there}

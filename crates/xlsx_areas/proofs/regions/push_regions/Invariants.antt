@@ -1,5 +1,6 @@
 use Rattle.std.proofs.Common.{◌≡◌, ◌++◌, map}
-use Rattle.xlsx_areas.specs.Regions.{sheet_at, region_in, region_of}
+use Rattle.xlsx_parts.specs.SheetPaths.{sheet_at}
+use Rattle.xlsx_areas.specs.Regions.{region_in, region_of}
 use Rattle.xlsx_areas.proofs.regions.push_regions.Given as goal
 
 abbrev pub invariant-loop-dimensions : goal.invariant-loop-dimensions

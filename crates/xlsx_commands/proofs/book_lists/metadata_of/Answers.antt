@@ -1,10 +1,12 @@
 use Rattle.std.proofs.lemmas.Result.{err_from_is_err_and}
-use Rattle.xlsx_commands.proofs.OutputLemmas.{opening_fails}
+use Rattle.xlsx_open.specs.Opening.{OpeningCause}
+use Rattle.xlsx_commands.proofs.MemoryCalls.{memory_fails}
 use Rattle.xlsx_commands.proofs.book_lists.metadata_of.Goals as goal
 
 pub returns-in_err-opened-clause-err : goal.returns-in_err-opened-clause-err
 returns-in_err-opened-clause-err c =
     let handed = err_from_is_err_and c.from_residual.result c.from_residual.ensures.1 in
+    let cause = OpeningCause c.args.package.parts in
     rw (handed.1, handed.2)
-    (opening_fails c.args.package c.open.new.package c.in_err-opened.field-0.0
-    c.in_err-opened.ensures.err)
+    (memory_fails cause cause c.args.package c.open.new.package c.in_err-opened.field-0.0
+    (λ own. own) c.in_err-opened.ensures.err)

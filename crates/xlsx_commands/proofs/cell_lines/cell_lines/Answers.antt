@@ -1,7 +1,9 @@
 use Rattle.std.proofs.Common.{◌∙◌, ap}
 use Rattle.std.specs.Result.{result_from_control_flow}
 use Rattle.std.proofs.lemmas.Result.{err_from_is_err_and}
-use Rattle.xlsx_commands.proofs.OutputLemmas.{err_at, workbook_fails}
+use Rattle.xlsx_core.specs.SheetReading.{SheetCause}
+use Rattle.xlsx_commands.proofs.OutputLemmas.{err_at}
+use Rattle.xlsx_commands.proofs.MemoryCalls.{memory_fails}
 use Rattle.xlsx_commands.proofs.cell_lines.cell_lines.Goals as goal
 
 pub returns-in_err-reading-clause-err : goal.returns-in_err-reading-clause-err
@@ -10,5 +12,7 @@ returns-in_err-reading-clause-err c =
     let answered = c.branch-reading.ensures ∙ ap result_from_control_flow c.in_err-reading.is in
     let result = c.read_sheet-result.result.result in
     let fails = err_at result _ _ answered c.read_sheet-result.ensures.err in
+    let cause = SheetCause c.args.package.parts c.args.name.now in
     rw (handed.1, handed.2)
-    (workbook_fails _ c.args.package c.read_sheet-result.result.package _ fails)
+    (memory_fails cause cause c.args.package c.read_sheet-result.result.package _ (λ own. own)
+    fails)

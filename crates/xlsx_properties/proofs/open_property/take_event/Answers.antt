@@ -1,7 +1,7 @@
-use Rattle.std.proofs.Common.{◌≡◌, ◌∷◌, ◌∙◌, List, length, Err, true, false, refl, sym, ap}
+use Rattle.std.proofs.Common.{◌≡◌, ◌∷◌, ◌∙◌, length, Err, true, false, refl, sym, ap}
 use Rattle.std.specs.Prelude.{IsSome}
 use Rattle.std.proofs.lemmas.Result.{err_from_is_err_and}
-use Rattle.part_events.specs.Event.{Event, event_of, tag_of, leaf}
+use Rattle.part_events.specs.Event.{event_of, tag_of, leaf}
 use Rattle.part_events.specs.JoinedText.{is_unknown}
 use Rattle.xlsx_sections.specs.Refusal.{Refusal, no_character}
 use Rattle.xlsx_sections.proofs.Refused.{refused_at_weaker}

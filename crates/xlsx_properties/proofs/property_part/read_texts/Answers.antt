@@ -1,7 +1,6 @@
-use Rattle.std.proofs.Common.{◌≡◌, ◌∙◌, arith}
+use Rattle.std.proofs.Common.{◌∙◌}
 use Rattle.std.proofs.lemmas.Result.{err_from_is_err_and}
 use Rattle.part_events.specs.Reading.{reading}
-use Rattle.xlsx_sections.specs.Steps.{IsEventInside}
 use Rattle.xlsx_parts.proofs.WholeRead.{begins_part, whole_step_refused}
 use Rattle.xlsx_properties.specs.Open.{open_in}
 use Rattle.xlsx_properties.specs.PropertyTexts.{listed_in, property_in}

@@ -1,4 +1,4 @@
-use Rattle.std.proofs.Common.{◌≡◌, ◌∙◌, ◌+◌, ℕ, List, Option, None, Ok, refl, sym, ap, inl, inr}
+use Rattle.std.proofs.Common.{◌≡◌, ◌∙◌, ◌+◌, ℕ, List, Option, None, Ok, sym, ap, inl, inr}
 use Rattle.std.proofs.Common.{arith}
 use Rattle.std.specs.Prelude.{option_map, string_bytes}
 use Rattle.std.specs.BTreeMap.{BTreeMap, get_by_text}
@@ -7,7 +7,6 @@ use Rattle.std.specs.declared.alloc.Global.{Global}
 use Rattle.std.proofs.lemmas.Result.{err_from_is_err_and}
 use Rattle.part_events.specs.Package.{UsesPackage, part_of, event_count}
 use Rattle.part_events.proofs.Uses.{uses_then, leaves_then, same_further}
-use Rattle.xlsx_sections.specs.Answers.{or_earlier}
 use Rattle.xlsx_sections.proofs.Failing.{fails_by_weaker}
 use Rattle.xlsx_properties.specs.CustomProperties.{custom_in}
 use Rattle.xlsx_properties.specs.Kept.{held, custom_held}

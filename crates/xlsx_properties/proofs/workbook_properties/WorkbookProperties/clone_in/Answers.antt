@@ -1,6 +1,7 @@
-use Rattle.std.proofs.Common.{◌≡◌, ℕ, List, [], ◌∷◌, Bool, true, false, Option, Some, map, refl, ap}
+use Rattle.std.proofs.Common.{◌≡◌, ℕ, List, [], ◌∷◌, Bool, true, false, Some, map, refl, ap}
+use Rattle.std.proofs.Common.{◌∙◌}
 use Rattle.std.specs.Prelude.{if◌then◌else◌, option_map, string_bytes, String}
-use Rattle.std.specs.BTreeMap.{is_at}
+use Rattle.std.specs.BTreeMap.{BTreeMap, is_at, get_by_text}
 use Rattle.std.specs.Cmp.Lexicographic.{slice_cmp}
 use Rattle.std.specs.Map.{lookup}
 use Rattle.std.specs.Ordering.{nat_cmp}
@@ -43,12 +44,17 @@ same_held name (own ∷ entries) (copy ∷ copies) are =
       | false ↦ same_held name entries copies are.1
     ])
 
-pub returns-clause-custom : goal.returns-clause-custom
-returns-clause-custom c =
-    same_texts c.args.self.now.custom_properties.entries c.in_ok-copy.field-0.entries
-    c.in_ok-copy.ensures.cases
-
-pub returns-clause-named : goal.returns-clause-named
-returns-clause-named c = λ name.
-    same_held name c.args.self.now.custom_properties.entries c.in_ok-copy.field-0.entries
-    c.in_ok-copy.ensures.cases
+pub returns : goal.returns
+returns c =
+    let kept = c.copy_texts.ensures.custom in
+    let source = c.args.self.now.custom_properties.entries in
+    let copies = c.in_ok-copy.field-0.entries in
+    record {
+      held = c.in_ok-copy_texts.ensures.held;
+      custom = ap (λ (own : BTreeMap (String Global) (String Global)). map texts_of own.entries) kept
+          ∙ same_texts source copies c.in_ok-copy.ensures.cases;
+      named = λ name.
+          ap (λ (own : BTreeMap (String Global) (String Global)).
+          option_map string_bytes (get_by_text own name)) kept
+          ∙ same_held name source copies c.in_ok-copy.ensures.cases;
+    }

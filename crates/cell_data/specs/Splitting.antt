@@ -1,0 +1,31 @@
+-- Cells in the order of positions, split at one: the cell that stands there, if one does, and those
+-- behind it.
+use Rattle.std.specs.Prelude.{◌≡◌, ℕ, true, All, List, [], ◌∷◌, ◌++◌, Option, Some, None}
+use Rattle.std.specs.Ordering.{is_le}
+use Rattle.std.specs.FinMap.Entries.{below_all}
+use Rattle.cell_refs.specs.Positions.{position_cmp, is_rising}
+use Rattle.cell_data.specs.Cells.{placed_cells, IsInSheet}
+use Rattle.cell_data.specs.declared.cell.Cell.{Cell}
+
+-- cells row by row, on a sheet
+pub record AreInOrder {X : Type 0} (cells : List (Cell X)) : Type 0 where
+  pub rising : is_rising (placed_cells cells) ≡ true
+  pub sheet : All IsInSheet cells
+
+-- no cell stands before the position
+abbrev pub StandsFirst : {X : Type 0} → ℕ × ℕ → List ((ℕ × ℕ) × X) → Type 0
+StandsFirst position [] = Unit {0}
+StandsFirst position (cell ∷ cells) = is_le (position_cmp position cell.0) ≡ true
+
+-- a cell at the position, or none
+abbrev pub given : {X : Type 0} → ℕ × ℕ → Option X → List ((ℕ × ℕ) × X)
+given position None = []
+given position (Some value) = (position, value) ∷ []
+
+-- the cell at the position and the ones behind it
+pub record Splits
+    {X : Type 0} (position : ℕ × ℕ) (cells : List (Cell X)) (value : Option X)
+    (behind : List (Cell X)) : Type 0 where
+  pub whole : placed_cells cells ≡ given position value ++ placed_cells behind
+  pub below : below_all position_cmp position (placed_cells behind) ≡ true
+  pub order : AreInOrder behind

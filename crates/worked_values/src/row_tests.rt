@@ -1,0 +1,222 @@
+//! Rows of ranges as CSV.
+ghost use Rattle.std.specs.Prelude.{◌<◌};
+ghost use Rattle.cell_refs.specs.declared.TheConstants.{MAX_ROWS, MAX_COLUMNS};
+
+use cell_data::{Cell, CellErrorType, Data, Decimal, ExcelDateTime, ExcelDateTimeType, Range};
+use cell_refs::{MAX_COLUMNS, MAX_ROWS};
+use csv::{ReaderBuilder, StringRecord};
+use std::alloc::{AllocError, Global};
+use std::test::Fail;
+use xlsx_rows::{CsvError, push_field, rows_csv};
+
+fn number(text: &str) -> Data {
+    match Decimal::parse(text) {
+        Some(number) => Data::Decimal(number),
+        None => Data::Empty,
+    }
+}
+
+fn days(text: &str, kind: ExcelDateTimeType, is_1904: bool) -> Data {
+    match Decimal::parse(text) {
+        Some(value) => Data::DateTime(ExcelDateTime {
+            value,
+            kind,
+            is_1904,
+        }),
+        None => Data::Empty,
+    }
+}
+
+fn field(alloc: Global, value: &Data) -> Result<String, AllocError> {
+    let mut out = String::new(alloc);
+    push_field(&mut out, value)?;
+    Ok(out)
+}
+
+#[test]
+fn each_kind_of_value_has_its_field(rt: HostRuntime) -> Result<(), Fail> {
+    let alloc = rt.alloc();
+    let date = ExcelDateTimeType::DateTime;
+    let duration = ExcelDateTimeType::TimeDelta;
+    let iso = String::from_str(alloc, "2024-01-01")?;
+    let rows = [
+        (number("10.5"), "10.5"),
+        (number("1e30"), "1E30"),
+        (Data::Int(-7), "-7"),
+        (Data::String(String::from_str(alloc, "=A1, \t")?), "=A1, \t"),
+        (Data::Bool(true), "true"),
+        (Data::Bool(false), "false"),
+        (days("45292", date, false), "45292"),
+        (days("0.5", duration, true), "0.5"),
+        (Data::DateTimeIso(iso), "2024-01-01"),
+        (Data::Error(CellErrorType::Div0), "#DIV/0!"),
+        (Data::Error(CellErrorType::GettingData), "#DATA!"),
+        (Data::Empty, ""),
+    ];
+    for (value, wanted) in rows {
+        assert_eq!(rt; field(alloc, &value)?.as_str(), wanted);
+    }
+    Ok(())
+}
+
+fn text(alloc: Global, content: &str) -> Result<Data, AllocError> {
+    Ok(Data::String(String::from_str(alloc, content)?))
+}
+
+/// A text in A1 and another at a place, which may be the same.
+fn two_texts(
+    alloc: Global,
+    first: &str,
+    second: &str,
+    place: (u16, u8),
+) -> Result<Range<Data>, AllocError> {
+    let place = (place.0 as u32, place.1 as u32);
+    let cells = [
+        Cell::new((0, 0), text(alloc, first)?),
+        Cell::new(place, text(alloc, second)?),
+    ];
+    Range::from_sparse(alloc, Vec::from_array(alloc, cells)?, Data::Empty)
+}
+
+#[test]
+fn rows_have_a_field_for_each_column(rt: HostRuntime) -> Result<(), Fail> {
+    let alloc = rt.alloc();
+    for (first, second, place, wanted) in [
+        ("a,b", "say \"x\"", (0, 1), "\"a,b\",\"say \"\"x\"\"\"\n"),
+        ("a\rb", "a\nb", (0, 1), "\"a\rb\",\"a\nb\"\n"),
+        ("", "", (0, 1), ",\n"),
+        ("x", "", (0, 0), "\"\"\n"),
+        ("a", "b", (2, 0), "a\n\"\"\nb\n"),
+        ("x", "y", (1, 2), "x,,\n,,y\n"),
+        (" a ", "007", (1, 0), " a \n007\n"),
+        ("=A1", "", (1, 0), "=A1\n\"\"\n"),
+    ] {
+        let range = two_texts(alloc, first, second, place)?;
+        assert_eq!(rt;
+            rows_csv(alloc, None, &range)?.as_slice(),
+            wanted.as_bytes()
+        );
+    }
+    Ok(())
+}
+
+#[test]
+fn a_reader_gives_the_rows_back(rt: HostRuntime) -> Result<(), Fail> {
+    let alloc = rt.alloc();
+    let cells = [
+        Cell::new((0, 0), text(alloc, "a,b")?),
+        Cell::new((0, 1), text(alloc, "say \"x\"")?),
+        Cell::new((1, 1), number("1")),
+    ];
+    let range = Range::from_sparse(alloc, Vec::from_array(alloc, cells)?, Data::Empty)?;
+    let text = rows_csv(alloc, None, &range)?;
+    assert_eq!(rt;
+        text.as_slice(),
+        b"\"a,b\",\"say \"\"x\"\"\"\n,1\n".as_slice()
+    );
+    let mut reader = ReaderBuilder::new()
+        .has_headers(false)
+        .from_reader(alloc, text.as_slice());
+    let mut row = StringRecord::new(alloc);
+    for wanted in [("a,b", "say \"x\""), ("", "1")] {
+        assert!(rt; reader.read_record(&mut row).is_ok());
+        assert!(rt; row.get(0) == Some(wanted.0));
+        assert!(rt; row.get(1) == Some(wanted.1));
+    }
+    Ok(())
+}
+
+#[test]
+fn a_header_stands_before_the_rows(rt: HostRuntime) -> Result<(), Fail> {
+    let alloc = rt.alloc();
+    let header = [
+        String::from_str(alloc, "Name")?,
+        String::from_str(alloc, "Qty")?,
+    ];
+    let cells = [
+        Cell::new((1, 0), text(alloc, "nut")?),
+        Cell::new((1, 1), number("3")),
+    ];
+    let used = Range::from_sparse(alloc, Vec::from_array(alloc, cells)?, Data::Empty)?;
+    let table = used.range((1, 0), (2, 1));
+    let rows = rows_csv(alloc, Some(&header), &table)?;
+    assert_eq!(rt; rows.as_slice(), b"Name,Qty\nnut,3\n,\n".as_slice());
+    let none = Range::from_sparse(alloc, Vec::new(alloc), Data::Empty)?;
+    let names = rows_csv(alloc, Some(&header), &none)?;
+    assert_eq!(rt; names.as_slice(), b"Name,Qty\n".as_slice());
+    assert!(rt; rows_csv(alloc, Some(&[]), &none)?.is_empty());
+    assert!(rt; rows_csv(alloc, None, &none)?.is_empty());
+    Ok(())
+}
+
+#[test]
+fn a_blank_fills_places_without_a_cell(rt: HostRuntime) -> Result<(), Fail> {
+    let alloc = rt.alloc();
+    let cells = [
+        Cell::new((4, 2), number("1")),
+        Cell::new((5, 3), Data::Empty),
+    ];
+    let range = Range::from_sparse(alloc, Vec::from_array(alloc, cells)?, Data::Bool(false))?;
+    let rows = rows_csv(alloc, None, &range)?;
+    assert_eq!(rt; rows.as_slice(), b"1,false\nfalse,\n".as_slice());
+    Ok(())
+}
+
+/// Numbers of one digit in A1 and at a place.
+fn two_numbers(alloc: Global, place: (u32, u32)) -> Result<Range<Data>, AllocError>
+    requires row { place.0 < MAX_ROWS }
+    requires column { place.1 < MAX_COLUMNS }
+{
+    let cells = [
+        Cell::new((0, 0), number("1")),
+        Cell::new(place, number("2")),
+    ];
+    Range::from_sparse(alloc, Vec::from_array(alloc, cells)?, Data::Empty)
+}
+
+fn length_of_rows(alloc: Global, place: (u32, u32)) -> Result<usize, CsvError>
+    requires row { place.0 < MAX_ROWS }
+    requires column { place.1 < MAX_COLUMNS }
+{
+    let range = two_numbers(alloc, place)?;
+    Ok(rows_csv(alloc, None, &range)?.len())
+}
+
+#[test]
+fn all_columns_of_1024_rows_are_written(rt: HostRuntime) -> Result<(), Fail> {
+    let place = (1_023, MAX_COLUMNS - 1);
+    assert!(rt; length_of_rows(rt.alloc(), place) == Ok(16_777_218));
+    Ok(())
+}
+
+#[test]
+fn all_rows_of_16_columns_are_written(rt: HostRuntime) -> Result<(), Fail> {
+    let place = (MAX_ROWS - 1, 15);
+    assert!(rt; length_of_rows(rt.alloc(), place) == Ok(16_777_218));
+    Ok(())
+}
+
+#[test]
+fn a_box_of_more_than_the_most_cells_is_too_large(rt: HostRuntime) -> Result<(), Fail> {
+    let alloc = rt.alloc();
+    let last = (MAX_ROWS - 1, MAX_COLUMNS - 1);
+    assert!(rt; length_of_rows(alloc, (1_024, last.1)) == Err(CsvError::BoxTooLarge));
+    assert!(rt; length_of_rows(alloc, (last.0, 16)) == Err(CsvError::BoxTooLarge));
+    assert!(rt; length_of_rows(alloc, last) == Err(CsvError::BoxTooLarge));
+    let none: Range<Data> = Range::from_sparse(alloc, Vec::new(alloc), Data::Empty)?;
+    let table = none.range((0, 0), (1_024, last.1));
+    assert!(rt; rows_csv(alloc, None, &table) == Err(CsvError::BoxTooLarge));
+    Ok(())
+}
+
+#[test]
+fn refusals_of_rows_have_texts(rt: HostRuntime) -> Result<(), Fail> {
+    let alloc = rt.alloc();
+    for (error, wanted) in [
+        (CsvError::BoxTooLarge, "box too large"),
+        (CsvError::OutOfMemory, "out of memory"),
+    ] {
+        assert_eq!(rt; format!(in alloc; "{error}")?.as_str(), wanted);
+    }
+    Ok(())
+}

@@ -1,0 +1,234 @@
+ghost use Rattle.std.specs.Prelude.{◌≡◌, ◌≤◌, ◌++◌, ℕ, List, map, suc, length, true, Ok, Some};
+ghost use Rattle.std.specs.Prelude.{option_map, option_and_then, Result, IfOk, OnOk, IfErr};
+ghost use Rattle.std.specs.Prelude.{codes, option_to_list, string_bytes};
+ghost use Rattle.std.specs.Option.{option_copied};
+ghost use Rattle.cell_refs.specs.A1.{area};
+ghost use Rattle.part_events.specs.Event.{tag_of};
+ghost use Rattle.part_events.specs.Reader.{reading_by, SamePackage};
+ghost use Rattle.part_events.specs.Reading.{reading, open_elements, IsReading, ReadsPart};
+ghost use Rattle.part_events.specs.Reading.{IsReadingElement, ReadsElement, ahead};
+ghost use Rattle.part_events.specs.Section.{content};
+ghost use Rattle.part_events.specs.Walk.{section_ahead};
+ghost use Rattle.xlsx_error.specs.declared.error.XlsxError.TheVariants.{Io};
+ghost use Rattle.xlsx_sections.specs.Answers.{prepended, and_others_if};
+ghost use Rattle.xlsx_sections.specs.Elements.{ElementReadFails, IsInsideRefused, ReachesEnd};
+ghost use Rattle.xlsx_sections.specs.PartSection.{always, SectionFails};
+ghost use Rattle.xlsx_sections.specs.Refusal.{Refusal, ElementFails, IsDecodeError, placed_at};
+ghost use Rattle.xlsx_relationships.specs.LinkTargets.{target_held};
+ghost use Rattle.xlsx_areas.specs.Hyperlinks.{Link, optional_text, range_named, linked, link_of};
+ghost use Rattle.xlsx_areas.specs.Hyperlinks.{links_in, link_said};
+ghost use Rattle.xlsx_areas.specs.LinkErrors.{IsLinksError};
+
+use crate::hyperlink::Hyperlink;
+use attr_text::{RawAttributes, get_attrs};
+use cell_refs::get_dimension;
+use part_events::{Cursor, Package, StartTag, XlReader};
+use std::alloc::{AllocError, Global};
+use std::collections::BTreeMap;
+use xlsx_error::XlsxError;
+use xlsx_relationships::link_text;
+use xlsx_sections::{next_start_in, start_tag};
+
+/// A text of a start that may have none.
+fn optional_text(alloc: Global, text: Option<&str>, at: u64) -> Result<Option<String>, XlsxError>
+    ensures ok { IfOk result (λ out. (behind : ℕ) →
+        optional_text behind (option_copied text.entry) ≡ Ok (option_map string_bytes out)) }
+    ensures err { IfErr result (λ error. (behind : ℕ) →
+        ElementFails (optional_text behind (option_copied text.entry)) at behind error) }
+    ensures kind { IfErr result IsDecodeError }
+{
+    match text {
+        Some(text) => Ok(Some(link_text(alloc, text, at)?)),
+        None => Ok(None),
+    }
+}
+
+/// The target of an Id, where there is one.
+fn target_of(
+    alloc: Global,
+    targets: &BTreeMap<String, String>,
+    id: Option<&str>,
+) -> Result<Option<String>, AllocError>
+    ensures { IfOk result (λ target. option_map string_bytes target
+        ≡ option_and_then (target_held targets.now) (option_copied id.entry)) }
+{
+    let Some(id) = id else {
+        return Ok(None);
+    };
+    match targets.get(id) {
+        Some(target) => Ok(Some(String::from_str(alloc, target.as_str())?)),
+        None => Ok(None),
+    }
+}
+
+/// The link to this target of the cells that `range` names, with its texts as written. Its start is
+/// event number `at` of its part.
+#[tactic(auto, using(crate::proofs::LinksRead::link_decoding))]
+fn linked(
+    alloc: Global,
+    target: Option<String>,
+    range: &str,
+    location: Option<&str>,
+    shown: Option<&str>,
+    tip: Option<&str>,
+    at: u64,
+) -> Result<Hyperlink, XlsxError>
+    ensures ok { let to = option_map string_bytes target in
+        IfOk result (λ link. (behind : ℕ) →
+        linked to (range_named (area range.now))
+        (optional_text behind (option_copied location.entry))
+        (optional_text behind (option_copied shown.entry))
+        (optional_text behind (option_copied tip.entry)) ≡ Ok (link_said link)) }
+    ensures err { let to = option_map string_bytes target in
+        IfErr result (λ error. (behind : ℕ) →
+        ElementFails (linked to (range_named (area range.now))
+        (optional_text behind (option_copied location.entry))
+        (optional_text behind (option_copied shown.entry))
+        (optional_text behind (option_copied tip.entry))) at behind error) }
+    ensures kind { IfErr result IsLinksError }
+{
+    let range = get_dimension(range)?;
+    let location = optional_text(alloc, location, at)?;
+    let displayed_text = optional_text(alloc, shown, at)?;
+    let tooltip = optional_text(alloc, tip, at)?;
+    Ok(Hyperlink {
+        range,
+        target,
+        location,
+        displayed_text,
+        tooltip,
+    })
+}
+
+/// The link of a start, where these are the targets by their Ids.
+fn link_of(
+    alloc: Global,
+    targets: &BTreeMap<String, String>,
+    tag: StartTag<'_>,
+    at: u64,
+) -> Result<Option<Hyperlink>, XlsxError>
+    ensures ok { let by = target_held targets.now in
+        IfOk result (λ link. (behind : ℕ) →
+        link_of by (placed_at (tag_of tag.entry) behind) ≡ Ok (option_map link_said link)) }
+    ensures err { let by = target_held targets.now in
+        IfErr result (λ error. (behind : ℕ) →
+        ElementFails (link_of by (placed_at (tag_of tag.entry) behind)) at behind error) }
+    ensures kind { IfErr result IsLinksError }
+{
+    let (range, location, shown, tip) = get_attrs!(
+        tag,
+        "ref" => range,
+        "location" => location,
+        "display" => shown,
+        "tooltip" => tip,
+    )?;
+    let id = tag.raw_attr_local("id")?;
+    let Some(range) = range else {
+        return Ok(None);
+    };
+    let target = target_of(alloc, targets, id)?;
+    let link = linked(alloc, target, range, location, shown, tip, at)?;
+    Ok(Some(link))
+}
+
+/// Appends a link, where there is one.
+fn push_if(links: &mut Vec<Hyperlink>, link: Option<Hyperlink>) -> Result<(), AllocError>
+    ensures { OnOk result (map link_said links.new.items
+        ≡ map link_said links.old.items ++ option_to_list (option_map link_said link)) }
+{
+    if let Some(link) = link {
+        links.push(link)?;
+    }
+    Ok(())
+}
+
+/// Appends the link of a start that gives one.
+fn push_link(
+    alloc: Global,
+    links: &mut Vec<Hyperlink>,
+    targets: &BTreeMap<String, String>,
+    tag: StartTag<'_>,
+    at: u64,
+) -> Result<(), XlsxError>
+    ensures ok { let by = target_held targets.now in
+        OnOk result ((behind : ℕ) (others : Result (List Link) Refusal) →
+        prepended (map link_said links.new.items) others
+        ≡ prepended (map link_said links.old.items)
+        (and_others_if (link_of by (placed_at (tag_of tag.entry) behind)) others)) }
+    ensures err { let by = target_held targets.now in
+        IfErr result (λ error. (behind : ℕ) →
+        ElementFails (link_of by (placed_at (tag_of tag.entry) behind)) at behind error) }
+    ensures kind { IfErr result IsLinksError }
+{
+    let link = link_of(alloc, targets, tag, at)?;
+    push_if(links, link)?;
+    Ok(())
+}
+
+/// The links in a section of hyperlinks whose element is number `base` of the open ones.
+#[tactic(auto, using(crate::proofs::LinksRead::links_step))]
+pub fn links_in<P: Package>(
+    alloc: Global,
+    package: &mut P,
+    cursor: &mut Cursor,
+    base: usize,
+    targets: &BTreeMap<String, String>,
+) -> Result<Vec<Hyperlink>, XlsxError>
+    requires reading { IsReading (reading (P.state «package».old) cursor.old) }
+    requires within { base ≤ length (open_elements cursor.old) }
+    ensures reads { let old = reading (P.state «package».old) cursor.old in
+        let new = reading (P.state «package».new) cursor.new in
+        ReadsPart Io result old new }
+    ensures depth { OnOk result (suc (length (open_elements cursor.new)) ≡ base) }
+    ensures reaches { let old = reading (P.state «package».old) cursor.old in
+        let new = reading (P.state «package».new) cursor.new in
+        old.source.is_told ≡ true → OnOk result (ReachesEnd base old new) }
+    ensures links { let old = reading (P.state «package».old) cursor.old in
+        let by = target_held targets.now in
+        old.source.is_told ≡ true → IfOk result (λ links.
+        links_in by (section_ahead base old) ≡ Ok (map link_said links.items)) }
+    ensures err { let old = reading (P.state «package».old) cursor.old in
+        let new = reading (P.state «package».new) cursor.new in
+        let refused = IsInsideRefused (links_in (target_held targets.now)) in
+        IfErr result (SectionFails (always (codes "hyperlinks")) refused base old new) }
+    ensures kind { IfErr result IsLinksError }
+{
+    let mut links = Vec::new(alloc);
+    'starts: while let Some(at) = next_start_in(package, cursor, base, "hyperlink", "hyperlinks")? {
+        push_link(alloc, &mut links, targets, start_tag(package), at)?;
+    }
+    Ok(links)
+}
+
+/// Reads the hyperlinks at whose start the reader stands, to its end (ECMA-376 part 1, section
+/// 18.3.1.48), where these are the targets of the sheet's relationships by their Ids: of each
+/// `hyperlink` in it that has a `ref` its link, in order. Its texts are decoded, and then each
+/// `_xHHHH_` is replaced. Its target is that of the `id`, whatever stands before its colon.
+///
+/// A part that ends before is `XmlEof("hyperlinks")`, and an end that breaks the nesting is
+/// `Xml(EndMismatch)` with its number in the part, counted from 0. Attributes that end in a fault
+/// are `XmlAttr`, where `ref`, `location`, `display`, `tooltip` or an `id` isn't before it. Of a
+/// start with `ref`, one that names no area has the refusal of its text, and a reference without a
+/// character in one of the texts is `Xml(Entity)` with the number of the start.
+pub fn read_hyperlinks<P: Package>(
+    xml: &mut XlReader<'_, P>,
+    rels: &BTreeMap<String, String>,
+) -> Result<Vec<Hyperlink>, XlsxError>
+    requires element { IsReadingElement (reading_by P.state xml.old) }
+    ensures same_package { SamePackage xml.old xml.new }
+    ensures reads { let old = reading_by P.state xml.old in
+        ReadsElement Io result old (reading_by P.state xml.new) }
+    ensures links { let old = reading_by P.state xml.old in
+        let by = target_held rels.now in
+        old.source.is_told ≡ true → IfOk result (λ links.
+        links_in by (content 0 (ahead old)) ≡ Ok (map link_said links.items)) }
+    ensures err { let old = reading_by P.state xml.old in
+        let new = reading_by P.state xml.new in
+        let meaning = links_in (target_held rels.now) in
+        IfErr result (ElementReadFails (always (codes "hyperlinks")) meaning old new) }
+    ensures kind { IfErr result IsLinksError }
+{
+    let alloc = xml.cursor.alloc();
+    let base = xml.cursor.depth();
+    links_in(alloc, xml.package, &mut xml.cursor, base, rels)
+}

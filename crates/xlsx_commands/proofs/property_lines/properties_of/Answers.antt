@@ -1,0 +1,36 @@
+use Rattle.std.proofs.Common.{refl, inl, inr, List, subst}
+use Rattle.std.proofs.lemmas.Result.{err_from_is_err_and}
+use Rattle.part_events.specs.Package.{Part}
+use Rattle.xlsx_properties.specs.Parts.{PropertiesCause}
+use Rattle.xlsx_open.specs.Opening.{OpeningCause}
+use Rattle.xlsx_commands.specs.PropertyLists.{ListedPropertiesCause}
+use Rattle.xlsx_commands.proofs.MemoryCalls.{memory_fails}
+use Rattle.xlsx_commands.proofs.property_lines.properties_of.Goals as goal
+
+pub returns-in_err-xlsx-clause-err : goal.returns-in_err-xlsx-clause-err
+returns-in_err-xlsx-clause-err c =
+    let parts = c.args.package.parts in
+    let failure = c.in_err-xlsx.field-0.0 in
+    let handed = err_from_is_err_and c.from_residual.result c.from_residual.ensures.1 in
+    rw (handed.1, handed.2)
+    (memory_fails (ListedPropertiesCause parts) (OpeningCause parts) c.args.package
+    failure.package failure.error (λ cause. inl cause) c.in_err-xlsx.ensures.err)
+
+pub returns-in_err-workbook_properties-clause-err :
+    goal.returns-in_err-workbook_properties-clause-err
+returns-in_err-workbook_properties-clause-err c =
+    let parts = c.args.package.parts in
+    let xlsx = c.in_ok-xlsx.xlsx in
+    let error = c.in_err-workbook_properties.field-0.0 in
+    let opened = c.in_ok-xlsx.ensures.opens refl in
+    let same = c.in_ok-xlsx.ensures.uses.parts.parts in
+    let handed = err_from_is_err_and c.from_residual-in_err-workbook_properties.result
+    c.from_residual-in_err-workbook_properties.ensures.1 in
+    rw (handed.1, handed.2)
+    (memory_fails (ListedPropertiesCause parts) (PropertiesCause xlsx.package.parts) xlsx.package
+    c.workbook_properties.new.self.package error
+    (λ cause. inr (
+      (opened.0, opened.2),
+      subst (λ (own : List Part). PropertiesCause own error)
+          same cause,
+    )) c.in_err-workbook_properties.ensures.err)

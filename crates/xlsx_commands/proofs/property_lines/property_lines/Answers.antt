@@ -1,0 +1,24 @@
+use Rattle.std.proofs.Common.{◌∙◌, ap, ℕ, List, Option, Ok, Vec, Global}
+use Rattle.xlsx_properties.specs.Kept.{held, custom_texts}
+use Rattle.xlsx_commands.proofs.PropertiesListed.{held_is_listed}
+use Rattle.xlsx_commands.proofs.property_lines.property_lines.Goals as goal
+
+pub returns-clause-ok : goal.returns-clause-ok
+returns-clause-ok c =
+    let kept = c.in_ok-properties.properties in
+    let has = c.in_ok-properties.ensures.ok in
+    record {
+      texts = λ own. held own kept;
+      customs = custom_texts kept;
+      opens = has.opens;
+      say = record {
+        whole = has.say.whole;
+        said = has.say.said;
+        custom = λ name. has.say.custom name
+            ∙ ap (λ (text : Option (List ℕ)). Ok text)
+            (held_is_listed name kept.custom_properties.entries);
+      };
+      by_name = c.in_ok-lines_of_properties.ensures.by_name;
+      listed = ap (λ (own : Vec ℕ Global). own.items) c.into_bytes.ensures.value
+          ∙ c.in_ok-lines_of_properties.ensures.lines;
+    }

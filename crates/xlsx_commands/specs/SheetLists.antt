@@ -1,0 +1,90 @@
+-- What is listed of a sheet beside its cells, and why it isn't.
+use Rattle.std.specs.Prelude.{◌≡◌, ◌⊎◌, ℕ, List, Option, Some}
+use Rattle.std.specs.List.{flat_map}
+use Rattle.cell_refs.specs.declared.dimensions.Dimensions.{Dimensions}
+use Rattle.part_events.specs.Package.{Part}
+use Rattle.list_lines.specs.Lines.{area_line, link_line, LiesInWorksheet}
+use Rattle.xlsx_error.specs.declared.error.XlsxError.{XlsxError}
+use Rattle.xlsx_error.specs.declared.error.XlsxError.TheVariants.{WorksheetNotFound}
+use Rattle.xlsx_areas.specs.Hyperlinks.{Link, link_said}
+use Rattle.xlsx_areas.specs.MergeErrors.{MergesCause}
+use Rattle.xlsx_areas.specs.declared.hyperlink.Hyperlink.{Hyperlink}
+use Rattle.xlsx_open.specs.Opening.{Opening, OpensAs, OpeningCause}
+use Rattle.xlsx_core.specs.Links.{links_placed, PlacedLinksCause}
+use Rattle.xlsx_core.specs.Merges.{merges_placed}
+use Rattle.xlsx_core.specs.SheetReading.{PlacedCause, path_named}
+
+-- the workbook opens, and the part of its first sheet of this name is at this path, if there is one
+pub record OpensAt (parts : List Part) (name : List ℕ) (path : Option (List ℕ)) : Type 0 where
+  pub opening : Opening
+  pub opens : OpensAs parts opening
+  pub named : path_named name opening.sheets ≡ path
+
+-- why something isn't had of a sheet whose part is at a path
+abbrev pub PathCause : Type 1
+PathCause = Option (List ℕ) → List Part → XlsxError → Type 0
+
+-- the workbook opens, and its first sheet of this name has this cause
+abbrev pub HasNamedCause : PathCause → List Part → List ℕ → XlsxError → Type 0
+HasNamedCause cause parts name error =
+    (path : Option (List ℕ)) × OpensAt parts name path × cause path parts error
+
+-- why something isn't had of that sheet; an opening is never refused because a sheet isn't found
+abbrev pub NamedCause : PathCause → List Part → List ℕ → XlsxError → Type 0
+NamedCause cause parts name (WorksheetNotFound asked) =
+    HasNamedCause cause parts name (WorksheetNotFound asked)
+NamedCause cause parts name error =
+    OpeningCause parts error ⊎ HasNamedCause cause parts name error
+
+-- ---- merged cells
+
+-- the workbook opens, and its first sheet of this name has these merged cells
+abbrev pub HasMerges : List Part → List ℕ → List Dimensions → Type 0
+HasMerges parts name areas =
+    (path : Option (List ℕ)) × OpensAt parts name path × (merges_placed path parts ≡ Some areas)
+
+-- why these aren't had
+abbrev pub MergesPathCause : List ℕ → PathCause
+MergesPathCause name path parts error = PlacedCause name path MergesCause parts error
+
+abbrev pub NamedMergesCause : List Part → List ℕ → XlsxError → Type 0
+NamedMergesCause parts name error = NamedCause (MergesPathCause name) parts name error
+
+abbrev pub merge_lines : List Dimensions → List ℕ
+merge_lines areas = flat_map area_line areas
+
+-- these are the lines of the merged cells of that sheet
+pub record AreMergeLines (parts : List Part) (name lines : List ℕ) : Type 0 where
+  pub areas : List Dimensions
+  pub has : HasMerges parts name areas
+  pub listed : lines ≡ merge_lines areas
+
+-- ---- links
+
+-- the workbook opens, and its first sheet of this name has these links
+abbrev pub HasLinks : List Part → List ℕ → List Link → Type 0
+HasLinks parts name links =
+    (path : Option (List ℕ)) × OpensAt parts name path × (links_placed path parts ≡ Some links)
+
+-- why these aren't had
+abbrev pub NamedLinksCause : List Part → List ℕ → XlsxError → Type 0
+NamedLinksCause parts name error = NamedCause (PlacedLinksCause name) parts name error
+
+abbrev pub line_of_link : Link → List ℕ
+line_of_link own = link_line own.range own.target own.location own.displayed_text own.tooltip
+
+abbrev pub link_lines : List Link → List ℕ
+link_lines links = flat_map line_of_link links
+
+-- these are the lines of the links of that sheet
+pub record AreLinkLines (parts : List Part) (name lines : List ℕ) : Type 0 where
+  pub links : List Link
+  pub has : HasLinks parts name links
+  pub listed : lines ≡ link_lines links
+
+-- the cells of a link lie in a worksheet
+abbrev pub IsLinkInside : Link → Type 0
+IsLinkInside own = LiesInWorksheet own.range
+
+abbrev pub IsKeptInside : Hyperlink → Type 0
+IsKeptInside own = IsLinkInside (link_said own)

@@ -1,0 +1,67 @@
+ghost use Rattle.std.specs.Prelude.{◌≡◌, ◌++◌, map, option_map, string_bytes, All, OnOk};
+ghost use Rattle.std.specs.Prelude.{IfOk, IfErr};
+ghost use Rattle.std.specs.Option.{option_copied};
+ghost use Rattle.xlsx_areas.specs.Hyperlinks.{link_said};
+ghost use Rattle.xlsx_commands.specs.Outputs.{CallFails};
+ghost use Rattle.xlsx_commands.specs.SheetLists.{HasLinks, NamedLinksCause, IsKeptInside};
+ghost use Rattle.xlsx_commands.specs.SheetLists.{line_of_link, link_lines, AreLinkLines};
+
+use crate::error::ToolError;
+use list_lines::push_link_line;
+use part_events::MemoryPackage;
+use std::alloc::{AllocError, Global};
+use xlsx_core::{Hyperlink, Xlsx};
+
+/// The links of the first sheet of this name.
+fn links_of(alloc: Global, package: MemoryPackage, name: &str) -> Result<Vec<Hyperlink>, ToolError>
+    ensures ok { IfOk result (λ links.
+        HasLinks «package».parts name.now (map link_said links.items)) }
+    ensures err { IfErr result (CallFails (NamedLinksCause «package».parts name.now)) }
+{
+    let mut xlsx = Xlsx::new(alloc, package)?;
+    Ok(xlsx.hyperlinks_by_sheet_name(name)?)
+}
+
+fn text_of(text: &Option<String>) -> Option<&str>
+    ensures { option_copied result ≡ option_map string_bytes text.now }
+{
+    match text {
+        Some(text) => Some(text.as_str()),
+        None => None,
+    }
+}
+
+fn push_link(out: &mut String, link: &Hyperlink) -> Result<(), AllocError>
+    requires { IsKeptInside link.now }
+    ensures { OnOk result
+        (string_bytes out.new ≡ string_bytes out.old ++ line_of_link (link_said link.now)) }
+{
+    push_link_line(
+        out,
+        link.range,
+        text_of(&link.target),
+        text_of(&link.location),
+        text_of(&link.displayed_text),
+        text_of(&link.tooltip),
+    )
+}
+
+fn lines_of_links(alloc: Global, links: &[Hyperlink]) -> Result<String, AllocError>
+    requires { All IsKeptInside links.now }
+    ensures { IfOk result (λ out. string_bytes out ≡ link_lines (map link_said links.now)) }
+{
+    let mut out = String::new(alloc);
+    for link in links {
+        push_link(&mut out, link)?;
+    }
+    Ok(out)
+}
+
+/// A line for each link of the first sheet of this name.
+pub fn link_lines(alloc: Global, package: MemoryPackage, name: &str) -> Result<Vec<u8>, ToolError>
+    ensures ok { IfOk result (λ output. AreLinkLines «package».parts name.now output.items) }
+    ensures err { IfErr result (CallFails (NamedLinksCause «package».parts name.now)) }
+{
+    let links = links_of(alloc, package, name)?;
+    Ok(lines_of_links(alloc, &links)?.into_bytes())
+}

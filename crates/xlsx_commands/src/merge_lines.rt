@@ -1,0 +1,45 @@
+ghost use Rattle.std.specs.Prelude.{◌≡◌, string_bytes, All, IfOk, IfErr};
+ghost use Rattle.list_lines.specs.Lines.{LiesInWorksheet};
+ghost use Rattle.xlsx_commands.specs.Outputs.{CallFails};
+ghost use Rattle.xlsx_commands.specs.SheetLists.{HasMerges, NamedMergesCause, merge_lines};
+ghost use Rattle.xlsx_commands.specs.SheetLists.{AreMergeLines};
+
+use crate::error::ToolError;
+use cell_refs::Dimensions;
+use list_lines::push_area_line;
+use part_events::MemoryPackage;
+use std::alloc::{AllocError, Global};
+use xlsx_core::Xlsx;
+
+/// The merged cells of the first sheet of this name.
+fn merges_of(
+    alloc: Global,
+    package: MemoryPackage,
+    name: &str,
+) -> Result<Vec<Dimensions>, ToolError>
+    ensures ok { IfOk result (λ areas. HasMerges «package».parts name.now areas.items) }
+    ensures err { IfErr result (CallFails (NamedMergesCause «package».parts name.now)) }
+{
+    let mut xlsx = Xlsx::new(alloc, package)?;
+    Ok(xlsx.merge_cells_by_sheet_name(name)?)
+}
+
+fn lines_of_areas(alloc: Global, areas: &[Dimensions]) -> Result<String, AllocError>
+    requires { All LiesInWorksheet areas.now }
+    ensures { IfOk result (λ out. string_bytes out ≡ merge_lines areas.now) }
+{
+    let mut out = String::new(alloc);
+    for area in areas {
+        push_area_line(&mut out, *area)?;
+    }
+    Ok(out)
+}
+
+/// A line for each area of merged cells of the first sheet of this name.
+pub fn merge_lines(alloc: Global, package: MemoryPackage, name: &str) -> Result<Vec<u8>, ToolError>
+    ensures ok { IfOk result (λ output. AreMergeLines «package».parts name.now output.items) }
+    ensures err { IfErr result (CallFails (NamedMergesCause «package».parts name.now)) }
+{
+    let areas = merges_of(alloc, package, name)?;
+    Ok(lines_of_areas(alloc, &areas)?.into_bytes())
+}

@@ -1,0 +1,82 @@
+ghost use Rattle.std.specs.Prelude.{◌≡◌, ◌++◌, string_bytes, OnOk, IfOk, IfErr};
+ghost use Rattle.std.specs.Option.{option_copied};
+ghost use Rattle.xlsx_properties.specs.Kept.{held, custom_texts};
+ghost use Rattle.xlsx_commands.specs.Outputs.{CallFails};
+ghost use Rattle.xlsx_commands.specs.PropertyLists.{line_if_said, property_lines, custom_lines};
+ghost use Rattle.xlsx_commands.specs.PropertyLists.{AreByName};
+ghost use Rattle.xlsx_commands.specs.PropertyLists.{HasProperties, ArePropertyLines};
+ghost use Rattle.xlsx_commands.specs.PropertyLists.{ListedPropertiesCause};
+
+use crate::error::ToolError;
+use list_lines::{push_custom_line, push_property_line};
+use part_events::MemoryPackage;
+use std::alloc::{AllocError, Global};
+use xlsx_core::{WorkbookProperties, Xlsx};
+use xlsx_properties::named_properties;
+
+/// The properties of the workbook.
+fn properties_of(alloc: Global, package: MemoryPackage) -> Result<WorkbookProperties, ToolError>
+    ensures ok { IfOk result (HasProperties «package».parts) }
+    ensures err { IfErr result (CallFails (ListedPropertiesCause «package».parts)) }
+{
+    let mut xlsx = Xlsx::new(alloc, package)?;
+    Ok(xlsx.workbook_properties()?)
+}
+
+/// Appends the line of a property, by the name of its field, where its text is said.
+fn push_line(out: &mut String, name: &str, text: Option<&str>) -> Result<(), AllocError>
+    ensures { let printed = line_if_said name.now (option_copied text.entry) in
+        OnOk result (string_bytes out.new ≡ string_bytes out.old ++ printed) }
+{
+    match text {
+        Some(text) => push_property_line(out, name, text),
+        None => Ok(()),
+    }
+}
+
+/// Appends a line for each property that the workbook says.
+fn push_said(out: &mut String, properties: &WorkbookProperties) -> Result<(), AllocError>
+    ensures { let printed = property_lines (λ own. held own properties.now) in
+        OnOk result (string_bytes out.new ≡ string_bytes out.old ++ printed) }
+{
+    let all = named_properties();
+    for own in all {
+        push_line(out, own.0, properties.get(own.1))?;
+    }
+    Ok(())
+}
+
+/// Appends a line for each property that users named, in the order of the names.
+fn push_customs(out: &mut String, properties: &WorkbookProperties) -> Result<(), AllocError>
+    ensures lines { let printed = custom_lines (custom_texts properties.now) in
+        OnOk result (string_bytes out.new ≡ string_bytes out.old ++ printed) }
+    ensures by_name { AreByName (custom_texts properties.now) }
+{
+    for (name, text) in properties.custom_properties.iter() {
+        push_custom_line(out, name.as_str(), text.as_str())?;
+    }
+    Ok(())
+}
+
+/// The lines of both.
+fn lines_of_properties(alloc: Global, properties: &WorkbookProperties) -> Result<String, AllocError>
+    ensures lines { let printed = property_lines (λ own. held own properties.now)
+        ++ custom_lines (custom_texts properties.now) in
+        IfOk result (λ out. string_bytes out ≡ printed) }
+    ensures by_name { OnOk result (AreByName (custom_texts properties.now)) }
+{
+    let mut out = String::new(alloc);
+    push_said(&mut out, properties)?;
+    push_customs(&mut out, properties)?;
+    Ok(out)
+}
+
+/// A line for each property of the workbook: those that it says, in their order, and then those
+/// that users named, in the order of the names.
+pub fn property_lines(alloc: Global, package: MemoryPackage) -> Result<Vec<u8>, ToolError>
+    ensures ok { IfOk result (λ output. ArePropertyLines «package».parts output.items) }
+    ensures err { IfErr result (CallFails (ListedPropertiesCause «package».parts)) }
+{
+    let properties = properties_of(alloc, package)?;
+    Ok(lines_of_properties(alloc, &properties)?.into_bytes())
+}

@@ -1,0 +1,42 @@
+-- What the calls on hyperlinks of an open workbook answer.
+use Rattle.std.specs.Prelude.{◌≡◌, ℕ, List, Option, option_and_then, string_bytes, MatchOption}
+use Rattle.std.specs.Prelude.{IsSomeAnd}
+use Rattle.part_events.specs.Event.{Event}
+use Rattle.part_events.specs.Package.{Part, PackageState}
+use Rattle.xlsx_error.specs.declared.error.XlsxError.{XlsxError}
+use Rattle.xlsx_error.specs.declared.error.XlsxError.TheVariants.{WorksheetNotFound}
+use Rattle.xlsx_sections.specs.Failing.{FailsBy}
+use Rattle.xlsx_areas.specs.Hyperlinks.{Link, links_at}
+use Rattle.xlsx_areas.specs.LinkErrors.{SheetLinksCause, IsSheetLinksError}
+use Rattle.xlsx_core.specs.Merges.{name_at, IsOutOfRange}
+use Rattle.xlsx_core.specs.SheetReading.{PlacedCause}
+use Rattle.xlsx_core.specs.Worksheets.{path_of}
+use Rattle.xlsx_core.specs.declared.xlsx.Xlsx.{Xlsx}
+
+-- the links of the part at a path, by the relationships beside it, where there is one
+abbrev pub links_placed : Option (List ℕ) → List Part → Option (List Link)
+links_placed path parts = option_and_then (links_at parts) path
+
+-- why the links of a sheet can't be taken: no sheet has this name, or no part is at its path, or
+-- its relationships or its part refuse them
+abbrev pub PlacedLinksCause : List ℕ → Option (List ℕ) → List Part → XlsxError → Type 0
+PlacedLinksCause name path parts error =
+    let refuses : List Event → XlsxError → Type 0 = λ events own.
+    IsSomeAnd path (λ there. SheetLinksCause parts there events own) in
+    PlacedCause name path refuses parts error
+
+abbrev pub PlacedLinksFail :
+    List ℕ → Option (List ℕ) → PackageState → PackageState → XlsxError → Type 0
+PlacedLinksFail name path old new error =
+    FailsBy (PlacedLinksCause name path old.parts) old new error
+
+abbrev pub IsPlacedLinksError : List ℕ → XlsxError → Type 0
+IsPlacedLinksError name (WorksheetNotFound asked) = string_bytes asked ≡ name
+IsPlacedLinksError name error = IsSheetLinksError error
+
+-- when those of the sheet at an index can't be taken
+abbrev pub NumberedLinksFail :
+    {P : Type 0} → Xlsx P → ℕ → PackageState → PackageState → XlsxError → Type 0
+NumberedLinksFail xlsx index old new error =
+    FailsBy (λ own. MatchOption (name_at xlsx index) (IsOutOfRange index own)
+    (λ name. PlacedLinksCause name (path_of xlsx name) old.parts own)) old new error

@@ -1,0 +1,103 @@
+ghost use Rattle.std.specs.Prelude.{◌≡◌, true, map, IfOk, OnOk, IfErr, MatchOption, Some};
+ghost use Rattle.std.specs.Option.{option_copied};
+ghost use Rattle.part_events.specs.Package.{SameParts, KeepsFaults};
+ghost use Rattle.xlsx_error.specs.declared.error.XlsxError.TheVariants.{Io};
+ghost use Rattle.xlsx_areas.specs.Hyperlinks.{link_said};
+ghost use Rattle.xlsx_core.specs.Links.{links_placed, PlacedLinksFail, IsPlacedLinksError};
+ghost use Rattle.xlsx_core.specs.Links.{NumberedLinksFail};
+ghost use Rattle.xlsx_core.specs.Merges.{name_at, path_at, IsIndexError};
+ghost use Rattle.xlsx_core.specs.Worksheets.{path_of, KeepsWorkbook};
+
+use crate::placed_sheet::{numbered_sheet, path_named};
+use crate::xlsx::Xlsx;
+use part_events::Package;
+use std::alloc::Global;
+use xlsx_areas::{Hyperlink, read_sheet_links};
+use xlsx_error::XlsxError;
+
+/// The hyperlinks of the sheet of this name, whose part is at this path.
+fn placed_links<P: Package>(
+    alloc: Global,
+    package: &mut P,
+    path: Option<&str>,
+    name: &str,
+) -> Result<Vec<Hyperlink>, XlsxError>
+    ensures keeps { SameParts (P.state «package».old) (P.state «package».new) }
+    ensures faults { OnOk result
+        ((P.state «package».new).faults ≡ (P.state «package».old).faults) }
+    ensures links { let old = P.state «package».old in
+        old.is_told ≡ true → IfOk result (λ links.
+        links_placed (option_copied path.entry) old.parts ≡ Some (map link_said links.items)) }
+    ensures err { IfErr result (PlacedLinksFail name.now (option_copied path.entry)
+        (P.state «package».old) (P.state «package».new)) }
+    ensures counts { IfErr result
+        (KeepsFaults Io (P.state «package».old) (P.state «package».new)) }
+    ensures kind { IfErr result (IsPlacedLinksError name.now) }
+{
+    if let Some(path) = path {
+        if let Some(links) = read_sheet_links(alloc, package, path)? {
+            return Ok(links);
+        }
+    }
+    Err(XlsxError::WorksheetNotFound(String::from_str(alloc, name)?))
+}
+
+/// The hyperlinks of an open workbook.
+impl<P: Package> Xlsx<P> {
+    /// The hyperlinks of the first sheet of this name (ECMA-376 part 1, section 18.3.1.48): of each
+    /// `hyperlink` in the first `hyperlinks` of its part that has a `ref` its link, in order. Its
+    /// texts are decoded, and then each `_xHHHH_` is replaced. Its target is where the relationship
+    /// beside the part leads that its `id` names. A part without that section has none.
+    ///
+    /// Fails with `WorksheetNotFound` where no sheet has the name or the first such sheet has no
+    /// part, before any relationship is read. Else a part of relationships that has no section
+    /// `Relationships`, or ends in it, is `XmlEof("Relationships")`, and a part of a sheet that ends
+    /// in its links `XmlEof("hyperlinks")`. An end that breaks the nesting up to the end of one of
+    /// these sections is `Xml(EndMismatch)`. A start that can't be looked up, whose text can't be
+    /// decoded, or whose `ref` names no area has its refusal.
+    pub fn hyperlinks_by_sheet_name(&mut self, name: &str) -> Result<Vec<Hyperlink>, XlsxError>
+        ensures keeps { SameParts (P.state self.old.package) (P.state self.new.package) }
+        ensures rest { KeepsWorkbook self.old self.new }
+        ensures faults { OnOk result
+            ((P.state self.new.package).faults ≡ (P.state self.old.package).faults) }
+        ensures links { let old = P.state self.old.package in
+            old.is_told ≡ true → IfOk result (λ links.
+            links_placed (path_of self.old name.now) old.parts
+            ≡ Some (map link_said links.items)) }
+        ensures err { IfErr result (PlacedLinksFail name.now (path_of self.old name.now)
+            (P.state self.old.package) (P.state self.new.package)) }
+        ensures counts { IfErr result
+            (KeepsFaults Io (P.state self.old.package) (P.state self.new.package)) }
+        ensures kind { IfErr result (IsPlacedLinksError name.now) }
+    {
+        let path = path_named(&self.metadata.sheets, &self.paths, name);
+        placed_links(self.alloc, &mut self.package, path, name)
+    }
+
+    /// The hyperlinks of the sheet at this index, counted from 0, by its name: those of the first
+    /// sheet of that name.
+    ///
+    /// Fails with `WorksheetNotFound("Sheet index N out of range")` past the last sheet, and else
+    /// as `hyperlinks_by_sheet_name` of the sheet's name.
+    pub fn hyperlinks_by_sheet_id(&mut self, id: usize) -> Result<Vec<Hyperlink>, XlsxError>
+        ensures keeps { SameParts (P.state self.old.package) (P.state self.new.package) }
+        ensures rest { KeepsWorkbook self.old self.new }
+        ensures faults { OnOk result
+            ((P.state self.new.package).faults ≡ (P.state self.old.package).faults) }
+        ensures links { let old = P.state self.old.package in
+            old.is_told ≡ true → IfOk result (λ links.
+            links_placed (path_at self.old id) old.parts ≡ Some (map link_said links.items)) }
+        ensures err { IfErr result (NumberedLinksFail self.old id (P.state self.old.package)
+            (P.state self.new.package)) }
+        ensures counts { IfErr result
+            (KeepsFaults Io (P.state self.old.package) (P.state self.new.package)) }
+        ensures kind { IfErr result (λ error.
+            MatchOption (name_at self.old id) (IsIndexError id error)
+            (λ name. IsPlacedLinksError name error)) }
+    {
+        let sheet = numbered_sheet(self.alloc, &self.metadata.sheets, id)?;
+        let name = sheet.name.as_str();
+        let path = path_named(&self.metadata.sheets, &self.paths, name);
+        placed_links(self.alloc, &mut self.package, path, name)
+    }
+}

@@ -1,0 +1,116 @@
+-- What the first element of a name says, and when it is refused.
+use Rattle.std.proofs.Common.{◌≡◌, ℕ, List, [], ◌∷◌, Bool, true, Option, Some, None, Result, Ok}
+use Rattle.std.proofs.Common.{refl, ap, ◌∙◌, sym, length, suc, false}
+use Rattle.std.specs.Prelude.{option_map, option_and_then, if◌then◌else◌}
+use Rattle.std.specs.Option.{option_map_or}
+use Rattle.part_events.specs.Event.{Tag, Event, start, end, leaf}
+use Rattle.part_events.specs.Nesting.{whole}
+use Rattle.part_events.specs.Package.{PackageState, SameParts}
+use Rattle.part_events.specs.Reading.{Reading, events_of}
+use Rattle.part_events.specs.Section.{behind_start, is_named}
+use Rattle.part_events.specs.declared.fault.XmlFault.TheVariants.{EndMismatch}
+use Rattle.xlsx_error.specs.declared.error.XlsxError.{XlsxError}
+use Rattle.xlsx_error.specs.declared.error.XlsxError.TheVariants.{Xml}
+use Rattle.xlsx_sections.specs.Failing.{FailsBy}
+use Rattle.xlsx_sections.specs.PartSection.{PartSection, section_in, section_from, inside_of}
+use Rattle.xlsx_sections.specs.PartSection.{has_end, last_of, always, StartCause, SectionCause}
+use Rattle.xlsx_sections.specs.Refusal.{Refusal}
+use Rattle.xlsx_sections.specs.SectionEvents.{section_events}
+use Rattle.xlsx_sections.proofs.Failing.{fails_by_weaker, same_parts}
+use Rattle.xlsx_parts.specs.FirstElement.{StartAhead, PartElement, first_start, element_with}
+use Rattle.xlsx_parts.specs.FirstElement.{element_from, element_in, said_of_element, first_said}
+use Rattle.xlsx_parts.specs.FirstElement.{IsElementRefused, FirstElementCause}
+use Rattle.xlsx_parts.specs.PartSaid.{ok_or_none}
+use Rattle.xlsx_parts.specs.WholePart.{IsBroken, FindSectionFails}
+
+behind_first : (wanted : Tag → Bool) (events : List Event)
+    → behind_start wanted events
+    ≡ option_map (λ (found : StartAhead). found.ahead) (first_start wanted events)
+behind_first wanted [] = refl
+behind_first wanted (start tag ∷ events) =
+    elim (wanted tag) as (λ b. (if b then Some events else behind_start wanted events)
+    ≡ option_map (λ (found : StartAhead). found.ahead)
+    (if b then Some (record { tag = tag; ahead = events }) else first_start wanted events)) [
+      | true ↦ refl
+      | false ↦ behind_first wanted events
+    ]
+behind_first wanted (end name ∷ events) = behind_first wanted events
+behind_first wanted (leaf kind ∷ events) = behind_first wanted events
+
+section_with : (events : List Event) (found : Option StartAhead) (element : PartElement)
+    → option_map (element_from events) found ≡ Some element
+    → option_map (section_from events)
+    (option_map (λ (first : StartAhead). first.ahead) found) ≡ Some element.section
+section_with events None element is = absurd (cc)
+section_with events (Some first) element is =
+    let same : element_from events first ≡ element = cc in
+    ap (λ (own : PartElement). Some own.section) same
+
+-- the section of the first element of a name is the first section of that name
+pub section_of_element : (name : List ℕ) (events : List Event) (element : PartElement)
+    → element_in name events ≡ Some element → section_in name events ≡ Some element.section
+section_of_element name events element is =
+    ap (option_map (section_from events)) (behind_first (is_named (name ∷ [])) (whole events))
+    ∙ section_with events (first_start (is_named (name ∷ [])) (whole events)) element is
+
+without_section : (events : List Event) (found : Option StartAhead)
+    → option_map (section_from events)
+    (option_map (λ (first : StartAhead). first.ahead) found) ≡ None
+    → option_map (element_from events) found ≡ None
+without_section events None is = refl
+without_section events (Some first) is = absurd (cc)
+
+-- without such a section there is no such element
+pub no_element : (name : List ℕ) (events : List Event) → section_in name events ≡ None
+    → element_in name events ≡ None
+no_element name events none =
+    without_section events (first_start (is_named (name ∷ [])) (whole events))
+    (sym (ap (option_map (section_from events))
+    (behind_first (is_named (name ∷ [])) (whole events))) ∙ none)
+
+-- how many events the part has up to its end
+pub element_events : (name : List ℕ) (events : List Event) (element : PartElement)
+    → element_in name events ≡ Some element
+    → section_events name events ≡ suc (last_of element.section)
+element_events name events element is =
+    ap (λ (found : Option PartSection). option_map_or (λ s. suc (last_of s)) found (length events))
+    (section_of_element name events element is)
+
+-- what it says
+pub element_says : {A : Type 0} {tag : Tag} {s : PartSection} {own : A} (name : List ℕ)
+    (events : List Event) (meaning : Tag → List Event → Result A Refusal)
+    → element_in name events ≡ Some (element_with tag s) → has_end s ≡ true
+    → meaning tag (inside_of s) ≡ Ok own → first_said name meaning events ≡ Some own
+element_says {tag = tag} {s = s} name events meaning there closed is =
+    ap (option_and_then (said_of_element meaning)) there
+    ∙ ap (λ (b : Bool). if b then ok_or_none (meaning tag (inside_of s)) else None) closed
+    ∙ ap ok_or_none is
+
+broken_start : (ended : List ℕ) (events : List Event) (error : XlsxError)
+    → IsBroken events error → StartCause ended events error
+broken_start ended events (Xml (EndMismatch at)) is = is
+broken_start ended events _ is = absurd is
+
+-- its start isn't found, since the nesting breaks
+pub find_element_refused : {A : Type 0} (name ended : List ℕ)
+    (meaning : Tag → List Event → Result A Refusal) (old new : Reading) (error : XlsxError)
+    → FindSectionFails name old new error
+    → FailsBy (FirstElementCause name ended meaning (events_of old)) old.source new.source error
+find_element_refused name ended meaning old new error fails =
+    fails_by_weaker (FirstElementCause name ended meaning (events_of old))
+    (λ own. (section_in name (events_of old) ≡ None) × IsBroken (events_of old) own) new.source
+    error (same_parts old.source)
+    (λ told both. rw (no_element name (events_of old) both.0)
+    (broken_start ended (events_of old) error both.1)) fails
+
+-- it is refused behind its start
+pub element_refused : {A : Type 0} {tag : Tag} {s : PartSection} (name ended : List ℕ)
+    (meaning : Tag → List Event → Result A Refusal) (old : Reading) (mid new : PackageState)
+    (error : XlsxError) → SameParts old.source mid
+    → (old.source.is_told ≡ true → element_in name (events_of old) ≡ Some (element_with tag s))
+    → FailsBy (SectionCause (always ended) (IsElementRefused meaning tag) s) mid new error
+    → FailsBy (FirstElementCause name ended meaning (events_of old)) old.source new error
+element_refused {tag = tag} {s = s} name ended meaning old mid new error same found fails =
+    fails_by_weaker (FirstElementCause name ended meaning (events_of old))
+    (SectionCause (always ended) (IsElementRefused meaning tag) s) new error same
+    (λ told cause. rw (found told) cause) fails

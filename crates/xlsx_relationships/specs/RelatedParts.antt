@@ -1,0 +1,94 @@
+-- Where the relationships of a part lead (ECMA-376 part 2, section 9.3).
+use Rattle.std.specs.Prelude.{⊤, ◌≡◌, ℕ, ◌-◌, List, [], ◌∷◌, ◌++◌, length, take, drop, nat_eq}
+use Rattle.std.specs.Prelude.{if◌then◌else◌, codes, Option, Some, None, unwrap_or, Result, Ok, Err}
+use Rattle.std.specs.List.{starts_with}
+use Rattle.std.specs.Str.{bytes_eq}
+use Rattle.attr_text.specs.Attributes.{lookup}
+use Rattle.attr_text.specs.declared.fault.AttrFault.{AttrFault}
+use Rattle.part_events.specs.Event.{Event}
+use Rattle.part_events.specs.Package.{Part, part_of}
+use Rattle.part_events.specs.Section.{PlacedTag}
+use Rattle.part_events.specs.declared.fault.XmlFault.TheVariants.{EndMismatch, Entity}
+use Rattle.xlsx_error.specs.declared.error.XlsxError.{XlsxError}
+use Rattle.xlsx_error.specs.declared.error.XlsxError.TheVariants.{OutOfMemory, Io, Xml}
+use Rattle.xlsx_error.specs.declared.error.XlsxError.TheVariants.{XmlAttr, XmlEof}
+use Rattle.xlsx_sections.specs.Answers.{some_answers, with_two}
+use Rattle.xlsx_sections.specs.Elements.{IsInsideRefused}
+use Rattle.xlsx_sections.specs.PartSection.{OptionalPartCause, always}
+use Rattle.xlsx_sections.specs.Refusal.{Refusal, plain, lookup_fault, decoded_at}
+use Rattle.xlsx_parts.specs.PartSaid.{part_said, unless_absent}
+use Rattle.xlsx_relationships.specs.Paths.{last_piece, without_slash, part_folder}
+use Rattle.xlsx_relationships.specs.Paths.{relationships_beside}
+use Rattle.xlsx_relationships.specs.Relationships.{relationship_starts}
+
+-- what stands before the last slash of a path
+abbrev pub before_slash : List ℕ → List ℕ
+before_slash path = take (length path - length (last_piece path) - 1) path
+
+-- the folder in which the folder of the part at this path lies, with the slash at its end
+abbrev pub outer_folder : List ℕ → List ℕ
+outer_folder path = part_folder (before_slash path)
+
+-- what follows `../` at the front
+abbrev pub behind_dots : List ℕ → Option (List ℕ)
+behind_dots target = if starts_with nat_eq target (codes "../") then Some (drop 3 target) else None
+
+abbrev pub led_from : List ℕ → Option (List ℕ) → List ℕ → List ℕ
+led_from path (Some rest) target = outer_folder path ++ rest
+led_from path None target = without_slash target
+
+-- Where a target leads that the relationships of the part at this path name. An empty one leads
+-- nowhere.
+abbrev pub target_path : List ℕ → List ℕ → Option (List ℕ)
+target_path path [] = None
+target_path path (byte ∷ target) =
+    Some (led_from path (behind_dots (byte ∷ target)) (byte ∷ target))
+
+abbrev pub led_to : List ℕ → Result (List ℕ) Refusal → Result (Option (List ℕ)) Refusal
+led_to path (Ok target) = Ok (target_path path target)
+led_to path (Err refusal) = Err refusal
+
+-- A relationship of another type isn't decoded. One without a type or a target has the empty one.
+abbrev pub led_with :
+    List ℕ → List ℕ → ℕ → Option (List ℕ) → Option (List ℕ) → Result (Option (List ℕ)) Refusal
+led_with path wanted behind typ target =
+    if bytes_eq (unwrap_or typ []) wanted
+    then led_to path (decoded_at behind (unwrap_or target [])) else Ok None
+
+abbrev pub led_by :
+    List ℕ → List ℕ → ℕ → Result (List (Option (List ℕ))) AttrFault →
+    Result (Option (List ℕ)) Refusal
+led_by path wanted behind (Ok values) = with_two (led_with path wanted behind) (Ok None) values
+led_by path wanted behind (Err fault) = Err (plain (lookup_fault fault))
+
+-- where a relationship leads, if it is of exactly this type
+abbrev pub leads_to : List ℕ → List ℕ → PlacedTag → Result (Option (List ℕ)) Refusal
+leads_to path wanted start =
+    led_by path wanted start.behind
+    (lookup (codes "Type" ∷ codes "Target" ∷ []) start.tag.attributes)
+
+-- where all of that type lead, in order
+abbrev pub all_lead_to : List ℕ → List ℕ → List Event → Result (List (List ℕ)) Refusal
+all_lead_to path wanted inside = some_answers (leads_to path wanted) (relationship_starts inside)
+
+-- where those of the part at a path lead; a part without relationships leads nowhere
+abbrev pub related_parts : List Part → List ℕ → List ℕ → Option (List (List ℕ))
+related_parts parts wanted path =
+    unless_absent [] (part_of parts (relationships_beside path))
+    (part_said (codes "Relationships") (all_lead_to path wanted) parts (relationships_beside path))
+
+-- why that can't be said
+abbrev pub RelatedCause : List Part → List ℕ → List ℕ → XlsxError → Type 0
+RelatedCause parts wanted path error =
+    OptionalPartCause (codes "Relationships") (always (codes "Relationships"))
+    (IsInsideRefused (all_lead_to path wanted)) (part_of parts (relationships_beside path)) error
+
+-- the refusals that it can have, whatever the package tells
+abbrev pub IsRelatedError : XlsxError → Type 0
+IsRelatedError OutOfMemory = ⊤
+IsRelatedError Io = ⊤
+IsRelatedError (Xml (EndMismatch at)) = ⊤
+IsRelatedError (Xml (Entity at)) = ⊤
+IsRelatedError (XmlAttr fault) = ⊤
+IsRelatedError (XmlEof element) = element.now ≡ codes "Relationships"
+IsRelatedError _ = ⊥

@@ -1,0 +1,190 @@
+ghost use Rattle.std.specs.Prelude.{◌≡◌, ◌≤◌, ℕ, List, Bool, Ok, Some, codes, suc, length, true};
+ghost use Rattle.std.specs.Prelude.{if◌then◌else◌, option_map, string_bytes, Option};
+ghost use Rattle.std.specs.Prelude.{IfOk, OnOk, IfErr, IsSomeAnd};
+ghost use Rattle.std.specs.Str.{bytes_eq};
+ghost use Rattle.part_events.specs.Event.{tag_of};
+ghost use Rattle.part_events.specs.Package.{Uses, event_count};
+ghost use Rattle.part_events.specs.Reading.{reading, open_elements, IsReading, ReadsPart};
+ghost use Rattle.part_events.specs.Walk.{section_ahead, is_closed_ahead, section_end};
+ghost use Rattle.xlsx_error.specs.declared.error.XlsxError.TheVariants.{OutOfMemory, Io};
+ghost use Rattle.xlsx_sections.specs.Elements.{IsInsideRefused};
+ghost use Rattle.xlsx_sections.specs.Failing.{FailsBy};
+ghost use Rattle.xlsx_sections.specs.PartSection.{always, SectionFails};
+ghost use Rattle.xlsx_sections.specs.Refusal.{ElementFails, IsDecodeError, placed_at};
+ghost use Rattle.xlsx_sections.specs.SectionEvents.{ReadsToEnd};
+ghost use Rattle.xlsx_relationships.specs.LinkTargets.{LinkTarget, link_text, is_hyperlink_type};
+ghost use Rattle.xlsx_relationships.specs.LinkTargets.{link_target_of, link_targets_in};
+ghost use Rattle.xlsx_relationships.specs.LinkTargets.{link_targets, LinkTargetsCause};
+ghost use Rattle.xlsx_relationships.specs.LinkTargets.{later_target, target_held, HoldsTargets};
+ghost use Rattle.xlsx_relationships.specs.LinkTargets.{link_target_said};
+ghost use Rattle.xlsx_relationships.specs.Paths.{relationships_beside};
+ghost use Rattle.xlsx_relationships.specs.RelationshipErrors.{IsTargetsError};
+
+use crate::paths::relationships_beside;
+use crate::relationships::text_or;
+use attr_text::{RawAttributes, get_attrs, unescape_hex};
+use part_events::{Cursor, Package, StartTag};
+use std::alloc::Global;
+use std::collections::BTreeMap;
+use xlsx_error::XlsxError;
+use xlsx_sections::{decode_at, enter_part, next_start_in, start_tag};
+
+/// A text of a hyperlink, decoded, and then with each `_xHHHH_` replaced by its character. Its
+/// start is event number `at` of its part, counted from 0. A reference without a character is
+/// `Xml(Entity)` with that number.
+pub fn link_text(alloc: Global, text: &str, at: u64) -> Result<String, XlsxError>
+    ensures ok { IfOk result (λ out. (behind : ℕ) →
+        link_text behind text.now ≡ Ok (string_bytes out)) }
+    ensures err { IfErr result (λ error. (behind : ℕ) →
+        ElementFails (link_text behind text.now) at behind error) }
+    ensures kind { IfErr result IsDecodeError }
+{
+    let decoded = decode_at(alloc, text, at)?;
+    Ok(unescape_hex(alloc, decoded.as_str())?)
+}
+
+fn is_hyperlink_type(typ: &str) -> bool
+    ensures { result ≡ is_hyperlink_type typ.now }
+{
+    typ.as_bytes().ends_with(b"/relationships/hyperlink")
+}
+
+/// The Id and the target of a relationship of hyperlinks, where it has an Id that isn't empty.
+#[tactic(auto, using(crate::proofs::RelationshipErrors::target_decoding))]
+fn link_target_of(
+    alloc: Global,
+    tag: StartTag<'_>,
+    at: u64,
+) -> Result<Option<(String, String)>, XlsxError>
+    ensures ok { IfOk result (λ found. (behind : ℕ) →
+        link_target_of (placed_at (tag_of tag.entry) behind)
+        ≡ Ok (option_map link_target_said found)) }
+    ensures err { IfErr result (λ error. (behind : ℕ) →
+        ElementFails (link_target_of (placed_at (tag_of tag.entry) behind)) at behind error) }
+    ensures kind { IfErr result IsTargetsError }
+{
+    let (id, typ, target) = get_attrs!(tag, "Id" => id, "Type" => typ, "Target" => target)?;
+    match (id, typ) {
+        (Some(id), Some(typ)) if is_hyperlink_type(typ) && !id.is_empty() => {
+            let target = link_text(alloc, text_or(target, ""), at)?;
+            Ok(Some((String::from_str(alloc, id)?, target)))
+        }
+        _ => Ok(None),
+    }
+}
+
+#[tactic(auto, using(std::proofs::lemmas::Map::Text::text_keys))]
+fn put_target(
+    targets: &mut BTreeMap<String, String>,
+    id: String,
+    target: String,
+) -> Result<(), XlsxError>
+    ensures ok { OnOk result ((own : List ℕ) → target_held targets.new own
+        ≡ (if bytes_eq own (string_bytes id) then Some (string_bytes target)
+        else target_held targets.old own)) }
+    ensures err { IfErr result (λ error. error ≡ OutOfMemory) }
+{
+    targets.insert(id, target)?;
+    Ok(())
+}
+
+/// Keeps the target of a start by its Id, in place of an earlier one.
+fn keep_link_target(
+    alloc: Global,
+    targets: &mut BTreeMap<String, String>,
+    tag: StartTag<'_>,
+    at: u64,
+) -> Result<(), XlsxError>
+    ensures ok { OnOk result ((found : Option LinkTarget)
+        × ((behind : ℕ) → link_target_of (placed_at (tag_of tag.entry) behind) ≡ Ok found)
+        × ((id : List ℕ) →
+        target_held targets.new id ≡ later_target id found (target_held targets.old id))) }
+    ensures err { IfErr result (λ error. (behind : ℕ) →
+        ElementFails (link_target_of (placed_at (tag_of tag.entry) behind)) at behind error) }
+    ensures kind { IfErr result IsTargetsError }
+{
+    match link_target_of(alloc, tag, at)? {
+        Some((id, target)) => put_target(targets, id, target),
+        None => Ok(()),
+    }
+}
+
+/// The targets of hyperlinks in a section of relationships whose element is number `base` of the
+/// open ones, by their Ids.
+#[tactic(auto, using(crate::proofs::RelationshipErrors::targets_step))]
+fn link_targets_in<P: Package>(
+    alloc: Global,
+    package: &mut P,
+    cursor: &mut Cursor,
+    base: usize,
+) -> Result<BTreeMap<String, String>, XlsxError>
+    requires reading { IsReading (reading (P.state «package».old) cursor.old) }
+    requires within { base ≤ length (open_elements cursor.old) }
+    ensures reads { let old = reading (P.state «package».old) cursor.old in
+        let new = reading (P.state «package».new) cursor.new in
+        ReadsPart Io result old new }
+    ensures closed { let old = reading (P.state «package».old) cursor.old in
+        old.source.is_told ≡ true → OnOk result (is_closed_ahead base old ≡ true) }
+    ensures ends { let old = reading (P.state «package».old) cursor.old in
+        let new = reading (P.state «package».new) cursor.new in
+        old.source.is_told ≡ true → OnOk result (new.at ≡ suc (section_end base old)) }
+    ensures targets { let old = reading (P.state «package».old) cursor.old in
+        old.source.is_told ≡ true → IfOk result (λ kept. (targets : List LinkTarget)
+        × (link_targets_in (section_ahead base old) ≡ Ok targets) × HoldsTargets targets kept) }
+    ensures err { let old = reading (P.state «package».old) cursor.old in
+        let new = reading (P.state «package».new) cursor.new in
+        let ending = always (codes "Relationships") in
+        IfErr result (SectionFails ending (IsInsideRefused link_targets_in) base old new) }
+    ensures kind { IfErr result IsTargetsError }
+{
+    let mut targets = BTreeMap::new(alloc);
+    'starts: while let Some(at) = next_start_in(
+        package,
+        cursor,
+        base,
+        "Relationship",
+        "Relationships",
+    )? {
+        keep_link_target(alloc, &mut targets, start_tag(package), at)?;
+    }
+    Ok(targets)
+}
+
+/// The targets of the hyperlinks of the sheet whose part is at this path, by the Ids of the
+/// relationships beside it (ECMA-376 part 2, section 9.3): of those whose type ends in
+/// `/relationships/hyperlink` and whose Id isn't empty, decoded, and then with each `_xHHHH_`
+/// replaced. Of an Id the last stands, and one without a target has the empty one. A part of
+/// relationships that is absent has none.
+///
+/// A part of relationships that has no section `Relationships`, or ends in it, is
+/// `XmlEof("Relationships")`. A target with a reference without a character is `Xml(Entity)` with
+/// the number of its start, counted from 0, and attributes that end in a fault are `XmlAttr`, where
+/// `Id`, `Type` or `Target` isn't before it.
+pub fn read_sheet_hyperlink_rels<P: Package>(
+    alloc: Global,
+    package: &mut P,
+    sheet_path: &str,
+) -> Result<BTreeMap<String, String>, XlsxError>
+    ensures uses { let old = P.state «package».old in
+        let new = P.state «package».new in
+        let part = relationships_beside sheet_path.now in
+        Uses (event_count old.parts part) Io result old new }
+    ensures to_end { let part = relationships_beside sheet_path.now in
+        ReadsToEnd (codes "Relationships") part result (P.state «package».old)
+        (P.state «package».new) }
+    ensures targets { let old = P.state «package».old in
+        old.is_told ≡ true → IfOk result (λ kept.
+        IsSomeAnd (link_targets old.parts sheet_path.now) (λ targets.
+        HoldsTargets targets kept)) }
+    ensures err { let old = P.state «package».old in
+        IfErr result (FailsBy (LinkTargetsCause old.parts sheet_path.now) old
+        (P.state «package».new)) }
+    ensures kind { IfErr result IsTargetsError }
+{
+    let part = relationships_beside(alloc, sheet_path)?;
+    let Some(mut cursor) = enter_part(alloc, package, part.as_str(), "Relationships")? else {
+        return Ok(BTreeMap::new(alloc));
+    };
+    let base = cursor.depth();
+    link_targets_in(alloc, package, &mut cursor, base)
+}

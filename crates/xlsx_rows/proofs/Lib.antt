@@ -1,0 +1,3 @@
+mod RecordSteps
+mod CellSteps
+mod RowFields

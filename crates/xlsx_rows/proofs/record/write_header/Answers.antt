@@ -1,0 +1,13 @@
+use Rattle.std.proofs.Common.{◌++◌, subst, sym}
+use Rattle.std.proofs.lemmas.Result.{on_ok_weaker}
+use Rattle.xlsx_rows.proofs.RowFields.{header_is_record}
+use Rattle.xlsx_rows.specs.RowSteps.{IsBetweenRecords}
+use Rattle.xlsx_rows.proofs.record.write_header.Goals as goal
+
+pub returns : goal.returns
+returns c =
+    let text = header_is_record c.args.names.now c.is_empty.result c.is_empty.ensures
+    c.if-is_empty.false in
+    on_ok_weaker c.write_names.result (λ takes before between.
+    subst (λ text. IsBetweenRecords (before ++ text) c.write_names.new.writer) (sym text)
+    (takes before between)) c.write_names.ensures

@@ -1,0 +1,3 @@
+pub mod CsvErrors
+pub mod RowSteps
+pub mod RowsText

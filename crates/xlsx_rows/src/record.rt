@@ -1,0 +1,79 @@
+//! Fields and records of a writer into memory, whose only errors are of memory.
+ghost use Rattle.std.specs.Prelude.{ℕ, List, ◌++◌, OnOk, Some};
+ghost use Rattle.csv.specs.Writing.{default_writer, row_text};
+ghost use Rattle.xlsx_rows.specs.RowsText.{data_field, header_fields, header_text};
+ghost use Rattle.xlsx_rows.specs.RowSteps.{IsInRecord, IsBetweenRecords, TakesField, TakesRecord};
+
+use crate::field::push_field;
+use cell_data::Data;
+use csv::Writer;
+use std::alloc::AllocError;
+
+pub fn write_bytes(writer: &mut Writer<Vec<u8>>, field: &[u8]) -> Result<(), AllocError>
+    ensures { OnOk result (TakesField field.now writer.old writer.new) }
+{
+    match writer.write_field(field) {
+        Ok(()) => Ok(()),
+        Err(_) => Err(AllocError),
+    }
+}
+
+pub fn end_record(writer: &mut Writer<Vec<u8>>) -> Result<(), AllocError>
+    ensures { OnOk result ((before : List ℕ) (fields : List (List ℕ))
+        → IsInRecord before fields writer.old
+        → IsBetweenRecords (before ++ row_text default_writer fields) writer.new) }
+{
+    match writer.end_record() {
+        Ok(()) => Ok(()),
+        Err(_) => Err(AllocError),
+    }
+}
+
+/// Writes the field of a value by its text, which is made in the scratch.
+fn write_printed(
+    writer: &mut Writer<Vec<u8>>,
+    scratch: &mut String,
+    value: &Data,
+) -> Result<(), AllocError>
+    ensures { OnOk result (TakesField (data_field value.now) writer.old writer.new) }
+{
+    scratch.clear();
+    push_field(scratch, value)?;
+    write_bytes(writer, scratch.as_bytes())
+}
+
+/// Writes the field of a value: a text as it is, and anything else by the scratch.
+pub fn write_value(
+    writer: &mut Writer<Vec<u8>>,
+    scratch: &mut String,
+    value: &Data,
+) -> Result<(), AllocError>
+    ensures { OnOk result (TakesField (data_field value.now) writer.old writer.new) }
+{
+    match value {
+        Data::String(text) => write_bytes(writer, text.as_bytes()),
+        Data::DateTimeIso(text) => write_bytes(writer, text.as_bytes()),
+        Data::Empty => write_bytes(writer, b""),
+        _ => write_printed(writer, scratch, value),
+    }
+}
+
+fn write_names(writer: &mut Writer<Vec<u8>>, names: &[String]) -> Result<(), AllocError>
+    ensures { OnOk result (TakesRecord (header_fields names.now) writer.old writer.new) }
+{
+    'names: for i in 0..names.len() {
+        write_bytes(writer, names[i].as_bytes())?;
+    }
+    end_record(writer)
+}
+
+/// Writes the record of a header that has a field.
+pub fn write_header(writer: &mut Writer<Vec<u8>>, names: &[String]) -> Result<(), AllocError>
+    ensures { OnOk result ((before : List ℕ) → IsBetweenRecords before writer.old
+        → IsBetweenRecords (before ++ header_text (Some (header_fields names.now))) writer.new) }
+{
+    if names.is_empty() {
+        return Ok(());
+    }
+    write_names(writer, names)
+}

@@ -1,0 +1,4 @@
+pub mod AreasInside
+pub mod SoundTables
+pub mod TablesKept
+pub mod TablesRead

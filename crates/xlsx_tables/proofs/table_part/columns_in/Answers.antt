@@ -1,0 +1,26 @@
+use Rattle.std.proofs.Common.{codes}
+use Rattle.part_events.specs.Reading.{reading}
+use Rattle.xlsx_sections.specs.Names.{name_by}
+use Rattle.xlsx_sections.specs.PartSection.{always}
+use Rattle.xlsx_sections.proofs.Failing.{given_back}
+use Rattle.xlsx_sections.proofs.StartsSaid.{at_start}
+use Rattle.xlsx_parts.proofs.StartLists.{some_further, some_refused}
+use Rattle.xlsx_tables.proofs.table_part.columns_in.Goals as goal
+
+pub starts-preserved : goal.starts-preserved
+starts-preserved g c =
+    let old = reading (g.P.Package.state c.args.package.now) c.args.cursor.now in
+    let found = at_start _ c.start_tag.ensures
+    (rw c.in-Some.is at (c.in_ok-at.ensures.step old c.starts.invariant.keeps)) in
+    some_further name_by c.starts.invariant found c.in_ok-push_column.ensures.ok
+
+pub returns-in_err-push_column-clause-err : goal.returns-in_err-push_column-clause-err
+returns-in_err-push_column-clause-err g c =
+    let old = reading (g.P.Package.state c.args.package.now) c.args.cursor.now in
+    let found = at_start _ c.start_tag.ensures
+    (rw c.in-Some.is at (c.in_ok-at.ensures.step old c.starts.invariant.keeps)) in
+    given_back _ c.from_residual-in_err-push_column.result
+    c.from_residual-in_err-push_column.ensures.1
+    (some_refused (always (codes "Table")) name_by
+    (g.P.Package.state c.next_start_in.new.package) c.in_err-push_column.field-0.0
+    c.starts.invariant found c.in_err-push_column.ensures.err)

@@ -1,0 +1,28 @@
+use Rattle.std.proofs.Common.{◌≡◌, ◌++◌, List, true, map, length, Some, string_bytes}
+use Rattle.part_events.specs.Package.{SameParts}
+use Rattle.xlsx_error.specs.declared.error.XlsxError.{XlsxError}
+use Rattle.xlsx_parts.specs.PartSaid.{put_together}
+use Rattle.xlsx_tables.specs.TableParts.{TableSaid}
+use Rattle.xlsx_tables.specs.Tables.{tables_by, TablesByCause, loaded_of, on_sheet}
+use Rattle.xlsx_tables.proofs.tables.push_tables.Given as goal
+
+abbrev pub invariant-paths : goal.invariant-paths
+invariant-paths g l =
+    let old = g.P.Package.state l.fn.package in
+    let now = g.P.Package.state l.package in
+    record {
+      same : SameParts old now;
+      faults : now.faults ≡ old.faults;
+      said :
+          old.is_told ≡ true → (found : List TableSaid)
+          × (map loaded_of l.tables.items
+          ≡ map loaded_of l.fn.tables.items ++ map (on_sheet l.sheet) found)
+          × (put_together (Some found) (tables_by old.parts (map string_bytes l.left))
+          ≡ tables_by old.parts (map string_bytes l.fn.paths));
+      cause :
+          (error : XlsxError) → TablesByCause old.parts (map string_bytes l.left) error →
+          TablesByCause old.parts (map string_bytes l.fn.paths) error;
+    }
+
+abbrev pub decreases-paths : goal.decreases-paths
+decreases-paths g l = length l.left

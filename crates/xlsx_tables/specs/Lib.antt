@@ -1,0 +1,3 @@
+pub mod TableErrors
+pub mod TableParts
+pub mod Tables

@@ -1,0 +1,139 @@
+-- What the part of a table says (ECMA-376 part 1, section 18.5.1.2).
+use Rattle.std.specs.Prelude.{ℕ, ◌+◌, ◌-◌, ◌^◌, ◌&&◌, nat_le, nat_lt, List, [], ◌∷◌, length, get_or}
+use Rattle.std.specs.Prelude.{Bool, if◌then◌else◌, codes, Option, Some, None, unwrap_or, Result, Ok}
+use Rattle.std.specs.Prelude.{Err, map, string_bytes}
+use Rattle.attr_text.specs.Attributes.{lookup}
+use Rattle.attr_text.specs.declared.fault.AttrFault.{AttrFault}
+use Rattle.cell_refs.specs.A1.{area}
+use Rattle.cell_refs.specs.declared.dimensions.Dimensions.{Dimensions}
+use Rattle.cell_refs.specs.declared.error.RefError.{RefError}
+use Rattle.part_events.specs.Event.{Tag, Event}
+use Rattle.part_events.specs.Section.{PlacedTag, starts_by, is_named}
+use Rattle.xlsx_sections.specs.Answers.{some_answers}
+use Rattle.xlsx_sections.specs.Names.{name_by}
+use Rattle.xlsx_sections.specs.NumberText.{number_text}
+use Rattle.xlsx_sections.specs.Refusal.{Refusal, plain, lookup_fault, misplaced, wrong_count}
+use Rattle.xlsx_sections.specs.Refusal.{decoded_at, placed_at}
+use Rattle.xlsx_parts.specs.FirstElement.{first_said}
+use Rattle.xlsx_tables.specs.declared.table_part.TablePart.{TablePart}
+use Rattle.xlsx_tables.specs.declared.table_start.TableStart.{TableStart}
+
+-- a table: its name, the names of its columns, and the area of its data
+pub record TableSaid : Type 0 where
+  pub name : List ℕ
+  pub columns : List (List ℕ)
+  pub area : Option Dimensions
+
+abbrev pub without_rows : ℕ → ℕ → Dimensions → Dimensions
+without_rows headers totals area = record {
+  start = (area.start.0 + headers, area.start.1);
+  end = (area.end.0 - totals, area.end.1);
+}
+
+-- The area without its first rows, the headers, and its last ones, the totals. It is none where its
+-- last row stands before its first one, or its last column.
+abbrev pub data_area : ℕ → ℕ → Dimensions → Option Dimensions
+data_area headers totals area =
+    if nat_le (area.start.0 + headers + totals) area.end.0 && nat_le area.start.1 area.end.1
+    then Some (without_rows headers totals area) else None
+
+abbrev pub counted_by : List ℕ → Option ℕ → Result ℕ Refusal
+counted_by text None = Err (plain (wrong_count text))
+counted_by text (Some n) = if nat_lt n (2 ^ 32) then Ok n else Err (plain (wrong_count text))
+
+-- how many rows a text counts, a number of 32 bits, or so many where there is none
+abbrev pub rows_counted : ℕ → Option (List ℕ) → Result ℕ Refusal
+rows_counted other None = Ok other
+rows_counted other (Some text) = counted_by text (number_text text)
+
+-- what the start of a table says: its name, and the area of its data
+pub record StartSaid : Type 0 where
+  pub name : List ℕ
+  pub area : Option Dimensions
+
+abbrev pub area_said : Result Dimensions RefError → Result Dimensions Refusal
+area_said (Ok found) = Ok found
+area_said (Err fault) = Err (plain (misplaced fault))
+
+abbrev pub with_totals : List ℕ → Dimensions → ℕ → Result ℕ Refusal → Result StartSaid Refusal
+with_totals name area headers (Ok totals) =
+    Ok (record { name = name; area = data_area headers totals area })
+with_totals name area headers (Err refusal) = Err refusal
+
+abbrev pub with_headers :
+    List ℕ → Dimensions → Result ℕ Refusal → Result ℕ Refusal → Result StartSaid Refusal
+with_headers name area (Ok headers) totals = with_totals name area headers totals
+with_headers name area (Err refusal) totals = Err refusal
+
+abbrev pub with_area :
+    List ℕ → Result Dimensions Refusal → Result ℕ Refusal → Result ℕ Refusal →
+    Result StartSaid Refusal
+with_area name (Ok area) headers totals = with_headers name area headers totals
+with_area name (Err refusal) headers totals = Err refusal
+
+abbrev pub with_table_name :
+    Result (List ℕ) Refusal → Result Dimensions Refusal → Result ℕ Refusal → Result ℕ Refusal →
+    Result StartSaid Refusal
+with_table_name (Ok name) area headers totals = with_area name area headers totals
+with_table_name (Err refusal) area headers totals = Err refusal
+
+-- by its four texts, in this order: without a name it has the empty one, without a count one row
+-- of headers and none of totals
+abbrev pub start_from :
+    ℕ → Option (List ℕ) → Option (List ℕ) → Option (List ℕ) → Option (List ℕ) →
+    Result StartSaid Refusal
+start_from behind name ref headers totals =
+    with_table_name (decoded_at behind (unwrap_or name [])) (area_said (area (unwrap_or ref [])))
+    (rows_counted 1 headers) (rows_counted 0 totals)
+
+abbrev pub start_by :
+    ℕ → Result (List (Option (List ℕ))) AttrFault → Result StartSaid Refusal
+start_by behind (Ok texts) =
+    start_from behind (get_or texts 0 None) (get_or texts 1 None) (get_or texts 2 None)
+    (get_or texts 3 None)
+start_by behind (Err fault) = Err (plain (lookup_fault fault))
+
+abbrev pub table_keys : List (List ℕ)
+table_keys =
+    codes "displayName" ∷ codes "ref" ∷ codes "headerRowCount" ∷ codes "totalsRowCount" ∷ []
+
+abbrev pub start_said : PlacedTag → Result StartSaid Refusal
+start_said start = start_by start.behind (lookup table_keys start.tag.attributes)
+
+abbrev pub is_column : Tag → Bool
+is_column tag = is_named (codes "tableColumn" ∷ []) tag
+
+-- the names of the columns among these events, in order; one without a name is passed over
+abbrev pub columns_in : List Event → Result (List (List ℕ)) Refusal
+columns_in inside = some_answers name_by (starts_by is_column inside)
+
+abbrev pub with_columns :
+    StartSaid → Result (List (List ℕ)) Refusal → Result TableSaid Refusal
+with_columns begun (Ok columns) =
+    Ok (record { name = begun.name; columns = columns; area = begun.area })
+with_columns begun (Err refusal) = Err refusal
+
+abbrev pub and_columns :
+    Result StartSaid Refusal → Result (List (List ℕ)) Refusal → Result TableSaid Refusal
+and_columns (Ok begun) columns = with_columns begun columns
+and_columns (Err refusal) columns = Err refusal
+
+-- the table of this start, by what stands in it
+abbrev pub table_said : Tag → List Event → Result TableSaid Refusal
+table_said tag inside =
+    and_columns (start_said (placed_at tag (length inside))) (columns_in inside)
+
+-- the table of a part, its first one
+abbrev pub table_of : List Event → Option TableSaid
+table_of events = first_said (codes "table") table_said events
+
+-- what is kept of a start and of a table, apart from where their texts lie in memory
+abbrev pub start_kept : TableStart → StartSaid
+start_kept begun = record { name = string_bytes begun.name; area = begun.area }
+
+abbrev pub table_kept : TablePart → TableSaid
+table_kept part = record {
+  name = string_bytes part.display_name;
+  columns = map string_bytes part.columns.items;
+  area = part.area;
+}

@@ -1,0 +1,74 @@
+-- The tables of the sheets of a workbook.
+use Rattle.std.specs.Prelude.{◌⊎◌, ℕ, List, [], ◌∷◌, map, codes, Option, option_map}
+use Rattle.std.specs.Prelude.{option_and_then, MatchOption}
+use Rattle.part_events.specs.Package.{Part, part_of}
+use Rattle.xlsx_error.specs.declared.error.XlsxError.{XlsxError}
+use Rattle.xlsx_parts.specs.PartSaid.{unless_absent, all_said}
+use Rattle.xlsx_parts.specs.SheetPaths.{SheetPath}
+use Rattle.xlsx_parts.specs.WholePart.{IfThere, SomeCause}
+use Rattle.xlsx_relationships.specs.RelatedParts.{related_parts, RelatedCause, IsRelatedError}
+use Rattle.xlsx_tables.specs.TableErrors.{TableCause, IsTableError}
+use Rattle.xlsx_tables.specs.TableParts.{TableSaid, table_of, table_kept}
+use Rattle.xlsx_tables.specs.declared.loaded.LoadedTable.{LoadedTable}
+
+-- the type of the relationships from a sheet to its tables
+abbrev pub table_type : List ℕ
+table_type = codes "http://schemas.openxmlformats.org/officeDocument/2006/relationships/table"
+
+-- the table of the part at a path, and none where the part is absent
+abbrev pub table_at : List Part → List ℕ → Option (List TableSaid)
+table_at parts path =
+    unless_absent [] (part_of parts path)
+    (option_map (λ (own : TableSaid). own ∷ [])
+    (option_and_then table_of (part_of parts path)))
+
+-- those of the parts at these paths, one after the other
+abbrev pub tables_by : List Part → List (List ℕ) → Option (List TableSaid)
+tables_by parts paths = all_said (table_at parts) paths
+
+-- the tables of the sheet whose part is at a path, in the order of its relationships
+abbrev pub tables_at : List Part → List ℕ → Option (List TableSaid)
+tables_at parts path = option_and_then (tables_by parts) (related_parts parts table_type path)
+
+-- a table, and the name of its sheet
+pub record SheetTable : Type 0 where
+  pub sheet : List ℕ
+  pub table : TableSaid
+
+abbrev pub table_of_sheet : List ℕ → TableSaid → SheetTable
+table_of_sheet sheet table = record { sheet = sheet; table = table }
+
+abbrev pub tables_on : List Part → SheetPath → Option (List SheetTable)
+tables_on parts sheet = option_map (map (table_of_sheet sheet.name)) (tables_at parts sheet.path)
+
+-- those of many sheets, one after the other
+abbrev pub tables_of : List Part → List SheetPath → Option (List SheetTable)
+tables_of parts sheets = all_said (tables_on parts) sheets
+
+-- why those of the parts at some paths can't be taken: one that is there is refused
+abbrev pub TablesByCause : List Part → List (List ℕ) → XlsxError → Type 0
+TablesByCause parts paths error =
+    SomeCause (λ (own : List ℕ). IfThere TableCause (part_of parts own)) paths error
+
+-- why those of the sheet whose part is at a path can't: it can't be said where its relationships
+-- lead, or one of the parts that they lead to is refused
+abbrev pub TablesAtCause : List Part → List ℕ → XlsxError → Type 0
+TablesAtCause parts path error =
+    RelatedCause parts table_type path error
+    ⊎ MatchOption (related_parts parts table_type path) ⊥
+    (λ paths. TablesByCause parts paths error)
+
+-- why those of many sheets can't
+abbrev pub TablesCause : List Part → List SheetPath → XlsxError → Type 0
+TablesCause parts sheets error =
+    SomeCause (λ (sheet : SheetPath). TablesAtCause parts sheet.path) sheets error
+
+abbrev pub IsTablesError : XlsxError → Type 0
+IsTablesError error = IsRelatedError error ⊎ IsTableError error
+
+-- a table that is kept, by the number of its sheet
+abbrev pub on_sheet : ℕ → TableSaid → ℕ × TableSaid
+on_sheet sheet table = (sheet, table)
+
+abbrev pub loaded_of : LoadedTable → ℕ × TableSaid
+loaded_of loaded = (loaded.sheet, table_kept loaded.part)

@@ -1,0 +1,211 @@
+ghost use Rattle.std.specs.Prelude.{◌≡◌, ◌≤◌, ◌++◌, ℕ, List, Ok, Some, None, suc, length, map};
+ghost use Rattle.std.specs.Prelude.{true, codes, Result, option_map, option_to_list, string_bytes};
+ghost use Rattle.std.specs.Prelude.{IfOk, OnOk, IfErr, IfSome, MatchOption, option_and_then};
+ghost use Rattle.cell_refs.specs.Positions.{are_sheet_bounds};
+ghost use Rattle.part_events.specs.Event.{tag_of};
+ghost use Rattle.part_events.specs.Package.{Uses, event_count, part_of};
+ghost use Rattle.part_events.specs.Reader.{reading_by, SamePackage};
+ghost use Rattle.part_events.specs.Reading.{reading, open_elements, IsReading, ReadsPart};
+ghost use Rattle.part_events.specs.Reading.{events_of};
+ghost use Rattle.part_events.specs.Walk.{section_ahead};
+ghost use Rattle.xlsx_error.specs.declared.error.XlsxError.TheVariants.{Io};
+ghost use Rattle.xlsx_sections.specs.Answers.{prepended, and_others_if};
+ghost use Rattle.xlsx_sections.specs.Elements.{IsInsideRefused, ReachesEnd};
+ghost use Rattle.xlsx_sections.specs.Failing.{FailsBy};
+ghost use Rattle.xlsx_sections.specs.Names.{name_by};
+ghost use Rattle.xlsx_sections.specs.PartSection.{always, SectionFails};
+ghost use Rattle.xlsx_sections.specs.Refusal.{Refusal, ElementFails, placed_at};
+ghost use Rattle.xlsx_sections.specs.SectionEvents.{ReadsToEnd, section_events};
+ghost use Rattle.xlsx_parts.specs.WholePart.{IfThere};
+ghost use Rattle.xlsx_tables.specs.TableErrors.{TableCause, IsTableError};
+ghost use Rattle.xlsx_tables.specs.TableParts.{columns_in, table_of, table_kept};
+
+use crate::table_start::start_said;
+use cell_refs::Dimensions;
+use part_events::{Cursor, Package, StartTag, XlReader};
+use std::alloc::{AllocError, Global};
+use xlsx_error::XlsxError;
+use xlsx_parts::{find_element, open_part};
+use xlsx_sections::{name_by, next_start_in, start_tag};
+
+/// The part of a table (ECMA-376 part 1, section 18.5.1.2).
+#[derive(Debug, Drop)]
+pub struct TablePart {
+    /// The name of the table.
+    pub display_name: String,
+    /// The names of its columns, in order.
+    pub columns: Vec<String>,
+    /// The area of its data, without headers and totals, its rows and columns counted from 0. None
+    /// where it has no cell.
+    pub area: Option<Dimensions>,
+}
+
+/// Appends a name, where there is one.
+fn push_name(names: &mut Vec<String>, name: Option<String>) -> Result<(), AllocError>
+    ensures { OnOk result (map string_bytes names.new.items
+        ≡ map string_bytes names.old.items ++ option_to_list (option_map string_bytes name)) }
+{
+    if let Some(name) = name {
+        names.push(name)?;
+    }
+    Ok(())
+}
+
+/// Appends the name of the column of a start, which is event number `at` of its part.
+#[tactic(auto, using(crate::proofs::TablesRead::name_error))]
+fn push_column(
+    alloc: Global,
+    columns: &mut Vec<String>,
+    tag: StartTag<'_>,
+    at: u64,
+) -> Result<(), XlsxError>
+    ensures ok { OnOk result ((behind : ℕ) (others : Result (List (List ℕ)) Refusal) →
+        prepended (map string_bytes columns.new.items) others
+        ≡ prepended (map string_bytes columns.old.items)
+        (and_others_if (name_by (placed_at (tag_of tag.entry) behind)) others)) }
+    ensures err { IfErr result (λ error. (behind : ℕ) →
+        ElementFails (name_by (placed_at (tag_of tag.entry) behind)) at behind error) }
+    ensures kind { IfErr result IsTableError }
+{
+    let name = name_by(alloc, tag, at)?;
+    push_name(columns, name)?;
+    Ok(())
+}
+
+/// The names of the columns in a table whose element is number `base` of the open ones.
+#[tactic(auto, using(crate::proofs::TablesRead::table_step))]
+fn columns_in<P: Package>(
+    alloc: Global,
+    package: &mut P,
+    cursor: &mut Cursor,
+    base: usize,
+) -> Result<Vec<String>, XlsxError>
+    requires reading { IsReading (reading (P.state «package».old) cursor.old) }
+    requires within { base ≤ length (open_elements cursor.old) }
+    ensures reads { let old = reading (P.state «package».old) cursor.old in
+        let new = reading (P.state «package».new) cursor.new in
+        ReadsPart Io result old new }
+    ensures depth { OnOk result (suc (length (open_elements cursor.new)) ≡ base) }
+    ensures reaches { let old = reading (P.state «package».old) cursor.old in
+        let new = reading (P.state «package».new) cursor.new in
+        old.source.is_told ≡ true → OnOk result (ReachesEnd base old new) }
+    ensures columns { let old = reading (P.state «package».old) cursor.old in
+        old.source.is_told ≡ true → IfOk result (λ columns.
+        columns_in (section_ahead base old) ≡ Ok (map string_bytes columns.items)) }
+    ensures err { let old = reading (P.state «package».old) cursor.old in
+        let new = reading (P.state «package».new) cursor.new in
+        IfErr result (SectionFails (always (codes "Table")) (IsInsideRefused columns_in) base
+        old new) }
+    ensures kind { IfErr result IsTableError }
+{
+    let mut columns = Vec::new(alloc);
+    'starts: while let Some(at) = next_start_in(package, cursor, base, "tableColumn", "Table")? {
+        push_column(alloc, &mut columns, start_tag(package), at)?;
+    }
+    Ok(columns)
+}
+
+/// The first table of a part of which nothing was taken.
+#[tactic(auto, using(crate::proofs::TablesRead::break_error, crate::proofs::TablesRead::start_error))]
+fn table_of<P: Package>(
+    alloc: Global,
+    package: &mut P,
+    cursor: &mut Cursor,
+) -> Result<TablePart, XlsxError>
+    requires reading { IsReading (reading (P.state «package».old) cursor.old) }
+    requires first { (reading (P.state «package».old) cursor.old).at ≡ 0 }
+    ensures reads { let old = reading (P.state «package».old) cursor.old in
+        let new = reading (P.state «package».new) cursor.new in
+        ReadsPart Io result old new }
+    ensures ends { let old = reading (P.state «package».old) cursor.old in
+        let new = reading (P.state «package».new) cursor.new in
+        let count = section_events (codes "table") (events_of old) in
+        old.source.is_told ≡ true → OnOk result (new.at ≡ count) }
+    ensures table { let old = reading (P.state «package».old) cursor.old in
+        old.source.is_told ≡ true →
+        IfOk result (λ part. table_of (events_of old) ≡ Some (table_kept part)) }
+    ensures inside { IfOk result (λ part. are_sheet_bounds part.area ≡ true) }
+    ensures err { let old = reading (P.state «package».old) cursor.old in
+        let new = reading (P.state «package».new) cursor.new in
+        IfErr result (FailsBy (TableCause (events_of old)) old.source new.source) }
+    ensures kind { IfErr result IsTableError }
+{
+    let Some(at) = find_element(package, cursor, "table")? else {
+        return Err(XlsxError::XmlEof("Table"));
+    };
+    let begun = start_said(alloc, start_tag(package), at)?;
+    let base = cursor.depth();
+    let columns = columns_in(alloc, package, cursor, base)?;
+    Ok(TablePart {
+        display_name: begun.name,
+        columns,
+        area: begun.area,
+    })
+}
+
+/// Reads the first table of a part of which no event was taken, to its end (ECMA-376 part 1,
+/// section 18.5.1.2): its `displayName`, decoded, the names of its `tableColumn` starts, decoded,
+/// in order, and the area of its data.
+///
+/// The area is `ref` without as many first rows as `headerRowCount` says, else one, and as many
+/// last ones as `totalsRowCount` says, else none. Rows and columns are counted from 0.
+///
+/// A part that has no table, or ends in it, is `XmlEof("Table")`, and an end that breaks the
+/// nesting before the table's end is `Xml(EndMismatch)` with its number in the part, counted from
+/// 0. Attributes that end in a fault and lack one of the wanted keys are `XmlAttr`, and a name with
+/// a reference without a character is `Xml(Entity)` with the number of its start. A `ref` that
+/// names no area has the refusal of its text, as an absent one has, and a count that isn't a number
+/// of 32 bits in decimal digits alone is `ParseInt` of its text.
+pub fn read_table_part<P: Package>(xml: &mut XlReader<'_, P>) -> Result<TablePart, XlsxError>
+    requires reading { IsReading (reading_by P.state xml.old) }
+    requires first { (reading_by P.state xml.old).at ≡ 0 }
+    ensures same_package { SamePackage xml.old xml.new }
+    ensures reads { ReadsPart Io result (reading_by P.state xml.old) (reading_by P.state xml.new) }
+    ensures ends { let old = reading_by P.state xml.old in
+        let new = reading_by P.state xml.new in
+        let count = section_events (codes "table") (events_of old) in
+        old.source.is_told ≡ true → OnOk result (new.at ≡ count) }
+    ensures table { let old = reading_by P.state xml.old in
+        old.source.is_told ≡ true →
+        IfOk result (λ part. table_of (events_of old) ≡ Some (table_kept part)) }
+    ensures inside { IfOk result (λ part. are_sheet_bounds part.area ≡ true) }
+    ensures err { let old = reading_by P.state xml.old in
+        let new = reading_by P.state xml.new in
+        IfErr result (FailsBy (TableCause (events_of old)) old.source new.source) }
+    ensures kind { IfErr result IsTableError }
+{
+    let alloc = xml.cursor.alloc();
+    table_of(alloc, xml.package, &mut xml.cursor)
+}
+
+/// The table of the part at this path, as `read_table_part` reads it. Answers None where the part
+/// is absent.
+///
+/// Fails as `read_table_part`.
+pub fn read_table_at<P: Package>(
+    alloc: Global,
+    package: &mut P,
+    path: &str,
+) -> Result<Option<TablePart>, XlsxError>
+    ensures uses { let old = P.state «package».old in
+        let new = P.state «package».new in
+        Uses (event_count old.parts path.now) Io result old new }
+    ensures to_end { ReadsToEnd (codes "table") path.now result (P.state «package».old)
+        (P.state «package».new) }
+    ensures table { let old = P.state «package».old in
+        old.is_told ≡ true → IfOk result (λ found. MatchOption found
+        (part_of old.parts path.now ≡ None)
+        (λ part. option_and_then table_of (part_of old.parts path.now)
+        ≡ Some (table_kept part))) }
+    ensures inside { IfOk result (λ found. IfSome found (λ part.
+        are_sheet_bounds part.area ≡ true)) }
+    ensures err { let old = P.state «package».old in
+        IfErr result (FailsBy (IfThere TableCause (part_of old.parts path.now)) old
+        (P.state «package».new)) }
+    ensures kind { IfErr result IsTableError }
+{
+    let Some(mut cursor) = open_part(alloc, package, path)? else {
+        return Ok(None);
+    };
+    Ok(Some(table_of(alloc, package, &mut cursor)?))
+}
