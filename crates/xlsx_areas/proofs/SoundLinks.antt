@@ -6,11 +6,10 @@ use Rattle.part_events.specs.Package.{Part, part_of}
 use Rattle.xlsx_error.specs.declared.error.XlsxError.{XlsxError}
 use Rattle.xlsx_sections.specs.PartSection.{always}
 use Rattle.xlsx_parts.specs.WholePart.{IfThere}
-use Rattle.xlsx_parts.proofs.SoundParts.{no_lacking_cause}
+use Rattle.xlsx_parts.proofs.SoundParts.{no_lacking_cause, no_said_cause}
 use Rattle.xlsx_relationships.specs.LinkTargets.{LinkTarget, link_targets, link_targets_in}
 use Rattle.xlsx_relationships.specs.LinkTargets.{target_in}
 use Rattle.xlsx_relationships.specs.Paths.{relationships_beside}
-use Rattle.xlsx_relationships.proofs.SoundTargets.{no_cause_where_said}
 use Rattle.xlsx_areas.specs.Hyperlinks.{Link, links_in, links_of, links_at}
 use Rattle.xlsx_areas.specs.LinkErrors.{LinksCause, SheetLinksCause}
 
@@ -40,8 +39,8 @@ no_cause_there parts path None links error says cause = cause
 no_cause_there parts path (Some events) links error says (inl cause) =
     let name = codes "Relationships" in
     let found = some_targets (link_targets parts path) events links says in
-    no_cause_where_said name (always name) [] found.0 link_targets_in
-    (part_of parts (relationships_beside path)) error found.1 cause
+    no_said_cause name (always name) [] link_targets_in
+    (part_of parts (relationships_beside path)) error found.0 found.1 cause
 no_cause_there parts path (Some events) links error says (inr cause) =
     no_cause_by (link_targets parts path) events links error says cause
 

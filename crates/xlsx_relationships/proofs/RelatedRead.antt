@@ -1,4 +1,4 @@
--- Which refusals of the layers below are those of related parts, and where a target leads.
+-- Where a target leads.
 use Rattle.std.proofs.Common.{◌≡◌, ℕ, ◌-◌, ◌+◌, ◌<◌, List, Bool, true, false, Option, Some, None}
 use Rattle.std.proofs.Common.{MatchOption, Bor, refl, length, take, drop, codes, ap, sym, arith}
 use Rattle.std.proofs.Common.{length-drop, [], subst, ◌∙◌, Result, Err}
@@ -8,28 +8,11 @@ use Rattle.std.specs.Str.{IsCharBoundary}
 use Rattle.std.specs.Str.Pattern.{FindsTextPrefix}
 use Rattle.std.specs.Prelude.{nat_eq}
 use Rattle.std.proofs.lemmas.Str.Pattern.{starts_text}
-use Rattle.part_events.specs.declared.fault.XmlFault.TheVariants.{EndMismatch, Entity}
 use Rattle.xlsx_error.specs.declared.error.XlsxError.{XlsxError}
-use Rattle.xlsx_error.specs.declared.error.XlsxError.TheVariants.{OutOfMemory, Io, Xml, XmlEof}
-use Rattle.xlsx_sections.specs.PartSection.{IsStepError}
-use Rattle.xlsx_sections.specs.Refusal.{Refusal, ElementFails, IsDecodeError}
+use Rattle.xlsx_sections.specs.Refusal.{Refusal, ElementFails}
 use Rattle.xlsx_sections.proofs.Refused.{refused_at_weaker}
 use Rattle.xlsx_relationships.specs.Paths.{last_piece}
 use Rattle.xlsx_relationships.specs.RelatedParts.{before_slash, behind_dots, led_to}
-use Rattle.xlsx_relationships.specs.RelatedParts.{IsRelatedError}
-
-pub related_step : (error : XlsxError) → IsStepError (codes "Relationships") error
-    → IsRelatedError error
-related_step OutOfMemory is = tt
-related_step Io is = tt
-related_step (Xml (EndMismatch at)) is = tt
-related_step (XmlEof element) is = is
-related_step _ is = absurd is
-
-pub decoding : (error : XlsxError) → IsDecodeError error → IsRelatedError error
-decoding OutOfMemory is = tt
-decoding (Xml (Entity at)) is = tt
-decoding _ is = absurd is
 
 -- a path without a slash, and one whose last slash stands at k
 pub before_slash-none : (path : List ℕ) → path ≡ last_piece path → [] ≡ before_slash path

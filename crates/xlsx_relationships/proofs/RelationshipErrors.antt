@@ -5,7 +5,7 @@ use Rattle.xlsx_error.specs.declared.error.XlsxError.{XlsxError}
 use Rattle.xlsx_error.specs.declared.error.XlsxError.TheVariants.{OutOfMemory, Io, Xml, XmlEof}
 use Rattle.xlsx_sections.specs.PartSection.{IsStepError}
 use Rattle.xlsx_sections.specs.Refusal.{IsDecodeError}
-use Rattle.xlsx_relationships.specs.RelationshipErrors.{IsRelationshipsError, IsTargetsError}
+use Rattle.xlsx_relationships.specs.RelationshipErrors.{IsRelationshipsError, IsRelatedError}
 
 pub relationships_step : (error : XlsxError) → IsStepError (codes "Relationships") error
     → IsRelationshipsError error
@@ -20,15 +20,15 @@ decoding OutOfMemory is = tt
 decoding (Xml (Entity at)) is = tt
 decoding _ is = absurd is
 
-pub targets_step : (error : XlsxError) → IsStepError (codes "Relationships") error
-    → IsTargetsError error
-targets_step OutOfMemory is = tt
-targets_step Io is = tt
-targets_step (Xml (EndMismatch at)) is = tt
-targets_step (XmlEof element) is = is
-targets_step _ is = absurd is
+pub related_step : (error : XlsxError) → IsStepError (codes "Relationships") error
+    → IsRelatedError error
+related_step OutOfMemory is = tt
+related_step Io is = tt
+related_step (Xml (EndMismatch at)) is = tt
+related_step (XmlEof element) is = is
+related_step _ is = absurd is
 
-pub target_decoding : (error : XlsxError) → IsDecodeError error → IsTargetsError error
-target_decoding OutOfMemory is = tt
-target_decoding (Xml (Entity at)) is = tt
-target_decoding _ is = absurd is
+pub related_decoding : (error : XlsxError) → IsDecodeError error → IsRelatedError error
+related_decoding OutOfMemory is = tt
+related_decoding (Xml (Entity at)) is = tt
+related_decoding _ is = absurd is

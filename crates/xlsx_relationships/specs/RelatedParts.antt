@@ -1,5 +1,5 @@
 -- Where the relationships of a part lead (ECMA-376 part 2, section 9.3).
-use Rattle.std.specs.Prelude.{⊤, ◌≡◌, ℕ, ◌-◌, List, [], ◌∷◌, ◌++◌, length, take, drop, nat_eq}
+use Rattle.std.specs.Prelude.{ ℕ, ◌-◌, List, [], ◌∷◌, ◌++◌, length, take, drop, nat_eq}
 use Rattle.std.specs.Prelude.{if◌then◌else◌, codes, Option, Some, None, unwrap_or, Result, Ok, Err}
 use Rattle.std.specs.List.{starts_with}
 use Rattle.std.specs.Str.{bytes_eq}
@@ -8,10 +8,7 @@ use Rattle.attr_text.specs.declared.fault.AttrFault.{AttrFault}
 use Rattle.part_events.specs.Event.{Event}
 use Rattle.part_events.specs.Package.{Part, part_of}
 use Rattle.part_events.specs.Section.{PlacedTag}
-use Rattle.part_events.specs.declared.fault.XmlFault.TheVariants.{EndMismatch, Entity}
 use Rattle.xlsx_error.specs.declared.error.XlsxError.{XlsxError}
-use Rattle.xlsx_error.specs.declared.error.XlsxError.TheVariants.{OutOfMemory, Io, Xml}
-use Rattle.xlsx_error.specs.declared.error.XlsxError.TheVariants.{XmlAttr, XmlEof}
 use Rattle.xlsx_sections.specs.Answers.{some_answers, with_two}
 use Rattle.xlsx_sections.specs.Elements.{IsInsideRefused}
 use Rattle.xlsx_sections.specs.PartSection.{OptionalPartCause, always}
@@ -82,13 +79,3 @@ abbrev pub RelatedCause : List Part → List ℕ → List ℕ → XlsxError → 
 RelatedCause parts wanted path error =
     OptionalPartCause (codes "Relationships") (always (codes "Relationships"))
     (IsInsideRefused (all_lead_to path wanted)) (part_of parts (relationships_beside path)) error
-
--- the refusals that it can have, whatever the package tells
-abbrev pub IsRelatedError : XlsxError → Type 0
-IsRelatedError OutOfMemory = ⊤
-IsRelatedError Io = ⊤
-IsRelatedError (Xml (EndMismatch at)) = ⊤
-IsRelatedError (Xml (Entity at)) = ⊤
-IsRelatedError (XmlAttr fault) = ⊤
-IsRelatedError (XmlEof element) = element.now ≡ codes "Relationships"
-IsRelatedError _ = ⊥

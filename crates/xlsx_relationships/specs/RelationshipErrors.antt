@@ -6,24 +6,18 @@ use Rattle.xlsx_error.specs.declared.error.XlsxError.TheVariants.{OutOfMemory, I
 use Rattle.xlsx_error.specs.declared.error.XlsxError.TheVariants.{XmlAttr, XmlEof, FileNotFound}
 use Rattle.xlsx_error.specs.declared.error.XlsxError.TheVariants.{RelationshipNotFound}
 
--- the refusals that relationships can have, whatever the package tells
+-- the refusals of relationships whose part may be absent, whatever the package tells
+abbrev pub IsRelatedError : XlsxError → Type 0
+IsRelatedError OutOfMemory = ⊤
+IsRelatedError Io = ⊤
+IsRelatedError (Xml (EndMismatch at)) = ⊤
+IsRelatedError (Xml (Entity at)) = ⊤
+IsRelatedError (XmlAttr fault) = ⊤
+IsRelatedError (XmlEof element) = element.now ≡ codes "Relationships"
+IsRelatedError _ = ⊥
+
+-- and of those of a part that has to be there, one of which is looked for
 abbrev pub IsRelationshipsError : XlsxError → Type 0
-IsRelationshipsError OutOfMemory = ⊤
-IsRelationshipsError Io = ⊤
-IsRelationshipsError (Xml (EndMismatch at)) = ⊤
-IsRelationshipsError (Xml (Entity at)) = ⊤
-IsRelationshipsError (XmlAttr fault) = ⊤
-IsRelationshipsError (XmlEof element) = element.now ≡ codes "Relationships"
 IsRelationshipsError (FileNotFound path) = ⊤
 IsRelationshipsError RelationshipNotFound = ⊤
-IsRelationshipsError _ = ⊥
-
--- and those that the targets of hyperlinks can have, where the part may be absent
-abbrev pub IsTargetsError : XlsxError → Type 0
-IsTargetsError OutOfMemory = ⊤
-IsTargetsError Io = ⊤
-IsTargetsError (Xml (EndMismatch at)) = ⊤
-IsTargetsError (Xml (Entity at)) = ⊤
-IsTargetsError (XmlAttr fault) = ⊤
-IsTargetsError (XmlEof element) = element.now ≡ codes "Relationships"
-IsTargetsError _ = ⊥
+IsRelationshipsError error = IsRelatedError error

@@ -18,7 +18,7 @@ ghost use Rattle.xlsx_relationships.specs.LinkTargets.{link_targets, LinkTargets
 ghost use Rattle.xlsx_relationships.specs.LinkTargets.{later_target, target_held, HoldsTargets};
 ghost use Rattle.xlsx_relationships.specs.LinkTargets.{link_target_said};
 ghost use Rattle.xlsx_relationships.specs.Paths.{relationships_beside};
-ghost use Rattle.xlsx_relationships.specs.RelationshipErrors.{IsTargetsError};
+ghost use Rattle.xlsx_relationships.specs.RelationshipErrors.{IsRelatedError};
 
 use crate::paths::relationships_beside;
 use crate::relationships::text_or;
@@ -50,7 +50,7 @@ fn is_hyperlink_type(typ: &str) -> bool
 }
 
 /// The Id and the target of a relationship of hyperlinks, where it has an Id that isn't empty.
-#[tactic(auto, using(crate::proofs::RelationshipErrors::target_decoding))]
+#[tactic(auto, using(crate::proofs::RelationshipErrors::related_decoding))]
 fn link_target_of(
     alloc: Global,
     tag: StartTag<'_>,
@@ -61,7 +61,7 @@ fn link_target_of(
         ≡ Ok (option_map link_target_said found)) }
     ensures err { IfErr result (λ error. (behind : ℕ) →
         ElementFails (link_target_of (placed_at (tag_of tag.entry) behind)) at behind error) }
-    ensures kind { IfErr result IsTargetsError }
+    ensures kind { IfErr result IsRelatedError }
 {
     let (id, typ, target) = get_attrs!(tag, "Id" => id, "Type" => typ, "Target" => target)?;
     match (id, typ) {
@@ -101,7 +101,7 @@ fn keep_link_target(
         target_held targets.new id ≡ later_target id found (target_held targets.old id))) }
     ensures err { IfErr result (λ error. (behind : ℕ) →
         ElementFails (link_target_of (placed_at (tag_of tag.entry) behind)) at behind error) }
-    ensures kind { IfErr result IsTargetsError }
+    ensures kind { IfErr result IsRelatedError }
 {
     match link_target_of(alloc, tag, at)? {
         Some((id, target)) => put_target(targets, id, target),
@@ -111,7 +111,7 @@ fn keep_link_target(
 
 /// The targets of hyperlinks in a section of relationships whose element is number `base` of the
 /// open ones, by their Ids.
-#[tactic(auto, using(crate::proofs::RelationshipErrors::targets_step))]
+#[tactic(auto, using(crate::proofs::RelationshipErrors::related_step))]
 fn link_targets_in<P: Package>(
     alloc: Global,
     package: &mut P,
@@ -135,7 +135,7 @@ fn link_targets_in<P: Package>(
         let new = reading (P.state «package».new) cursor.new in
         let ending = always (codes "Relationships") in
         IfErr result (SectionFails ending (IsInsideRefused link_targets_in) base old new) }
-    ensures kind { IfErr result IsTargetsError }
+    ensures kind { IfErr result IsRelatedError }
 {
     let mut targets = BTreeMap::new(alloc);
     'starts: while let Some(at) = next_start_in(
@@ -179,7 +179,7 @@ pub fn read_sheet_hyperlink_rels<P: Package>(
     ensures err { let old = P.state «package».old in
         IfErr result (FailsBy (LinkTargetsCause old.parts sheet_path.now) old
         (P.state «package».new)) }
-    ensures kind { IfErr result IsTargetsError }
+    ensures kind { IfErr result IsRelatedError }
 {
     let part = relationships_beside(alloc, sheet_path)?;
     let Some(mut cursor) = enter_part(alloc, package, part.as_str(), "Relationships")? else {

@@ -15,7 +15,7 @@ ghost use Rattle.xlsx_sections.specs.SectionEvents.{ReadsToEnd};
 ghost use Rattle.xlsx_relationships.specs.Paths.{relationships_beside};
 ghost use Rattle.xlsx_relationships.specs.RelatedParts.{led_to, leads_to, all_lead_to};
 ghost use Rattle.xlsx_relationships.specs.RelatedParts.{related_parts, RelatedCause};
-ghost use Rattle.xlsx_relationships.specs.RelatedParts.{IsRelatedError};
+ghost use Rattle.xlsx_relationships.specs.RelationshipErrors.{IsRelatedError};
 
 use crate::paths::relationships_beside;
 use crate::relationships::text_or;
@@ -27,7 +27,7 @@ use xlsx_error::XlsxError;
 use xlsx_sections::{decode_at, enter_part, next_start_in, start_tag};
 
 /// Where a target leads, which stands in event number `at` of its part.
-#[tactic(auto, using(crate::proofs::RelatedRead::decoding))]
+#[tactic(auto, using(crate::proofs::RelationshipErrors::related_decoding))]
 fn led_to(alloc: Global, target: &str, at: u64, path: &str) -> Result<Option<String>, XlsxError>
     ensures ok { IfOk result (λ there. (behind : ℕ) →
         led_to path.now (decoded_at behind target.now) ≡ Ok (option_map string_bytes there)) }
@@ -97,7 +97,7 @@ fn push_lead(
 
 /// Where the relationships of this type lead, in a section of relationships whose element is number
 /// `base` of the open ones.
-#[tactic(auto, using(crate::proofs::RelatedRead::related_step))]
+#[tactic(auto, using(crate::proofs::RelationshipErrors::related_step))]
 fn all_lead_to<P: Package>(
     alloc: Global,
     package: &mut P,
@@ -148,7 +148,7 @@ fn all_lead_to<P: Package>(
 /// `Xml(EndMismatch)` with its number, counted from 0. Attributes that end in a fault and lack
 /// `Type` or `Target` are `XmlAttr`. A target of this type with a reference without a character is
 /// `Xml(Entity)` with the number of its start, counted from 0.
-#[tactic(auto, using(crate::proofs::RelatedRead::related_step))]
+#[tactic(auto, using(crate::proofs::RelationshipErrors::related_step))]
 pub fn related_parts<P: Package>(
     alloc: Global,
     package: &mut P,

@@ -6,7 +6,8 @@ use Rattle.xlsx_error.specs.declared.error.XlsxError.{XlsxError}
 use Rattle.xlsx_parts.specs.PartSaid.{unless_absent, all_said}
 use Rattle.xlsx_parts.specs.SheetPaths.{SheetPath}
 use Rattle.xlsx_parts.specs.WholePart.{IfThere, SomeCause}
-use Rattle.xlsx_relationships.specs.RelatedParts.{related_parts, RelatedCause, IsRelatedError}
+use Rattle.xlsx_relationships.specs.RelatedParts.{related_parts, RelatedCause}
+use Rattle.xlsx_relationships.specs.RelationshipErrors.{IsRelatedError}
 use Rattle.xlsx_tables.specs.TableErrors.{TableCause, IsTableError}
 use Rattle.xlsx_tables.specs.TableParts.{TableSaid, table_of, table_kept}
 use Rattle.xlsx_tables.specs.declared.loaded.LoadedTable.{LoadedTable}
