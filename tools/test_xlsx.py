@@ -2,6 +2,7 @@
 
 import os
 import pathlib
+import resource
 import shutil
 import signal
 import subprocess
@@ -29,6 +30,12 @@ SLOW = """\
 [ "$(wc -c)" -gt 0 ] || exit 5
 echo slow
 exec sleep 300
+"""
+# Takes the words `cells NAME`, and prints what address space it may have, in KiB.
+BOUNDED = """\
+#!/bin/sh
+[ "$(cat | wc -c)" -gt 0 ] || exit 5
+ulimit -v
 """
 # Proves a crate, builds the program of this folder, or runs it unproved.
 RT = """\
@@ -95,9 +102,11 @@ class Wrapper(unittest.TestCase):
         self.program.parent.mkdir(exist_ok=True)
         shutil.copy(program or self.folder / "program", self.program)
 
-    def run_on(self, *words, data=b"", path=None, **given):
+    def run_on(self, *words, data=b"", path=None, memory=None, **given):
         path = f"{self.folder / 'bin'}:{os.environ['PATH']}" if path is None else path
         about = {"STAND_IN": self.folder / "program", "FAILING": self.folder / "failing"}
+        if memory is not None:
+            about["XLSX_MEMORY"] = memory
         ran = subprocess.run(
             [self.folder / "top" / "xlsx", *words],
             input=data,
@@ -314,6 +323,41 @@ class Wrapper(unittest.TestCase):
             )
         self.assertEqual(list(room.iterdir()), [])
 
+    # Memory
+
+    def test_the_program_gets_no_more_address_space_than_is_asked_for(self):
+        self.build(self.written("bounded", BOUNDED))
+        for memory, bound in (
+            (None, b"4194304"),
+            ("4096", b"4194304"),
+            ("100", b"102400"),
+            ("0100", b"102400"),
+            ("0", b"unlimited"),
+            ("000000000000", b"unlimited"),
+        ):
+            with self.subTest(memory=memory):
+                ran = self.run_on("book.xlsx", "cells", "S", memory=memory)
+                self.assertEqual(ran, (0, bound + b"\n", ""))
+
+    def test_a_bound_that_is_no_number_is_refused(self):
+        self.build()
+        for memory in ("", "x", "-1", "+1", "1.5", " 1", "1 ", "1k", "0x10", "1\n", "9" * 13):
+            with self.subTest(memory=memory):
+                self.assertEqual(self.run_on("cells", "0", memory=memory), (2, b"", USAGE))
+
+    def test_a_lower_bound_that_stands_already_stays(self):
+        self.build(self.written("bounded", BOUNDED))
+        for memory in (None, "0", "200"):
+            with self.subTest(memory=memory):
+                ran = self.run_on(
+                    "cells",
+                    "S",
+                    data=b"1",
+                    memory=memory,
+                    preexec_fn=lambda: resource.setrlimit(resource.RLIMIT_AS, (2**27, 2**27)),
+                )
+                self.assertEqual(ran, (0, b"131072\n", ""))
+
     # The page
 
     def test_help_shows_both_forms_and_the_programs_page(self):
@@ -323,6 +367,10 @@ class Wrapper(unittest.TestCase):
         for text in (b"./xlsx FILE.xlsx WORDS", b"./xlsx WORDS < package.json"):
             self.assertIn(text, out)
         self.assertTrue(out.endswith(b"\npage\n"))
+
+    def test_help_says_what_memory_the_program_gets(self):
+        self.assertIn(b" 4096 MiB of address space", self.run_on("--help")[1])
+        self.assertIn(b" 7 MiB of address space", self.run_on("--help", memory="7")[1])
 
     def test_help_builds_nothing_and_says_what_is_printed(self):
         status, out, said = self.run_on("--help")
@@ -337,6 +385,13 @@ class Wrapper(unittest.TestCase):
             self.assertEqual(self.run_on("--help", stdout=full), (7, None, "write fault\n"))
 
     # With the program itself
+
+    def test_the_program_ends_where_there_is_no_memory(self):
+        self.build(PROGRAM)
+        data = b'{"a":' * 200_000 + b"0" + b"}" * 200_000
+        said = (8, b"", "out of memory\n")
+        self.assertEqual(self.run_on("cells", "S", data=data, memory="64"), said)
+        self.assertEqual(self.run_on("cells", "S", data=data)[0], 5)
 
     def test_the_words_that_are_commands_are_those_of_the_program(self):
         self.build(PROGRAM)
