@@ -6,13 +6,13 @@ use Rattle.attr_text.specs.Attributes.{lookup, value_of_local}
 use Rattle.attr_text.specs.declared.fault.AttrFault.{AttrFault}
 use Rattle.cell_refs.specs.A1.{area}
 use Rattle.cell_refs.specs.declared.dimensions.Dimensions.{Dimensions}
-use Rattle.cell_refs.specs.declared.error.RefError.{RefError}
 use Rattle.part_events.specs.Event.{Tag, Event}
 use Rattle.part_events.specs.Package.{Part, part_of, event_count}
 use Rattle.part_events.specs.Section.{PlacedTag, starts_by, is_named}
 use Rattle.xlsx_sections.specs.Answers.{some_answers}
 use Rattle.xlsx_sections.specs.Names.{some_text}
-use Rattle.xlsx_sections.specs.Refusal.{Refusal, plain, lookup_fault, misplaced}
+use Rattle.xlsx_sections.specs.Placed.{placed}
+use Rattle.xlsx_sections.specs.Refusal.{Refusal, plain, lookup_fault}
 use Rattle.xlsx_sections.specs.SectionEvents.{section_events, section_events_of}
 use Rattle.xlsx_parts.specs.PartSaid.{section_said_or}
 use Rattle.xlsx_relationships.specs.LinkTargets.{LinkTarget, link_text, link_targets, target_in}
@@ -31,10 +31,6 @@ pub record Link : Type 0 where
 abbrev pub optional_text : ℕ → Option (List ℕ) → Result (Option (List ℕ)) Refusal
 optional_text behind None = Ok None
 optional_text behind (Some written) = some_text (link_text behind written)
-
-abbrev pub range_named : Result Dimensions RefError → Result Dimensions Refusal
-range_named (Ok range) = Ok range
-range_named (Err fault) = Err (plain (misplaced fault))
 
 abbrev pub link_to :
     Option (List ℕ) → Dimensions → Option (List ℕ) → Option (List ℕ) → Option (List ℕ) → Link
@@ -67,7 +63,7 @@ abbrev pub link_with :
     Result (Option Link) Refusal
 link_with behind target None location shown tip = Ok None
 link_with behind target (Some written) location shown tip =
-    some_link (linked target (range_named (area written)) (optional_text behind location)
+    some_link (linked target (placed (area written)) (optional_text behind location)
     (optional_text behind shown) (optional_text behind tip))
 
 -- the four values of a lookup

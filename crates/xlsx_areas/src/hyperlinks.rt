@@ -13,9 +13,10 @@ ghost use Rattle.xlsx_error.specs.declared.error.XlsxError.TheVariants.{Io};
 ghost use Rattle.xlsx_sections.specs.Answers.{prepended, and_others_if};
 ghost use Rattle.xlsx_sections.specs.Elements.{ElementReadFails, IsInsideRefused, ReachesEnd};
 ghost use Rattle.xlsx_sections.specs.PartSection.{always, SectionFails};
+ghost use Rattle.xlsx_sections.specs.Placed.{placed};
 ghost use Rattle.xlsx_sections.specs.Refusal.{Refusal, ElementFails, IsDecodeError, placed_at};
 ghost use Rattle.xlsx_relationships.specs.LinkTargets.{target_held};
-ghost use Rattle.xlsx_areas.specs.Hyperlinks.{Link, optional_text, range_named, linked, link_of};
+ghost use Rattle.xlsx_areas.specs.Hyperlinks.{Link, optional_text, linked, link_of};
 ghost use Rattle.xlsx_areas.specs.Hyperlinks.{links_in, link_said};
 ghost use Rattle.xlsx_areas.specs.LinkErrors.{IsLinksError};
 
@@ -75,13 +76,13 @@ fn linked(
 ) -> Result<Hyperlink, XlsxError>
     ensures ok { let to = option_map string_bytes target in
         IfOk result (λ link. (behind : ℕ) →
-        linked to (range_named (area range.now))
+        linked to (placed (area range.now))
         (optional_text behind (option_copied location.entry))
         (optional_text behind (option_copied shown.entry))
         (optional_text behind (option_copied tip.entry)) ≡ Ok (link_said link)) }
     ensures err { let to = option_map string_bytes target in
         IfErr result (λ error. (behind : ℕ) →
-        ElementFails (linked to (range_named (area range.now))
+        ElementFails (linked to (placed (area range.now))
         (optional_text behind (option_copied location.entry))
         (optional_text behind (option_copied shown.entry))
         (optional_text behind (option_copied tip.entry))) at behind error) }

@@ -13,9 +13,10 @@ use Rattle.part_events.specs.Event.{Event}
 use Rattle.part_events.specs.Package.{Part, part_of}
 use Rattle.part_events.specs.Section.{PlacedTag}
 use Rattle.list_lines.specs.Lines.{LiesInWorksheet}
+use Rattle.xlsx_sections.specs.Placed.{placed}
 use Rattle.xlsx_sections.specs.Refusal.{Refusal}
 use Rattle.xlsx_relationships.specs.LinkTargets.{LinkTarget, link_targets, target_in}
-use Rattle.xlsx_areas.specs.Hyperlinks.{Link, optional_text, range_named, link_to, linked}
+use Rattle.xlsx_areas.specs.Hyperlinks.{Link, optional_text, link_to, linked}
 use Rattle.xlsx_areas.specs.Hyperlinks.{some_link, link_with, link_from, link_by_id, link_by}
 use Rattle.xlsx_areas.specs.Hyperlinks.{link_of, is_link, links_of, link_said}
 use Rattle.xlsx_areas.specs.declared.hyperlink.Hyperlink.{Hyperlink}
@@ -24,7 +25,7 @@ use Rattle.xlsx_commands.specs.SheetLists.{IsLinkInside, IsKeptInside}
 use Rattle.xlsx_commands.proofs.AreasInside.{area_inside, section_are}
 
 range_inside : (found : Result Dimensions RefError) (own : Dimensions)
-    → ((one : Dimensions) → found ≡ Ok one → LiesInWorksheet one) → range_named found ≡ Ok own
+    → ((one : Dimensions) → found ≡ Ok one → LiesInWorksheet one) → placed found ≡ Ok own
     → LiesInWorksheet own
 range_inside (Ok found) own inside is =
     let same : found ≡ own = cc in subst LiesInWorksheet same (inside found refl)
@@ -46,7 +47,7 @@ with_inside : (behind : ℕ) (target written location shown tip : Option (List �
     → link_with behind target written location shown tip ≡ Ok (Some own) → IsLinkInside own
 with_inside behind target None location shown tip own is = absurd (cc)
 with_inside behind target (Some written) location shown tip own is =
-    linked_inside target (range_named (area written)) (optional_text behind location)
+    linked_inside target (placed (area written)) (optional_text behind location)
     (optional_text behind shown) (optional_text behind tip) own
     (λ one. range_inside (area written) one (area_inside written)) is
 

@@ -4,6 +4,11 @@ use Rattle.attr_text.specs.declared.fault.AttrFault.{AttrFault}
 use Rattle.cell_refs.specs.declared.error.RefError.{RefError}
 use Rattle.xlsx_sections.specs.Refusal.{Refusal, plain, lookup_fault, misplaced}
 
+-- what a text names that has to be there
+abbrev pub placed : {A : Type 0} → Result A RefError → Result A Refusal
+placed (Ok place) = Ok place
+placed (Err fault) = Err (plain (misplaced fault))
+
 abbrev pub some_placed : {A : Type 0} → Result A RefError → Result (Option A) Refusal
 some_placed (Ok place) = Ok (Some place)
 some_placed (Err fault) = Err (plain (misplaced fault))

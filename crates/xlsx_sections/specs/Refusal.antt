@@ -51,6 +51,19 @@ pub data PlainRefusal : Type 0 where
   wrong_type : List ℕ → PlainRefusal
   -- this text counts no rows
   wrong_count : List ℕ → PlainRefusal
+  -- the part of a pivot table has no name, or more than one
+  lacks_pivot_name : PlainRefusal
+  many_pivot_names : PlainRefusal
+  -- no relationship leads from a pivot table to the definitions of its cache, or more than one
+  lacks_definitions : PlainRefusal
+  many_definitions : PlainRefusal
+  -- no relationship leads from there to the records of the cache, or more than one
+  lacks_records : PlainRefusal
+  many_records : PlainRefusal
+  -- a record names an item by a text that is no number, where there is no field, or past its items
+  wrong_item_number : PlainRefusal
+  lacks_field : PlainRefusal
+  lacks_item : PlainRefusal
 
 pub data Refusal : Type 0 where
   -- a reference in one of its texts has no character; so many events of the section stand behind
@@ -81,6 +94,18 @@ unexpected =
     (codes "Cell string index not found in shared strings table", lacks_string)
     ∷ (codes "si attribute must be a number", wrong_index)
     ∷ (codes "si attribute is mandatory if it is shared", lacks_index)
+    ∷ (codes "no name for pivot table", lacks_pivot_name)
+    ∷ (codes "multiple name entries for one pivot table path", many_pivot_names)
+    ∷ (codes "no pivot cache definition found for pivot table", lacks_definitions)
+    ∷ (
+      codes "multiple pivot cache definition relationships found for one pivot table",
+      many_definitions,
+    )
+    ∷ (codes "no pivot cache records found for pivot table", lacks_records)
+    ∷ (codes "multiple pivot cache record relationships found for one pivot table", many_records)
+    ∷ (codes "pivot cache x:v attribute must be a number", wrong_item_number)
+    ∷ (codes "pivot cache field index out of range", lacks_field)
+    ∷ (codes "pivot cache item index out of range", lacks_item)
     ∷ []
 
 -- the plain refusal of which an error tells

@@ -1,18 +1,18 @@
 -- What the part of a table says (ECMA-376 part 1, section 18.5.1.2).
-use Rattle.std.specs.Prelude.{ℕ, ◌+◌, ◌-◌, ◌^◌, ◌&&◌, nat_le, nat_lt, List, [], ◌∷◌, length, get_or}
+use Rattle.std.specs.Prelude.{ℕ, ◌+◌, ◌-◌, ◌^◌, ◌&&◌, nat_le, List, [], ◌∷◌, length, get_or}
 use Rattle.std.specs.Prelude.{Bool, if◌then◌else◌, codes, Option, Some, None, unwrap_or, Result, Ok}
 use Rattle.std.specs.Prelude.{Err, map, string_bytes}
 use Rattle.attr_text.specs.Attributes.{lookup}
 use Rattle.attr_text.specs.declared.fault.AttrFault.{AttrFault}
 use Rattle.cell_refs.specs.A1.{area}
 use Rattle.cell_refs.specs.declared.dimensions.Dimensions.{Dimensions}
-use Rattle.cell_refs.specs.declared.error.RefError.{RefError}
 use Rattle.part_events.specs.Event.{Tag, Event}
 use Rattle.part_events.specs.Section.{PlacedTag, starts_by, is_named}
 use Rattle.xlsx_sections.specs.Answers.{some_answers}
 use Rattle.xlsx_sections.specs.Names.{name_by}
-use Rattle.xlsx_sections.specs.NumberText.{number_text}
-use Rattle.xlsx_sections.specs.Refusal.{Refusal, plain, lookup_fault, misplaced, wrong_count}
+use Rattle.xlsx_sections.specs.NumberText.{number_below}
+use Rattle.xlsx_sections.specs.Placed.{placed}
+use Rattle.xlsx_sections.specs.Refusal.{Refusal, plain, lookup_fault, wrong_count}
 use Rattle.xlsx_sections.specs.Refusal.{decoded_at, placed_at}
 use Rattle.xlsx_parts.specs.FirstElement.{first_said}
 use Rattle.xlsx_tables.specs.declared.table_part.TablePart.{TablePart}
@@ -39,21 +39,17 @@ data_area headers totals area =
 
 abbrev pub counted_by : List ℕ → Option ℕ → Result ℕ Refusal
 counted_by text None = Err (plain (wrong_count text))
-counted_by text (Some n) = if nat_lt n (2 ^ 32) then Ok n else Err (plain (wrong_count text))
+counted_by text (Some n) = Ok n
 
 -- how many rows a text counts, a number of 32 bits, or so many where there is none
 abbrev pub rows_counted : ℕ → Option (List ℕ) → Result ℕ Refusal
 rows_counted other None = Ok other
-rows_counted other (Some text) = counted_by text (number_text text)
+rows_counted other (Some text) = counted_by text (number_below (2 ^ 32) text)
 
 -- what the start of a table says: its name, and the area of its data
 pub record StartSaid : Type 0 where
   pub name : List ℕ
   pub area : Option Dimensions
-
-abbrev pub area_said : Result Dimensions RefError → Result Dimensions Refusal
-area_said (Ok found) = Ok found
-area_said (Err fault) = Err (plain (misplaced fault))
 
 abbrev pub with_totals : List ℕ → Dimensions → ℕ → Result ℕ Refusal → Result StartSaid Refusal
 with_totals name area headers (Ok totals) =
@@ -83,7 +79,7 @@ abbrev pub start_from :
     ℕ → Option (List ℕ) → Option (List ℕ) → Option (List ℕ) → Option (List ℕ) →
     Result StartSaid Refusal
 start_from behind name ref headers totals =
-    with_table_name (decoded_at behind (unwrap_or name [])) (area_said (area (unwrap_or ref [])))
+    with_table_name (decoded_at behind (unwrap_or name [])) (placed (area (unwrap_or ref [])))
     (rows_counted 1 headers) (rows_counted 0 totals)
 
 abbrev pub start_by :

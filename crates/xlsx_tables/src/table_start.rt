@@ -6,10 +6,11 @@ ghost use Rattle.cell_refs.specs.A1.{area};
 ghost use Rattle.cell_refs.specs.Positions.{are_sheet_bounds};
 ghost use Rattle.part_events.specs.Event.{tag_of};
 ghost use Rattle.xlsx_error.specs.declared.error.XlsxError.TheVariants.{OutOfMemory};
+ghost use Rattle.xlsx_sections.specs.Placed.{placed};
 ghost use Rattle.xlsx_sections.specs.Refusal.{ElementFails, placed_at, decoded_at};
 ghost use Rattle.xlsx_tables.specs.TableErrors.{IsTableStartError};
 ghost use Rattle.xlsx_tables.specs.TableParts.{data_area, rows_counted, table_keys, start_said};
-ghost use Rattle.xlsx_tables.specs.TableParts.{start_kept, with_table_name, area_said};
+ghost use Rattle.xlsx_tables.specs.TableParts.{start_kept, with_table_name};
 
 use attr_text::{AttrFault, AttrValue, RawAttributes, four_values};
 use cell_refs::{Dimensions, get_dimension};
@@ -90,11 +91,11 @@ fn start_from(
     at: u64,
 ) -> Result<TableStart, XlsxError>
     ensures ok { IfOk result (λ begun. (behind : ℕ) → with_table_name (decoded_at behind name.now)
-        (area_said (area reference.now)) (rows_counted 1 (option_copied headers.entry))
+        (placed (area reference.now)) (rows_counted 1 (option_copied headers.entry))
         (rows_counted 0 (option_copied totals.entry)) ≡ Ok (start_kept begun)) }
     ensures inside { IfOk result (λ begun. are_sheet_bounds begun.area ≡ true) }
     ensures err { IfErr result (λ error. (behind : ℕ) → ElementFails
-        (with_table_name (decoded_at behind name.now) (area_said (area reference.now))
+        (with_table_name (decoded_at behind name.now) (placed (area reference.now))
         (rows_counted 1 (option_copied headers.entry))
         (rows_counted 0 (option_copied totals.entry))) at behind error) }
     ensures kind { IfErr result IsTableStartError }

@@ -3,9 +3,10 @@ use Rattle.std.specs.Option.{option_copied}
 use Rattle.std.proofs.lemmas.Result.{err_from_is_err_and}
 use Rattle.cell_refs.specs.A1.{area}
 use Rattle.part_events.specs.Event.{tag_of}
+use Rattle.xlsx_sections.specs.Placed.{placed}
 use Rattle.xlsx_sections.specs.Refusal.{placed_at}
 use Rattle.xlsx_relationships.specs.LinkTargets.{target_held}
-use Rattle.xlsx_areas.specs.Hyperlinks.{optional_text, range_named, linked, some_link, link_of}
+use Rattle.xlsx_areas.specs.Hyperlinks.{optional_text, linked, some_link, link_of}
 use Rattle.xlsx_areas.proofs.LinksRead.{handed_on}
 use Rattle.xlsx_areas.proofs.hyperlinks.link_of.Goals as goal
 
@@ -16,7 +17,7 @@ returns-in_err-link-clause-err c =
     let by = target_held c.args.targets.now in
     let to = option_map string_bytes c.in_ok-target.target in
     rw (p.1, p.2) (λ behind.
-    let own = linked to (range_named (area c.in-Some.range.now))
+    let own = linked to (placed (area c.in-Some.range.now))
     (optional_text behind (option_copied c.in_ok-range.location))
     (optional_text behind (option_copied c.in_ok-range.shown))
     (optional_text behind (option_copied c.in_ok-range.tip)) in

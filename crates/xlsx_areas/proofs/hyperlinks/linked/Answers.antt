@@ -2,8 +2,9 @@ use Rattle.std.proofs.Common.{◌≡◌, ℕ, List, Option, Result, Err, option_
 use Rattle.std.specs.Option.{option_copied}
 use Rattle.std.proofs.lemmas.Result.{err_from_is_err_and}
 use Rattle.cell_refs.specs.A1.{area}
+use Rattle.xlsx_sections.specs.Placed.{placed}
 use Rattle.xlsx_sections.specs.Refusal.{Refusal}
-use Rattle.xlsx_areas.specs.Hyperlinks.{Link, optional_text, range_named, linked}
+use Rattle.xlsx_areas.specs.Hyperlinks.{Link, optional_text, linked}
 use Rattle.xlsx_areas.proofs.LinksRead.{handed_on}
 use Rattle.xlsx_areas.proofs.hyperlinks.linked.Goals as goal
 
@@ -15,7 +16,7 @@ returns-in_err-location-clause-err c =
     let p = err_from_is_err_and c.from_residual-in_err-location.result
     c.from_residual-in_err-location.ensures.1 in
     let to = option_map string_bytes c.args.target in
-    let range = range_named (area c.args.range.now) in
+    let range = placed (area c.args.range.now) in
     rw (p.1, p.2) (λ behind.
     let location = optional_text behind (option_copied c.args.location) in
     let shown = optional_text behind (option_copied c.args.shown) in
@@ -31,7 +32,7 @@ returns-in_err-displayed_text-clause-err c =
     let p = err_from_is_err_and c.from_residual-in_err-displayed_text.result
     c.from_residual-in_err-displayed_text.ensures.1 in
     let to = option_map string_bytes c.args.target in
-    let range = range_named (area c.args.range.now) in
+    let range = placed (area c.args.range.now) in
     rw (p.1, p.2) (λ behind.
     let location = optional_text behind (option_copied c.args.location) in
     let shown = optional_text behind (option_copied c.args.shown) in
@@ -48,7 +49,7 @@ returns-in_err-tooltip-clause-err c =
     let p = err_from_is_err_and c.from_residual-in_err-tooltip.result
     c.from_residual-in_err-tooltip.ensures.1 in
     let to = option_map string_bytes c.args.target in
-    let range = range_named (area c.args.range.now) in
+    let range = placed (area c.args.range.now) in
     rw (p.1, p.2) (λ behind.
     let location = optional_text behind (option_copied c.args.location) in
     let shown = optional_text behind (option_copied c.args.shown) in

@@ -1,9 +1,9 @@
 use Rattle.std.proofs.Common.{◌≡◌, Ok, rules, string_bytes}
 use Rattle.std.specs.Option.{option_copied}
 use Rattle.cell_refs.specs.A1.{area}
+use Rattle.xlsx_sections.specs.Placed.{placed}
 use Rattle.xlsx_sections.specs.Refusal.{decoded_at}
 use Rattle.xlsx_sections.proofs.Failing.{given_back}
-use Rattle.xlsx_tables.specs.TableParts.{area_said}
 use Rattle.xlsx_tables.specs.TableParts.{rows_counted}
 use Rattle.xlsx_tables.proofs.AreasInside.{area_inside, data_inside}
 use Rattle.xlsx_tables.proofs.TablesRead.{name_fails, headers_fail, totals_fail}
@@ -13,7 +13,7 @@ pub returns-in_err-name-clause-err : goal.returns-in_err-name-clause-err
 returns-in_err-name-clause-err c =
     given_back _ c.from_residual.result c.from_residual.ensures.1
     (λ behind. name_fails c.args.at behind (decoded_at behind c.args.name.now)
-    (area_said (area c.args.reference.now)) (rows_counted 1 (option_copied c.args.headers))
+    (placed (area c.args.reference.now)) (rows_counted 1 (option_copied c.args.headers))
     (rows_counted 0 (option_copied c.args.totals)) c.in_err-name.field-0.0
     (c.in_err-name.ensures.err behind))
 
