@@ -1,50 +1,71 @@
 -- The first error among values that are taken one by one.
-use Rattle.std.proofs.Common.{◌≡◌, ℕ, List, [], ◌∷◌, ◌++◌, Ok, None, Some, refl, subst, sym}
+use Rattle.std.proofs.Common.{◌≡◌, ◌∙◌, List, [], ◌∷◌, ◌++◌, None, Some, refl, sym, ap}
 use Rattle.std.proofs.Common.{true, false}
+use Rattle.std.specs.Prelude.{if◌then◌else◌}
 use Rattle.std.specs.List.{find}
+use Rattle.std.proofs.lemmas.List.{map-append}
 use Rattle.std.proofs.lemmas.List.Folds.{find-append}
-use Rattle.cell_data.specs.CellValue.{CellValue}
 use Rattle.cell_data.specs.declared.cell.Cell.{Cell}
 use Rattle.cell_data.specs.declared.value.DataRef.{DataRef}
-use Rattle.xlsx_values.specs.Value.{Grounds, cell_value}
+use Rattle.xlsx_sections.specs.Answers.{prepended}
+use Rattle.xlsx_values.specs.Value.{Grounds}
 use Rattle.xlsx_cells.specs.CellsReader.{IsValued, values_alone}
 use Rattle.xlsx_cells.specs.Position.{NoCell}
-use Rattle.xlsx_cells.specs.Sheet.{values_in}
-use Rattle.xlsx_cells.specs.SheetPart.{value_entry}
-use Rattle.xlsx_cells.specs.Stream.{Stream, TakesCell, EndsData, data_ahead}
+use Rattle.xlsx_cells.specs.Sheet.{answers_from, placed_value, values_in}
+use Rattle.xlsx_cells.specs.SheetPart.{value_entry, value_entries}
+use Rattle.xlsx_cells.specs.Stream.{Stream, TakesCell, EndsData, data_ahead, marks_ahead}
 use Rattle.xlsx_cells.proofs.WholeReadings.{ValuesTaken, values_further, values_whole}
-use Rattle.worked_calls.specs.Taking.{IsFirstError, is_error}
+use Rattle.worked_calls.specs.Taking.{IsFirstError, is_error, has_error}
 
 -- one cell more was taken
-pub values_and_one : {own_grounds grounds : Grounds} {old mid new : Stream}
-    {values : List ((ℕ × ℕ) × CellValue)} (own : Cell DataRef) → own_grounds ≡ grounds
-    → (been : ValuesTaken values_alone grounds old mid values)
-    → TakesCell NoCell been.before been.earlier mid new (IsValued own_grounds own)
-    → ValuesTaken values_alone grounds old new (values ++ value_entry own ∷ [])
-values_and_one own same been takes =
-    values_further (value_entry own) been takes
-    (λ before element kept is. (
-      is.placed,
-      subst (λ (grounds : Grounds). cell_value grounds element.tag element.inside
-          ≡ Ok (value_entry own).1) same is.valued,
-    ))
+pub values_and_one : {grounds : Grounds} {old mid new : Stream} (sound : List (Cell DataRef))
+    (own : Cell DataRef)
+    → (been : ValuesTaken values_alone grounds old mid (value_entries sound))
+    → TakesCell NoCell been.before been.earlier mid new (IsValued grounds own)
+    → ValuesTaken values_alone grounds old new (value_entries (sound ++ own ∷ []))
+values_and_one sound own been takes =
+    rw (map-append value_entry sound (own ∷ []))
+    (values_further (value_entry own) been takes
+    (λ before element kept is. (is.placed, is.valued)))
 
 -- its value is no error either
-pub none_further : (sound : List ((ℕ × ℕ) × CellValue)) (own : (ℕ × ℕ) × CellValue)
-    → find is_error sound ≡ None → is_error own ≡ false → find is_error (sound ++ own ∷ []) ≡ None
-none_further sound own none other = rw (find-append is_error sound (own ∷ []), none, other) refl
+pub none_further : (sound : List (Cell DataRef)) (own : Cell DataRef)
+    → find has_error sound ≡ None → has_error own ≡ false
+    → find has_error (sound ++ own ∷ []) ≡ None
+none_further sound own none other = rw (find-append has_error sound (own ∷ []), none, other) refl
+
+-- none of the cells has an error, and so none of their values is one
+none_is_error : (cells : List (Cell DataRef)) → find has_error cells ≡ None
+    → find is_error (value_entries cells) ≡ None
+none_is_error [] none = refl
+none_is_error (own ∷ others) none =
+    elim (has_error own) as (λ b. (if b then Some own else find has_error others) ≡ None
+    → (if b then Some (value_entry own) else find is_error (value_entries others)) ≡ None) [
+      | true ↦ λ never. absurd (cc)
+      | false ↦ λ rest. none_is_error others rest
+    ] none
 
 -- its value is one
-pub error_found : {grounds : Grounds} {old new : Stream} (sound : List ((ℕ × ℕ) × CellValue))
-    (own : (ℕ × ℕ) × CellValue)
-    → ValuesTaken values_alone grounds old new (sound ++ own ∷ []) → find is_error sound ≡ None
-    → is_error own ≡ true → IsFirstError (Some own) (values_in grounds (data_ahead old))
-error_found sound own been none error = (sound, _, sym been.all, none, error)
+pub error_found : {grounds : Grounds} {old new : Stream} (sound : List (Cell DataRef))
+    (own : Cell DataRef)
+    → ValuesTaken values_alone grounds old new (value_entries (sound ++ own ∷ []))
+    → find has_error sound ≡ None → has_error own ≡ true
+    → IsFirstError (Some (value_entry own)) (values_in grounds (data_ahead old))
+error_found {grounds = grounds} {new = new} sound own been none error =
+    let others = answers_from (placed_value grounds) been.before (marks_ahead new) in (
+      value_entries sound,
+      others,
+      sym been.all
+          ∙ ap (λ (values : List _). prepended values others)
+          (map-append value_entry sound (own ∷ [])),
+      none_is_error sound none,
+      error,
+    )
 
 -- no cell is left
-pub no_error_left : {grounds : Grounds} {old mid new : Stream}
-    {sound : List ((ℕ × ℕ) × CellValue)}
-    → (been : ValuesTaken values_alone grounds old mid sound) → find is_error sound ≡ None
-    → EndsData NoCell been.before mid new
+pub no_error_left : {grounds : Grounds} {old mid new : Stream} (sound : List (Cell DataRef))
+    → (been : ValuesTaken values_alone grounds old mid (value_entries sound))
+    → find has_error sound ≡ None → EndsData NoCell been.before mid new
     → IsFirstError None (values_in grounds (data_ahead old))
-no_error_left {sound = sound} been none ends = (sound, values_whole been ends, none)
+no_error_left sound been none ends =
+    (value_entries sound, values_whole been ends, none_is_error sound none)

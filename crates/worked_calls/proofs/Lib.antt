@@ -1,2 +1,3 @@
 pub mod Counted
 mod FirstErrors
+mod Through

@@ -9,11 +9,13 @@ use Rattle.xlsx_error.specs.declared.error.XlsxError.{XlsxError}
 use Rattle.xlsx_sections.specs.Answers.{prepended}
 use Rattle.xlsx_sections.specs.Refusal.{Refusal}
 use Rattle.xlsx_values.specs.Value.{Grounds}
-use Rattle.xlsx_formulas.specs.Formula.{FormulaText}
+use Rattle.xlsx_formulas.specs.Formula.{FormulaText, behind_formulas}
 use Rattle.xlsx_cells.specs.CellsReader.{IsValued, IsValuedFormula, values_alone}
 use Rattle.xlsx_cells.specs.CellsReader.{values_and_formulas}
 use Rattle.xlsx_cells.specs.Marks.{Mark, cell, behind_marks}
+use Rattle.part_events.specs.Section.{Element}
 use Rattle.xlsx_cells.specs.Position.{NoCell}
+use Rattle.xlsx_cells.specs.SheetPart.{value_entry}
 use Rattle.xlsx_cells.specs.Stream.{Stream, TakesCell, EndsData, PassesCell, NextCellFails}
 use Rattle.xlsx_cells.specs.declared.cell_records.XlsxCellFormula.{XlsxCellFormula}
 
@@ -22,7 +24,8 @@ abbrev pub is_error : (ℕ × ℕ) × CellValue → Bool
 is_error (place, failure error) = true
 is_error (place, value) = false
 
--- The first cell whose value is one, or that there is none. What stands behind it may be refused.
+-- The first cell whose value is one, or that there is none. Where something behind it is refused,
+-- this says nothing of it.
 abbrev pub IsFirstError :
     Option ((ℕ × ℕ) × CellValue) → Result (List ((ℕ × ℕ) × CellValue)) Refusal → Type 0
 IsFirstError None values =
@@ -32,6 +35,32 @@ IsFirstError (Some own) values =
     × (others : Result (List ((ℕ × ℕ) × CellValue)) Refusal)
     × (values ≡ prepended (sound ++ own ∷ []) others) × (find is_error sound ≡ None)
     × (is_error own ≡ true)
+
+-- these cells were taken, each with such a fact, and no more: the stream stands behind the last
+abbrev pub TakesThrough :
+    {A : Type 0} → (List FormulaText → A → List Mark → Element → List FormulaText → Type 0) →
+    List Mark → List FormulaText → Stream → List A → Stream → Type 0
+TakesThrough fact before earlier old [] new = new ≡ old
+TakesThrough fact before earlier old (own ∷ others) new =
+    (mid : Stream) × (takes : TakesCell NoCell before earlier old mid (fact earlier own))
+    × TakesThrough fact (cell takes.element ∷ behind_marks takes.takes.front.passed before)
+    (behind_formulas takes.kept earlier) mid others new
+
+abbrev pub has_error : Cell DataRef → Bool
+has_error own = is_error (value_entry own)
+
+-- cells without an error were taken, and then this one, which has one
+abbrev pub StopsAtError : Grounds → Stream → Stream → Cell DataRef → Type 0
+StopsAtError grounds old new own =
+    (sound : List (Cell DataRef)) × (find has_error sound ≡ None) × (has_error own ≡ true)
+    × TakesThrough (λ kept. IsValued grounds) [] [] old (sound ++ own ∷ []) new
+
+-- cells without an error were taken, and the next one is refused
+abbrev pub FailsBeforeError : Grounds → Stream → Stream → XlsxError → Type 0
+FailsBeforeError grounds old new error =
+    (sound : List (Cell DataRef)) × (mid : Stream) × (find has_error sound ≡ None)
+    × TakesThrough (λ kept. IsValued grounds) [] [] old sound mid
+    × NextCellFails values_alone grounds mid new.reading error
 
 -- two cells were taken, the second with its formula by those kept before both
 pub record TakesBoth

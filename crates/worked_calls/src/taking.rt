@@ -7,8 +7,10 @@ ghost use Rattle.xlsx_cells.specs.Marks.{Mark};
 ghost use Rattle.xlsx_cells.specs.Sheet.{values_in};
 ghost use Rattle.xlsx_cells.specs.Stream.{IsStreaming, IsGoing, StandsBehind, data_ahead};
 ghost use Rattle.xlsx_cells.specs.SheetPart.{value_entry, DataFails};
-ghost use Rattle.xlsx_cells.specs.WholeReadings.{formula_value_entry};
-ghost use Rattle.worked_calls.specs.Taking.{TakesBoth, LacksTwo, TwoFail, is_error, IsFirstError};
+ghost use Rattle.xlsx_cells.specs.CellsReader.{IsValuedFormula};
+ghost use Rattle.xlsx_cells.specs.WholeReadings.{TakesAll, formula_value_entry};
+ghost use Rattle.worked_calls.specs.Taking.{TakesBoth, LacksTwo, TwoFail, has_error, IsFirstError};
+ghost use Rattle.worked_calls.specs.Taking.{StopsAtError, FailsBeforeError};
 
 use cell_data::{Cell, DataRef};
 use part_events::Package;
@@ -27,6 +29,9 @@ pub fn formulas_taken<P: Package>(
         old.reading.source.is_told ≡ true → IfOk result (λ cells.
         values_in (grounds_by reader.old) (data_ahead old)
         ≡ Ok (map formula_value_entry cells.items)) }
+    ensures formulas { let old = stream_by P.state reader.old in
+        old.reading.source.is_told ≡ true → IfOk result (λ cells.
+        TakesAll (IsValuedFormula (grounds_by reader.old)) [] [] old cells.items) }
     ensures err { IfErr result (DataFails values_and_formulas (grounds_by reader.old)
         (stream_by P.state reader.old) (stream_by P.state reader.new)) }
 {
@@ -39,13 +44,14 @@ pub fn formulas_taken<P: Package>(
 
 /// Whether the value of a cell is an error.
 fn is_error(cell: &Cell<DataRef>) -> bool
-    ensures { result ≡ is_error (value_entry cell.now) }
+    ensures { result ≡ has_error cell.now }
 {
     matches!(cell.val, DataRef::Error(_))
 }
 
 /// The first cell whose value is an error, where there is one. Nothing behind it is read, and so
-/// refuses nothing.
+/// refuses nothing: of what was taken up to it no value is an error, and a refusal comes of the next
+/// cell behind such ones.
 pub fn first_error<P: Package>(
     reader: &mut XlsxCellReader<'_, P>,
 ) -> Result<Option<Cell<DataRef>>, XlsxError>
@@ -54,6 +60,14 @@ pub fn first_error<P: Package>(
     ensures found { let old = stream_by P.state reader.old in
         old.reading.source.is_told ≡ true → IfOk result (λ found. IsFirstError
         (option_map value_entry found) (values_in (grounds_by reader.old) (data_ahead old))) }
+    ensures stops { let old = stream_by P.state reader.old in
+        let new = stream_by P.state reader.new in
+        old.reading.source.is_told ≡ true → IfOk result (λ found.
+        IfSome found (StopsAtError (grounds_by reader.old) old new)) }
+    ensures before { let old = stream_by P.state reader.old in
+        let new = stream_by P.state reader.new in
+        old.reading.source.is_told ≡ true →
+        IfErr result (FailsBeforeError (grounds_by reader.old) old new) }
     ensures err { IfErr result (DataFails values_alone (grounds_by reader.old)
         (stream_by P.state reader.old) (stream_by P.state reader.new)) }
 {

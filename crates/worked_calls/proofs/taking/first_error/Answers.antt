@@ -1,13 +1,13 @@
-use Rattle.std.proofs.Common.{◌≡◌, ◌++◌, ◌∷◌, [], refl, sym, ◌∙◌, subst}
+use Rattle.std.proofs.Common.{◌++◌, ◌∷◌, [], refl, sym, ◌∙◌, subst}
 use Rattle.std.proofs.lemmas.Result.{err_from_is_err_and}
 use Rattle.xlsx_values.specs.Value.{Grounds}
 use Rattle.xlsx_cells.specs.CellsReader.{stream_by, grounds_by, IsValued, values_alone}
 use Rattle.xlsx_cells.specs.Position.{NoCell}
-use Rattle.xlsx_cells.specs.SheetPart.{value_entry}
 use Rattle.xlsx_cells.specs.Stream.{PassesCell, TakesCell, EndsData, NextCellFails}
 use Rattle.xlsx_cells.proofs.WholeReadings.{took_none, took_further, took_refused, told_still}
 use Rattle.worked_calls.proofs.FirstErrors.{values_and_one, none_further, error_found}
 use Rattle.worked_calls.proofs.FirstErrors.{no_error_left}
+use Rattle.worked_calls.proofs.Through.{through_none, through_further}
 use Rattle.worked_calls.proofs.taking.first_error.Goals as goal
 
 pub cells-init : goal.cells-init
@@ -16,31 +16,45 @@ cells-init g c =
     let grounds = grounds_by c.args.reader.now in
     record {
       hold = refl;
-      took = ([], refl, took_none values_alone grounds old c.requires.going c.requires.fresh);
+      took = (
+        [],
+        refl,
+        took_none values_alone grounds old c.requires.going c.requires.fresh,
+        λ told. through_none (λ kept. IsValued grounds) old c.requires.fresh,
+      );
     }
 
 pub cells-preserved : goal.cells-preserved
 cells-preserved g c =
-    let old = stream_by g.P.Package.state c.args.reader.now in
     let mid = stream_by g.P.Package.state c.cells.reader in
     let new = stream_by g.P.Package.state c.next_cell.new.self in
     let now = c.cells.invariant in
-    let took = now.took.2 in
+    let (sound, none, took, through) = now.took in
     let own = c.in-Some.cell in
     let stands : PassesCell own.pos mid new = rw c.in-Some.is at c.in_ok-cell.ensures.stands in
     record {
       hold = c.in_ok-cell.ensures.hold.grounds ∙ now.hold;
       took = (
-        now.took.0 ++ value_entry own ∷ [],
-        none_further now.took.0 (value_entry own) now.took.1
-            (sym c.is_error.ensures ∙ c.if-is_error.false),
+        sound ++ own ∷ [],
+        none_further sound own none (sym c.is_error.ensures ∙ c.if-is_error.false),
         took_further took stands (λ told.
             let been = took.taken told in
             let takes : TakesCell NoCell been.before been.earlier mid new
             (IsValued (grounds_by c.cells.reader) own) =
             rw c.in-Some.is at (c.in_ok-cell.ensures.takes (told_still took told) been.before
             been.earlier been.stands) in
-            values_and_one own now.hold been takes),
+            values_and_one sound own been
+            (subst (λ (grounds : Grounds). TakesCell NoCell been.before been.earlier mid new
+            (IsValued grounds own)) now.hold takes)),
+        λ told.
+            let been = through told in
+            let takes : TakesCell NoCell been.before been.earlier mid new
+            (IsValued (grounds_by c.cells.reader) own) =
+            rw c.in-Some.is at (c.in_ok-cell.ensures.takes (told_still took told) been.before
+            been.earlier been.stands) in
+            through_further own been
+            (subst (λ (grounds : Grounds). TakesCell NoCell been.before been.earlier mid new
+            (IsValued grounds own)) now.hold takes),
       );
     }
 
@@ -49,27 +63,46 @@ returns-then-is_error-clause-found g c = λ told.
     let mid = stream_by g.P.Package.state c.cells.reader in
     let new = stream_by g.P.Package.state c.next_cell.new.self in
     let now = c.cells.invariant in
-    let took = now.took.2 in
+    let (sound, none, took, through) = now.took in
     let own = c.in-Some.cell in
     let been = took.taken told in
     let takes : TakesCell NoCell been.before been.earlier mid new
     (IsValued (grounds_by c.cells.reader) own) =
     rw c.in-Some.is at (c.in_ok-cell.ensures.takes (told_still took told) been.before
     been.earlier been.stands) in
-    error_found now.took.0 (value_entry own) (values_and_one own now.hold been takes) now.took.1
+    error_found sound own (values_and_one sound own been
+    (subst (λ (grounds : Grounds). TakesCell NoCell been.before been.earlier mid new
+    (IsValued grounds own)) now.hold takes)) none
     (sym c.is_error.ensures ∙ c.if-is_error.true)
+
+pub returns-then-is_error-clause-stops : goal.returns-then-is_error-clause-stops
+returns-then-is_error-clause-stops g c = λ told.
+    let mid = stream_by g.P.Package.state c.cells.reader in
+    let new = stream_by g.P.Package.state c.next_cell.new.self in
+    let now = c.cells.invariant in
+    let (sound, none, took, through) = now.took in
+    let own = c.in-Some.cell in
+    let been = through told in
+    let takes : TakesCell NoCell been.before been.earlier mid new
+    (IsValued (grounds_by c.cells.reader) own) =
+    rw c.in-Some.is at (c.in_ok-cell.ensures.takes (told_still took told) been.before
+    been.earlier been.stands) in
+    let last = through_further own been
+    (subst (λ (grounds : Grounds). TakesCell NoCell been.before been.earlier mid new
+    (IsValued grounds own)) now.hold takes) in
+    (sound, none, sym c.is_error.ensures ∙ c.if-is_error.true, last.reaches)
 
 pub returns-clause-found : goal.returns-clause-found
 returns-clause-found g c = λ told.
     let mid = stream_by g.P.Package.state c.cells.reader in
     let new = stream_by g.P.Package.state c.next_cell.new.self in
     let now = c.cells.invariant in
-    let took = now.took.2 in
+    let (sound, none, took, through) = now.took in
     let been = took.taken told in
     let ends : EndsData NoCell been.before mid new = rw c.in_default.is at
     (c.in_ok-cell.ensures.takes (told_still took told) been.before been.earlier been.stands)
     took.going.done in
-    no_error_left been now.took.1 ends
+    no_error_left sound been none ends
 
 pub returns-in_err-cell-clause-err : goal.returns-in_err-cell-clause-err
 returns-in_err-cell-clause-err g c =
@@ -77,7 +110,25 @@ returns-in_err-cell-clause-err g c =
     let new = stream_by g.P.Package.state c.next_cell.new.self in
     let error = c.in_err-cell.field-0.0 in
     let now = c.cells.invariant in
+    let (sound, none, took, through) = now.took in
     let p = err_from_is_err_and c.from_residual.result c.from_residual.ensures.1 in
-    rw (p.1, p.2) (took_refused new error now.took.2
+    rw (p.1, p.2) (took_refused new error took
     (subst (λ (grounds : Grounds). NextCellFails values_alone grounds mid new.reading error)
     now.hold c.in_err-cell.ensures.err))
+
+pub returns-in_err-cell-clause-before : goal.returns-in_err-cell-clause-before
+returns-in_err-cell-clause-before g c = λ told.
+    let mid = stream_by g.P.Package.state c.cells.reader in
+    let new = stream_by g.P.Package.state c.next_cell.new.self in
+    let error = c.in_err-cell.field-0.0 in
+    let now = c.cells.invariant in
+    let (sound, none, took, through) = now.took in
+    let p = err_from_is_err_and c.from_residual.result c.from_residual.ensures.1 in
+    rw (p.1, p.2) (
+      sound,
+      mid,
+      none,
+      (through told).reaches,
+      subst (λ (grounds : Grounds). NextCellFails values_alone grounds mid new.reading error)
+          now.hold c.in_err-cell.ensures.err,
+    )

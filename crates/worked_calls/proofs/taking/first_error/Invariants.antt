@@ -1,19 +1,25 @@
-use Rattle.std.proofs.Common.{◌≡◌, ℕ, List, None}
+use Rattle.std.proofs.Common.{◌≡◌, List, None, true}
 use Rattle.std.specs.List.{find}
-use Rattle.cell_data.specs.CellValue.{CellValue}
-use Rattle.xlsx_cells.specs.CellsReader.{stream_by, grounds_by, values_alone}
+use Rattle.cell_data.specs.declared.cell.Cell.{Cell}
+use Rattle.cell_data.specs.declared.value.DataRef.{DataRef}
+use Rattle.xlsx_cells.specs.CellsReader.{stream_by, grounds_by, IsValued, values_alone}
+use Rattle.xlsx_cells.specs.SheetPart.{value_entries}
 use Rattle.xlsx_cells.proofs.WholeReadings.{TookValues}
-use Rattle.worked_calls.specs.Taking.{is_error}
+use Rattle.worked_calls.specs.Taking.{has_error}
+use Rattle.worked_calls.proofs.Through.{TookThrough}
 use Rattle.worked_calls.proofs.taking.first_error.Given as goal
 
 abbrev pub invariant-cells : goal.invariant-cells
 invariant-cells g l =
     let old = stream_by g.P.Package.state l.fn.reader in
     let now = stream_by g.P.Package.state l.reader in
+    let grounds = grounds_by l.fn.reader in
     record {
-      hold : grounds_by l.reader ≡ grounds_by l.fn.reader;
-      took : (sound : List ((ℕ × ℕ) × CellValue)) × (find is_error sound ≡ None)
-          × TookValues values_alone (grounds_by l.fn.reader) old now sound;
+      hold : grounds_by l.reader ≡ grounds;
+      took : (sound : List (Cell DataRef)) × (find has_error sound ≡ None)
+          × TookValues values_alone grounds old now (value_entries sound)
+          × (old.reading.source.is_told ≡ true →
+          TookThrough (λ kept. IsValued grounds) old now sound);
     }
 
 abbrev pub decreases-cells : goal.decreases-cells

@@ -1,4 +1,4 @@
-use Rattle.std.proofs.Common.{◌≡◌, ℕ, List, Ok, ◌∷◌, [], map, refl, sym, ap, ◌∙◌, subst}
+use Rattle.std.proofs.Common.{◌≡◌, ℕ, List, Ok, ◌∷◌, [], map, refl, sym, ap, ◌∙◌, subst, append-nil}
 use Rattle.std.proofs.lemmas.List.{map-append}
 use Rattle.std.proofs.lemmas.Result.{err_from_is_err_and}
 use Rattle.cell_data.specs.CellValue.{CellValue}
@@ -9,6 +9,7 @@ use Rattle.xlsx_cells.specs.WholeReadings.{formula_value_entry}
 use Rattle.xlsx_cells.specs.Stream.{PassesCell, TakesCell, EndsData, NextCellFails}
 use Rattle.xlsx_cells.proofs.WholeReadings.{ValuesTaken, values_further, values_whole}
 use Rattle.xlsx_cells.proofs.WholeReadings.{took_none, took_further, took_refused, told_still}
+use Rattle.worked_calls.proofs.Through.{through_none, through_further}
 use Rattle.worked_calls.proofs.taking.formulas_taken.Goals as goal
 
 pub cells-init : goal.cells-init
@@ -19,6 +20,8 @@ cells-init g c =
       hold = refl;
       took = rw c.new-cells.ensures.items
           (took_none values_and_formulas grounds old c.requires.going c.requires.fresh);
+      through = λ told. rw c.new-cells.ensures.items
+          (through_none (IsValuedFormula grounds) old c.requires.fresh);
     }
 
 pub cells-preserved : goal.cells-preserved
@@ -47,6 +50,15 @@ cells-preserved g c =
             subst (λ (grounds : Grounds). cell_value grounds element.tag element.inside
                 ≡ Ok (formula_value_entry own).1) now.hold is.valued,
           ))));
+      through = λ told.
+          let been = now.through told in
+          let takes : TakesCell NoCell been.before been.earlier mid new
+          (IsValuedFormula (grounds_by c.cells.reader) been.earlier own) =
+          rw c.in-Some.is at (c.in_ok-cell.ensures.takes (told_still now.took told) been.before
+          been.earlier been.stands) in
+          rw c.in_ok-push.ensures.items (through_further own been
+          (subst (λ (grounds : Grounds). TakesCell NoCell been.before been.earlier mid new
+          (IsValuedFormula grounds been.earlier own)) now.hold takes));
     }
 
 pub returns-clause-values : goal.returns-clause-values
@@ -59,6 +71,17 @@ returns-clause-values g c = λ told.
     (c.in_ok-cell.ensures.takes (told_still now.took told) been.before been.earlier been.stands)
     now.took.going.done in
     values_whole been ends
+
+pub returns-clause-formulas : goal.returns-clause-formulas
+returns-clause-formulas g c = λ told.
+    let mid = stream_by g.P.Package.state c.cells.reader in
+    let new = stream_by g.P.Package.state c.next_cell_with_formula.new.self in
+    let now = c.cells.invariant in
+    let been = now.through told in
+    let ends : EndsData NoCell been.before mid new = rw c.in_default.is at
+    (c.in_ok-cell.ensures.takes (told_still now.took told) been.before been.earlier been.stands)
+    now.took.going.done in
+    rw (sym (append-nil c.cells.cells.items)) (been.whole [] (new, ends))
 
 pub returns-in_err-cell-clause-err : goal.returns-in_err-cell-clause-err
 returns-in_err-cell-clause-err g c =

@@ -1,12 +1,10 @@
-use Rattle.std.proofs.Common.{◌≡◌, ◌∷◌, List, ◌∙◌, subst, inl, inr}
-use Rattle.std.proofs.lemmas.Result.{err_from_is_err_and}
+use Rattle.std.proofs.Common.{◌∷◌, List, ◌∙◌, subst, inl, inr}
 use Rattle.xlsx_values.specs.Value.{Grounds}
 use Rattle.xlsx_formulas.specs.Formula.{FormulaText, behind_formulas}
 use Rattle.xlsx_cells.specs.CellsReader.{stream_by, grounds_by, IsValued, IsValuedFormula}
-use Rattle.xlsx_cells.specs.CellsReader.{values_and_formulas}
 use Rattle.xlsx_cells.specs.Marks.{cell, behind_marks}
 use Rattle.xlsx_cells.specs.Position.{NoCell}
-use Rattle.xlsx_cells.specs.Stream.{TakesCell, StandsBehind, PassesCell, EndsData, NextCellFails}
+use Rattle.xlsx_cells.specs.Stream.{TakesCell, StandsBehind, PassesCell}
 use Rattle.worked_calls.proofs.taking.two_taken.Goals as goal
 
 pub returns-clause-takes : goal.returns-clause-takes
