@@ -388,7 +388,7 @@ class Wrapper(unittest.TestCase):
 
     def test_the_program_ends_where_there_is_no_memory(self):
         self.build(PROGRAM)
-        data = b'{"a":' * 200_000 + b"0" + b"}" * 200_000
+        data = b'["o"' + b',["o"]' * 1_000_000 + b"]"
         said = (8, b"", "out of memory\n")
         self.assertEqual(self.run_on("cells", "S", data=data, memory="64"), said)
         self.assertEqual(self.run_on("cells", "S", data=data)[0], 5)
