@@ -1,5 +1,5 @@
 ghost use Rattle.std.specs.Prelude.{◌≡◌, codes, length, true, None, Some, IfOk, OnOk, IfErr};
-ghost use Rattle.std.specs.Prelude.{MatchOption};
+ghost use Rattle.std.specs.Prelude.{IsSome, MatchOption};
 ghost use Rattle.part_events.specs.Package.{Uses, CountsUp, KeepsFaults, part_of, event_count};
 ghost use Rattle.part_events.specs.Reading.{reading, IsReading, ReadsPart, MovesForward, events_of};
 ghost use Rattle.xlsx_error.specs.declared.error.XlsxError.TheVariants.{Io};
@@ -124,6 +124,11 @@ fn merges_or_none<P: Package>(
     ensures merges { let old = reading (P.state «package».old) cursor.old in
         old.source.is_told ≡ true →
         IfOk result (λ areas. merges_or_none_of (events_of old) ≡ Some areas.items) }
+    ensures ends { let old = reading (P.state «package».old) cursor.old in
+        let new = reading (P.state «package».new) cursor.new in
+        let count = section_events (codes "mergeCells") (events_of old) in
+        old.source.is_told ≡ true → IsSome (merges_of (events_of old)) →
+        OnOk result (new.at ≡ count) }
     ensures faults { let old = reading (P.state «package».old) cursor.old in
         let new = reading (P.state «package».new) cursor.new in
         OnOk result (new.source.faults ≡ old.source.faults) }
@@ -143,7 +148,10 @@ fn merges_or_none<P: Package>(
         Ok(areas) => Ok(areas),
         Err(XlsxError::Io) => Err(XlsxError::Io),
         Err(XlsxError::OutOfMemory) => Err(XlsxError::OutOfMemory),
-        Err(_) => Ok(Vec::new(alloc)),
+        Err(refusal) => {
+            drop(refusal);
+            Ok(Vec::new(alloc))
+        }
     }
 }
 
@@ -159,6 +167,9 @@ pub fn read_merges_or_none<P: Package>(
     ensures uses { let old = P.state «package».old in
         let new = P.state «package».new in
         Uses (event_count old.parts path.now) Io result old new }
+    ensures to_end { let old = P.state «package».old in
+        IsSome (merges_at old.parts path.now) →
+        ReadsToEnd (codes "mergeCells") path.now result old (P.state «package».new) }
     ensures merges { let old = P.state «package».old in
         old.is_told ≡ true → IfOk result (λ found. MatchOption found
         (part_of old.parts path.now ≡ None)

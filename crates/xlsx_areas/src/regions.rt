@@ -1,6 +1,6 @@
 ghost use Rattle.std.specs.Prelude.{◌≡◌, ◌++◌, List, map, true, Some, OnOk, IfOk, IfErr};
 ghost use Rattle.std.specs.List.{filter};
-ghost use Rattle.part_events.specs.Package.{Uses, UsesPackage, event_count};
+ghost use Rattle.part_events.specs.Package.{Uses, CountsUp, event_count};
 ghost use Rattle.xlsx_error.specs.declared.error.XlsxError.TheVariants.{Io, OutOfMemory};
 ghost use Rattle.xlsx_sections.specs.Failing.{FailsBy};
 ghost use Rattle.xlsx_areas.specs.MergeErrors.{IsRegionsError};
@@ -59,6 +59,10 @@ pub fn read_sheet_regions<P: Package>(
     ensures uses { let old = P.state «package».old in
         let new = P.state «package».new in
         Uses (event_count old.parts path.now) Io result old new }
+    ensures to_end { let old = P.state «package».old in
+        let new = P.state «package».new in
+        old.is_told ≡ true →
+        OnOk result (CountsUp (event_count old.parts path.now) old.taken new.taken) }
     ensures regions { let old = P.state «package».old in
         let own = sheet_at sheet.now path.now in
         old.is_told ≡ true → OnOk result ((found : List Region)

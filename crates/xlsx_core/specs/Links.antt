@@ -1,12 +1,13 @@
 -- What the calls on hyperlinks of an open workbook answer.
 use Rattle.std.specs.Prelude.{◌≡◌, ℕ, List, Option, option_and_then, string_bytes, MatchOption}
 use Rattle.std.specs.Prelude.{IsSomeAnd}
+use Rattle.std.specs.Option.{option_map_or}
 use Rattle.part_events.specs.Event.{Event}
 use Rattle.part_events.specs.Package.{Part, PackageState}
 use Rattle.xlsx_error.specs.declared.error.XlsxError.{XlsxError}
 use Rattle.xlsx_error.specs.declared.error.XlsxError.TheVariants.{WorksheetNotFound}
 use Rattle.xlsx_sections.specs.Failing.{FailsBy}
-use Rattle.xlsx_areas.specs.Hyperlinks.{Link, links_at}
+use Rattle.xlsx_areas.specs.Hyperlinks.{Link, links_at, link_events}
 use Rattle.xlsx_areas.specs.LinkErrors.{SheetLinksCause, IsSheetLinksError}
 use Rattle.xlsx_core.specs.Merges.{name_at, IsOutOfRange}
 use Rattle.xlsx_core.specs.SheetReading.{PlacedCause}
@@ -16,6 +17,10 @@ use Rattle.xlsx_core.specs.declared.xlsx.Xlsx.{Xlsx}
 -- the links of the part at a path, by the relationships beside it, where there is one
 abbrev pub links_placed : Option (List ℕ) → List Part → Option (List Link)
 links_placed path parts = option_and_then (links_at parts) path
+
+-- how many events that part and its relationships have
+abbrev pub placed_link_events : Option (List ℕ) → List Part → ℕ
+placed_link_events path parts = option_map_or (link_events parts) path 0
 
 -- why the links of a sheet can't be taken: no sheet has this name, or no part is at its path, or
 -- its relationships or its part refuse them

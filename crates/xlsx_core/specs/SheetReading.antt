@@ -1,6 +1,8 @@
 -- The reading of one sheet of a workbook that opens.
 use Rattle.std.specs.Prelude.{◌≡◌, ◌⊎◌, ℕ, List, [], ◌∷◌, true, if◌then◌else◌, Option, Some}
-use Rattle.std.specs.Prelude.{None, Bool, map, option_and_then, string_bytes, IsSomeAnd, String}
+use Rattle.std.specs.Prelude.{None, Bool, map, length, option_and_then, string_bytes, IsSomeAnd}
+use Rattle.std.specs.Prelude.{String}
+use Rattle.std.specs.Option.{option_map_or}
 use Rattle.std.specs.Str.{bytes_eq}
 use Rattle.std.specs.declared.alloc.Global.{Global}
 use Rattle.part_events.specs.Event.{Event}
@@ -39,6 +41,10 @@ path_named name (sheet ∷ sheets) =
 -- what stands in the part at a path, where there is one
 abbrev pub events_at : Option (List ℕ) → List Part → Option (List Event)
 events_at path parts = option_and_then (part_of parts) path
+
+-- how many events it has
+abbrev pub placed_events : Option (List ℕ) → List Part → ℕ
+placed_events path parts = option_map_or length (events_at path parts) 0
 
 -- what stands in the part of the first sheet of this name
 abbrev pub events_named : List ℕ → List PlacedSheet → List Part → Option (List Event)

@@ -1,10 +1,10 @@
-ghost use Rattle.std.specs.Prelude.{◌≡◌, true, map, IfOk, OnOk, IfErr, MatchOption, Some};
+ghost use Rattle.std.specs.Prelude.{◌≡◌, true, map, IfOk, OnOk, IfErr, IfSome, MatchOption, Some};
 ghost use Rattle.std.specs.Option.{option_copied};
-ghost use Rattle.part_events.specs.Package.{SameParts, KeepsFaults};
+ghost use Rattle.part_events.specs.Package.{Uses, CountsUp};
 ghost use Rattle.xlsx_error.specs.declared.error.XlsxError.TheVariants.{Io};
-ghost use Rattle.xlsx_areas.specs.Hyperlinks.{link_said};
+ghost use Rattle.xlsx_areas.specs.Hyperlinks.{link_said, link_sections};
 ghost use Rattle.xlsx_core.specs.Links.{links_placed, PlacedLinksFail, IsPlacedLinksError};
-ghost use Rattle.xlsx_core.specs.Links.{NumberedLinksFail};
+ghost use Rattle.xlsx_core.specs.Links.{NumberedLinksFail, placed_link_events};
 ghost use Rattle.xlsx_core.specs.Merges.{name_at, path_at, IsIndexError};
 ghost use Rattle.xlsx_core.specs.Worksheets.{path_of, KeepsWorkbook};
 
@@ -22,16 +22,18 @@ fn placed_links<P: Package>(
     path: Option<&str>,
     name: &str,
 ) -> Result<Vec<Hyperlink>, XlsxError>
-    ensures keeps { SameParts (P.state «package».old) (P.state «package».new) }
-    ensures faults { OnOk result
-        ((P.state «package».new).faults ≡ (P.state «package».old).faults) }
+    ensures uses { let old = P.state «package».old in
+        let new = P.state «package».new in
+        Uses (placed_link_events (option_copied path.entry) old.parts) Io result old new }
+    ensures to_end { let old = P.state «package».old in
+        let new = P.state «package».new in
+        old.is_told ≡ true → IfSome (option_copied path.entry) (λ there.
+        OnOk result (CountsUp (link_sections old.parts there) old.taken new.taken)) }
     ensures links { let old = P.state «package».old in
         old.is_told ≡ true → IfOk result (λ links.
         links_placed (option_copied path.entry) old.parts ≡ Some (map link_said links.items)) }
     ensures err { IfErr result (PlacedLinksFail name.now (option_copied path.entry)
         (P.state «package».old) (P.state «package».new)) }
-    ensures counts { IfErr result
-        (KeepsFaults Io (P.state «package».old) (P.state «package».new)) }
     ensures kind { IfErr result (IsPlacedLinksError name.now) }
 {
     if let Some(path) = path {
@@ -51,23 +53,25 @@ impl<P: Package> Xlsx<P> {
     ///
     /// Fails with `WorksheetNotFound` where no sheet has the name or the first such sheet has no
     /// part, before any relationship is read. Else a part of relationships that has no section
-    /// `Relationships`, or ends in it, is `XmlEof("Relationships")`, and a part of a sheet that ends
-    /// in its links `XmlEof("hyperlinks")`. An end that breaks the nesting up to the end of one of
-    /// these sections is `Xml(EndMismatch)`. A start that can't be looked up, whose text can't be
-    /// decoded, or whose `ref` names no area has its refusal.
+    /// `Relationships`, or ends in it, is `XmlEof("Relationships")`, and a part of a sheet that
+    /// ends in its links `XmlEof("hyperlinks")`. An end that breaks the nesting up to the end of
+    /// one of these sections is `Xml(EndMismatch)`. A start that can't be looked up, whose text
+    /// can't be decoded, or whose `ref` names no area has its refusal.
     pub fn hyperlinks_by_sheet_name(&mut self, name: &str) -> Result<Vec<Hyperlink>, XlsxError>
-        ensures keeps { SameParts (P.state self.old.package) (P.state self.new.package) }
+        ensures uses { let old = P.state self.old.package in
+            let new = P.state self.new.package in
+            Uses (placed_link_events (path_of self.old name.now) old.parts) Io result old new }
+        ensures to_end { let old = P.state self.old.package in
+            let new = P.state self.new.package in
+            old.is_told ≡ true → IfSome (path_of self.old name.now) (λ there.
+            OnOk result (CountsUp (link_sections old.parts there) old.taken new.taken)) }
         ensures rest { KeepsWorkbook self.old self.new }
-        ensures faults { OnOk result
-            ((P.state self.new.package).faults ≡ (P.state self.old.package).faults) }
         ensures links { let old = P.state self.old.package in
             old.is_told ≡ true → IfOk result (λ links.
             links_placed (path_of self.old name.now) old.parts
             ≡ Some (map link_said links.items)) }
         ensures err { IfErr result (PlacedLinksFail name.now (path_of self.old name.now)
             (P.state self.old.package) (P.state self.new.package)) }
-        ensures counts { IfErr result
-            (KeepsFaults Io (P.state self.old.package) (P.state self.new.package)) }
         ensures kind { IfErr result (IsPlacedLinksError name.now) }
     {
         let path = path_named(&self.metadata.sheets, &self.paths, name);
@@ -80,17 +84,19 @@ impl<P: Package> Xlsx<P> {
     /// Fails with `WorksheetNotFound("Sheet index N out of range")` past the last sheet, and else
     /// as `hyperlinks_by_sheet_name` of the sheet's name.
     pub fn hyperlinks_by_sheet_id(&mut self, id: usize) -> Result<Vec<Hyperlink>, XlsxError>
-        ensures keeps { SameParts (P.state self.old.package) (P.state self.new.package) }
+        ensures uses { let old = P.state self.old.package in
+            let new = P.state self.new.package in
+            Uses (placed_link_events (path_at self.old id) old.parts) Io result old new }
+        ensures to_end { let old = P.state self.old.package in
+            let new = P.state self.new.package in
+            old.is_told ≡ true → IfSome (path_at self.old id) (λ there.
+            OnOk result (CountsUp (link_sections old.parts there) old.taken new.taken)) }
         ensures rest { KeepsWorkbook self.old self.new }
-        ensures faults { OnOk result
-            ((P.state self.new.package).faults ≡ (P.state self.old.package).faults) }
         ensures links { let old = P.state self.old.package in
             old.is_told ≡ true → IfOk result (λ links.
             links_placed (path_at self.old id) old.parts ≡ Some (map link_said links.items)) }
         ensures err { IfErr result (NumberedLinksFail self.old id (P.state self.old.package)
             (P.state self.new.package)) }
-        ensures counts { IfErr result
-            (KeepsFaults Io (P.state self.old.package) (P.state self.new.package)) }
         ensures kind { IfErr result (λ error.
             MatchOption (name_at self.old id) (IsIndexError id error)
             (λ name. IsPlacedLinksError name error)) }

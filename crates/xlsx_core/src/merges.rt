@@ -1,17 +1,19 @@
 ghost use Rattle.std.specs.Prelude.{◌≡◌, true, map, IfOk, OnOk, OnErr, IfErr, IfSome, IfNone};
-ghost use Rattle.std.specs.Prelude.{IsSome, IsSomeAnd, MatchOption, None, Some, is_some};
+ghost use Rattle.std.specs.Prelude.{codes, IsSome, IsSomeAnd, MatchOption, None, Some, is_some};
 ghost use Rattle.std.specs.List.{filter};
 ghost use Rattle.std.specs.Option.{option_copied};
-ghost use Rattle.part_events.specs.Package.{SameParts, KeepsFaults};
+ghost use Rattle.part_events.specs.Package.{Uses, UsesPackage, CountsUp};
 ghost use Rattle.xlsx_error.specs.declared.error.XlsxError.TheVariants.{Io};
+ghost use Rattle.xlsx_sections.specs.SectionEvents.{ReadsToEnd};
 ghost use Rattle.xlsx_parts.specs.WholePart.{IsBreakError};
 ghost use Rattle.xlsx_areas.specs.MergeErrors.{IsRegionsError};
-ghost use Rattle.xlsx_areas.specs.Regions.{all_regions, region_of, regions_left, is_of_sheet};
+ghost use Rattle.xlsx_areas.specs.MergedCells.{merges_at};
+ghost use Rattle.xlsx_areas.specs.Regions.{region_events, regions_left, is_of_sheet};
 ghost use Rattle.xlsx_core.specs.Merges.{sheet_paths, sheets_of_book, name_at, path_at};
 ghost use Rattle.xlsx_core.specs.Merges.{merges_placed, merges_or_none_placed, PlacedMergesFail};
 ghost use Rattle.xlsx_core.specs.Merges.{IsPlacedMergesError, IsIndexError, NumberedMergesFail};
 ghost use Rattle.xlsx_core.specs.Merges.{PlacedBreaks, HoldsRegions, AllRegionsFail};
-ghost use Rattle.xlsx_core.specs.SheetReading.{events_at};
+ghost use Rattle.xlsx_core.specs.SheetReading.{events_at, placed_events};
 ghost use Rattle.xlsx_core.specs.Worksheets.{path_of, KeepsBook, KeepsWorkbook};
 
 use crate::placed_sheet::{numbered_sheet, path_named};
@@ -32,16 +34,18 @@ fn placed_merges<P: Package>(
     path: Option<&str>,
     name: &str,
 ) -> Result<Vec<Dimensions>, XlsxError>
-    ensures keeps { SameParts (P.state «package».old) (P.state «package».new) }
-    ensures faults { OnOk result
-        ((P.state «package».new).faults ≡ (P.state «package».old).faults) }
+    ensures uses { let old = P.state «package».old in
+        let new = P.state «package».new in
+        Uses (placed_events (option_copied path.entry) old.parts) Io result old new }
+    ensures to_end { let old = P.state «package».old in
+        let new = P.state «package».new in
+        IfSome (option_copied path.entry) (λ there.
+        ReadsToEnd (codes "mergeCells") there result old new) }
     ensures merges { let old = P.state «package».old in
         old.is_told ≡ true → IfOk result (λ areas.
         merges_placed (option_copied path.entry) old.parts ≡ Some areas.items) }
     ensures err { IfErr result (PlacedMergesFail name.now (option_copied path.entry)
         (P.state «package».old) (P.state «package».new)) }
-    ensures counts { IfErr result
-        (KeepsFaults Io (P.state «package».old) (P.state «package».new)) }
     ensures kind { IfErr result (IsPlacedMergesError name.now) }
 {
     if let Some(path) = path {
@@ -59,19 +63,23 @@ fn placed_merges_or_none<P: Package>(
     package: &mut P,
     path: Option<&str>,
 ) -> Option<Result<Vec<Dimensions>, XlsxError>>
-    ensures keeps { SameParts (P.state «package».old) (P.state «package».new) }
+    ensures uses { let old = P.state «package».old in
+        let new = P.state «package».new in
+        MatchOption result (UsesPackage 0 old new) (λ answer.
+        Uses (placed_events (option_copied path.entry) old.parts) Io answer old new) }
+    ensures to_end { let old = P.state «package».old in
+        let new = P.state «package».new in
+        IfSome (option_copied path.entry) (λ there. IfSome result (λ answer.
+        IsSome (merges_at old.parts there) →
+        ReadsToEnd (codes "mergeCells") there answer old new)) }
     ensures absent { let old = P.state «package».old in
-        IfNone result (((P.state «package».new).faults ≡ old.faults)
-        × (old.is_told ≡ true → events_at (option_copied path.entry) old.parts ≡ None)) }
-    ensures faults { IfSome result (λ answer. OnOk answer
-        ((P.state «package».new).faults ≡ (P.state «package».old).faults)) }
+        IfNone result (old.is_told ≡ true →
+        events_at (option_copied path.entry) old.parts ≡ None) }
     ensures merges { let old = P.state «package».old in
         old.is_told ≡ true → IfSome result (λ answer. IfOk answer (λ areas.
         merges_or_none_placed (option_copied path.entry) old.parts ≡ Some areas.items)) }
     ensures err { IfSome result (λ answer. IfErr answer (PlacedBreaks (option_copied path.entry)
         (P.state «package».old) (P.state «package».new))) }
-    ensures counts { IfSome result (λ answer. IfErr answer
-        (KeepsFaults Io (P.state «package».old) (P.state «package».new))) }
     ensures kind { IfSome result (λ answer. IfErr answer IsBreakError) }
 {
     match read_merges_or_none(alloc, package, path?) {
@@ -88,16 +96,18 @@ fn all_regions<P: Package>(
     sheets: &[Sheet],
     paths: &[String],
 ) -> Result<Vec<MergedRegion>, XlsxError>
-    ensures keeps { SameParts (P.state «package».old) (P.state «package».new) }
-    ensures faults { OnOk result
-        ((P.state «package».new).faults ≡ (P.state «package».old).faults) }
+    ensures uses { let old = P.state «package».old in
+        let new = P.state «package».new in
+        Uses (region_events old.parts (sheet_paths sheets.now paths.now)) Io result old new }
+    ensures to_end { let old = P.state «package».old in
+        let count = region_events old.parts (sheet_paths sheets.now paths.now) in
+        old.is_told ≡ true →
+        OnOk result (CountsUp count old.taken (P.state «package».new).taken) }
     ensures regions { let old = P.state «package».old in
         old.is_told ≡ true →
         IfOk result (HoldsRegions old.parts (sheet_paths sheets.now paths.now)) }
     ensures err { IfErr result (AllRegionsFail (sheet_paths sheets.now paths.now)
         (P.state «package».old) (P.state «package».new)) }
-    ensures counts { IfErr result
-        (KeepsFaults Io (P.state «package».old) (P.state «package».new)) }
     ensures kind { IfErr result IsRegionsError }
 {
     let mut regions = Vec::new(alloc);
@@ -131,17 +141,19 @@ impl<P: Package> Xlsx<P> {
     /// part that ends in the section `XmlEof("")`, and a start in it that can't be looked up, or
     /// whose `ref` names no area, has its refusal.
     pub fn merge_cells_by_sheet_name(&mut self, name: &str) -> Result<Vec<Dimensions>, XlsxError>
-        ensures keeps { SameParts (P.state self.old.package) (P.state self.new.package) }
+        ensures uses { let old = P.state self.old.package in
+            let new = P.state self.new.package in
+            Uses (placed_events (path_of self.old name.now) old.parts) Io result old new }
+        ensures to_end { let old = P.state self.old.package in
+            let new = P.state self.new.package in
+            IfSome (path_of self.old name.now) (λ there.
+            ReadsToEnd (codes "mergeCells") there result old new) }
         ensures rest { KeepsWorkbook self.old self.new }
-        ensures faults { OnOk result
-            ((P.state self.new.package).faults ≡ (P.state self.old.package).faults) }
         ensures merges { let old = P.state self.old.package in
             old.is_told ≡ true → IfOk result (λ areas.
             merges_placed (path_of self.old name.now) old.parts ≡ Some areas.items) }
         ensures err { IfErr result (PlacedMergesFail name.now (path_of self.old name.now)
             (P.state self.old.package) (P.state self.new.package)) }
-        ensures counts { IfErr result
-            (KeepsFaults Io (P.state self.old.package) (P.state self.new.package)) }
         ensures kind { IfErr result (IsPlacedMergesError name.now) }
     {
         let path = path_named(&self.metadata.sheets, &self.paths, name);
@@ -154,17 +166,19 @@ impl<P: Package> Xlsx<P> {
     /// Fails with `WorksheetNotFound("Sheet index N out of range")` past the last sheet, and else
     /// as `merge_cells_by_sheet_name` of the sheet's name.
     pub fn merge_cells_by_sheet_id(&mut self, id: usize) -> Result<Vec<Dimensions>, XlsxError>
-        ensures keeps { SameParts (P.state self.old.package) (P.state self.new.package) }
+        ensures uses { let old = P.state self.old.package in
+            let new = P.state self.new.package in
+            Uses (placed_events (path_at self.old id) old.parts) Io result old new }
+        ensures to_end { let old = P.state self.old.package in
+            let new = P.state self.new.package in
+            IfSome (path_at self.old id) (λ there.
+            ReadsToEnd (codes "mergeCells") there result old new) }
         ensures rest { KeepsWorkbook self.old self.new }
-        ensures faults { OnOk result
-            ((P.state self.new.package).faults ≡ (P.state self.old.package).faults) }
         ensures merges { let old = P.state self.old.package in
             old.is_told ≡ true → IfOk result (λ areas.
             merges_placed (path_at self.old id) old.parts ≡ Some areas.items) }
         ensures err { IfErr result (NumberedMergesFail self.old id (P.state self.old.package)
             (P.state self.new.package)) }
-        ensures counts { IfErr result
-            (KeepsFaults Io (P.state self.old.package) (P.state self.new.package)) }
         ensures kind { IfErr result (λ error.
             MatchOption (name_at self.old id) (IsIndexError id error)
             (λ name. IsPlacedMergesError name error)) }
@@ -185,21 +199,25 @@ impl<P: Package> Xlsx<P> {
         &mut self,
         name: &str,
     ) -> Option<Result<Vec<Dimensions>, XlsxError>>
-        ensures keeps { SameParts (P.state self.old.package) (P.state self.new.package) }
-        ensures rest { KeepsWorkbook self.old self.new }
+        ensures uses { let old = P.state self.old.package in
+            let new = P.state self.new.package in
+            MatchOption result (UsesPackage 0 old new) (λ answer.
+            Uses (placed_events (path_of self.old name.now) old.parts) Io answer old new) }
+        ensures to_end { let old = P.state self.old.package in
+            let new = P.state self.new.package in
+            IfSome (path_of self.old name.now) (λ there. IfSome result (λ answer.
+            IsSome (merges_at old.parts there) →
+            ReadsToEnd (codes "mergeCells") there answer old new)) }
         ensures absent { let old = P.state self.old.package in
-            IfNone result (((P.state self.new.package).faults ≡ old.faults)
-            × (old.is_told ≡ true → events_at (path_of self.old name.now) old.parts ≡ None)) }
-        ensures faults { IfSome result (λ answer. OnOk answer
-            ((P.state self.new.package).faults ≡ (P.state self.old.package).faults)) }
+            IfNone result (old.is_told ≡ true →
+            events_at (path_of self.old name.now) old.parts ≡ None) }
+        ensures rest { KeepsWorkbook self.old self.new }
         ensures merges { let old = P.state self.old.package in
             old.is_told ≡ true → IfSome result (λ answer. IfOk answer (λ areas.
             merges_or_none_placed (path_of self.old name.now) old.parts ≡ Some areas.items)) }
         ensures err { IfSome result (λ answer. IfErr answer
             (PlacedBreaks (path_of self.old name.now) (P.state self.old.package)
             (P.state self.new.package))) }
-        ensures counts { IfSome result (λ answer. IfErr answer
-            (KeepsFaults Io (P.state self.old.package) (P.state self.new.package))) }
         ensures kind { IfSome result (λ answer. IfErr answer IsBreakError) }
     {
         let path = path_named(&self.metadata.sheets, &self.paths, name);
@@ -212,13 +230,19 @@ impl<P: Package> Xlsx<P> {
         &mut self,
         sheet_index: usize,
     ) -> Option<Result<Vec<Dimensions>, XlsxError>>
-        ensures keeps { SameParts (P.state self.old.package) (P.state self.new.package) }
-        ensures rest { KeepsWorkbook self.old self.new }
+        ensures uses { let old = P.state self.old.package in
+            let new = P.state self.new.package in
+            MatchOption result (UsesPackage 0 old new) (λ answer.
+            Uses (placed_events (path_at self.old sheet_index) old.parts) Io answer old new) }
+        ensures to_end { let old = P.state self.old.package in
+            let new = P.state self.new.package in
+            IfSome (path_at self.old sheet_index) (λ there. IfSome result (λ answer.
+            IsSome (merges_at old.parts there) →
+            ReadsToEnd (codes "mergeCells") there answer old new)) }
         ensures absent { let old = P.state self.old.package in
-            IfNone result (((P.state self.new.package).faults ≡ old.faults)
-            × (old.is_told ≡ true → events_at (path_at self.old sheet_index) old.parts ≡ None)) }
-        ensures faults { IfSome result (λ answer. OnOk answer
-            ((P.state self.new.package).faults ≡ (P.state self.old.package).faults)) }
+            IfNone result (old.is_told ≡ true →
+            events_at (path_at self.old sheet_index) old.parts ≡ None) }
+        ensures rest { KeepsWorkbook self.old self.new }
         ensures merges { let old = P.state self.old.package in
             old.is_told ≡ true → IfSome result (λ answer. IfOk answer (λ areas.
             merges_or_none_placed (path_at self.old sheet_index) old.parts
@@ -226,8 +250,6 @@ impl<P: Package> Xlsx<P> {
         ensures err { IfSome result (λ answer. IfErr answer
             (PlacedBreaks (path_at self.old sheet_index) (P.state self.old.package)
             (P.state self.new.package))) }
-        ensures counts { IfSome result (λ answer. IfErr answer
-            (KeepsFaults Io (P.state self.old.package) (P.state self.new.package))) }
         ensures kind { IfSome result (λ answer. IfErr answer IsBreakError) }
     {
         let sheet = self.metadata.sheets.get(sheet_index)?;
@@ -243,20 +265,22 @@ impl<P: Package> Xlsx<P> {
     /// Fails by an end that breaks the nesting of a part, and by a start that can't be looked up or
     /// whose `ref` names no area. A refusal leaves what was loaded as it was.
     pub fn load_merged_regions(&mut self) -> Result<(), XlsxError>
-        ensures keeps { SameParts (P.state self.old.package) (P.state self.new.package) }
+        ensures uses { let old = P.state self.old.package in
+            let new = P.state self.new.package in
+            Uses (region_events old.parts (sheets_of_book self.old)) Io result old new }
+        ensures to_end { let old = P.state self.old.package in
+            let count = region_events old.parts (sheets_of_book self.old) in
+            old.is_told ≡ true →
+            OnOk result (CountsUp count old.taken (P.state self.new.package).taken) }
         ensures book { KeepsBook self.old self.new }
         ensures loaded { OnOk result (IsSome self.new.lists.regions) }
         ensures regions { let old = P.state self.old.package in
             old.is_told ≡ true → OnOk result (IsSomeAnd self.new.lists.regions
             (HoldsRegions old.parts (sheets_of_book self.old))) }
-        ensures faults { OnOk result
-            ((P.state self.new.package).faults ≡ (P.state self.old.package).faults) }
         ensures properties { self.new.lists.properties ≡ self.old.lists.properties }
         ensures unchanged { OnErr result (KeepsWorkbook self.old self.new) }
         ensures err { IfErr result (AllRegionsFail (sheets_of_book self.old)
             (P.state self.old.package) (P.state self.new.package)) }
-        ensures counts { IfErr result
-            (KeepsFaults Io (P.state self.old.package) (P.state self.new.package)) }
         ensures kind { IfErr result IsRegionsError }
     {
         let sheets = &self.metadata.sheets;

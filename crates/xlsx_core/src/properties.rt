@@ -1,6 +1,6 @@
 ghost use Rattle.std.specs.Prelude.{◌≡◌, ℕ, List, true, None, Ok, OnErr, IfOk, IfErr, IfSome};
-ghost use Rattle.std.specs.Prelude.{IsSomeAnd};
-ghost use Rattle.part_events.specs.Package.{SameParts, Uses};
+ghost use Rattle.std.specs.Prelude.{IsSomeAnd, OnOk};
+ghost use Rattle.part_events.specs.Package.{SameParts, Uses, CountsUp};
 ghost use Rattle.xlsx_error.specs.declared.error.XlsxError.TheVariants.{OutOfMemory, Io};
 ghost use Rattle.xlsx_properties.specs.Errors.{IsPropertyError};
 ghost use Rattle.xlsx_properties.specs.Kept.{AreSame, held, custom_held};
@@ -33,6 +33,10 @@ impl<P: Package> Xlsx<P> {
         ensures uses { let old = P.state self.old.package in
             self.old.lists.properties ≡ None →
             Uses (property_events old.parts) Io result old (P.state self.new.package) }
+        ensures to_end { let old = P.state self.old.package in
+            let new = P.state self.new.package in
+            self.old.lists.properties ≡ None → old.is_told ≡ true →
+            OnOk result (CountsUp (property_events old.parts) old.taken new.taken) }
         ensures whole { let old = P.state self.old.package in
             self.old.lists.properties ≡ None → old.is_told ≡ true →
             IfOk result (λ properties. AreWhole old.parts) }
