@@ -9,4 +9,6 @@ mod merge_tests;
 #[cfg(test)]
 mod property_tests;
 #[cfg(test)]
+mod table_data_tests;
+#[cfg(test)]
 mod table_tests;

@@ -8,3 +8,5 @@ pub mod SheetLaws
 pub mod SheetsListed
 pub mod SheetsRead
 pub mod StylesMade
+pub mod TableRanges
+pub mod TablesListed

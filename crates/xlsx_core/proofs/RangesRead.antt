@@ -206,7 +206,7 @@ placed_never name path cause parts fact error has never is =
     let both = both_at (events_at path parts) fact (λ events. cause events error) has is in
     never both.0 both.1 both.2
 
-used_never : (grounds : Grounds) (name : List ℕ) (path : Option (List ℕ)) (parts : List Part)
+pub used_never : (grounds : Grounds) (name : List ℕ) (path : Option (List ℕ)) (parts : List Part)
     (fact : List ((ℕ × ℕ) × CellValue) → Type 0) (error : XlsxError)
     → ReadsUsed grounds path parts fact → RangeCause name values_alone grounds path parts error
     → ⊥

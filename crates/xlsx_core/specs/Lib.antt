@@ -4,4 +4,6 @@ pub mod Listing
 pub mod Merges
 pub mod Opened
 pub mod SheetReading
+pub mod TableData
+pub mod TableList
 pub mod Worksheets

@@ -7,6 +7,7 @@ ghost use Rattle.cell_data.specs.declared.value.Data.{Data};
 ghost use Rattle.cell_data.specs.declared.value.DataRef.{DataRef};
 ghost use Rattle.cell_data.specs.declared.value.HeaderRow.{HeaderRow};
 ghost use Rattle.xlsx_error.specs.declared.error.XlsxError.{XlsxError};
+ghost use Rattle.cell_refs.specs.declared.dimensions.Dimensions.{Dimensions};
 ghost use Rattle.cell_styles.specs.StyleMap.{StyleMap};
 ghost use Rattle.xlsx_core.specs.Agreement.{HaveSameSheet};
 ghost use Rattle.xlsx_core.specs.SheetReading.{SayTheSame, ReadsAs, IsReadable, SheetCause};
@@ -15,6 +16,7 @@ ghost use Rattle.xlsx_core.specs.SheetReading.{value_pairs, place_pairs, formula
 ghost use Rattle.xlsx_areas.specs.Hyperlinks.{Link};
 ghost use Rattle.xlsx_core.specs.Links.{links_placed, PlacedLinksCause};
 ghost use Rattle.xlsx_core.specs.Listing.{IsListedAs, IsLeftOut};
+ghost use Rattle.xlsx_core.specs.TableData.{ReadsValuesIn, ReadsPlacesIn};
 ghost use Rattle.xlsx_core.specs.Worksheets.{HasLeastRanges, ReadsValues, ReadsPlaces};
 ghost use Rattle.xlsx_core.specs.Worksheets.{ReadsFormulas, ReadsStyles, RangeCause};
 ghost use Rattle.xlsx_cells.specs.CellsReader.{values_alone, formulas_alone, styles_alone};
@@ -113,4 +115,17 @@ pub fn worksheets_are_listed_or_left_out()
         (parts : List Part) (sheet : Sheet) (listed : String Global × Range Data) →
         IsListedAs grounds header place parts sheet listed →
         IsLeftOut grounds place parts sheet → ⊥ }
+{}
+
+/// What is read of a sheet for the data of a table has no cause to be refused.
+pub fn table_data_that_are_read_are_not_refused()
+    ensures values { (grounds : Grounds) (header : HeaderRow) (name : List ℕ)
+        (area : Dimensions) (path : Option (List ℕ)) (parts : List Part) (range : Range Data)
+        (error : XlsxError) → ReadsValuesIn grounds header (Some area) path parts range →
+        RangeCause name values_alone grounds path parts error → ⊥ }
+    ensures places { (grounds : Grounds) (header : HeaderRow) (name : List ℕ)
+        (area : Dimensions) (path : Option (List ℕ)) (parts : List Part)
+        (range : Range DataRef) (error : XlsxError) →
+        ReadsPlacesIn grounds header (Some area) path parts range →
+        RangeCause name values_alone grounds path parts error → ⊥ }
 {}

@@ -278,6 +278,7 @@ impl<P: Package> Xlsx<P> {
             old.is_told ≡ true → OnOk result (IsSomeAnd self.new.lists.regions
             (HoldsRegions old.parts (sheets_of_book self.old))) }
         ensures properties { self.new.lists.properties ≡ self.old.lists.properties }
+        ensures tables { self.new.lists.tables ≡ self.old.lists.tables }
         ensures unchanged { OnErr result (KeepsWorkbook self.old self.new) }
         ensures err { IfErr result (AllRegionsFail (sheets_of_book self.old)
             (P.state self.old.package) (P.state self.new.package)) }

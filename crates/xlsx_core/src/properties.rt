@@ -23,6 +23,7 @@ impl<P: Package> Xlsx<P> {
         ensures keeps { SameParts (P.state self.old.package) (P.state self.new.package) }
         ensures book { KeepsBook self.old self.new }
         ensures regions { self.new.lists.regions ≡ self.old.lists.regions }
+        ensures tables { self.new.lists.tables ≡ self.old.lists.tables }
         ensures unchanged { OnErr result (KeepsWorkbook self.old self.new) }
         ensures kept { IfOk result (λ properties.
             IsSomeAnd self.new.lists.properties (AreSame properties)) }

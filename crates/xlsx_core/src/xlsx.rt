@@ -63,6 +63,7 @@ impl<P: Package> Xlsx<P> {
         ensures header_row { IfOk result (λ xlsx. xlsx.header_row ≡ FirstNonEmptyRow) }
         ensures regions { IfOk result (λ xlsx. xlsx.lists.regions ≡ None) }
         ensures properties { IfOk result (λ xlsx. xlsx.lists.properties ≡ None) }
+        ensures tables { IfOk result (λ xlsx. xlsx.lists.tables ≡ None) }
         ensures err { IfErr result (λ failure.
             OpeningFails (P.state «package») (P.state failure.package) failure.error) }
         ensures kind { IfErr result (λ failure. IsOpeningError failure.error) }

@@ -1,0 +1,213 @@
+ghost use Rattle.std.specs.Prelude.{◌≡◌, List, true, None, Some, map, string_bytes, option_map};
+ghost use Rattle.std.specs.Prelude.{IfOk, OnOk, IfErr, IsSome, IsSomeAnd};
+ghost use Rattle.std.specs.Option.{option_copied};
+ghost use Rattle.cell_data.specs.Range.{bounds_of};
+ghost use Rattle.cell_data.specs.Table.{table_data};
+ghost use Rattle.cell_refs.specs.Positions.{is_sheet_area, are_sheet_bounds};
+ghost use Rattle.part_events.specs.Package.{SameParts, KeepsFaults};
+ghost use Rattle.xlsx_error.specs.declared.error.XlsxError.TheVariants.{Io};
+ghost use Rattle.xlsx_core.specs.TableData.{first_named, table_of_book, area_of_book, head_said};
+ghost use Rattle.xlsx_core.specs.TableData.{IsCut, IsOfTable, ReadsValuesIn, ReadsPlacesIn};
+ghost use Rattle.xlsx_core.specs.TableData.{AreaFails, TableDataFails, IsTableDataError};
+ghost use Rattle.xlsx_core.specs.TableData.{LacksTable};
+ghost use Rattle.xlsx_core.specs.TableList.{table_held, tables_held, loaded_tables};
+ghost use Rattle.xlsx_core.specs.Worksheets.{path_of, grounds_of_book, KeepsWorkbook, IsRangeError};
+ghost use Rattle.xlsx_workbook.specs.declared.sheet.Sheet.{Sheet};
+
+use crate::table_list::sheet_name;
+use crate::xlsx::Xlsx;
+use cell_data::{Data, DataRef, Range, Table};
+use cell_refs::Dimensions;
+use part_events::Package;
+use std::alloc::{AllocError, Global};
+use xlsx_error::XlsxError;
+use xlsx_open::Sheet;
+use xlsx_tables::LoadedTable;
+
+/// What a table says beside its data, in memory of its own.
+#[derive(Drop)]
+struct TableHead {
+    name: String,
+    sheet: String,
+    columns: Vec<String>,
+    area: Option<Dimensions>,
+}
+
+/// The first of these tables that has this name.
+fn first_named<'a>(tables: &'a [LoadedTable], name: &str) -> Option<&'a LoadedTable>
+    ensures { (sheets : List Sheet) → first_named name.now (tables_held sheets tables.now)
+        ≡ option_map (table_held sheets) (option_copied result) }
+{
+    'tables: for table in tables {
+        if table.name() == name {
+            return Some(table);
+        }
+    }
+    None
+}
+
+/// A copy of these texts in memory of its own.
+fn copied_texts(alloc: Global, texts: &[String]) -> Result<Vec<String>, AllocError>
+    ensures { IfOk result (λ copy. map string_bytes copy.items ≡ map string_bytes texts.now) }
+{
+    let mut copy = Vec::new(alloc);
+    'texts: for text in texts {
+        copy.push(String::from_str(alloc, text.as_str())?)?;
+    }
+    Ok(copy)
+}
+
+/// What of a range lies in this area.
+fn cut<T: Drop>(range: Range<T>, area: Dimensions) -> Range<T>
+    requires { is_sheet_area area ≡ true }
+    ensures { IsCut area range result }
+{
+    range.range(area.start, area.end)
+}
+
+/// The data of tables.
+impl<P: Package> Xlsx<P> {
+    /// What the first loaded table of this name says beside its data.
+    ///
+    /// Fails with `TableNotFound` where none has the name.
+    fn table_head(&self, name: &str) -> Result<TableHead, XlsxError>
+        requires { IsSome self.now.lists.tables }
+        ensures found { IfOk result (λ head.
+            table_of_book self.now name.now ≡ Some (head_said head)) }
+        ensures inside { IfOk result (λ head. are_sheet_bounds head.area ≡ true) }
+        ensures err { IfErr result (LacksTable name.now (loaded_tables self.now)) }
+    {
+        let Some(table) = first_named(self.kept_tables(), name) else {
+            let name = String::from_str(self.alloc, name)?;
+            return Err(XlsxError::TableNotFound(name));
+        };
+        let sheet = sheet_name(&self.metadata.sheets, table.sheet());
+        Ok(TableHead {
+            name: String::from_str(self.alloc, table.name())?,
+            sheet: String::from_str(self.alloc, sheet)?,
+            columns: copied_texts(self.alloc, table.columns())?,
+            area: table.area(),
+        })
+    }
+
+    /// The values in this area of the first sheet of this name, as `worksheet_range` has them. None
+    /// are read without an area.
+    fn values_in(&mut self, sheet: &str, area: Option<Dimensions>) -> Result<Range<Data>, XlsxError>
+        requires { are_sheet_bounds area ≡ true }
+        ensures keeps { SameParts (P.state self.old.package) (P.state self.new.package) }
+        ensures rest { KeepsWorkbook self.old self.new }
+        ensures faults { OnOk result
+            ((P.state self.new.package).faults ≡ (P.state self.old.package).faults) }
+        ensures unread { area ≡ None →
+            P.state self.new.package ≡ P.state self.old.package }
+        ensures bounds { IfOk result (λ range. bounds_of range ≡ area) }
+        ensures reads { let old = P.state self.old.package in
+            old.is_told ≡ true → IfOk result (ReadsValuesIn (grounds_of_book self.old)
+            self.old.header_row area (path_of self.old sheet.now) old.parts) }
+        ensures err { IfErr result (AreaFails self.old sheet.now area (P.state self.old.package)
+            (P.state self.new.package)) }
+        ensures counts { IfErr result
+            (KeepsFaults Io (P.state self.old.package) (P.state self.new.package)) }
+        ensures kind { IfErr result (IsRangeError sheet.now) }
+    {
+        let Some(area) = area else {
+            return Ok(Range::from_sparse(self.alloc, Vec::new(self.alloc), Data::Empty)?);
+        };
+        let range = self.worksheet_range(sheet)?;
+        Ok(cut(range, area))
+    }
+
+    /// The same, with shared strings by their places.
+    fn places_in(
+        &mut self,
+        sheet: &str,
+        area: Option<Dimensions>,
+    ) -> Result<Range<DataRef>, XlsxError>
+        requires { are_sheet_bounds area ≡ true }
+        ensures keeps { SameParts (P.state self.old.package) (P.state self.new.package) }
+        ensures rest { KeepsWorkbook self.old self.new }
+        ensures faults { OnOk result
+            ((P.state self.new.package).faults ≡ (P.state self.old.package).faults) }
+        ensures unread { area ≡ None →
+            P.state self.new.package ≡ P.state self.old.package }
+        ensures bounds { IfOk result (λ range. bounds_of range ≡ area) }
+        ensures reads { let old = P.state self.old.package in
+            old.is_told ≡ true → IfOk result (ReadsPlacesIn (grounds_of_book self.old)
+            self.old.header_row area (path_of self.old sheet.now) old.parts) }
+        ensures err { IfErr result (AreaFails self.old sheet.now area (P.state self.old.package)
+            (P.state self.new.package)) }
+        ensures counts { IfErr result
+            (KeepsFaults Io (P.state self.old.package) (P.state self.new.package)) }
+        ensures kind { IfErr result (IsRangeError sheet.now) }
+    {
+        let Some(area) = area else {
+            return Ok(Range::from_sparse(self.alloc, Vec::new(self.alloc), DataRef::Empty)?);
+        };
+        let range = self.worksheet_range_ref(sheet)?;
+        Ok(cut(range, area))
+    }
+
+    /// The first loaded table of this name, with its data (ECMA-376 part 1, section 18.5.1.2):
+    /// what `worksheet_range` answers for the name of its sheet, under the header row that is set,
+    /// cut to the table's area. It can be called once `tables_loaded`.
+    ///
+    /// Where two sheets have the name of the table's, its data are those of the first. Where the
+    /// area has no cell, the range of its data is empty, and nothing of the sheet is read.
+    ///
+    /// Fails with `TableNotFound` where no loaded table has the name. Else it is refused as
+    /// `worksheet_range` of its sheet's name is, where the area has a cell.
+    pub fn table_by_name(&mut self, table_name: &str) -> Result<Table<Data>, XlsxError>
+        requires { IsSome self.old.lists.tables }
+        ensures keeps { SameParts (P.state self.old.package) (P.state self.new.package) }
+        ensures rest { KeepsWorkbook self.old self.new }
+        ensures faults { OnOk result
+            ((P.state self.new.package).faults ≡ (P.state self.old.package).faults) }
+        ensures unread { area_of_book self.old table_name.now ≡ None →
+            P.state self.new.package ≡ P.state self.old.package }
+        ensures table { IfOk result (λ table.
+            IsSomeAnd (table_of_book self.old table_name.now) (λ own. IsOfTable own table)) }
+        ensures data { let old = P.state self.old.package in
+            old.is_told ≡ true → IfOk result (λ table.
+            IsSomeAnd (table_of_book self.old table_name.now) (λ own.
+            ReadsValuesIn (grounds_of_book self.old) self.old.header_row own.table.area
+            (path_of self.old own.sheet) old.parts (table_data table))) }
+        ensures err { IfErr result (TableDataFails self.old table_name.now
+            (P.state self.old.package) (P.state self.new.package)) }
+        ensures counts { IfErr result
+            (KeepsFaults Io (P.state self.old.package) (P.state self.new.package)) }
+        ensures kind { IfErr result (IsTableDataError self.old table_name.now) }
+    {
+        let head = self.table_head(table_name)?;
+        let data = self.values_in(head.sheet.as_str(), head.area)?;
+        Ok(Table::new(head.name, head.sheet, head.columns, data))
+    }
+
+    /// The table that `table_by_name` answers, with shared strings by their places, whose texts
+    /// `shared_string` has. It can be called once `tables_loaded`, and is refused as
+    /// `table_by_name` is.
+    pub fn table_by_name_ref(&mut self, table_name: &str) -> Result<Table<DataRef>, XlsxError>
+        requires { IsSome self.old.lists.tables }
+        ensures keeps { SameParts (P.state self.old.package) (P.state self.new.package) }
+        ensures rest { KeepsWorkbook self.old self.new }
+        ensures faults { OnOk result
+            ((P.state self.new.package).faults ≡ (P.state self.old.package).faults) }
+        ensures unread { area_of_book self.old table_name.now ≡ None →
+            P.state self.new.package ≡ P.state self.old.package }
+        ensures table { IfOk result (λ table.
+            IsSomeAnd (table_of_book self.old table_name.now) (λ own. IsOfTable own table)) }
+        ensures data { let old = P.state self.old.package in
+            old.is_told ≡ true → IfOk result (λ table.
+            IsSomeAnd (table_of_book self.old table_name.now) (λ own.
+            ReadsPlacesIn (grounds_of_book self.old) self.old.header_row own.table.area
+            (path_of self.old own.sheet) old.parts (table_data table))) }
+        ensures err { IfErr result (TableDataFails self.old table_name.now
+            (P.state self.old.package) (P.state self.new.package)) }
+        ensures counts { IfErr result
+            (KeepsFaults Io (P.state self.old.package) (P.state self.new.package)) }
+        ensures kind { IfErr result (IsTableDataError self.old table_name.now) }
+    {
+        let head = self.table_head(table_name)?;
+        let data = self.places_in(head.sheet.as_str(), head.area)?;
+        Ok(Table::new(head.name, head.sheet, head.columns, data))
+    }
+}

@@ -1,0 +1,251 @@
+ghost use Rattle.std.specs.Prelude.{◌≡◌, ◌<◌, true, map, length, slice_get, IfOk, OnOk, OnErr};
+ghost use Rattle.std.specs.Prelude.{IfErr, IsSome, is_some, None, Some, option_map, string_bytes};
+ghost use Rattle.std.specs.Option.{option_copied};
+ghost use Rattle.cell_refs.specs.Positions.{are_sheet_bounds};
+ghost use Rattle.part_events.specs.Package.{SameParts, KeepsFaults};
+ghost use Rattle.xlsx_error.specs.declared.error.XlsxError.TheVariants.{Io};
+ghost use Rattle.xlsx_tables.specs.Tables.{SheetTable, tables_of, IsTablesError};
+ghost use Rattle.xlsx_core.specs.Merges.{sheet_paths, sheets_of_book};
+ghost use Rattle.xlsx_core.specs.TableList.{sheet_name, table_held, tables_held, loaded_tables};
+ghost use Rattle.xlsx_core.specs.TableList.{AllTablesFail, is_wanted, names_of};
+ghost use Rattle.xlsx_core.specs.Worksheets.{KeepsBook, KeepsWorkbook};
+
+use crate::xlsx::Xlsx;
+use cell_refs::Dimensions;
+use part_events::Package;
+use std::alloc::Global;
+use xlsx_error::XlsxError;
+use xlsx_open::Sheet;
+use xlsx_tables::{LoadedTable, read_sheet_tables};
+
+/// The name of the sheet of this number, counted from 0, and no text where there is no such sheet.
+pub(crate) fn sheet_name(sheets: &[Sheet], number: usize) -> &str
+    ensures { result.now ≡ sheet_name sheets.now number }
+{
+    match sheets.get(number) {
+        Some(sheet) => sheet.name.as_str(),
+        None => "",
+    }
+}
+
+/// Whether the tables of a sheet of this name are wanted.
+fn is_wanted(wanted: Option<&str>, sheet: &str) -> bool
+    ensures { result ≡ is_wanted (option_copied wanted.entry) sheet.now }
+{
+    match wanted {
+        Some(name) => sheet == name,
+        None => true,
+    }
+}
+
+/// The tables of all these sheets, whose parts are at these paths.
+fn all_tables<P: Package>(
+    alloc: Global,
+    package: &mut P,
+    sheets: &[Sheet],
+    paths: &[String],
+) -> Result<Vec<LoadedTable>, XlsxError>
+    ensures keeps { SameParts (P.state «package».old) (P.state «package».new) }
+    ensures faults { OnOk result
+        ((P.state «package».new).faults ≡ (P.state «package».old).faults) }
+    ensures tables { let old = P.state «package».old in
+        old.is_told ≡ true → IfOk result (λ tables.
+        tables_of old.parts (sheet_paths sheets.now paths.now)
+        ≡ Some (tables_held sheets.now tables.items)) }
+    ensures err { IfErr result (AllTablesFail (sheet_paths sheets.now paths.now)
+        (P.state «package».old) (P.state «package».new)) }
+    ensures counts { IfErr result
+        (KeepsFaults Io (P.state «package».old) (P.state «package».new)) }
+    ensures kind { IfErr result IsTablesError }
+{
+    let mut tables = Vec::new(alloc);
+    let mut number = 0;
+    let mut left = sheets;
+    let mut rest = paths;
+    'sheets: while let Some((_, others)) = left.split_first() {
+        let Some((path, more)) = rest.split_first() else {
+            return Ok(tables);
+        };
+        read_sheet_tables(alloc, package, &mut tables, number, path.as_str())?;
+        number += 1;
+        left = others;
+        rest = more;
+    }
+    Ok(tables)
+}
+
+/// The names of tables, in their order.
+#[derive(Drop)]
+pub struct TableNames<'a> {
+    left: &'a [LoadedTable],
+    sheets: &'a [Sheet],
+    sheet: Option<&'a str>,
+}
+
+impl<'a> TableNames<'a> {
+    ghost use Rattle.xlsx_core.specs.TableList.{names_left};
+
+    /// The names of these tables that stand on the sheets of this name, or of all of them, of which
+    /// none was taken yet.
+    fn new(tables: &'a [LoadedTable], sheets: &'a [Sheet], sheet: Option<&'a str>) -> TableNames<'a>
+        ensures { names_left result
+            ≡ names_of (option_copied sheet.entry) (tables_held sheets.now tables.now) }
+    {
+        TableNames {
+            left: tables,
+            sheets,
+            sheet,
+        }
+    }
+}
+
+impl<'a> Iterator for TableNames<'a> {
+    ghost use Rattle.std.specs.Iterator.{YieldsFirstRef, item_count};
+    ghost use Rattle.xlsx_core.specs.TableList.{names_left};
+
+    type Item = &'a str;
+
+    ghost next_gives = { YieldsFirstRef names_left };
+
+    ghost remaining = { item_count names_left };
+
+    fn next(&mut self) -> Option<&'a str> {
+        'tables: while let Some((first, left)) = self.left.split_first() {
+            self.left = left;
+            if is_wanted(self.sheet, sheet_name(self.sheets, first.sheet())) {
+                return Some(first.name());
+            }
+        }
+        None
+    }
+}
+
+/// The tables of an open workbook.
+impl<P: Package> Xlsx<P> {
+    ghost use Rattle.xlsx_core.specs.TableList.{names_left};
+
+    /// Loads the tables of all sheets in their order (ECMA-376 part 1, section 18.5.1.2): those of
+    /// the parts that the relationships of a sheet of the type for tables lead to, in order. A part
+    /// that is absent has none, and no more has a sheet whose relationships are absent. No sheet is
+    /// read. What was loaded before is replaced.
+    ///
+    /// Fails by the relationships of a sheet or by the part of a table, as `read_sheet_tables`. A
+    /// refusal leaves what was loaded as it was.
+    pub fn load_tables(&mut self) -> Result<(), XlsxError>
+        ensures keeps { SameParts (P.state self.old.package) (P.state self.new.package) }
+        ensures book { KeepsBook self.old self.new }
+        ensures loaded { OnOk result (IsSome self.new.lists.tables) }
+        ensures tables { let old = P.state self.old.package in
+            old.is_told ≡ true → OnOk result
+            (tables_of old.parts (sheets_of_book self.old) ≡ Some (loaded_tables self.new)) }
+        ensures faults { OnOk result
+            ((P.state self.new.package).faults ≡ (P.state self.old.package).faults) }
+        ensures regions { self.new.lists.regions ≡ self.old.lists.regions }
+        ensures properties { self.new.lists.properties ≡ self.old.lists.properties }
+        ensures unchanged { OnErr result (KeepsWorkbook self.old self.new) }
+        ensures err { IfErr result (AllTablesFail (sheets_of_book self.old)
+            (P.state self.old.package) (P.state self.new.package)) }
+        ensures counts { IfErr result
+            (KeepsFaults Io (P.state self.old.package) (P.state self.new.package)) }
+        ensures kind { IfErr result IsTablesError }
+    {
+        let sheets = &self.metadata.sheets;
+        let tables = all_tables(self.alloc, &mut self.package, sheets, &self.paths)?;
+        self.lists.tables = Some(tables);
+        Ok(())
+    }
+
+    /// Whether the tables were loaded.
+    pub fn tables_loaded(&self) -> bool
+        ensures { result ≡ is_some self.now.lists.tables }
+    {
+        self.lists.tables.is_some()
+    }
+
+    /// The tables that were loaded.
+    pub(crate) fn kept_tables(&self) -> &[LoadedTable]
+        requires { IsSome self.now.lists.tables }
+        ensures { tables_held self.now.metadata.sheets.items result.now
+            ≡ loaded_tables self.now }
+    {
+        match &self.lists.tables {
+            Some(tables) => tables,
+            None => unreachable!(),
+        }
+    }
+
+    /// How many tables were loaded. It can be called once `tables_loaded`.
+    pub fn table_count(&self) -> usize
+        requires { IsSome self.now.lists.tables }
+        ensures { result ≡ length (loaded_tables self.now) }
+    {
+        self.kept_tables().len()
+    }
+
+    /// The table at this index, counted from 0.
+    fn numbered_table(&self, index: usize) -> &LoadedTable
+        requires loaded { IsSome self.now.lists.tables }
+        requires index { index < length (loaded_tables self.now) }
+        ensures { slice_get (loaded_tables self.now) index
+            ≡ Some (table_held self.now.metadata.sheets.items result.now) }
+    {
+        &self.kept_tables()[index]
+    }
+
+    /// The area of the data of the table at this index, counted from 0, without headers and totals.
+    /// Its rows and columns are counted from 0. None where it has no cell.
+    ///
+    /// It can be called once `tables_loaded`, with an index below `table_count`.
+    pub fn table_area(&self, index: usize) -> Option<Dimensions>
+        requires loaded { IsSome self.now.lists.tables }
+        requires index { index < length (loaded_tables self.now) }
+        ensures area { Some result ≡ option_map (λ (own : SheetTable). own.table.area)
+            (slice_get (loaded_tables self.now) index) }
+        ensures inside { are_sheet_bounds result ≡ true }
+    {
+        self.numbered_table(index).area()
+    }
+
+    /// The names of the columns of the table at this index, counted from 0, in order.
+    ///
+    /// It can be called once `tables_loaded`, with an index below `table_count`.
+    pub fn table_columns(&self, index: usize) -> &[String]
+        requires loaded { IsSome self.now.lists.tables }
+        requires index { index < length (loaded_tables self.now) }
+        ensures { Some (map string_bytes result.now)
+            ≡ option_map (λ (own : SheetTable). own.table.columns)
+            (slice_get (loaded_tables self.now) index) }
+    {
+        self.numbered_table(index).columns()
+    }
+
+    /// The name of the sheet of the table at this index, counted from 0.
+    ///
+    /// It can be called once `tables_loaded`, with an index below `table_count`.
+    pub fn table_sheet(&self, index: usize) -> &str
+        requires loaded { IsSome self.now.lists.tables }
+        requires index { index < length (loaded_tables self.now) }
+        ensures { Some result.now ≡ option_map (λ (own : SheetTable). own.sheet)
+            (slice_get (loaded_tables self.now) index) }
+    {
+        sheet_name(&self.metadata.sheets, self.numbered_table(index).sheet())
+    }
+
+    /// The names of the tables, in order. It can be called once `tables_loaded`.
+    pub fn table_names(&self) -> TableNames<'_>
+        requires { IsSome self.now.lists.tables }
+        ensures { names_left result
+            ≡ map (λ (own : SheetTable). own.table.name) (loaded_tables self.now) }
+    {
+        TableNames::new(self.kept_tables(), &self.metadata.sheets, None)
+    }
+
+    /// The names of those on the sheets of this name. It can be called once `tables_loaded`.
+    pub fn table_names_in_sheet<'a>(&'a self, sheet_name: &'a str) -> TableNames<'a>
+        requires { IsSome self.now.lists.tables }
+        ensures { names_left result
+            ≡ names_of (Some sheet_name.now) (loaded_tables self.now) }
+    {
+        TableNames::new(self.kept_tables(), &self.metadata.sheets, Some(sheet_name))
+    }
+}
