@@ -1,5 +1,5 @@
 -- Where a target leads.
-use Rattle.std.proofs.Common.{◌≡◌, ℕ, ◌-◌, ◌+◌, ◌<◌, List, Bool, true, false, Option, Some, None}
+use Rattle.std.proofs.Common.{◌≡◌, ℕ, ◌-◌, ◌+◌, ◌<◌, List, true, false, Option, Some, None}
 use Rattle.std.proofs.Common.{MatchOption, Bor, refl, length, take, drop, codes, ap, sym, arith}
 use Rattle.std.proofs.Common.{length-drop, [], subst, ◌∙◌, Result, Err}
 use Rattle.std.specs.Option.{option_copied}
@@ -43,10 +43,10 @@ behind_dots_is target (Some x) is =
     sym (starts_text true (codes "../") target (is.0, is.1, here)) in
     rw there (ap (λ own. Some own) (is.2 ∙ ap (λ n. drop n target) is.1.0))
 
--- a target that isn't decoded leads nowhere
-pub lead_fails : (path : List ℕ) (at behind : ℕ) (decoded : Result (List ℕ) Refusal)
-    (error : XlsxError) → ElementFails decoded at behind error
-    → ElementFails (led_to path decoded) at behind error
-lead_fails path at behind decoded error fails =
-    refused_at_weaker at behind (λ (refusal : Refusal). led_to path decoded ≡ Err refusal)
-    (λ (refusal : Refusal). decoded ≡ Err refusal) error (λ refusal is. ap (led_to path) is) fails
+-- a relationship whose target isn't decoded leads nowhere
+pub lead_fails : (path : List ℕ) (at behind : ℕ) (target : Result (Option (List ℕ)) Refusal)
+    (error : XlsxError) → ElementFails target at behind error
+    → ElementFails (led_to path target) at behind error
+lead_fails path at behind target error fails =
+    refused_at_weaker at behind (λ (refusal : Refusal). led_to path target ≡ Err refusal)
+    (λ (refusal : Refusal). target ≡ Err refusal) error (λ refusal is. ap (led_to path) is) fails

@@ -1,6 +1,7 @@
 -- Where the relationships of a part lead (ECMA-376 part 2, section 9.3).
-use Rattle.std.specs.Prelude.{ ℕ, ◌-◌, List, [], ◌∷◌, ◌++◌, length, take, drop, nat_eq}
-use Rattle.std.specs.Prelude.{if◌then◌else◌, codes, Option, Some, None, unwrap_or, Result, Ok, Err}
+use Rattle.std.specs.Prelude.{ℕ, ◌-◌, List, [], ◌∷◌, ◌++◌, length, take, drop, nat_eq, codes}
+use Rattle.std.specs.Prelude.{if◌then◌else◌, Option, Some, None, unwrap_or, option_and_then}
+use Rattle.std.specs.Prelude.{Result, Ok, Err}
 use Rattle.std.specs.List.{starts_with}
 use Rattle.std.specs.Str.{bytes_eq}
 use Rattle.attr_text.specs.Attributes.{lookup}
@@ -11,6 +12,7 @@ use Rattle.part_events.specs.Section.{PlacedTag}
 use Rattle.xlsx_error.specs.declared.error.XlsxError.{XlsxError}
 use Rattle.xlsx_sections.specs.Answers.{some_answers, with_two}
 use Rattle.xlsx_sections.specs.Elements.{IsInsideRefused}
+use Rattle.xlsx_sections.specs.Names.{some_text}
 use Rattle.xlsx_sections.specs.PartSection.{OptionalPartCause, always}
 use Rattle.xlsx_sections.specs.Refusal.{Refusal, plain, lookup_fault, decoded_at}
 use Rattle.xlsx_parts.specs.PartSaid.{part_said, unless_absent}
@@ -41,28 +43,32 @@ target_path path [] = None
 target_path path (byte ∷ target) =
     Some (led_from path (behind_dots (byte ∷ target)) (byte ∷ target))
 
-abbrev pub led_to : List ℕ → Result (List ℕ) Refusal → Result (Option (List ℕ)) Refusal
-led_to path (Ok target) = Ok (target_path path target)
-led_to path (Err refusal) = Err refusal
-
 -- A relationship of another type isn't decoded. One without a type or a target has the empty one.
-abbrev pub led_with :
-    List ℕ → List ℕ → ℕ → Option (List ℕ) → Option (List ℕ) → Result (Option (List ℕ)) Refusal
-led_with path wanted behind typ target =
+abbrev pub typed_from :
+    List ℕ → ℕ → Option (List ℕ) → Option (List ℕ) → Result (Option (List ℕ)) Refusal
+typed_from wanted behind typ target =
     if bytes_eq (unwrap_or typ []) wanted
-    then led_to path (decoded_at behind (unwrap_or target [])) else Ok None
+    then some_text (decoded_at behind (unwrap_or target [])) else Ok None
 
-abbrev pub led_by :
-    List ℕ → List ℕ → ℕ → Result (List (Option (List ℕ))) AttrFault →
-    Result (Option (List ℕ)) Refusal
-led_by path wanted behind (Ok values) = with_two (led_with path wanted behind) (Ok None) values
-led_by path wanted behind (Err fault) = Err (plain (lookup_fault fault))
+abbrev pub typed_by :
+    List ℕ → ℕ → Result (List (Option (List ℕ))) AttrFault → Result (Option (List ℕ)) Refusal
+typed_by wanted behind (Ok values) = with_two (typed_from wanted behind) (Ok None) values
+typed_by wanted behind (Err fault) = Err (plain (lookup_fault fault))
+
+-- the target, decoded, of a relationship of exactly this type
+abbrev pub typed_target : List ℕ → PlacedTag → Result (Option (List ℕ)) Refusal
+typed_target wanted start =
+    typed_by wanted start.behind
+    (lookup (codes "Type" ∷ codes "Target" ∷ []) start.tag.attributes)
+
+abbrev pub led_to :
+    List ℕ → Result (Option (List ℕ)) Refusal → Result (Option (List ℕ)) Refusal
+led_to path (Ok target) = Ok (option_and_then (target_path path) target)
+led_to path (Err refusal) = Err refusal
 
 -- where a relationship leads, if it is of exactly this type
 abbrev pub leads_to : List ℕ → List ℕ → PlacedTag → Result (Option (List ℕ)) Refusal
-leads_to path wanted start =
-    led_by path wanted start.behind
-    (lookup (codes "Type" ∷ codes "Target" ∷ []) start.tag.attributes)
+leads_to path wanted start = led_to path (typed_target wanted start)
 
 -- where all of that type lead, in order
 abbrev pub all_lead_to : List ℕ → List ℕ → List Event → Result (List (List ℕ)) Refusal

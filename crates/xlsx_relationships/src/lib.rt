@@ -10,6 +10,7 @@ mod targets;
 
 pub use link_targets::{link_text, read_sheet_hyperlink_rels};
 pub use paths::{behind_slash, folder_of, joined, last_piece, part_folder, relationships_beside};
-pub use related::related_parts;
+pub use related::{related_parts, typed_target};
 pub use relationship_parts::{read_path, read_relationships};
 pub use relationships::{Relationship, find_relationship, text_or};
+pub use targets::target_path;

@@ -10,10 +10,10 @@ ghost use Rattle.xlsx_sections.specs.Answers.{prepended, and_others_if};
 ghost use Rattle.xlsx_sections.specs.Elements.{IsInsideRefused};
 ghost use Rattle.xlsx_sections.specs.Failing.{FailsBy};
 ghost use Rattle.xlsx_sections.specs.PartSection.{always, SectionFails};
-ghost use Rattle.xlsx_sections.specs.Refusal.{Refusal, ElementFails, placed_at, decoded_at};
+ghost use Rattle.xlsx_sections.specs.Refusal.{Refusal, ElementFails, placed_at};
 ghost use Rattle.xlsx_sections.specs.SectionEvents.{ReadsToEnd};
 ghost use Rattle.xlsx_relationships.specs.Paths.{relationships_beside};
-ghost use Rattle.xlsx_relationships.specs.RelatedParts.{led_to, leads_to, all_lead_to};
+ghost use Rattle.xlsx_relationships.specs.RelatedParts.{typed_target, leads_to, all_lead_to};
 ghost use Rattle.xlsx_relationships.specs.RelatedParts.{related_parts, RelatedCause};
 ghost use Rattle.xlsx_relationships.specs.RelationshipErrors.{IsRelatedError};
 
@@ -26,17 +26,30 @@ use std::alloc::{AllocError, Global};
 use xlsx_error::XlsxError;
 use xlsx_sections::{decode_at, enter_part, next_start_in, start_tag};
 
-/// Where a target leads, which stands in event number `at` of its part.
+/// The target, decoded, of the relationship of a start, if it is of exactly this type. The start is
+/// event number `at` of its part, counted from 0. One without a target has the empty one.
+///
+/// A target of this type with a reference without a character is `Xml(Entity)` with that number,
+/// and attributes that end in a fault and lack `Type` or `Target` are `XmlAttr`.
 #[tactic(auto, using(crate::proofs::RelationshipErrors::related_decoding))]
-fn led_to(alloc: Global, target: &str, at: u64, path: &str) -> Result<Option<String>, XlsxError>
-    ensures ok { IfOk result (λ there. (behind : ℕ) →
-        led_to path.now (decoded_at behind target.now) ≡ Ok (option_map string_bytes there)) }
-    ensures err { IfErr result (λ error. (behind : ℕ) →
-        ElementFails (led_to path.now (decoded_at behind target.now)) at behind error) }
+pub fn typed_target(
+    alloc: Global,
+    tag: StartTag<'_>,
+    at: u64,
+    wanted: &str,
+) -> Result<Option<String>, XlsxError>
+    ensures ok { IfOk result (λ target. (behind : ℕ) →
+        typed_target wanted.now (placed_at (tag_of tag.entry) behind)
+        ≡ Ok (option_map string_bytes target)) }
+    ensures err { IfErr result (λ error. (behind : ℕ) → ElementFails
+        (typed_target wanted.now (placed_at (tag_of tag.entry) behind)) at behind error) }
     ensures kind { IfErr result IsRelatedError }
 {
-    let target = decode_at(alloc, target, at)?;
-    Ok(target_path(alloc, path, target.as_str())?)
+    let (typ, target) = get_attrs!(tag, "Type" => typ, "Target" => target)?;
+    if text_or(typ, "") != wanted {
+        return Ok(None);
+    }
+    Ok(Some(decode_at(alloc, text_or(target, ""), at)?))
 }
 
 /// Where the relationship of a start leads, if it is of this type. It is one of the part at `path`,
@@ -55,11 +68,10 @@ fn leads_to(
         (leads_to path.now wanted.now (placed_at (tag_of tag.entry) behind)) at behind error) }
     ensures kind { IfErr result IsRelatedError }
 {
-    let (typ, target) = get_attrs!(tag, "Type" => typ, "Target" => target)?;
-    if text_or(typ, "") != wanted {
-        return Ok(None);
+    match typed_target(alloc, tag, at, wanted)? {
+        Some(target) => Ok(target_path(alloc, path, target.as_str())?),
+        None => Ok(None),
     }
-    led_to(alloc, text_or(target, ""), at, path)
 }
 
 /// Appends a path, where there is one.

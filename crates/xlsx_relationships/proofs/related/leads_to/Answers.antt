@@ -1,20 +1,13 @@
-use Rattle.std.proofs.Common.{◌≡◌, ℕ, rules}
-use Rattle.std.proofs.lemmas.Result.{IfErr-weaker}
 use Rattle.part_events.specs.Event.{tag_of}
-use Rattle.xlsx_sections.specs.Refusal.{ElementFails, placed_at, decoded_at}
-use Rattle.xlsx_relationships.specs.RelatedParts.{leads_to, led_to}
+use Rattle.xlsx_sections.specs.Refusal.{placed_at}
+use Rattle.xlsx_sections.proofs.Failing.{given_back}
+use Rattle.xlsx_relationships.specs.RelatedParts.{typed_target}
+use Rattle.xlsx_relationships.proofs.RelatedRead.{lead_fails}
 use Rattle.xlsx_relationships.proofs.related.leads_to.Goals as goal
 
-pub returns-clause-err : goal.returns-clause-err
-returns-clause-err c =
-    let path = c.args.path.now in
-    let at = c.args.at in
-    let target = c.text_or-2.result.now in
-    IfErr-weaker c.led_to.result
-    (λ error. (behind : ℕ) → ElementFails (led_to path (decoded_at behind target)) at behind error)
-    (λ error. (behind : ℕ) → ElementFails (leads_to path c.args.wanted.now
-    (placed_at (tag_of c.args.tag) behind)) at behind error)
-    (λ error fails behind.
-    let same : leads_to path c.args.wanted.now (placed_at (tag_of c.args.tag) behind)
-    ≡ led_to path (decoded_at behind target) = search rules in
-    rw same (fails behind)) c.led_to.ensures.err
+pub returns-in_err-target-clause-err : goal.returns-in_err-target-clause-err
+returns-in_err-target-clause-err c =
+    given_back _ c.from_residual.result c.from_residual.ensures.1
+    (λ behind. lead_fails c.args.path.now c.args.at behind
+    (typed_target c.args.wanted.now (placed_at (tag_of c.args.tag) behind))
+    c.in_err-target.field-0.0 (c.in_err-target.ensures.err behind))

@@ -1,4 +1,4 @@
-use Rattle.std.proofs.Common.{◌≡◌, List, ℕ, ap, ◌∙◌, map, option_map, string_bytes}
+use Rattle.std.proofs.Common.{List, ℕ, ap, ◌∙◌, map, option_map, string_bytes}
 use Rattle.part_events.specs.Event.{tag_of}
 use Rattle.xlsx_sections.specs.Answers.{prepended}
 use Rattle.xlsx_sections.specs.Refusal.{placed_at}

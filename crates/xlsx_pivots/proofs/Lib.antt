@@ -1,0 +1,4 @@
+pub mod PivotsKept
+pub mod PivotsRead
+pub mod SoundPivots
+pub mod TargetsKept

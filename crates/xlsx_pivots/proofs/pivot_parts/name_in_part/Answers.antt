@@ -1,0 +1,83 @@
+use Rattle.std.proofs.Common.{◌≡◌, ℕ, Some, None, Err, codes, length, ap, ◌∙◌}
+use Rattle.std.proofs.Common.{subst, arith, option_map, string_bytes}
+use Rattle.part_events.specs.Event.{Tag, tag_of}
+use Rattle.part_events.specs.Reading.{reading, events_of}
+use Rattle.xlsx_sections.specs.Changes.{changed_by}
+use Rattle.xlsx_sections.specs.Elements.{IsInsideRefused}
+use Rattle.xlsx_sections.specs.PartSection.{always, section_left, inside_of, SectionFails}
+use Rattle.xlsx_sections.specs.Refusal.{Refusal, placed_at}
+use Rattle.xlsx_sections.proofs.Failing.{given_back}
+use Rattle.xlsx_sections.proofs.Refused.{event_refused, refused_as}
+use Rattle.xlsx_sections.proofs.StartsSaid.{at_start}
+use Rattle.xlsx_parts.specs.FirstElement.{element_in, element_with, IsElementRefused}
+use Rattle.xlsx_parts.specs.FirstElement.{FirstElementCause}
+use Rattle.xlsx_parts.proofs.ElementsFound.{find_element_refused, element_refused}
+use Rattle.xlsx_pivots.specs.PivotParts.{name_kept, name_behind, name_said, name_in_part}
+use Rattle.xlsx_pivots.specs.Singles.{Lacks}
+use Rattle.xlsx_pivots.specs.declared.single.Single.TheVariants as single
+use Rattle.xlsx_pivots.proofs.PivotsRead.{first_refused}
+use Rattle.xlsx_pivots.proofs.pivot_parts.name_in_part.Goals as goal
+
+pub returns-in_err-at-clause-err : goal.returns-in_err-at-clause-err
+returns-in_err-at-clause-err g c =
+    let name = codes "pivotTableDefinition" in
+    let old = reading (g.P.Package.state c.args.package.now) c.args.cursor.now in
+    let new = reading (g.P.Package.state c.find_element.new.package) c.find_element.new.cursor in
+    given_back _ c.from_residual.result c.from_residual.ensures.1
+    (first_refused (FirstElementCause name name name_said (events_of old))
+    (Lacks single.Name (name_in_part (events_of old))) old.source new.source c.in_err-at.field-0.0
+    (find_element_refused name name name_said old new c.in_err-at.field-0.0
+    c.in_err-at.ensures.err))
+
+pub returns-in_err-keep_name-clause-err : goal.returns-in_err-keep_name-clause-err
+returns-in_err-keep_name-clause-err g c =
+    let name = codes "pivotTableDefinition" in
+    let old = reading (g.P.Package.state c.args.package.now) c.args.cursor.now in
+    let mid = reading (g.P.Package.state c.find_element.new.package) c.find_element.new.cursor in
+    let tag = tag_of c.start_tag.result in
+    let s = section_left (length mid.names) mid in
+    let error = c.in_err-keep_name.field-0.0 in
+    let stands = rw c.in-Some.is at c.in_ok-at.ensures.stands in
+    given_back _ c.from_residual-in_err-keep_name.result
+    c.from_residual-in_err-keep_name.ensures.1
+    (first_refused (FirstElementCause name name name_said (events_of old))
+    (Lacks single.Name (name_in_part (events_of old))) old.source mid.source error
+    (element_refused {tag = tag} {s = s} name name name_said old mid.source mid.source error
+    c.in_ok-at.ensures.reads.moves.parts
+    (λ told. at_start (λ (own : Tag). element_in name (events_of old)
+    ≡ Some (element_with own s)) c.start_tag.ensures
+    (rw c.in-Some.is at (c.in_ok-at.ensures.found told)))
+    (event_refused (length mid.names) c.in-Some.at (length (inside_of s)) mid (always name)
+    (λ (refusal : Refusal). name_kept (placed_at tag (length (inside_of s))) None ≡ Err refusal)
+    (IsElementRefused name_said tag) mid error
+    (λ told. omega (arith, stands.3))
+    (λ told refusal is. ap (changed_by (λ kept. name_behind kept (inside_of s))) is)
+    (c.in_err-keep_name.ensures.err (length (inside_of s))))))
+
+pub returns-in_err-keep_names-clause-err : goal.returns-in_err-keep_names-clause-err
+returns-in_err-keep_names-clause-err g c =
+    let name = codes "pivotTableDefinition" in
+    let old = reading (g.P.Package.state c.args.package.now) c.args.cursor.now in
+    let mid = reading (g.P.Package.state c.find_element.new.package) c.find_element.new.cursor in
+    let new = reading (g.P.Package.state c.keep_names.new.package) c.keep_names.new.cursor in
+    let tag = tag_of c.start_tag.result in
+    let s = section_left (length mid.names) mid in
+    let error = c.in_err-keep_names.field-0.0 in
+    let kept = option_map string_bytes c.keep_name.new.kept in
+    let here : SectionFails (always name) (IsInsideRefused (name_behind kept)) (length mid.names)
+    mid new error =
+    subst (λ (n : ℕ). SectionFails (always name) (IsInsideRefused (name_behind kept)) n mid new
+    error) c.depth-base.ensures c.in_err-keep_names.ensures.err in
+    given_back _ c.from_residual-in_err-keep_names.result
+    c.from_residual-in_err-keep_names.ensures.1
+    (first_refused (FirstElementCause name name name_said (events_of old))
+    (Lacks single.Name (name_in_part (events_of old))) old.source new.source error
+    (element_refused {tag = tag} {s = s} name name name_said old mid.source new.source error
+    c.in_ok-at.ensures.reads.moves.parts
+    (λ told. at_start (λ (own : Tag). element_in name (events_of old)
+    ≡ Some (element_with own s)) c.start_tag.ensures
+    (rw c.in-Some.is at (c.in_ok-at.ensures.found told)))
+    (refused_as (length mid.names) mid (always name) (IsInsideRefused (name_behind kept))
+    (IsElementRefused name_said tag) new error
+    (λ refusal is. ap (changed_by (λ own. name_behind own (inside_of s)))
+    (c.in_ok-keep_name.ensures.ok (length (inside_of s))) ∙ is) here)))

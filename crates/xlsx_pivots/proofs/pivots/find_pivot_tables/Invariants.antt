@@ -1,0 +1,27 @@
+use Rattle.std.proofs.Common.{◌≡◌, true, map, length, Some}
+use Rattle.part_events.specs.Package.{SameParts}
+use Rattle.xlsx_error.specs.declared.error.XlsxError.{XlsxError}
+use Rattle.xlsx_parts.specs.PartSaid.{put_together}
+use Rattle.xlsx_pivots.specs.PivotTables.{pivot_kept, sheet_given}
+use Rattle.xlsx_pivots.specs.Pivots.{pivots_of, PivotsCause}
+use Rattle.xlsx_pivots.proofs.pivots.find_pivot_tables.Given as goal
+
+abbrev pub invariant-sheets : goal.invariant-sheets
+invariant-sheets g l =
+    let old = g.P.Package.state l.fn.package in
+    let now = g.P.Package.state l.package in
+    record {
+      same : SameParts old now;
+      faults : now.faults ≡ old.faults;
+      said :
+          old.is_told ≡ true →
+          put_together (Some (map pivot_kept l.pivots.items))
+          (pivots_of old.parts l.xl_path (map sheet_given l.left))
+          ≡ pivots_of old.parts l.xl_path (map sheet_given l.fn.sheets);
+      cause :
+          (error : XlsxError) → PivotsCause old.parts (map sheet_given l.left) error →
+          PivotsCause old.parts (map sheet_given l.fn.sheets) error;
+    }
+
+abbrev pub decreases-sheets : goal.decreases-sheets
+decreases-sheets g l = length l.left

@@ -1,0 +1,6 @@
+pub mod PivotErrors
+pub mod PivotParts
+pub mod PivotTables
+pub mod Pivots
+pub mod Singles
+pub mod Targets

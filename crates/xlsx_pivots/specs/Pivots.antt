@@ -1,0 +1,105 @@
+-- The pivot tables of the sheets of a workbook.
+use Rattle.std.specs.Prelude.{◌⊎◌, ℕ, List, [], ◌∷◌, codes, Option, option_map, option_and_then}
+use Rattle.std.specs.Prelude.{MatchOption}
+use Rattle.part_events.specs.Package.{Part, part_of}
+use Rattle.xlsx_error.specs.declared.error.XlsxError.{XlsxError}
+use Rattle.xlsx_sections.specs.PartSection.{LacksPart}
+use Rattle.xlsx_parts.specs.PartSaid.{all_said}
+use Rattle.xlsx_parts.specs.SheetPaths.{SheetPath}
+use Rattle.xlsx_parts.specs.WholePart.{IfThere, SomeCause}
+use Rattle.xlsx_relationships.specs.RelatedParts.{related_parts, RelatedCause}
+use Rattle.xlsx_pivots.specs.PivotParts.{name_in_part, NameCause}
+use Rattle.xlsx_pivots.specs.Singles.{only_one}
+use Rattle.xlsx_pivots.specs.Targets.{definitions_type, records_type, definitions_at, records_at}
+use Rattle.xlsx_pivots.specs.Targets.{TargetCause}
+use Rattle.xlsx_pivots.specs.declared.single.Single.TheVariants as single
+
+-- the type of the relationships from a sheet to its pivot tables
+abbrev pub pivot_type : List ℕ
+pivot_type = codes "http://schemas.openxmlformats.org/officeDocument/2006/relationships/pivotTable"
+
+-- a pivot table: its name and its sheet's, and the paths of the parts of its cache
+pub record PivotSaid : Type 0 where
+  pub name : List ℕ
+  pub sheet : List ℕ
+  pub definitions : List ℕ
+  pub records : List ℕ
+
+abbrev pub pivot_with : List ℕ → List ℕ → List ℕ → List ℕ → PivotSaid
+pivot_with sheet name definitions records = record {
+  name = name;
+  sheet = sheet;
+  definitions = definitions;
+  records = records;
+}
+
+-- the name of the pivot table whose part is at a path
+abbrev pub name_at : List Part → List ℕ → Option (List ℕ)
+name_at parts path = only_one (option_and_then name_in_part (part_of parts path))
+
+-- the records of these definitions go with the name
+abbrev pub pivot_from :
+    List Part → List ℕ → List ℕ → List ℕ → List ℕ → Option PivotSaid
+pivot_from parts folder sheet name definitions =
+    option_map (pivot_with sheet name definitions) (records_at parts folder definitions)
+
+abbrev pub pivot_named : List Part → List ℕ → List ℕ → List ℕ → List ℕ → Option PivotSaid
+pivot_named parts folder sheet path name =
+    option_and_then (pivot_from parts folder sheet name) (definitions_at parts path)
+
+-- the pivot table of the part at a path, by its own part, its relationships, and those of its
+-- definitions
+abbrev pub pivot_at : List Part → List ℕ → List ℕ → List ℕ → Option PivotSaid
+pivot_at parts folder sheet path =
+    option_and_then (pivot_named parts folder sheet path) (name_at parts path)
+
+abbrev pub alone : PivotSaid → List PivotSaid
+alone pivot = pivot ∷ []
+
+abbrev pub pivots_at : List Part → List ℕ → List ℕ → List ℕ → Option (List PivotSaid)
+pivots_at parts folder sheet path = option_map alone (pivot_at parts folder sheet path)
+
+-- those of the parts at these paths, one after the other
+abbrev pub pivots_by : List Part → List ℕ → List ℕ → List (List ℕ) → Option (List PivotSaid)
+pivots_by parts folder sheet paths = all_said (pivots_at parts folder sheet) paths
+
+-- the pivot tables of a sheet, in the order of its relationships
+abbrev pub pivots_on : List Part → List ℕ → SheetPath → Option (List PivotSaid)
+pivots_on parts folder sheet =
+    option_and_then (pivots_by parts folder sheet.name)
+    (related_parts parts pivot_type sheet.path)
+
+-- those of many sheets, one after the other
+abbrev pub pivots_of : List Part → List ℕ → List SheetPath → Option (List PivotSaid)
+pivots_of parts folder sheets = all_said (pivots_on parts folder) sheets
+
+-- why the name of the part at a path can't be taken: the part is absent or refused
+abbrev pub NameAtCause : List Part → List ℕ → XlsxError → Type 0
+NameAtCause parts path error =
+    LacksPart parts path error ⊎ IfThere NameCause (part_of parts path) error
+
+-- Why the pivot table of the part at a path can't be taken: its name can't, or it can't be said
+-- where its definitions lie, or from there, where its records do.
+abbrev pub PivotCause : List Part → List ℕ → XlsxError → Type 0
+PivotCause parts path error =
+    NameAtCause parts path error
+    ⊎ TargetCause parts definitions_type single.Definitions path error
+    ⊎ MatchOption (definitions_at parts path) ⊥
+    (λ definitions. TargetCause parts records_type single.Records definitions error)
+
+-- why those of the parts at some paths can't
+abbrev pub PivotsByCause : List Part → List (List ℕ) → XlsxError → Type 0
+PivotsByCause parts paths error = SomeCause (PivotCause parts) paths error
+
+-- why those of the sheet whose part is at a path can't: it can't be said where its relationships
+-- lead, or the pivot table of a part that they lead to can't be taken
+abbrev pub PivotsAtCause : List Part → List ℕ → XlsxError → Type 0
+PivotsAtCause parts path error =
+    RelatedCause parts pivot_type path error
+    ⊎ MatchOption (related_parts parts pivot_type path) ⊥
+    (λ paths. PivotsByCause parts paths error)
+
+-- why those of many sheets can't
+abbrev pub PivotsCause : List Part → List SheetPath → XlsxError → Type 0
+PivotsCause parts sheets error =
+    SomeCause (λ (sheet : SheetPath). PivotsAtCause parts sheet.path) sheets error

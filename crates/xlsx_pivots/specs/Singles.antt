@@ -1,0 +1,53 @@
+-- What a pivot table has exactly one of.
+use Rattle.std.specs.Prelude.{◌≡◌, ⊤, ℕ, List, Option, Some, None, Result, Ok, Err}
+use Rattle.xlsx_error.specs.declared.error.XlsxError.{XlsxError}
+use Rattle.xlsx_sections.specs.Refusal.{Refusal, PlainRefusal, plain, plain_told}
+use Rattle.xlsx_sections.specs.Refusal.{lacks_pivot_name, many_pivot_names}
+use Rattle.xlsx_sections.specs.Refusal.{lacks_definitions, many_definitions}
+use Rattle.xlsx_sections.specs.Refusal.{lacks_records, many_records}
+use Rattle.xlsx_pivots.specs.declared.single.Single.{Single}
+use Rattle.xlsx_pivots.specs.declared.single.Single.TheVariants as single
+
+-- why there is none
+abbrev pub lacking : Single → PlainRefusal
+lacking single.Name = lacks_pivot_name
+lacking single.Definitions = lacks_definitions
+lacking single.Records = lacks_records
+
+-- why there is more than one
+abbrev pub many : Single → PlainRefusal
+many single.Name = many_pivot_names
+many single.Definitions = many_definitions
+many single.Records = many_records
+
+-- what is kept of one more, behind what was kept
+abbrev pub kept_with :
+    Single → Option (List ℕ) → Option (List ℕ) → Result (Option (List ℕ)) Refusal
+kept_with single kept None = Ok kept
+kept_with single None (Some own) = Ok (Some own)
+kept_with single (Some first) (Some own) = Err (plain (many single))
+
+abbrev pub kept_by :
+    Single → Option (List ℕ) → Result (Option (List ℕ)) Refusal →
+    Result (Option (List ℕ)) Refusal
+kept_by single kept (Ok own) = kept_with single kept own
+kept_by single kept (Err refusal) = Err refusal
+
+-- the one that was found, where it is said whether there is one
+abbrev pub only_one : Option (Option (List ℕ)) → Option (List ℕ)
+only_one None = None
+only_one (Some own) = own
+
+-- it is said that there is none
+abbrev pub Lacks : Single → Option (Option (List ℕ)) → XlsxError → Type 0
+Lacks single said error = (said ≡ Some None) × (plain_told error ≡ Some (lacking single))
+
+-- the refusals of which an error of this kind tells
+abbrev pub IsPivotRefusal : PlainRefusal → Type 0
+IsPivotRefusal lacks_pivot_name = ⊤
+IsPivotRefusal many_pivot_names = ⊤
+IsPivotRefusal lacks_definitions = ⊤
+IsPivotRefusal many_definitions = ⊤
+IsPivotRefusal lacks_records = ⊤
+IsPivotRefusal many_records = ⊤
+IsPivotRefusal _ = ⊥

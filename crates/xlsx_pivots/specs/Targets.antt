@@ -1,0 +1,91 @@
+-- Where the parts of a pivot table's cache lie (ECMA-376 part 2, section 9.3).
+use Rattle.std.specs.Prelude.{◌⊎◌, ⊤, ℕ, List, [], ◌∷◌, ◌++◌, nat_eq, codes, if◌then◌else◌}
+use Rattle.std.specs.Prelude.{Option, Some, None, option_map, option_and_then, Result, Ok, Err}
+use Rattle.std.specs.List.{starts_with}
+use Rattle.part_events.specs.Event.{Event}
+use Rattle.part_events.specs.Package.{Part}
+use Rattle.part_events.specs.Section.{PlacedTag}
+use Rattle.xlsx_error.specs.declared.error.XlsxError.{XlsxError}
+use Rattle.xlsx_sections.specs.Changes.{all_changes}
+use Rattle.xlsx_sections.specs.Elements.{IsInsideRefused}
+use Rattle.xlsx_sections.specs.PartSection.{PartCause, always}
+use Rattle.xlsx_sections.specs.Refusal.{Refusal}
+use Rattle.xlsx_parts.specs.PartSaid.{part_said}
+use Rattle.xlsx_relationships.specs.Paths.{relationships_beside, without_slash}
+use Rattle.xlsx_relationships.specs.RelatedParts.{target_path, typed_target}
+use Rattle.xlsx_relationships.specs.Relationships.{relationship_starts}
+use Rattle.xlsx_pivots.specs.Singles.{kept_by, only_one, Lacks}
+use Rattle.xlsx_pivots.specs.declared.single.Single.{Single}
+use Rattle.xlsx_pivots.specs.declared.single.Single.TheVariants as single
+
+-- the types of the relationships from a pivot table to its definitions, and from there to its
+-- records
+abbrev pub definitions_type : List ℕ
+definitions_type =
+    codes "http://schemas.openxmlformats.org/officeDocument/2006/relationships/pivotCacheDefinition"
+
+abbrev pub records_type : List ℕ
+records_type =
+    codes "http://schemas.openxmlformats.org/officeDocument/2006/relationships/pivotCacheRecords"
+
+-- An empty target doesn't count before the first that isn't empty, and does behind it.
+abbrev pub counted : Option (List ℕ) → Option (List ℕ) → Option (List ℕ)
+counted (Some first) target = target
+counted None None = None
+counted None (Some []) = None
+counted None (Some (byte ∷ target)) = Some (byte ∷ target)
+
+abbrev pub counted_by :
+    Option (List ℕ) → Result (Option (List ℕ)) Refusal → Result (Option (List ℕ)) Refusal
+counted_by kept (Ok target) = Ok (counted kept target)
+counted_by kept (Err refusal) = Err refusal
+
+-- what was kept isn't empty
+abbrev pub IsWritten : Option (List ℕ) → Type 0
+IsWritten None = ⊤
+IsWritten (Some []) = ⊥
+IsWritten (Some (byte ∷ target)) = ⊤
+
+-- one more target, if the relationship is of this type
+abbrev pub target_kept :
+    List ℕ → Single → PlacedTag → Option (List ℕ) → Result (Option (List ℕ)) Refusal
+target_kept wanted single start kept =
+    kept_by single kept (counted_by kept (typed_target wanted start))
+
+-- the only target of that type
+abbrev pub target_in : List ℕ → Single → List Event → Result (Option (List ℕ)) Refusal
+target_in wanted single inside =
+    all_changes (target_kept wanted single) (relationship_starts inside) None
+
+-- whether the relationships of the part at a path say it, and which
+abbrev pub target_beside : List Part → List ℕ → Single → List ℕ → Option (Option (List ℕ))
+target_beside parts wanted single path =
+    part_said (codes "Relationships") (target_in wanted single) parts (relationships_beside path)
+
+-- why it can't be taken: these relationships are absent or refused, or there is none
+abbrev pub TargetCause : List Part → List ℕ → Single → List ℕ → XlsxError → Type 0
+TargetCause parts wanted single path error =
+    PartCause (codes "Relationships") (always (codes "Relationships"))
+    (IsInsideRefused (target_in wanted single)) parts (relationships_beside path) error
+    ⊎ Lacks single (target_beside parts wanted single path) error
+
+-- the path of the definitions of the pivot table whose part is at a path
+abbrev pub definitions_at : List Part → List ℕ → Option (List ℕ)
+definitions_at parts path =
+    option_and_then (target_path path)
+    (only_one (target_beside parts definitions_type single.Definitions path))
+
+-- The path of the records to which a target leads. One that doesn't lie in the workbook's folder,
+-- in one whose name begins with `pivotCache`, is put there.
+abbrev pub in_caches : List ℕ → List ℕ → List ℕ
+in_caches caches target =
+    if starts_with nat_eq target caches then target else (caches ++ codes "/") ++ target
+
+abbrev pub records_path : List ℕ → List ℕ → List ℕ
+records_path folder target = in_caches (folder ++ codes "pivotCache") (without_slash target)
+
+-- the path of the records of the definitions whose part is at a path
+abbrev pub records_at : List Part → List ℕ → List ℕ → Option (List ℕ)
+records_at parts folder path =
+    option_map (records_path folder)
+    (only_one (target_beside parts records_type single.Records path))

@@ -1,0 +1,140 @@
+ghost use Rattle.std.specs.Prelude.{◌≡◌, ◌≤◌, ℕ, Ok, Some, codes, length, true, option_map};
+ghost use Rattle.std.specs.Prelude.{string_bytes, IfOk, OnOk, IfErr};
+ghost use Rattle.part_events.specs.Event.{tag_of};
+ghost use Rattle.part_events.specs.Package.{Uses, event_count};
+ghost use Rattle.part_events.specs.Reading.{reading, open_elements, IsReading, ReadsPart};
+ghost use Rattle.part_events.specs.Reading.{events_of};
+ghost use Rattle.part_events.specs.Walk.{section_ahead};
+ghost use Rattle.xlsx_error.specs.declared.error.XlsxError.TheVariants.{Io};
+ghost use Rattle.xlsx_sections.specs.Elements.{IsInsideRefused, ReachesEnd};
+ghost use Rattle.xlsx_sections.specs.Failing.{FailsBy};
+ghost use Rattle.xlsx_sections.specs.PartSection.{always, SectionFails};
+ghost use Rattle.xlsx_sections.specs.Refusal.{ElementFails, placed_at};
+ghost use Rattle.xlsx_pivots.specs.PivotErrors.{IsPivotsError};
+ghost use Rattle.xlsx_pivots.specs.PivotParts.{name_kept, name_behind, name_in_part, NameCause};
+ghost use Rattle.xlsx_pivots.specs.Pivots.{name_at, NameAtCause};
+
+use crate::single::Single;
+use part_events::{Cursor, Package, StartTag};
+use std::alloc::Global;
+use xlsx_error::XlsxError;
+use xlsx_parts::{find_element, open_part};
+use xlsx_sections::{name_by, next_start_in, start_tag};
+
+/// Keeps the name of a start, where it has one. The start is event number `at` of its part.
+#[tactic(auto, using(crate::proofs::PivotsRead::name_error))]
+fn keep_name(
+    alloc: Global,
+    kept: &mut Option<String>,
+    tag: StartTag<'_>,
+    at: u64,
+) -> Result<(), XlsxError>
+    ensures ok { OnOk result ((behind : ℕ) →
+        name_kept (placed_at (tag_of tag.entry) behind) (option_map string_bytes kept.old)
+        ≡ Ok (option_map string_bytes kept.new)) }
+    ensures err { IfErr result (λ error. (behind : ℕ) → ElementFails
+        (name_kept (placed_at (tag_of tag.entry) behind) (option_map string_bytes kept.old))
+        at behind error) }
+    ensures kind { IfErr result IsPivotsError }
+{
+    let name = name_by(alloc, tag, at)?;
+    Single::Name.keep(kept, name)
+}
+
+/// Keeps the name in a pivot table whose element is number `base` of the open ones, behind what
+/// its own start says.
+#[tactic(auto, using(crate::proofs::PivotsRead::pivot_step))]
+fn keep_names<P: Package>(
+    alloc: Global,
+    package: &mut P,
+    cursor: &mut Cursor,
+    base: usize,
+    kept: &mut Option<String>,
+) -> Result<(), XlsxError>
+    requires reading { IsReading (reading (P.state «package».old) cursor.old) }
+    requires within { base ≤ length (open_elements cursor.old) }
+    ensures reads { let old = reading (P.state «package».old) cursor.old in
+        let new = reading (P.state «package».new) cursor.new in
+        ReadsPart Io result old new }
+    ensures reaches { let old = reading (P.state «package».old) cursor.old in
+        let new = reading (P.state «package».new) cursor.new in
+        old.source.is_told ≡ true → OnOk result (ReachesEnd base old new) }
+    ensures name { let old = reading (P.state «package».old) cursor.old in
+        old.source.is_told ≡ true → OnOk result
+        (name_behind (option_map string_bytes kept.old) (section_ahead base old)
+        ≡ Ok (option_map string_bytes kept.new)) }
+    ensures err { let old = reading (P.state «package».old) cursor.old in
+        let new = reading (P.state «package».new) cursor.new in
+        IfErr result (SectionFails (always (codes "pivotTableDefinition"))
+        (IsInsideRefused (name_behind (option_map string_bytes kept.old))) base old new) }
+    ensures kind { IfErr result IsPivotsError }
+{
+    'starts: while let Some(at) = next_start_in(
+        package,
+        cursor,
+        base,
+        "pivotTableDefinition",
+        "pivotTableDefinition",
+    )? {
+        keep_name(alloc, kept, start_tag(package), at)?;
+    }
+    Ok(())
+}
+
+/// The name of the first pivot table of a part of which nothing was taken.
+#[tactic(auto, using(crate::proofs::PivotsRead::break_error))]
+fn name_in_part<P: Package>(
+    alloc: Global,
+    package: &mut P,
+    cursor: &mut Cursor,
+) -> Result<String, XlsxError>
+    requires reading { IsReading (reading (P.state «package».old) cursor.old) }
+    requires first { (reading (P.state «package».old) cursor.old).at ≡ 0 }
+    ensures reads { let old = reading (P.state «package».old) cursor.old in
+        let new = reading (P.state «package».new) cursor.new in
+        ReadsPart Io result old new }
+    ensures name { let old = reading (P.state «package».old) cursor.old in
+        old.source.is_told ≡ true →
+        IfOk result (λ name. name_in_part (events_of old) ≡ Some (Some (string_bytes name))) }
+    ensures err { let old = reading (P.state «package».old) cursor.old in
+        let new = reading (P.state «package».new) cursor.new in
+        IfErr result (FailsBy (NameCause (events_of old)) old.source new.source) }
+    ensures kind { IfErr result IsPivotsError }
+{
+    let Some(at) = find_element(package, cursor, "pivotTableDefinition")? else {
+        return Err(XlsxError::XmlEof("pivotTableDefinition"));
+    };
+    let mut kept = None;
+    keep_name(alloc, &mut kept, start_tag(package), at)?;
+    let base = cursor.depth();
+    keep_names(alloc, package, cursor, base, &mut kept)?;
+    match kept {
+        Some(name) => Ok(name),
+        None => Err(Single::Name.lacking()),
+    }
+}
+
+/// The name of the pivot table whose part is at this path (ECMA-376 part 1, section 18.10.1.73):
+/// the only name, decoded, on the start of the first `pivotTableDefinition` and on those that stand
+/// in it.
+///
+/// A part that is absent is `FileNotFound` of its path, and one that has no such section, or ends
+/// in it, is `XmlEof("pivotTableDefinition")`. Without a name, or with another one, it is
+/// `Unexpected` of the text that says so. A name with a reference without a character is
+/// `Xml(Entity)` with the number of its start, counted from 0.
+pub fn name_at<P: Package>(alloc: Global, package: &mut P, path: &str) -> Result<String, XlsxError>
+    ensures uses { let old = P.state «package».old in
+        let new = P.state «package».new in
+        Uses (event_count old.parts path.now) Io result old new }
+    ensures name { let old = P.state «package».old in
+        old.is_told ≡ true →
+        IfOk result (λ name. name_at old.parts path.now ≡ Some (string_bytes name)) }
+    ensures err { let old = P.state «package».old in
+        IfErr result (FailsBy (NameAtCause old.parts path.now) old (P.state «package».new)) }
+    ensures kind { IfErr result IsPivotsError }
+{
+    let Some(mut cursor) = open_part(alloc, package, path)? else {
+        return Err(XlsxError::FileNotFound(String::from_str(alloc, path)?));
+    };
+    name_in_part(alloc, package, &mut cursor)
+}

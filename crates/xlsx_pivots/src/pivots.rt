@@ -1,0 +1,193 @@
+ghost use Rattle.std.specs.Prelude.{◌≡◌, ◌++◌, List, map, string_bytes, true, Some, OnOk, IfOk};
+ghost use Rattle.std.specs.Prelude.{IfErr};
+ghost use Rattle.part_events.specs.Package.{SameParts, KeepsFaults};
+ghost use Rattle.xlsx_error.specs.declared.error.XlsxError.TheVariants.{Io};
+ghost use Rattle.xlsx_sections.specs.Failing.{FailsBy};
+ghost use Rattle.xlsx_parts.specs.SheetPaths.{sheet_at};
+ghost use Rattle.xlsx_pivots.specs.PivotErrors.{IsPivotsError};
+ghost use Rattle.xlsx_pivots.specs.PivotTables.{pivot_kept, pivots_kept, sheet_given};
+ghost use Rattle.xlsx_pivots.specs.Pivots.{PivotSaid, pivot_at, pivots_at, pivots_by, pivots_on};
+ghost use Rattle.xlsx_pivots.specs.Pivots.{pivots_of, PivotCause, PivotsByCause, PivotsAtCause};
+ghost use Rattle.xlsx_pivots.specs.Pivots.{PivotsCause};
+
+use crate::pivot_parts::name_at;
+use crate::pivot_tables::{PivotTable, PivotTables};
+use crate::targets::{definitions_at, records_at};
+use part_events::Package;
+use std::alloc::Global;
+use xlsx_error::XlsxError;
+use xlsx_relationships::related_parts;
+
+const PIVOT_TYPE: &str =
+    "http://schemas.openxmlformats.org/officeDocument/2006/relationships/pivotTable";
+
+/// The pivot table of the part at this path, on the sheet of this name.
+fn pivot_at<P: Package>(
+    alloc: Global,
+    package: &mut P,
+    sheet: &str,
+    path: &str,
+    folder: &str,
+) -> Result<PivotTable, XlsxError>
+    ensures keeps { SameParts (P.state «package».old) (P.state «package».new) }
+    ensures faults { OnOk result
+        ((P.state «package».new).faults ≡ (P.state «package».old).faults) }
+    ensures pivot { let old = P.state «package».old in
+        old.is_told ≡ true → IfOk result (λ pivot.
+        pivot_at old.parts folder.now sheet.now path.now ≡ Some (pivot_kept pivot)) }
+    ensures err { let old = P.state «package».old in
+        IfErr result (FailsBy (PivotCause old.parts path.now) old (P.state «package».new)) }
+    ensures counts { IfErr result
+        (KeepsFaults Io (P.state «package».old) (P.state «package».new)) }
+    ensures kind { IfErr result IsPivotsError }
+{
+    let name = name_at(alloc, package, path)?;
+    let definitions = definitions_at(alloc, package, path)?;
+    let records = records_at(alloc, package, definitions.as_str(), folder)?;
+    Ok(PivotTable {
+        name,
+        sheet: String::from_str(alloc, sheet)?,
+        definitions,
+        records,
+    })
+}
+
+/// Appends the pivot table of the part at this path.
+fn push_pivot<P: Package>(
+    alloc: Global,
+    package: &mut P,
+    pivots: &mut Vec<PivotTable>,
+    sheet: &str,
+    path: &str,
+    folder: &str,
+) -> Result<(), XlsxError>
+    ensures keeps { SameParts (P.state «package».old) (P.state «package».new) }
+    ensures faults { OnOk result
+        ((P.state «package».new).faults ≡ (P.state «package».old).faults) }
+    ensures pivots { let old = P.state «package».old in
+        old.is_told ≡ true → OnOk result ((found : List PivotSaid)
+        × (pivots_at old.parts folder.now sheet.now path.now ≡ Some found)
+        × (map pivot_kept pivots.new.items ≡ map pivot_kept pivots.old.items ++ found)) }
+    ensures err { let old = P.state «package».old in
+        IfErr result (FailsBy (PivotCause old.parts path.now) old (P.state «package».new)) }
+    ensures counts { IfErr result
+        (KeepsFaults Io (P.state «package».old) (P.state «package».new)) }
+    ensures kind { IfErr result IsPivotsError }
+{
+    let pivot = pivot_at(alloc, package, sheet, path, folder)?;
+    pivots.push(pivot)?;
+    Ok(())
+}
+
+/// Appends the pivot tables of the parts at these paths, in order.
+fn push_pivots<P: Package>(
+    alloc: Global,
+    package: &mut P,
+    pivots: &mut Vec<PivotTable>,
+    sheet: &str,
+    paths: &[String],
+    folder: &str,
+) -> Result<(), XlsxError>
+    ensures keeps { SameParts (P.state «package».old) (P.state «package».new) }
+    ensures faults { OnOk result
+        ((P.state «package».new).faults ≡ (P.state «package».old).faults) }
+    ensures pivots { let old = P.state «package».old in
+        old.is_told ≡ true → OnOk result ((found : List PivotSaid)
+        × (pivots_by old.parts folder.now sheet.now (map string_bytes paths.now) ≡ Some found)
+        × (map pivot_kept pivots.new.items ≡ map pivot_kept pivots.old.items ++ found)) }
+    ensures err { let old = P.state «package».old in
+        IfErr result (FailsBy (PivotsByCause old.parts (map string_bytes paths.now)) old
+        (P.state «package».new)) }
+    ensures counts { IfErr result
+        (KeepsFaults Io (P.state «package».old) (P.state «package».new)) }
+    ensures kind { IfErr result IsPivotsError }
+{
+    let mut left = paths;
+    'paths: while let Some((path, others)) = left.split_first() {
+        push_pivot(alloc, package, pivots, sheet, path.as_str(), folder)?;
+        left = others;
+    }
+    Ok(())
+}
+
+/// Appends the pivot tables of the sheet of this name whose part is at this path.
+#[tactic(auto, using(crate::proofs::PivotsRead::related_error))]
+fn push_sheet<P: Package>(
+    alloc: Global,
+    package: &mut P,
+    pivots: &mut Vec<PivotTable>,
+    sheet: &str,
+    path: &str,
+    folder: &str,
+) -> Result<(), XlsxError>
+    ensures keeps { SameParts (P.state «package».old) (P.state «package».new) }
+    ensures faults { OnOk result
+        ((P.state «package».new).faults ≡ (P.state «package».old).faults) }
+    ensures pivots { let old = P.state «package».old in
+        old.is_told ≡ true → OnOk result ((found : List PivotSaid)
+        × (pivots_on old.parts folder.now (sheet_at sheet.now path.now) ≡ Some found)
+        × (map pivot_kept pivots.new.items ≡ map pivot_kept pivots.old.items ++ found)) }
+    ensures err { let old = P.state «package».old in
+        IfErr result (FailsBy (PivotsAtCause old.parts path.now) old (P.state «package».new)) }
+    ensures counts { IfErr result
+        (KeepsFaults Io (P.state «package».old) (P.state «package».new)) }
+    ensures kind { IfErr result IsPivotsError }
+{
+    let paths = related_parts(alloc, package, path, PIVOT_TYPE)?;
+    push_pivots(alloc, package, pivots, sheet, &paths, folder)
+}
+
+/// Finds the pivot tables of these sheets, which are given by their names and the paths of their
+/// parts, in order (ECMA-376 part 1, section 18.10): those of the parts that the relationships of
+/// a sheet lead to of the type for pivot tables. `xl_path` is the workbook's folder, with the slash
+/// at its end. No sheet is read, nor are definitions and records.
+///
+/// Of each pivot table the relationships of its part lead to the definitions of its cache, and
+/// those of the definitions to the records. A target of records loses a slash at its front, and
+/// unless it begins with the workbook's folder and `pivotCache` it is put there, behind a slash.
+/// One that two relationships name comes twice. A sheet without relationships has none.
+///
+/// The part of a pivot table, its relationships and those of its definitions have to be there: else
+/// it is `FileNotFound` of the path. Without a name, definitions or records, or with a second one,
+/// it is `Unexpected` of the text that says so. A part of relationships that has no section
+/// `Relationships`, or ends in it, is `XmlEof("Relationships")`, and that of a pivot table likewise
+/// `XmlEof("pivotTableDefinition")`. An end that breaks the nesting is `Xml(EndMismatch)`, and a
+/// name or a target with a reference without a character `Xml(Entity)`, each with its number in the
+/// part, counted from 0. Attributes that end in a fault and lack one of the wanted keys are
+/// `XmlAttr`.
+pub fn find_pivot_tables<P: Package>(
+    alloc: Global,
+    package: &mut P,
+    sheets: &[(String, String)],
+    xl_path: &str,
+) -> Result<PivotTables, XlsxError>
+    ensures keeps { SameParts (P.state «package».old) (P.state «package».new) }
+    ensures faults { OnOk result
+        ((P.state «package».new).faults ≡ (P.state «package».old).faults) }
+    ensures pivots { let old = P.state «package».old in
+        old.is_told ≡ true → IfOk result (λ found.
+        pivots_of old.parts xl_path.now (map sheet_given sheets.now)
+        ≡ Some (pivots_kept found)) }
+    ensures err { let old = P.state «package».old in
+        IfErr result (FailsBy (PivotsCause old.parts (map sheet_given sheets.now)) old
+        (P.state «package».new)) }
+    ensures counts { IfErr result
+        (KeepsFaults Io (P.state «package».old) (P.state «package».new)) }
+    ensures kind { IfErr result IsPivotsError }
+{
+    let mut pivots = Vec::new(alloc);
+    let mut left = sheets;
+    'sheets: while let Some((sheet, others)) = left.split_first() {
+        let (name, path) = sheet;
+        push_sheet(
+            alloc,
+            package,
+            &mut pivots,
+            name.as_str(),
+            path.as_str(),
+            xl_path,
+        )?;
+        left = others;
+    }
+    Ok(PivotTables { pivots })
+}

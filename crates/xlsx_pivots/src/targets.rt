@@ -1,0 +1,217 @@
+ghost use Rattle.std.specs.Prelude.{◌≡◌, ◌≤◌, ℕ, Ok, Some, codes, suc, length, true, option_map};
+ghost use Rattle.std.specs.Prelude.{string_bytes, IfOk, OnOk, IfErr};
+ghost use Rattle.part_events.specs.Event.{tag_of};
+ghost use Rattle.part_events.specs.Package.{Uses, event_count};
+ghost use Rattle.part_events.specs.Reading.{reading, open_elements, IsReading, ReadsPart};
+ghost use Rattle.part_events.specs.Walk.{section_ahead, is_closed_ahead};
+ghost use Rattle.xlsx_error.specs.declared.error.XlsxError.TheVariants.{Io};
+ghost use Rattle.xlsx_sections.specs.Elements.{IsInsideRefused};
+ghost use Rattle.xlsx_sections.specs.Failing.{FailsBy};
+ghost use Rattle.xlsx_sections.specs.PartSection.{always, SectionFails};
+ghost use Rattle.xlsx_sections.specs.Refusal.{ElementFails, placed_at};
+ghost use Rattle.xlsx_relationships.specs.Paths.{relationships_beside};
+ghost use Rattle.xlsx_pivots.specs.PivotErrors.{IsPivotsError};
+ghost use Rattle.xlsx_pivots.specs.Targets.{counted, IsWritten, target_kept, target_in};
+ghost use Rattle.xlsx_pivots.specs.Targets.{target_beside, TargetCause, definitions_at};
+ghost use Rattle.xlsx_pivots.specs.Targets.{definitions_type, records_type, records_path};
+ghost use Rattle.xlsx_pivots.specs.Targets.{records_at};
+ghost use Rattle.xlsx_pivots.specs.declared.single.Single.TheVariants as single;
+
+use crate::single::Single;
+use part_events::{Cursor, Package, StartTag};
+use std::alloc::{AllocError, Global};
+use xlsx_error::XlsxError;
+use xlsx_relationships::{behind_slash, joined, relationships_beside, target_path, typed_target};
+use xlsx_sections::{enter_part, next_start_in, start_tag};
+
+const DEFINITIONS_TYPE: &str =
+    "http://schemas.openxmlformats.org/officeDocument/2006/relationships/pivotCacheDefinition";
+
+const RECORDS_TYPE: &str =
+    "http://schemas.openxmlformats.org/officeDocument/2006/relationships/pivotCacheRecords";
+
+/// What counts of a target. An empty one doesn't before the first that isn't empty.
+fn counted(kept: &Option<String>, target: Option<String>) -> Option<String>
+    ensures { option_map string_bytes result
+        ≡ counted (option_map string_bytes kept.now) (option_map string_bytes target) }
+{
+    if kept.is_some() {
+        return target;
+    }
+    match target {
+        Some(target) if !target.is_empty() => Some(target),
+        _ => None,
+    }
+}
+
+/// Keeps the target of a start, if it is of this type. The start is event number `at` of its part.
+#[tactic(auto, using(crate::proofs::PivotsRead::related_error))]
+fn keep_target(
+    alloc: Global,
+    kept: &mut Option<String>,
+    tag: StartTag<'_>,
+    at: u64,
+    wanted: &str,
+    single: Single,
+) -> Result<(), XlsxError>
+    requires written { IsWritten (option_map string_bytes kept.old) }
+    ensures written { OnOk result (IsWritten (option_map string_bytes kept.new)) }
+    ensures ok { OnOk result ((behind : ℕ) →
+        target_kept wanted.now single (placed_at (tag_of tag.entry) behind)
+        (option_map string_bytes kept.old) ≡ Ok (option_map string_bytes kept.new)) }
+    ensures err { IfErr result (λ error. (behind : ℕ) → ElementFails
+        (target_kept wanted.now single (placed_at (tag_of tag.entry) behind)
+        (option_map string_bytes kept.old)) at behind error) }
+    ensures kind { IfErr result IsPivotsError }
+{
+    let target = typed_target(alloc, tag, at, wanted)?;
+    let target = counted(kept, target);
+    single.keep(kept, target)
+}
+
+/// The only target of this type, in a section of relationships whose element is number `base` of
+/// the open ones.
+#[tactic(auto, using(crate::proofs::PivotsRead::relationships_step))]
+fn target_in<P: Package>(
+    alloc: Global,
+    package: &mut P,
+    cursor: &mut Cursor,
+    base: usize,
+    wanted: &str,
+    single: Single,
+) -> Result<Option<String>, XlsxError>
+    requires reading { IsReading (reading (P.state «package».old) cursor.old) }
+    requires within { base ≤ length (open_elements cursor.old) }
+    ensures reads { let old = reading (P.state «package».old) cursor.old in
+        let new = reading (P.state «package».new) cursor.new in
+        ReadsPart Io result old new }
+    ensures closed { let old = reading (P.state «package».old) cursor.old in
+        old.source.is_told ≡ true → OnOk result (is_closed_ahead base old ≡ true) }
+    ensures target { let old = reading (P.state «package».old) cursor.old in
+        old.source.is_told ≡ true → IfOk result (λ target.
+        target_in wanted.now single (section_ahead base old)
+        ≡ Ok (option_map string_bytes target)) }
+    ensures written { IfOk result (λ target. IsWritten (option_map string_bytes target)) }
+    ensures err { let old = reading (P.state «package».old) cursor.old in
+        let new = reading (P.state «package».new) cursor.new in
+        IfErr result (SectionFails (always (codes "Relationships"))
+        (IsInsideRefused (target_in wanted.now single)) base old new) }
+    ensures kind { IfErr result IsPivotsError }
+{
+    let mut kept = None;
+    'starts: while let Some(at) = next_start_in(
+        package,
+        cursor,
+        base,
+        "Relationship",
+        "Relationships",
+    )? {
+        keep_target(alloc, &mut kept, start_tag(package), at, wanted, single)?;
+    }
+    Ok(kept)
+}
+
+/// The only target of the relationships of this type which the part at this path has.
+#[tactic(auto, using(crate::proofs::PivotsRead::relationships_step))]
+fn target_beside<P: Package>(
+    alloc: Global,
+    package: &mut P,
+    path: &str,
+    wanted: &str,
+    single: Single,
+) -> Result<String, XlsxError>
+    ensures uses { let old = P.state «package».old in
+        let new = P.state «package».new in
+        Uses (event_count old.parts (relationships_beside path.now)) Io result old new }
+    ensures target { let old = P.state «package».old in
+        old.is_told ≡ true → IfOk result (λ target.
+        target_beside old.parts wanted.now single path.now
+        ≡ Some (Some (string_bytes target))) }
+    ensures written { IfOk result (λ target. IsWritten (Some (string_bytes target))) }
+    ensures err { let old = P.state «package».old in
+        IfErr result (FailsBy (TargetCause old.parts wanted.now single path.now) old
+        (P.state «package».new)) }
+    ensures kind { IfErr result IsPivotsError }
+{
+    let part = relationships_beside(alloc, path)?;
+    let Some(mut cursor) = enter_part(alloc, package, part.as_str(), "Relationships")? else {
+        return Err(XlsxError::FileNotFound(part));
+    };
+    let base = cursor.depth();
+    match target_in(alloc, package, &mut cursor, base, wanted, single)? {
+        Some(target) => Ok(target),
+        None => Err(single.lacking()),
+    }
+}
+
+/// The path of the definitions of the pivot table whose part is at this path: where the only
+/// relationship leads that its part has of the type for them.
+///
+/// Relationships that are absent are `FileNotFound` of their path, and a part that has no section
+/// `Relationships`, or ends in it, is `XmlEof("Relationships")`. Where no such target is found that
+/// isn't empty, or one more behind the first, it is `Unexpected` of the text that says so.
+pub fn definitions_at<P: Package>(
+    alloc: Global,
+    package: &mut P,
+    path: &str,
+) -> Result<String, XlsxError>
+    ensures uses { let old = P.state «package».old in
+        let new = P.state «package».new in
+        Uses (event_count old.parts (relationships_beside path.now)) Io result old new }
+    ensures path { let old = P.state «package».old in
+        old.is_told ≡ true → IfOk result (λ there.
+        definitions_at old.parts path.now ≡ Some (string_bytes there)) }
+    ensures err { let old = P.state «package».old in
+        IfErr result (FailsBy
+        (TargetCause old.parts definitions_type single.Definitions path.now) old
+        (P.state «package».new)) }
+    ensures kind { IfErr result IsPivotsError }
+{
+    let target = target_beside(alloc, package, path, DEFINITIONS_TYPE, Single::Definitions)?;
+    match target_path(alloc, path, target.as_str())? {
+        Some(there) => Ok(there),
+        None => unreachable!(),
+    }
+}
+
+/// The path to which a target of records leads, where `folder` is the workbook's.
+fn records_path(alloc: Global, folder: &str, target: &str) -> Result<String, AllocError>
+    ensures { IfOk result (λ path. string_bytes path ≡ records_path folder.now target.now) }
+{
+    let target = match behind_slash(target) {
+        Some(rest) => rest,
+        None => target,
+    };
+    let mut path = joined(alloc, folder, "pivotCache")?;
+    if target.as_bytes().starts_with(path.as_bytes()) {
+        return String::from_str(alloc, target);
+    }
+    path.push_str("/")?;
+    path.push_str(target)?;
+    Ok(path)
+}
+
+/// The path of the records of the definitions whose part is at this path, where `folder` is the
+/// workbook's, with the slash at its end.
+///
+/// Fails as `definitions_at`.
+pub fn records_at<P: Package>(
+    alloc: Global,
+    package: &mut P,
+    path: &str,
+    folder: &str,
+) -> Result<String, XlsxError>
+    ensures uses { let old = P.state «package».old in
+        let new = P.state «package».new in
+        Uses (event_count old.parts (relationships_beside path.now)) Io result old new }
+    ensures path { let old = P.state «package».old in
+        old.is_told ≡ true → IfOk result (λ there.
+        records_at old.parts folder.now path.now ≡ Some (string_bytes there)) }
+    ensures err { let old = P.state «package».old in
+        IfErr result (FailsBy (TargetCause old.parts records_type single.Records path.now) old
+        (P.state «package».new)) }
+    ensures kind { IfErr result IsPivotsError }
+{
+    let target = target_beside(alloc, package, path, RECORDS_TYPE, Single::Records)?;
+    Ok(records_path(alloc, folder, target.as_str())?)
+}
