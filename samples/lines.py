@@ -2,7 +2,9 @@
 """Writes the lines of the sample workbooks: what docs/FORMAT.md says of what make.py put into them.
 It needs Python alone, and doesn't run the program."""
 
+import csv
 import datetime
+import io
 import pathlib
 from fractions import Fraction
 
@@ -147,10 +149,27 @@ def libreoffice():
     yield line("C5", "s:\\t", "CHAR(9)")
 
 
+def libreoffice_rows():
+    """Its values as CSV, by Python's own writer."""
+    out = io.StringIO()
+    days = [(datetime.datetime(2024, *day) - FIRST_DAYS[1900]).days for day in ((1, 2), (2, 3))]
+    csv.writer(out, lineterminator="\n").writerows(
+        [
+            ["name", "amount", "date"],
+            ["nut", "10.5", days[0]],
+            ["bolt, long", "4", days[1]],
+            ["nutx", "14.5", "#DIV/0!"],
+            ["true", "#N/A", "\t"],
+        ]
+    )
+    yield out.getvalue()
+
+
 LINES = {
     "dates_1900": dates(1900),
     "dates_1904": dates(1904),
     "libreoffice": libreoffice(),
+    "libreoffice.csv": libreoffice_rows(),
     "rich_text": rich_text(),
     "inline_strings": inline_strings(),
     "chart_sheet": chart_sheet(),

@@ -25,9 +25,9 @@ except ImportError:  # Python can be built without it.
 STATUSES = """\
 Statuses: 0 the package text was written whole; 2 usage; 3 the file can't be
 read; 4 the text is longer than the limit; 7 the text can't be written;
-8 out of memory; 10 no zip archive; 11 a workbook of another kind, as .xls;
-12 encrypted; 13 the archive or a part is broken. Only with 0 and 7 is
-anything written.
+8 out of memory; 11 a workbook of another kind, as .xls; 12 encrypted; 13 the
+archive or a part is broken; 14 no zip archive. Only with 0 and 7 is anything
+written.
 """
 
 # How many bytes are read and written at a time.
@@ -121,7 +121,7 @@ def compound_refusal(file):
         return Refusal(12, "an encrypted workbook")
     if names:
         return Refusal(11, "an .xls workbook: save it as .xlsx")
-    return Refusal(10, NO_ARCHIVE)
+    return Refusal(14, NO_ARCHIVE)
 
 
 @contextlib.contextmanager
@@ -157,7 +157,7 @@ def archive_of(file):
             return zipfile.ZipFile(file)
         if front.startswith(b"PK"):
             raise Refusal(13, "the zip archive is cut off or broken")
-        raise Refusal(10, NO_ARCHIVE)
+        raise Refusal(14, NO_ARCHIVE)
 
 
 def targets_of(event):

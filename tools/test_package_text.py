@@ -274,7 +274,7 @@ class Refusals(Files):
 
     def test_no_zip_archive(self):
         for data in (b"", b"nut", b"<workbook/>", compound("WordDocument")):
-            self.check_refused(data, 10, "no zip archive, and so no .xlsx workbook")
+            self.check_refused(data, 14, "no zip archive, and so no .xlsx workbook")
 
     def test_an_xls_workbook(self):
         for names in (["Workbook"], ["Book"], ["a", "b", "c", "Workbook"]):
@@ -414,7 +414,7 @@ class Refusals(Files):
                 try:
                     write(self.path, False, sys.maxsize, out.fileno())
                 except Refusal as refusal:
-                    self.assertIn(refusal.status, (10, 12, 13))
+                    self.assertIn(refusal.status, (12, 13, 14))
                     self.assertEqual(os.fstat(out.fileno()).st_size, 0)
 
 

@@ -138,7 +138,7 @@ class Edge:
             self.assertEqual(self.run_on(PACKAGE, words), refusal(2), words)
         for words in (["merges"], ["merges", "S", "S"], ["merge", "S"], ["props", "S"], ["prop"]):
             self.assertEqual(self.run_on(PACKAGE, words), refusal(2), words)
-        for words in (["links"], ["links", "S", "S"], ["Links", "S"]):
+        for words in (["links"], ["links", "S", "S"], ["Links", "S"], ["csv"], ["csv", "S", "S"]):
             self.assertEqual(self.run_on(PACKAGE, words), refusal(2), words)
         for words in (["--help", "--version"], ["--help", "S"], ["cells", b"\xff"]):
             self.assertEqual(self.run_on(PACKAGE, words), refusal(2), words)
@@ -399,7 +399,7 @@ class Edge:
         for words in (CELLS, ["--help"], ["--version"]):
             status, _, said = self.run_on(PACKAGE, words, stdout=full)
             self.assertEqual((status, said), WRITE_FAULT, words)
-        for words in (["merges", "S"], ["links", "S"], ["props"]):
+        for words in (["merges", "S"], ["links", "S"], ["props"], ["csv", "S"]):
             status, _, said = self.run_on(package_text(LISTED), words, stdout=full)
             self.assertEqual((status, said), WRITE_FAULT, words)
 

@@ -24,6 +24,7 @@ LINES = {
     "dates_1904": ["cells", "Dates"],
     "inline_strings": ["cells", "S"],
     "libreoffice": ["cells", "libreoffice"],
+    "libreoffice.csv": ["csv", "libreoffice"],
     "rich_text": ["cells", "Goods & prices"],
     "shared_formulas": ["cells", "Sales"],
     "tables_links_and_merges": ["cells", "S"],

@@ -56,9 +56,9 @@ echo "rt $* speaks of $(basename "$PWD")"
 [ ! -e "$FAILING" ] || [ "$1" != run ] || exit 1
 [ "$1" != run ] || cp "$STAND_IN" out/xlsx_tool
 """
-COMMANDS = ("cells", "merges", "links", "sheets", "names", "props")
+COMMANDS = ("cells", "merges", "links", "csv", "sheets", "names", "props")
 USAGE = """\
-usage: ./xlsx FILE.xlsx cells NAME       (or merges NAME, links NAME, sheets, names, props)
+usage: ./xlsx FILE.xlsx cells NAME       (or merges, links or csv NAME, sheets, names, props)
        ./xlsx cells NAME < package.json
        ./xlsx --help
 """
@@ -207,7 +207,7 @@ class Wrapper(unittest.TestCase):
             (["--unproved", "book.xlsx", "cell", "S"], 2, USAGE),
             (["book.xlsx"], 2, USAGE),
             (["none.xlsx", "cells", "S"], 3, "none.xlsx: can't be read: No such file or directory\n"),
-            (["no.xlsx", "cells", "S"], 10, "no.xlsx: no zip archive, and so no .xlsx workbook\n"),
+            (["no.xlsx", "cells", "S"], 14, "no.xlsx: no zip archive, and so no .xlsx workbook\n"),
         ):
             with self.subTest(words=words):
                 self.assertEqual(self.run_on(*words), (status, b"", said))
@@ -261,7 +261,7 @@ class Wrapper(unittest.TestCase):
             ("none.xls", 3, "can't be read: No such file or directory"),
             ("bin", 3, "can't be read: Is a directory"),
             ("/dev/fd/0", 3, "can't be read: it is a pipe, and no file"),
-            ("no.xlsx", 10, "no zip archive, and so no .xlsx workbook"),
+            ("no.xlsx", 14, "no zip archive, and so no .xlsx workbook"),
         ):
             self.assertEqual(self.run_on(name, "cells", "0"), (status, b"", f"{name}: {text}\n"))
 

@@ -1,5 +1,6 @@
 -- The lines of lists: texts with tabs between them.
 use Rattle.std.specs.Prelude.{ℕ, ◌<◌, List, ◌++◌, codes, Option, Some, None}
+use Rattle.std.specs.List.{flat_map}
 use Rattle.cell_refs.specs.A1.{row_limit, column_limit}
 use Rattle.cell_refs.specs.Reference.{reference}
 use Rattle.cell_refs.specs.declared.dimensions.Dimensions.{Dimensions}
@@ -58,3 +59,20 @@ property_line name text = name ++ (next_field (text_field text) ++ codes "\n")
 abbrev pub custom_line : List ℕ → List ℕ → List ℕ
 custom_line name text =
     codes "custom:" ++ (escaped name ++ (next_field (text_field text) ++ codes "\n"))
+
+-- an area that may be missing
+abbrev pub optional_area : Option Dimensions → List ℕ
+optional_area None = codes "-"
+optional_area (Some area) = area_field area
+
+-- a field for each name of a column
+abbrev pub column_fields : List (List ℕ) → List ℕ
+column_fields columns = flat_map (λ name. next_field (escaped name)) columns
+
+-- the line of a table: its name, that of its sheet, the area of its data and the names of its
+-- columns
+abbrev pub table_line : List ℕ → List ℕ → Option Dimensions → List (List ℕ) → List ℕ
+table_line name sheet area columns =
+    escaped name
+    ++ (next_field (escaped sheet) ++ (next_field (optional_area area)
+    ++ (column_fields columns ++ codes "\n")))

@@ -5,7 +5,7 @@ mod lines;
 
 pub use lines::{
     push_area_line, push_custom_line, push_link_line, push_name_line, push_property_line,
-    push_sheet_line,
+    push_sheet_line, push_table_line,
 };
 
 #[cfg(test)]

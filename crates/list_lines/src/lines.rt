@@ -1,8 +1,9 @@
-ghost use Rattle.std.specs.Prelude.{◌≡◌, ◌++◌, string_bytes, OnOk};
+ghost use Rattle.std.specs.Prelude.{◌≡◌, ◌++◌, map, string_bytes, OnOk, IfSome};
 ghost use Rattle.std.specs.Option.{option_copied};
 ghost use Rattle.list_lines.specs.Lines.{next_field, text_field, optional_field, area_field};
 ghost use Rattle.list_lines.specs.Lines.{LiesInWorksheet, sheet_line, name_line, area_line};
 ghost use Rattle.list_lines.specs.Lines.{link_line, property_line, custom_line};
+ghost use Rattle.list_lines.specs.Lines.{optional_area, column_fields, table_line};
 
 use cell_refs::{Dimensions, push_reference};
 use escaped_text::push_escaped;
@@ -122,5 +123,51 @@ pub fn push_custom_line(out: &mut String, name: &str, text: &str) -> Result<(), 
     push_escaped(out, name)?;
     out.push_str("\t")?;
     push_text_field(out, text)?;
+    out.push_str("\n")
+}
+
+/// Appends an area, or `-` where there is none.
+fn push_optional_area(out: &mut String, area: Option<Dimensions>) -> Result<(), AllocError>
+    requires { IfSome area LiesInWorksheet }
+    ensures { OnOk result
+        (string_bytes out.new ≡ string_bytes out.old ++ optional_area area) }
+{
+    match area {
+        Some(area) => push_area(out, area),
+        None => out.push_str("-"),
+    }
+}
+
+/// Appends the names of columns, escaped, each behind a tab.
+fn push_columns(out: &mut String, columns: &[String]) -> Result<(), AllocError>
+    ensures { let printed = column_fields (map string_bytes columns.now) in
+        OnOk result (string_bytes out.new ≡ string_bytes out.old ++ printed) }
+{
+    for column in columns {
+        out.push_str("\t")?;
+        push_escaped(out, column.as_str())?;
+    }
+    Ok(())
+}
+
+/// Appends the line of a table: its name and that of its sheet, both escaped, the area of its data,
+/// or `-` where it has no cell, and the names of its columns, escaped.
+pub fn push_table_line(
+    out: &mut String,
+    name: &str,
+    sheet: &str,
+    area: Option<Dimensions>,
+    columns: &[String],
+) -> Result<(), AllocError>
+    requires { IfSome area LiesInWorksheet }
+    ensures { let printed = table_line name.now sheet.now area (map string_bytes columns.now) in
+        OnOk result (string_bytes out.new ≡ string_bytes out.old ++ printed) }
+{
+    push_escaped(out, name)?;
+    out.push_str("\t")?;
+    push_escaped(out, sheet)?;
+    out.push_str("\t")?;
+    push_optional_area(out, area)?;
+    push_columns(out, columns)?;
     out.push_str("\n")
 }

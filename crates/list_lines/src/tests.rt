@@ -1,6 +1,6 @@
 use crate::{
     push_area_line, push_custom_line, push_link_line, push_name_line, push_property_line,
-    push_sheet_line,
+    push_sheet_line, push_table_line,
 };
 use cell_refs::Dimensions;
 use std::test::Fail;
@@ -63,6 +63,20 @@ fn properties_have_their_lines(rt: HostRuntime) -> Result<(), Fail> {
     }
     let wanted = "lists:\ncreator\t=Ann & Bo\ncustom:Checked\t=true\n\
         custom:two\\nlines\t=\\r\ncustom:\t=\n";
+    assert_eq!(rt; out.as_str(), wanted);
+    Ok(())
+}
+
+#[test]
+fn tables_have_their_lines(rt: HostRuntime) -> Result<(), Fail> {
+    let mut out = String::from_str(rt.alloc(), "lists:\n")?;
+    let mut columns = Vec::new(rt.alloc());
+    push_table_line(&mut out, "T1", "S", None, &columns)?;
+    for name in ["Name", "two\nlines", ""] {
+        columns.push(String::from_str(rt.alloc(), name)?)?;
+    }
+    push_table_line(&mut out, "tab\there", "back\\", Some(ONE_CELL), &columns)?;
+    let wanted = "lists:\nT1\tS\t-\ntab\\there\tback\\\\\tD1:D1\tName\ttwo\\nlines\t\n";
     assert_eq!(rt; out.as_str(), wanted);
     Ok(())
 }

@@ -89,6 +89,14 @@ line position value formula fill =
     ++ (codes "\t" ++ (field value ++ (codes "\t"
     ++ (field formula ++ (codes "\t" ++ (field fill ++ codes "\n"))))))
 
+-- the line of a position and its value alone
+abbrev pub value_line : (ℕ × ℕ) × CellValue → List ℕ
+value_line entry =
+    reference entry.0 ++ (codes "\t" ++ (field (value_field entry.1) ++ codes "\n"))
+
+abbrev pub value_lines : List ((ℕ × ℕ) × CellValue) → List ℕ
+value_lines values = flat_map value_line values
+
 -- the line of a position, where it has a value, a formula or a style id above 0
 abbrev pub line_of : ℕ × ℕ → CellValue → List ℕ → ℕ → Option (List ℕ) → List ℕ
 line_of position value formula id fill =

@@ -3,4 +3,4 @@
 
 mod lines;
 
-pub use lines::{listing_of, push_listing};
+pub use lines::{listing_of, push_listing, value_lines_of};

@@ -3,7 +3,7 @@ ghost use Rattle.std.specs.Prelude.{codes, string_bytes, nat_lt, option_and_then
 ghost use Rattle.std.specs.Fmt.{signed_decimal};
 ghost use Rattle.std.specs.Option.{option_copied};
 ghost use Rattle.cell_data.specs.CellValue.{value_of_data, time_value};
-ghost use Rattle.cell_data.specs.Cells.{placed_cells};
+ghost use Rattle.cell_data.specs.Cells.{placed_cells, IsInSheet};
 ghost use Rattle.cell_data.specs.Range.{cells_of};
 ghost use Rattle.cell_data.specs.Splitting.{AreInOrder};
 ghost use Rattle.cell_refs.specs.Reference.{reference};
@@ -19,6 +19,7 @@ ghost use Rattle.sheet_listing.specs.SheetListing.{IsFirstOf};
 ghost use Rattle.sheet_listing.specs.SheetListing.{IsEarlier, first_place};
 ghost use Rattle.sheet_listing.specs.SheetListing.{shown_color, fill_shown, fill_field, id_given};
 ghost use Rattle.sheet_listing.specs.SheetListing.{lines_with, placed_ids};
+ghost use Rattle.sheet_listing.specs.SheetListing.{value_line, value_lines};
 
 use cell_data::{Cell, Data, ExcelDateTime, ExcelDateTimeType, Range, split_at_position};
 use cell_refs::{MAX_COLUMNS, MAX_ROWS, push_reference};
@@ -186,6 +187,23 @@ fn has_line(value: Option<&Data>, formula: Option<&String>, id: Option<&usize>) 
     has_value(value) || has_formula(formula) || has_id(id)
 }
 
+/// Appends a position, counted from 0, a tab and the value there.
+fn push_placed(
+    out: &mut String,
+    position: (u32, u32),
+    value: Option<&Data>,
+) -> Result<(), AllocError>
+    requires in_rows { position.0 < MAX_ROWS }
+    requires in_columns { position.1 < MAX_COLUMNS }
+    ensures { let printed = field (value_field (value_given (option_copied value.entry))) in
+        OnOk result (string_bytes out.new ≡ string_bytes out.old
+        ++ (reference position ++ (codes "\t" ++ printed))) }
+{
+    push_reference(out, position.0, position.1)?;
+    out.push_str("\t")?;
+    push_value(out, value)
+}
+
 /// Appends a position, counted from 0, and the value there, each with a tab behind it.
 fn push_front(
     out: &mut String,
@@ -198,10 +216,32 @@ fn push_front(
         OnOk result (string_bytes out.new ≡ string_bytes out.old
         ++ (reference position ++ (codes "\t" ++ (printed ++ codes "\t")))) }
 {
-    push_reference(out, position.0, position.1)?;
-    out.push_str("\t")?;
-    push_value(out, value)?;
+    push_placed(out, position, value)?;
     out.push_str("\t")
+}
+
+/// Appends the line of a cell's value.
+fn push_value_line(out: &mut String, cell: &Cell<Data>) -> Result<(), AllocError>
+    requires { IsInSheet cell.now }
+    ensures { let printed = value_line (cell.now.pos, value_of_data cell.now.val) in
+        OnOk result (string_bytes out.new ≡ string_bytes out.old ++ printed) }
+{
+    push_placed(out, cell.pos, Some(&cell.val))?;
+    out.push_str("\n")
+}
+
+/// The lines of values: one for each used cell, its position and its value, row by row
+/// (docs/FORMAT.md).
+pub fn value_lines_of(alloc: Global, values: &Range<Data>) -> Result<String, AllocError>
+    ensures { let printed = value_lines (cell_values (cells_of values.now)) in
+        IfOk result (λ out. string_bytes out ≡ printed) }
+{
+    let mut out = String::new(alloc);
+    let cells = values.used();
+    for cell in cells {
+        push_value_line(&mut out, cell)?;
+    }
+    Ok(out)
 }
 
 /// Appends the fields of a position, counted from 0, with tabs between them.

@@ -3,7 +3,7 @@ ghost use Rattle.cell_data.specs.Cells.{IsInSheet};
 
 use cell_data::{Cell, CellErrorType, Data, Decimal, ExcelDateTime, ExcelDateTimeType, Range};
 use cell_styles::{Color, Fill, FillPattern, Style, StyleRange};
-use sheet_listing::push_listing;
+use sheet_listing::{push_listing, value_lines_of};
 use std::alloc::{AllocError, Global};
 use std::test::Fail;
 
@@ -223,5 +223,21 @@ fn fills_are_told(rt: HostRuntime) -> Result<(), Fail> {
         A3\t-\t-\t#000001\nB3\tn:3\t-\t#000001\nC3\t-\t=A1\t#000001\nD3\t-\t-\t-\n\
         D4\t-\t-\t-\n";
     assert_eq!(rt; out.as_str(), wanted);
+    Ok(())
+}
+
+#[test]
+fn values_have_lines_of_their_own(rt: HostRuntime) -> Result<(), Fail> {
+    let alloc = rt.alloc();
+    let cells = [
+        Cell::new((4, 2), text(alloc, "tab\there")?),
+        Cell::new((0, 3), number("-10.50")),
+        Cell::new((0, 1), time("45292", ExcelDateTimeType::DateTime, false)),
+        Cell::new((2, 2), Data::Empty),
+    ];
+    let cells = values(alloc, Vec::from_array(alloc, cells)?)?;
+    let lines = value_lines_of(alloc, &cells)?;
+    let wanted = "B1\tt:45292 date 1900\nD1\tn:-10.5\nC3\t-\nC5\ts:tab\\there\n";
+    assert_eq!(rt; lines.as_str(), wanted);
     Ok(())
 }

@@ -5,3 +5,4 @@ pub mod NamedSheets
 pub mod OneListing
 pub mod OutputLemmas
 pub mod PropertiesListed
+pub mod RowsPlaced

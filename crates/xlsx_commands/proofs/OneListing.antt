@@ -94,13 +94,17 @@ listing_alike values formulas one two same =
     ∙ ap (λ (ids : List ℕ). lines_with (style_at two) values formulas
     (map styled_entry (styled_in two.bounds ids))) same.ids
 
--- the law that a sheet is read in one way gives one listing
-pub one_listing :
-    (parts other : List Part) (name lines others : List ℕ)
-    → ((values more : List ((ℕ × ℕ) × CellValue)) (formulas further : List ((ℕ × ℕ) × List ℕ))
+-- the sheets of this name of two packages are read in one way
+abbrev pub AreReadAlike : List Part → List Part → List ℕ → Type 0
+AreReadAlike parts other name =
+    (values more : List ((ℕ × ℕ) × CellValue)) (formulas further : List ((ℕ × ℕ) × List ℕ))
     (styles again : StyleMap) → ReadsAs parts name values formulas styles
     → ReadsAs other name more further again
-    → (values ≡ more) × (formulas ≡ further) × SayTheSame styles again)
+    → (values ≡ more) × (formulas ≡ further) × SayTheSame styles again
+
+-- so they have one listing
+pub one_listing :
+    (parts other : List Part) (name lines others : List ℕ) → AreReadAlike parts other name
     → AreLinesOf parts name lines → AreLinesOf other name others → lines ≡ others
 one_listing parts other name lines others law first second =
     let same = law first.values second.values first.formulas second.formulas first.styles

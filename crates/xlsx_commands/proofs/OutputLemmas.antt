@@ -1,6 +1,6 @@
 -- The rows of the commands: what each call gives and what it is refused for.
-use Rattle.std.proofs.Common.{◌≡◌, ℕ, List, map, refl, subst, Option, Some}
-use Rattle.std.specs.Prelude.{Result, Err, IfErr}
+use Rattle.std.proofs.Common.{◌≡◌, ◌⊎◌, ℕ, List, map, refl, subst, Option, Some}
+use Rattle.std.specs.Prelude.{Result, Ok, Err, IfOk, IfErr}
 use Rattle.part_events.specs.Package.{Part}
 use Rattle.cell_data.specs.CellValue.{CellValue}
 use Rattle.cell_styles.specs.StyleMap.{StyleMap}
@@ -11,14 +11,22 @@ use Rattle.xlsx_open.specs.Opening.{OpensSoundly, without_path}
 use Rattle.xlsx_core.specs.Links.{links_placed, PlacedLinksCause}
 use Rattle.xlsx_core.specs.SheetReading.{ReadsAs, IsReadable, SheetCause}
 use Rattle.xlsx_commands.specs.BookLists.{sheet_lines, name_lines}
-use Rattle.xlsx_commands.specs.Command.{Command, cells, sheets, names, merges, links, props}
-use Rattle.xlsx_commands.specs.Outputs.{IsOutput, RefusedWorkbookCause, OutputCause, HasOutput}
+use Rattle.xlsx_commands.specs.Command.{Command, cells, sheets, names, merges, links, props, csv}
+use Rattle.xlsx_commands.specs.Outputs.{IsOutput, RefusedWorkbookCause, IsTooLarge, OutputCause}
+use Rattle.xlsx_commands.specs.Outputs.{HasOutput}
 use Rattle.xlsx_commands.specs.PropertyLists.{text_of_name}
 use Rattle.xlsx_commands.specs.SheetLists.{MergesPathCause}
 use Rattle.xlsx_commands.specs.declared.error.ToolError.{ToolError}
-use Rattle.xlsx_commands.specs.declared.error.ToolError.TheVariants.{Workbook}
+use Rattle.xlsx_commands.specs.declared.error.ToolError.TheVariants.{Workbook, BoxTooLarge}
 use Rattle.xlsx_commands.proofs.NamedSheets.{OpeningsNever, MergesNever, named_never, merges_never}
 use Rattle.xlsx_commands.proofs.PropertiesListed.{PropertiesNever, listed_never}
+use Rattle.xlsx_commands.proofs.OneListing.{AreReadAlike}
+use Rattle.xlsx_commands.proofs.RowsPlaced.{rows_or_large, rows_never}
+
+pub ok_at :
+    {A E : Type 0} (result : Result A E) (x : A) (P : A → Type 0)
+    → result ≡ Ok x → IfOk result P → P x
+ok_at {A = A} {E = E} result x P is holds = subst (λ (r : Result A E). IfOk r P) is holds
 
 pub err_at :
     {A E : Type 0} (result : Result A E) (e : E) (P : E → Type 0)
@@ -53,6 +61,24 @@ SheetsNever =
     (parts : List Part) (name : List ℕ) (values : List ((ℕ × ℕ) × CellValue))
     (formulas : List ((ℕ × ℕ) × List ℕ)) (styles : StyleMap) (error : XlsxError)
     → ReadsAs parts name values formulas styles → SheetCause parts name error → ⊥
+
+-- ---- rows
+
+pub rows_of_readable : (parts : List Part) (name : List ℕ)
+    → IsReadable parts name → HasOutput (csv name) parts ⊎ IsTooLarge (csv name) parts
+unfolding IsOutput IsTooLarge
+rows_of_readable parts name readable = rows_or_large parts name readable
+
+pub readable_by_rows : (parts : List Part) (name : List ℕ)
+    → HasOutput (csv name) parts → IsReadable parts name
+unfolding IsOutput
+readable_by_rows parts name (output, rows) =
+    (rows.values, rows.formulas, rows.styles, rows.reads)
+
+pub readable_by_area : (parts : List Part) (name : List ℕ)
+    → IsTooLarge (csv name) parts → IsReadable parts name
+unfolding IsTooLarge
+readable_by_area parts name large = (large.values, large.formulas, large.styles, large.reads)
 
 -- ---- sheets and names
 
@@ -93,6 +119,7 @@ pub record AreNever : Type 0 where
   pub merges : MergesNever
   pub links : LinksNever
   pub properties : PropertiesNever
+  pub alike : (parts : List Part) (name : List ℕ) → AreReadAlike parts parts name
 
 -- a line for each command
 workbook_never :
@@ -116,10 +143,22 @@ workbook_never never (links name) parts output error prints cause =
 workbook_never never props parts output error prints cause =
     listed_never parts prints.texts (text_of_name prints.customs) error never.openings
     never.properties prints.opens prints.say cause
+workbook_never never (csv name) parts output error prints cause =
+    never.sheets parts name prints.values prints.formulas prints.styles error prints.reads cause
+
+large_never :
+    AreNever → (command : Command) (parts : List Part) (output : List ℕ)
+    → IsOutput command parts output → IsTooLarge command parts → ⊥
+unfolding IsOutput IsTooLarge
+large_never never (csv name) parts output prints large =
+    rows_never parts name output (never.alike parts name) prints large
+large_never never _ parts output prints large = absurd large
 
 pub never_both :
     AreNever → (command : Command) (parts : List Part) (output : List ℕ) (error : ToolError)
     → IsOutput command parts output → OutputCause command parts error → ⊥
 never_both never command parts output (Workbook error) prints cause =
     workbook_never never command parts output error prints cause
+never_both never command parts output BoxTooLarge prints cause =
+    large_never never command parts output prints cause
 never_both never command parts output _ prints cause = absurd cause

@@ -19,6 +19,7 @@ pub data Command : Type 0 where
   merges : List ℕ → Command
   links : List ℕ → Command
   props : Command
+  csv : List ℕ → Command
 
 abbrev pub command_meant : Asked → Command
 command_meant (asked.Cells name) = cells name.now
@@ -27,6 +28,7 @@ command_meant asked.Names = names
 command_meant (asked.Merges name) = merges name.now
 command_meant (asked.Links name) = links name.now
 command_meant asked.Props = props
+command_meant (asked.Csv name) = csv name.now
 
 -- a command of one word
 abbrev pub bare_command : List ℕ → Option Command
@@ -40,7 +42,8 @@ abbrev pub named_command : List ℕ → List ℕ → Option Command
 named_command word name =
     if bytes_eq word (codes "cells") then Some (cells name)
     else (if bytes_eq word (codes "merges") then Some (merges name)
-    else (if bytes_eq word (codes "links") then Some (links name) else None))
+    else (if bytes_eq word (codes "links") then Some (links name)
+    else (if bytes_eq word (codes "csv") then Some (csv name) else None)))
 
 -- the command that words are; no other words are one
 abbrev pub command_of : List (List ℕ) → Option Command
@@ -57,3 +60,4 @@ own_parts names = None
 own_parts (merges name) = None
 own_parts (links name) = None
 own_parts props = None
+own_parts (csv name) = None

@@ -3,4 +3,5 @@ pub mod Command
 pub mod Outputs
 pub mod PropertyLists
 pub mod SheetLists
+pub mod SheetRows
 pub mod Status

@@ -8,12 +8,14 @@ use Rattle.sheet_listing.specs.SheetListing.{listing}
 use Rattle.xlsx_open.specs.Opening.{OpeningCause}
 use Rattle.xlsx_core.specs.SheetReading.{ReadsAs, SheetCause}
 use Rattle.xlsx_commands.specs.BookLists.{AreSheetLines, AreNameLines}
-use Rattle.xlsx_commands.specs.Command.{Command, cells, sheets, names, merges, links, props}
+use Rattle.xlsx_commands.specs.Command.{Command, cells, sheets, names, merges, links, props, csv}
 use Rattle.xlsx_commands.specs.PropertyLists.{ArePropertyLines, ListedPropertiesCause}
 use Rattle.xlsx_commands.specs.SheetLists.{AreMergeLines, NamedMergesCause, AreLinkLines}
 use Rattle.xlsx_commands.specs.SheetLists.{NamedLinksCause}
+use Rattle.xlsx_commands.specs.SheetRows.{AreRowsOf, HasLargeArea}
 use Rattle.xlsx_commands.specs.declared.error.ToolError.{ToolError}
 use Rattle.xlsx_commands.specs.declared.error.ToolError.TheVariants.{Workbook, OutOfMemory}
+use Rattle.xlsx_commands.specs.declared.error.ToolError.TheVariants.{BoxTooLarge}
 
 -- these are the lines of the sheet of this name, as it is read from these parts
 pub record AreLinesOf (parts : List Part) (name lines : List ℕ) : Type 0 where
@@ -33,6 +35,7 @@ IsOutput names parts output = AreNameLines parts output
 IsOutput (merges name) parts output = AreMergeLines parts name output
 IsOutput (links name) parts output = AreLinkLines parts name output
 IsOutput props parts output = ArePropertyLines parts output
+IsOutput (csv name) parts output = AreRowsOf parts name output
 
 -- why its workbook refuses it
 unfoldable pub RefusedWorkbookCause : Command → List Part → XlsxError → Type 0
@@ -42,6 +45,17 @@ RefusedWorkbookCause names parts error = OpeningCause parts error
 RefusedWorkbookCause (merges name) parts error = NamedMergesCause parts name error
 RefusedWorkbookCause (links name) parts error = NamedLinksCause parts name error
 RefusedWorkbookCause props parts error = ListedPropertiesCause parts error
+RefusedWorkbookCause (csv name) parts error = SheetCause parts name error
+
+-- why it is refused because an area has too many cells
+unfoldable pub IsTooLarge : Command → List Part → Type 0
+IsTooLarge (cells name) parts = ⊥
+IsTooLarge sheets parts = ⊥
+IsTooLarge names parts = ⊥
+IsTooLarge (merges name) parts = ⊥
+IsTooLarge (links name) parts = ⊥
+IsTooLarge props parts = ⊥
+IsTooLarge (csv name) parts = HasLargeArea parts name
 
 -- ---- what the rows make
 
@@ -52,6 +66,7 @@ HasOutput command parts = (output : List ℕ) × IsOutput command parts output
 -- why it has none
 abbrev pub OutputCause : Command → List Part → ToolError → Type 0
 OutputCause command parts (Workbook error) = RefusedWorkbookCause command parts error
+OutputCause command parts BoxTooLarge = IsTooLarge command parts
 OutputCause command parts _ = ⊥
 
 -- when a command is refused; want of memory may come at any time
@@ -65,3 +80,8 @@ abbrev pub CallFails : (XlsxError → Type 0) → ToolError → Type 0
 CallFails cause (Workbook error) = cause error
 CallFails cause OutOfMemory = Unit {0}
 CallFails cause _ = ⊥
+
+-- when a call is refused that has these causes, or in whose area this says that too many cells are
+abbrev pub RowsFail : (XlsxError → Type 0) → Type 0 → ToolError → Type 0
+RowsFail cause large BoxTooLarge = large
+RowsFail cause large error = CallFails cause error

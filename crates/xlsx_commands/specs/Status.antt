@@ -8,6 +8,9 @@ use Rattle.xlsx_commands.specs.declared.error.ToolError.TheVariants.{Usage, Read
 use Rattle.xlsx_commands.specs.declared.error.ToolError.TheVariants.{InputTooLarge}
 use Rattle.xlsx_commands.specs.declared.error.ToolError.TheVariants.{NotAPackage, Workbook}
 use Rattle.xlsx_commands.specs.declared.error.ToolError.TheVariants.{WriteFault, OutOfMemory}
+use Rattle.xlsx_commands.specs.declared.error.ToolError.TheVariants.{BoxTooLarge}
+use Rattle.xlsx_rows.specs.declared.error.CsvError.{CsvError}
+use Rattle.xlsx_rows.specs.declared.error.CsvError.TheVariants as rows
 
 -- 0 is success, and 1 is kept for the system
 abbrev pub status_of : ToolError → ℕ
@@ -18,6 +21,7 @@ status_of NotAPackage = 5
 status_of (Workbook error) = 6
 status_of WriteFault = 7
 status_of OutOfMemory = 8
+status_of BoxTooLarge = 10
 
 abbrev pub error_text : ToolError → Option (List ℕ)
 error_text Usage = Some (codes "usage")
@@ -27,8 +31,14 @@ error_text NotAPackage = Some (codes "not a package")
 error_text (Workbook error) = text_of error
 error_text WriteFault = Some (codes "write fault")
 error_text OutOfMemory = Some (codes "out of memory")
+error_text BoxTooLarge = Some (codes "box too large")
 
 -- what the refusal of a workbook becomes
 abbrev pub of_workbook : XlsxError → ToolError
 of_workbook workbook.OutOfMemory = OutOfMemory
 of_workbook error = Workbook error
+
+-- what the refusal of rows becomes
+abbrev pub of_rows : CsvError → ToolError
+of_rows rows.BoxTooLarge = BoxTooLarge
+of_rows rows.OutOfMemory = OutOfMemory

@@ -17,6 +17,8 @@ pub enum Command<'a> {
     Links(&'a str),
     /// The workbook's properties.
     Props,
+    /// The rows of the values of the worksheet of this name, as CSV.
+    Csv(&'a str),
 }
 
 fn bare_command(word: &str) -> Option<Command<'_>>
@@ -38,6 +40,7 @@ fn named_command<'a>(word: &str, name: &'a str) -> Option<Command<'a>>
         "cells" => Some(Command::Cells(name)),
         "merges" => Some(Command::Merges(name)),
         "links" => Some(Command::Links(name)),
+        "csv" => Some(Command::Csv(name)),
         _ => None,
     }
 }

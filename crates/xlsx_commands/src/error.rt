@@ -7,6 +7,7 @@ use std::error::Error;
 use std::fmt;
 use xlsx_core::OpenFailure;
 use xlsx_error::XlsxError;
+use xlsx_rows::CsvError;
 
 /// Why the program fails (docs/FORMAT.md).
 #[derive(Debug, PartialEq, Eq, Drop)]
@@ -24,6 +25,8 @@ pub enum ToolError {
     /// The sink failed; what was written is a front of the output.
     WriteFault,
     OutOfMemory,
+    /// The area whose rows are asked for has more than 16,777,216 cells.
+    BoxTooLarge,
 }
 
 impl ToolError {
@@ -39,6 +42,7 @@ impl ToolError {
             ToolError::Workbook(_) => 6,
             ToolError::WriteFault => 7,
             ToolError::OutOfMemory => 8,
+            ToolError::BoxTooLarge => 10,
         }
     }
 }
@@ -57,6 +61,7 @@ impl fmt::Display for ToolError {
             ToolError::Workbook(error) => write!(f, "{error}"),
             ToolError::WriteFault => f.write_str("write fault"),
             ToolError::OutOfMemory => f.write_str("out of memory"),
+            ToolError::BoxTooLarge => f.write_str("box too large"),
         }
     }
 }
@@ -103,5 +108,18 @@ impl From<OpenFailure<MemoryPackage>> for ToolError {
 
     fn from(failure: OpenFailure<MemoryPackage>) -> ToolError {
         ToolError::from(failure.error)
+    }
+}
+
+impl From<CsvError> for ToolError {
+    ghost use Rattle.xlsx_commands.specs.Status.{of_rows};
+
+    ghost from_gives = { λ refusal e. e ≡ of_rows refusal };
+
+    fn from(refusal: CsvError) -> ToolError {
+        match refusal {
+            CsvError::BoxTooLarge => ToolError::BoxTooLarge,
+            CsvError::OutOfMemory => ToolError::OutOfMemory,
+        }
     }
 }

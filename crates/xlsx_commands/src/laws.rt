@@ -1,10 +1,12 @@
-ghost use Rattle.std.specs.Prelude.{◌≡◌, ℕ, List};
+ghost use Rattle.std.specs.Prelude.{◌≡◌, ◌⊎◌, ℕ, List};
 ghost use Rattle.part_events.specs.Package.{Part};
 ghost use Rattle.xlsx_open.specs.Opening.{OpensSoundly};
 ghost use Rattle.xlsx_core.specs.Agreement.{HaveSameSheet};
 ghost use Rattle.xlsx_core.specs.SheetReading.{IsReadable};
-ghost use Rattle.xlsx_commands.specs.Command.{Command, cells, sheets, names};
-ghost use Rattle.xlsx_commands.specs.Outputs.{AreLinesOf, IsOutput, OutputCause, HasOutput};
+ghost use Rattle.xlsx_commands.specs.Command.{Command, cells, sheets, names, csv};
+ghost use Rattle.xlsx_commands.specs.Outputs.{AreLinesOf, IsOutput, IsTooLarge, OutputCause};
+ghost use Rattle.xlsx_commands.specs.Outputs.{HasOutput};
+ghost use Rattle.xlsx_commands.specs.SheetRows.{AreRowsOf};
 ghost use Rattle.xlsx_commands.specs.declared.error.ToolError.{ToolError};
 
 use xlsx_areas::merges_have_no_cause_of_a_refusal;
@@ -25,6 +27,7 @@ pub fn causes_leave_no_output()
     merges_have_no_cause_of_a_refusal();
     links_that_are_taken_are_not_refused();
     properties_have_no_cause_of_a_refusal();
+    sheets_are_read_alike();
 }
 
 /// A package has an output for `cells NAME` exactly where its sheet NAME is readable.
@@ -52,6 +55,30 @@ pub fn sheets_have_one_listing()
     ensures alike { (parts other : List Part) (name lines others : List ℕ) →
         HaveSameSheet parts other name → AreLinesOf parts name lines →
         AreLinesOf other name others → lines ≡ others }
+{
+    sheets_are_read_alike();
+    sheets_go_by_their_parts();
+}
+
+/// A package has an output for `csv NAME`, or too large an area for it, exactly where its sheet
+/// NAME is readable.
+pub fn readable_sheets_have_rows()
+    ensures onward { (parts : List Part) (name : List ℕ) → IsReadable parts name →
+        HasOutput (csv name) parts ⊎ IsTooLarge (csv name) parts }
+    ensures back { (parts : List Part) (name : List ℕ) →
+        HasOutput (csv name) parts → IsReadable parts name }
+    ensures large { (parts : List Part) (name : List ℕ) →
+        IsTooLarge (csv name) parts → IsReadable parts name }
+{}
+
+/// A sheet has one text of rows, and so have the sheets of two packages that have the same parts
+/// where it is read from.
+pub fn sheets_have_one_text_of_rows()
+    ensures one { (parts : List Part) (name rows others : List ℕ) → AreRowsOf parts name rows →
+        AreRowsOf parts name others → rows ≡ others }
+    ensures alike { (parts other : List Part) (name rows others : List ℕ) →
+        HaveSameSheet parts other name → AreRowsOf parts name rows →
+        AreRowsOf other name others → rows ≡ others }
 {
     sheets_are_read_alike();
     sheets_go_by_their_parts();

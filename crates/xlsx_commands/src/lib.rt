@@ -11,11 +11,12 @@ mod link_lines;
 mod merge_lines;
 mod output;
 mod property_lines;
+mod sheet_rows;
 
 pub use command::{Command, command_of};
 pub use error::ToolError;
 pub use laws::{
-    causes_leave_no_output, readable_sheets_have_lines, sheets_have_one_listing,
-    workbooks_that_open_have_lists,
+    causes_leave_no_output, readable_sheets_have_lines, readable_sheets_have_rows,
+    sheets_have_one_listing, sheets_have_one_text_of_rows, workbooks_that_open_have_lists,
 };
 pub use output::{output_of, own_package};

@@ -9,6 +9,7 @@ use crate::error::ToolError;
 use crate::link_lines::link_lines;
 use crate::merge_lines::merge_lines;
 use crate::property_lines::property_lines;
+use crate::sheet_rows::sheet_rows;
 use part_events::MemoryPackage;
 use std::alloc::Global;
 
@@ -24,11 +25,12 @@ pub fn own_package(alloc: Global, command: Command<'_>) -> Option<MemoryPackage>
         Command::Merges(_) => None,
         Command::Links(_) => None,
         Command::Props => None,
+        Command::Csv(_) => None,
     }
 }
 
 /// The output of a command on a package, whole.
-#[tactic(auto, unfolding(crate::specs::Outputs::IsOutput, crate::specs::Outputs::RefusedWorkbookCause))]
+#[tactic(auto, unfolding(crate::specs::Outputs::IsOutput, crate::specs::Outputs::RefusedWorkbookCause, crate::specs::Outputs::IsTooLarge))]
 pub fn output_of(
     alloc: Global,
     command: Command<'_>,
@@ -45,5 +47,6 @@ pub fn output_of(
         Command::Merges(name) => merge_lines(alloc, package, name),
         Command::Links(name) => link_lines(alloc, package, name),
         Command::Props => property_lines(alloc, package),
+        Command::Csv(name) => sheet_rows(alloc, package, name),
     }
 }

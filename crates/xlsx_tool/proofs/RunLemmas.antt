@@ -17,6 +17,7 @@ use Rattle.xlsx_commands.specs.declared.error.ToolError.TheVariants.{Usage, Read
 use Rattle.xlsx_commands.specs.declared.error.ToolError.TheVariants.{InputTooLarge}
 use Rattle.xlsx_commands.specs.declared.error.ToolError.TheVariants.{NotAPackage, Workbook}
 use Rattle.xlsx_commands.specs.declared.error.ToolError.TheVariants.{WriteFault, OutOfMemory}
+use Rattle.xlsx_commands.specs.declared.error.ToolError.TheVariants.{BoxTooLarge}
 
 -- ---- the output of a command on what a source spells
 
@@ -39,6 +40,14 @@ from_output command parts old new (Workbook error) feeds fails = (
   },
 )
 from_output command parts old new OutOfMemory feeds fails = feeds.faults
+from_output command parts old new BoxTooLarge feeds fails = (
+  feeds.faults,
+  record {
+    parts = parts;
+    cause = fails;
+    fed = λ tells. given_by (own_parts command) parts old new (feeds.fed tells);
+  },
+)
 from_output command parts old new _ feeds fails = absurd fails
 
 -- ---- the sink
@@ -146,6 +155,9 @@ not_refused never words old new command parts output NotAPackage is prints own r
     not_some parts (package_in old.source.left) input.1.spelled (fails.2 input.0).spelled
 not_refused never words old new command parts output (Workbook error) is prints own refuses =
     no_cause never words old.source command refuses.command parts output (Workbook error) is prints
+    refuses.asked refuses.cause.1
+not_refused never words old new command parts output BoxTooLarge is prints own refuses =
+    no_cause never words old.source command refuses.command parts output BoxTooLarge is prints
     refuses.asked refuses.cause.1
 not_refused never words old new command parts output WriteFault is prints own refuses = own.2 refl
 not_refused never words old new command parts output OutOfMemory is prints own refuses = own.0 refl

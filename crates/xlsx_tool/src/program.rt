@@ -19,6 +19,7 @@ const HELP: &str = "\
 Usage: xlsx_tool cells NAME < package.json
        xlsx_tool merges NAME < package.json
        xlsx_tool links NAME < package.json
+       xlsx_tool csv NAME < package.json
        xlsx_tool sheets < package.json
        xlsx_tool names < package.json
        xlsx_tool props < package.json
@@ -28,11 +29,12 @@ One line is printed, of the worksheet NAME or of the workbook, for each
   cells   cell with a value, a formula or a style: position, value, formula, fill
   merges  area of merged cells: its corners
   links   link: its area, target, location, displayed text, tooltip
+  csv     row of the values: a record of CSV
   sheets  sheet: its name, type, state
   names   defined name: the name, its text
   props   property of the workbook: its name, its text
 
-The fields of a line have tabs between them.
+The fields of a line have tabs between them, and those of csv commas.
 ";
 
 const VERSION: &str = "xlsx_tool 0.1.0\n";

@@ -37,6 +37,10 @@ pub const NUTS: &str = r#",["s","row"," r=\"1\""],
 ["s","c"," r=\"B1\" t=\"str\""],["s","f",""],["t","UPPER(A1)"],["e","f"],
 ["s","v",""],["t","NUT"],["e","v"],["e","c"],["e","row"]"#;
 
+/// The first cell of a worksheet and the last.
+const WIDE: &str = r#",["s","c"," r=\"A1\""],["s","v",""],["t","1"],["e","v"],["e","c"],
+["s","c"," r=\"XFD1048576\""],["s","v",""],["t","2"],["e","v"],["e","c"]"#;
+
 /// A part of styles, behind the sheet's.
 const STYLES: &str = r#",["e","sheetData"],["e","worksheet"]]},
 {"name":"xl/styles.xml","events":[]}]}"#;
@@ -107,11 +111,16 @@ fn run_on(alloc: Global, words: &[&str], input: &[u8], setting: Setting) -> Resu
 
 #[test]
 fn a_sheet_is_listed(rt: HostRuntime) -> Result<(), Fail> {
-    for (inside, lines) in [(NUTS, NUTS_LINES), ("", "")] {
+    for (word, inside, lines) in [
+        ("cells", NUTS, NUTS_LINES),
+        ("cells", "", ""),
+        ("csv", NUTS, "nut,NUT\n"),
+        ("csv", "", ""),
+    ] {
         let input = package_of(rt.alloc(), inside)?;
         for piece in [1, 2, 3, 1_000] {
             let setting = Setting { piece, ..EASY };
-            let told = run_on(rt.alloc(), &["cells", "S"], input.as_bytes(), setting)?;
+            let told = run_on(rt.alloc(), &[word, "S"], input.as_bytes(), setting)?;
             assert_eq!(rt; told.result, Ok(()));
             assert_eq!(rt; told.written.as_str(), lines);
         }
@@ -132,8 +141,9 @@ fn each_refusal_has_its_cause(rt: HostRuntime) -> Result<(), Fail> {
     let alloc = rt.alloc();
     let nuts = package_of(alloc, NUTS)?;
     let styled = package_with(alloc, NUTS, STYLES)?;
+    let wide = package_of(alloc, WIDE)?;
     let cells: &[&str] = &["cells", "S"];
-    let table: [(&[&str], &str, u8, &str); 8] = [
+    let table: [(&[&str], &str, u8, &str); 10] = [
         (cells, "", 5, "not a package"),
         (cells, "[]", 5, "not a package"),
         (cells, "{\"version\":2,\"parts\":[]}", 5, "not a package"),
@@ -146,6 +156,8 @@ fn each_refusal_has_its_cause(rt: HostRuntime) -> Result<(), Fail> {
         (&["cells"], nuts.as_str(), 2, "usage"),
         (&["cells", "S", "S"], nuts.as_str(), 2, "usage"),
         (&["cells", "X"], nuts.as_str(), 6, "Worksheet 'X' not found"),
+        (&["csv", "X"], wide.as_str(), 6, "Worksheet 'X' not found"),
+        (&["csv", "S"], wide.as_str(), 10, "box too large"),
         (
             cells,
             styled.as_str(),
@@ -239,6 +251,7 @@ fn refusals_have_statuses_and_texts(rt: HostRuntime) -> Result<(), Fail> {
         ),
         (ToolError::WriteFault, 7, "write fault"),
         (ToolError::OutOfMemory, 8, "out of memory"),
+        (ToolError::BoxTooLarge, 10, "box too large"),
     ] {
         assert_eq!(rt; error.status(), status);
         assert_eq!(rt; error.to_string(rt.alloc())?.as_str(), text);
@@ -253,7 +266,7 @@ fn pages_are_printed_where_their_words_stand_alone(rt: HostRuntime) -> Result<()
         (
             &["--help"],
             "Usage: xlsx_tool cells NAME < ",
-            "between them.\n",
+            "those of csv commas.\n",
         ),
         (&["--version"], "xlsx_tool 0.1.0", "\n"),
     ];

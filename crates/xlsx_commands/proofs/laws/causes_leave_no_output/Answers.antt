@@ -10,5 +10,6 @@ returns c = record {
         merges = c.merges_have_no_cause_of_a_refusal.ensures.merges;
         links = c.links_that_are_taken_are_not_refused.ensures;
         properties = c.properties_have_no_cause_of_a_refusal.ensures;
+        alike = c.sheets_are_read_alike.ensures.alike;
       });
 }

@@ -1,0 +1,14 @@
+use Rattle.xlsx_commands.proofs.RowsPlaced.{same_rows}
+use Rattle.xlsx_commands.proofs.laws.sheets_have_one_text_of_rows.Goals as goal
+
+pub returns : goal.returns
+returns c =
+    let alike = c.sheets_are_read_alike.ensures.alike in
+    let agree = c.sheets_go_by_their_parts.ensures.alike in
+    record {
+      one = λ parts name rows others. same_rows parts parts name rows others (alike parts name);
+      alike = λ parts other name rows others same.
+          same_rows parts other name rows others
+          (λ values more formulas further styles again.
+          agree parts other name values more formulas further styles again same);
+    }

@@ -1,0 +1,52 @@
+use Rattle.std.proofs.Common.{◌∙◌, ap, refl}
+use Rattle.std.specs.Result.{result_from_control_flow}
+use Rattle.std.proofs.lemmas.Result.{err_from_is_err_and}
+use Rattle.cell_data.specs.RangeItems.{box_count}
+use Rattle.xlsx_core.specs.SheetReading.{SheetCause}
+use Rattle.xlsx_commands.specs.SheetRows.{HasLargeArea}
+use Rattle.xlsx_commands.proofs.OutputLemmas.{ok_at, err_at}
+use Rattle.xlsx_commands.proofs.MemoryCalls.{memory_fails}
+use Rattle.xlsx_commands.proofs.RowsPlaced.{rows_of_sheet, large_of_sheet, fits_by, rows_fail}
+use Rattle.xlsx_commands.proofs.RowsPlaced.{call_fails}
+use Rattle.xlsx_commands.proofs.sheet_rows.sheet_rows.Goals as goal
+
+pub returns-in_err-reading-clause-err : goal.returns-in_err-reading-clause-err
+returns-in_err-reading-clause-err c =
+    let handed = err_from_is_err_and c.from_residual.result c.from_residual.ensures.1 in
+    let answered = c.branch-reading.ensures ∙ ap result_from_control_flow c.in_err-reading.is in
+    let result = c.read_sheet-result.result.result in
+    let fails = err_at result _ _ answered c.read_sheet-result.ensures.err in
+    let parts = c.args.package.parts in
+    let cause = SheetCause parts c.args.name.now in
+    rw (handed.1, handed.2)
+    (call_fails cause (HasLargeArea parts c.args.name.now) _
+    (memory_fails cause cause c.args.package c.read_sheet-result.result.package _ (λ own. own)
+    fails))
+
+pub returns-in_err-rows_csv-clause-err : goal.returns-in_err-rows_csv-clause-err
+returns-in_err-rows_csv-clause-err c =
+    let handed = err_from_is_err_and c.from_residual-in_err-rows_csv.result
+    c.from_residual-in_err-rows_csv.ensures.1 in
+    let answered = c.branch-reading.ensures ∙ ap result_from_control_flow c.in_ok-reading.is in
+    let result = c.read_sheet-result.result.result in
+    let reads = ok_at result _ _ answered (c.read_sheet-result.ensures.reading refl) in
+    let least = ok_at result _ _ answered c.read_sheet-result.ensures.ranges in
+    let parts = c.args.package.parts in
+    let found = c.in_ok-reading.reading in
+    rw (handed.1, handed.2)
+    (rows_fail (SheetCause parts c.args.name.now) (HasLargeArea parts c.args.name.now)
+    (box_count found.values) c.rows_csv.result c.in_err-rows_csv.field-0.0
+    c.rows_csv.ensures.large c.in_err-rows_csv.was
+    (large_of_sheet parts c.args.name.now found reads least))
+
+pub returns-clause-ok : goal.returns-clause-ok
+returns-clause-ok c =
+    let answered = c.branch-reading.ensures ∙ ap result_from_control_flow c.in_ok-reading.is in
+    let result = c.read_sheet-result.result.result in
+    let reads = ok_at result _ _ answered (c.read_sheet-result.ensures.reading refl) in
+    let least = ok_at result _ _ answered c.read_sheet-result.ensures.ranges in
+    let found = c.in_ok-reading.reading in
+    let rows = c.in_ok-rows_csv.field-0 in
+    rows_of_sheet c.args.package.parts c.args.name.now found reads least rows.items
+    (fits_by (box_count found.values) c.rows_csv.result rows c.rows_csv.ensures.large
+    c.in_ok-rows_csv.was) c.in_ok-rows_csv.ensures.rows
