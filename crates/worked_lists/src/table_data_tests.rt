@@ -144,7 +144,7 @@ fn workbook_of(alloc: Global, sheet: &str, table: &str) -> Result<MemoryPackage,
     Ok(package_of(alloc, &parts)?)
 }
 
-/// The part of a table, the tables, and the data of T1.
+/// The part of a table, the tables, and the data of the first.
 const TABLES: [(&str, &str, &str); 6] = [
     (
         TABLE,
@@ -191,7 +191,7 @@ fn tables_are_loaded_and_their_data_read(rt: HostRuntime) -> Result<(), Fail> {
     Ok(())
 }
 
-/// A sheet, the header row, and the data of T1, also with shared strings by their places.
+/// A sheet, the header row, and the data of its table, also with shared strings by their places.
 const SHEETS: [(&str, HeaderRow, &str, &str); 7] = [
     (
         r#"<worksheet><sheetData><c r="A2" t="s"><v>0</v></c><c r="A3"><v>1</v></c><c r="A2" t="s"><v>0</v></c><c r="A3"><v>2</v></c><c r="A4"><v>4</v></c><c r="C2"><v>5</v></c></sheetData></worksheet>"#,
@@ -323,7 +323,7 @@ fn tables_go_by_the_names_of_sheets(rt: HostRuntime) -> Result<(), Fail> {
     Ok(())
 }
 
-/// What is told of T1 where this call of the package fails, behind the count of faults.
+/// What is told of the table where this call of the package fails, behind the count of faults.
 fn failing_told(alloc: Global, call: u64, table: &str) -> Result<String, Fail> {
     let package = workbook_of(alloc, SHEET, table)?;
     let calls = vec![in alloc; call]?;
