@@ -130,7 +130,7 @@ const SHEET: &str =
     r#"<worksheet><sheetData><row r="2"><c r="A2" t="str"><v>nut</v></c><c r="B2"><v>3</v></c></row></sheetData></worksheet>"#;
 
 /// A workbook with this sheet and this table.
-fn workbook_of(alloc: Global, sheet: &str, table: &str) -> Result<MemoryPackage, Fail> {
+fn workbook_of<'a>(alloc: Global, sheet: &'a str, table: &'a str) -> Result<MemoryPackage, Fail> {
     let strings = (STRINGS_NAME, "<sst><si><t>red</t></si></sst>");
     let parts = [
         ROOT,
