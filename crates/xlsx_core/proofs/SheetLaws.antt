@@ -153,7 +153,8 @@ same_shared parts one two first second =
     (subst (λ (p : List ℕ). HasShared parts p two.shared)
     (same_path parts second.path first.path second.found first.found) second.shared)
 
-same_grounds : (parts : List Part) (one two : Opening) → OpensAs parts one → OpensAs parts two
+-- what the values of its sheets rest on is one
+pub same_grounds : (parts : List Part) (one two : Opening) → OpensAs parts one → OpensAs parts two
     → opened_grounds one ≡ opened_grounds two
 same_grounds parts one two first second =
     let shared = same_shared parts one two first second in
