@@ -56,9 +56,10 @@ echo "rt $* speaks of $(basename "$PWD")"
 [ ! -e "$FAILING" ] || [ "$1" != run ] || exit 1
 [ "$1" != run ] || cp "$STAND_IN" out/xlsx_tool
 """
-COMMANDS = ("cells", "merges", "links", "csv", "sheets", "names", "props")
+COMMANDS = ("cells", "merges", "links", "csv", "table", "sheets", "names", "tables", "props")
 USAGE = """\
-usage: ./xlsx FILE.xlsx cells NAME       (or merges, links or csv NAME, sheets, names, props)
+usage: ./xlsx FILE.xlsx cells NAME       (or merges, links, csv or table NAME, or sheets,
+                                          names, tables or props)
        ./xlsx cells NAME < package.json
        ./xlsx --help
 """

@@ -6,3 +6,5 @@ pub mod OneListing
 pub mod OutputLemmas
 pub mod PropertiesListed
 pub mod RowsPlaced
+pub mod TablesListed
+pub mod TablesNamed

@@ -12,6 +12,7 @@ use Rattle.xlsx_core.specs.Links.{links_placed, PlacedLinksCause}
 use Rattle.xlsx_core.specs.SheetReading.{ReadsAs, IsReadable, SheetCause}
 use Rattle.xlsx_commands.specs.BookLists.{sheet_lines, name_lines}
 use Rattle.xlsx_commands.specs.Command.{Command, cells, sheets, names, merges, links, props, csv}
+use Rattle.xlsx_commands.specs.Command.{tables, table}
 use Rattle.xlsx_commands.specs.Outputs.{IsOutput, RefusedWorkbookCause, IsTooLarge, OutputCause}
 use Rattle.xlsx_commands.specs.Outputs.{HasOutput}
 use Rattle.xlsx_commands.specs.PropertyLists.{text_of_name}
@@ -22,6 +23,8 @@ use Rattle.xlsx_commands.proofs.NamedSheets.{OpeningsNever, MergesNever, named_n
 use Rattle.xlsx_commands.proofs.PropertiesListed.{PropertiesNever, listed_never}
 use Rattle.xlsx_commands.proofs.OneListing.{AreReadAlike}
 use Rattle.xlsx_commands.proofs.RowsPlaced.{rows_or_large, rows_never}
+use Rattle.xlsx_commands.proofs.TablesListed.{TablesNever, tables_never}
+use Rattle.xlsx_commands.proofs.TablesNamed.{AreasNever, table_never}
 
 pub ok_at :
     {A E : Type 0} (result : Result A E) (x : A) (P : A → Type 0)
@@ -120,6 +123,8 @@ pub record AreNever : Type 0 where
   pub links : LinksNever
   pub properties : PropertiesNever
   pub alike : (parts : List Part) (name : List ℕ) → AreReadAlike parts parts name
+  pub tables : TablesNever
+  pub areas : AreasNever
 
 -- a line for each command
 workbook_never :
@@ -145,6 +150,11 @@ workbook_never never props parts output error prints cause =
     never.properties prints.opens prints.say cause
 workbook_never never (csv name) parts output error prints cause =
     never.sheets parts name prints.values prints.formulas prints.styles error prints.reads cause
+workbook_never never tables parts output error prints cause =
+    tables_never parts prints.tables error never.openings never.tables prints.has cause
+workbook_never never (table name) parts output error prints cause =
+    table_never parts name prints.table error never.openings never.tables never.areas prints.has
+    cause
 
 large_never :
     AreNever → (command : Command) (parts : List Part) (output : List ℕ)

@@ -20,6 +20,8 @@ pub data Command : Type 0 where
   links : List ℕ → Command
   props : Command
   csv : List ℕ → Command
+  tables : Command
+  table : List ℕ → Command
 
 abbrev pub command_meant : Asked → Command
 command_meant (asked.Cells name) = cells name.now
@@ -29,13 +31,16 @@ command_meant (asked.Merges name) = merges name.now
 command_meant (asked.Links name) = links name.now
 command_meant asked.Props = props
 command_meant (asked.Csv name) = csv name.now
+command_meant asked.Tables = tables
+command_meant (asked.Table name) = table name.now
 
 -- a command of one word
 abbrev pub bare_command : List ℕ → Option Command
 bare_command word =
     if bytes_eq word (codes "sheets") then Some sheets
     else (if bytes_eq word (codes "names") then Some names
-    else (if bytes_eq word (codes "props") then Some props else None))
+    else (if bytes_eq word (codes "props") then Some props
+    else (if bytes_eq word (codes "tables") then Some tables else None)))
 
 -- a command of two
 abbrev pub named_command : List ℕ → List ℕ → Option Command
@@ -43,7 +48,8 @@ named_command word name =
     if bytes_eq word (codes "cells") then Some (cells name)
     else (if bytes_eq word (codes "merges") then Some (merges name)
     else (if bytes_eq word (codes "links") then Some (links name)
-    else (if bytes_eq word (codes "csv") then Some (csv name) else None)))
+    else (if bytes_eq word (codes "csv") then Some (csv name)
+    else (if bytes_eq word (codes "table") then Some (table name) else None))))
 
 -- the command that words are; no other words are one
 abbrev pub command_of : List (List ℕ) → Option Command
@@ -61,3 +67,5 @@ own_parts (merges name) = None
 own_parts (links name) = None
 own_parts props = None
 own_parts (csv name) = None
+own_parts tables = None
+own_parts (table name) = None

@@ -5,3 +5,5 @@ pub mod PropertyLists
 pub mod SheetLists
 pub mod SheetRows
 pub mod Status
+pub mod TableLists
+pub mod TablesOpened

@@ -19,6 +19,10 @@ pub enum Command<'a> {
     Props,
     /// The rows of the values of the worksheet of this name, as CSV.
     Csv(&'a str),
+    /// The workbook's tables.
+    Tables,
+    /// The values in the table of this name.
+    Table(&'a str),
 }
 
 fn bare_command(word: &str) -> Option<Command<'_>>
@@ -28,6 +32,7 @@ fn bare_command(word: &str) -> Option<Command<'_>>
         "sheets" => Some(Command::Sheets),
         "names" => Some(Command::Names),
         "props" => Some(Command::Props),
+        "tables" => Some(Command::Tables),
         _ => None,
     }
 }
@@ -41,6 +46,7 @@ fn named_command<'a>(word: &str, name: &'a str) -> Option<Command<'a>>
         "merges" => Some(Command::Merges(name)),
         "links" => Some(Command::Links(name)),
         "csv" => Some(Command::Csv(name)),
+        "table" => Some(Command::Table(name)),
         _ => None,
     }
 }

@@ -12,10 +12,11 @@ ghost use Rattle.xlsx_commands.specs.declared.error.ToolError.{ToolError};
 use xlsx_areas::merges_have_no_cause_of_a_refusal;
 use xlsx_core::{
     links_that_are_taken_are_not_refused, readable_sheets_are_not_refused, sheets_are_read_alike,
-    sheets_go_by_their_parts,
+    sheets_go_by_their_parts, table_data_that_are_read_are_not_refused,
 };
 use xlsx_open::openings_have_no_cause_of_a_refusal;
 use xlsx_properties::properties_have_no_cause_of_a_refusal;
+use xlsx_tables::tables_have_no_cause_of_a_refusal;
 
 /// A package that has an output for a command has no cause of a refusal of it.
 pub fn causes_leave_no_output()
@@ -28,6 +29,8 @@ pub fn causes_leave_no_output()
     links_that_are_taken_are_not_refused();
     properties_have_no_cause_of_a_refusal();
     sheets_are_read_alike();
+    tables_have_no_cause_of_a_refusal();
+    table_data_that_are_read_are_not_refused();
 }
 
 /// A package has an output for `cells NAME` exactly where its sheet NAME is readable.

@@ -12,6 +12,7 @@ mod merge_lines;
 mod output;
 mod property_lines;
 mod sheet_rows;
+mod table_lines;
 
 pub use command::{Command, command_of};
 pub use error::ToolError;

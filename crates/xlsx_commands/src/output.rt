@@ -10,6 +10,7 @@ use crate::link_lines::link_lines;
 use crate::merge_lines::merge_lines;
 use crate::property_lines::property_lines;
 use crate::sheet_rows::sheet_rows;
+use crate::table_lines::{table_lines, table_value_lines};
 use part_events::MemoryPackage;
 use std::alloc::Global;
 
@@ -26,6 +27,8 @@ pub fn own_package(alloc: Global, command: Command<'_>) -> Option<MemoryPackage>
         Command::Links(_) => None,
         Command::Props => None,
         Command::Csv(_) => None,
+        Command::Tables => None,
+        Command::Table(_) => None,
     }
 }
 
@@ -48,5 +51,7 @@ pub fn output_of(
         Command::Links(name) => link_lines(alloc, package, name),
         Command::Props => property_lines(alloc, package),
         Command::Csv(name) => sheet_rows(alloc, package, name),
+        Command::Tables => table_lines(alloc, package),
+        Command::Table(name) => table_value_lines(alloc, package, name),
     }
 }

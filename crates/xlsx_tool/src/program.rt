@@ -20,8 +20,10 @@ Usage: xlsx_tool cells NAME < package.json
        xlsx_tool merges NAME < package.json
        xlsx_tool links NAME < package.json
        xlsx_tool csv NAME < package.json
+       xlsx_tool table NAME < package.json
        xlsx_tool sheets < package.json
        xlsx_tool names < package.json
+       xlsx_tool tables < package.json
        xlsx_tool props < package.json
 
 One line is printed, of the worksheet NAME or of the workbook, for each
@@ -30,8 +32,10 @@ One line is printed, of the worksheet NAME or of the workbook, for each
   merges  area of merged cells: its corners
   links   link: its area, target, location, displayed text, tooltip
   csv     row of the values: a record of CSV
+  table   value in the table NAME: position, value
   sheets  sheet: its name, type, state
   names   defined name: the name, its text
+  tables  table: its name, its sheet, the area of its data, its columns
   props   property of the workbook: its name, its text
 
 The fields of a line have tabs between them, and those of csv commas.

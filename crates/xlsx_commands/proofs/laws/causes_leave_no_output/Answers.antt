@@ -11,5 +11,7 @@ returns c = record {
         links = c.links_that_are_taken_are_not_refused.ensures;
         properties = c.properties_have_no_cause_of_a_refusal.ensures;
         alike = c.sheets_are_read_alike.ensures.alike;
+        tables = c.tables_have_no_cause_of_a_refusal.ensures.tables;
+        areas = c.table_data_that_are_read_are_not_refused.ensures.values;
       });
 }

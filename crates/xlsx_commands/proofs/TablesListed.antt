@@ -1,0 +1,258 @@
+-- The tables of a workbook that opened, and why they aren't had.
+use Rattle.std.proofs.Common.{◌≡◌, ◌⊎◌, ◌∙◌, inl, inr, ap, sym, subst, refl, ℕ, List, [], ◌∷◌, map}
+use Rattle.std.proofs.Common.{Bool, true, Option, Some, None, String, Global, string_bytes}
+use Rattle.std.proofs.Common.{zero, suc, ◌<◌, ◌++◌, ◌&&◌, length, drop, append_assoc, arith}
+use Rattle.std.specs.Prelude.{Vec, slice_get, option_map, IfSome, nat_le, nat_lt}
+use Rattle.std.proofs.lemmas.Bool.Decides.{nat_tests}
+use Rattle.cell_refs.specs.Positions.{are_sheet_bounds}
+use Rattle.cell_refs.specs.declared.TheConstants.{MAX_ROWS, MAX_COLUMNS}
+use Rattle.cell_refs.specs.declared.dimensions.Dimensions.{Dimensions}
+use Rattle.cell_data.proofs.Placing.{and_both}
+use Rattle.list_lines.specs.Lines.{LiesInWorksheet, table_line}
+use Rattle.cell_data.specs.declared.value.HeaderRow.TheVariants.{FirstNonEmptyRow}
+use Rattle.part_events.specs.Memory.{Contents, state_of}
+use Rattle.part_events.specs.Package.{Part}
+use Rattle.xlsx_error.specs.declared.error.XlsxError.{XlsxError}
+use Rattle.xlsx_error.specs.declared.error.XlsxError.TheVariants.{TableNotFound}
+use Rattle.xlsx_parts.specs.SheetPaths.{SheetPath, sheet_at}
+use Rattle.xlsx_tables.specs.Tables.{SheetTable, tables_of, TablesCause, IsTablesError}
+use Rattle.xlsx_workbook.specs.KeptContents.{pair_of}
+use Rattle.xlsx_workbook.specs.Sheets.{PlacedSheet}
+use Rattle.xlsx_workbook.specs.declared.sheet.Metadata.{Metadata}
+use Rattle.xlsx_workbook.specs.declared.sheet.Sheet.{Sheet}
+use Rattle.xlsx_open.specs.Opening.{Opening, OpensAs, HoldsOpening, OpeningCause, ListedSheet}
+use Rattle.xlsx_open.specs.Opening.{listed_sheet, without_path, OpeningFails, IsOpeningError}
+use Rattle.xlsx_open.specs.SharedParts.{shared_said}
+use Rattle.xlsx_open.specs.declared.shared_parts.SharedParts.{SharedParts}
+use Rattle.xlsx_core.specs.Merges.{sheet_paths, sheets_of_book}
+use Rattle.xlsx_core.specs.TableList.{AllTablesFail, loaded_tables}
+use Rattle.xlsx_core.specs.Worksheets.{KeepsBook}
+use Rattle.xlsx_core.specs.declared.xlsx.Xlsx.{Xlsx}
+use Rattle.xlsx_core.proofs.SheetLaws.{are_alike}
+use Rattle.xlsx_commands.specs.Outputs.{CallFails}
+use Rattle.xlsx_commands.specs.Status.{of_workbook}
+use Rattle.xlsx_commands.specs.TableLists.{sheets_opened, HasTables, HasTablesCause}
+use Rattle.xlsx_commands.specs.TableLists.{ListedTablesCause, line_of_table, table_lines}
+use Rattle.xlsx_commands.specs.TablesOpened.{OpensWithTables, LoadingFails}
+use Rattle.xlsx_commands.specs.declared.error.ToolError.{ToolError}
+use Rattle.xlsx_commands.specs.declared.error.ToolError.TheVariants.{Workbook}
+use Rattle.xlsx_commands.proofs.MemoryCalls.{memory_fails}
+use Rattle.xlsx_commands.proofs.NamedSheets.{OpeningsNever}
+
+-- the lists of a workbook that opened are the sheets of the opening
+pub sheets_listed : (sheets : List Sheet) (paths : List (String Global)) (placed : List PlacedSheet)
+    → map listed_sheet sheets ≡ map without_path placed
+    → map string_bytes paths ≡ map (λ (sheet : PlacedSheet). sheet.path) placed
+    → sheet_paths sheets paths ≡ sheets_opened placed
+sheets_listed [] paths [] listed there = refl
+sheets_listed [] paths (own ∷ placed) listed there = absurd (cc)
+sheets_listed (sheet ∷ sheets) paths [] listed there = absurd (cc)
+sheets_listed (sheet ∷ sheets) [] (own ∷ placed) listed there = absurd (cc)
+sheets_listed (sheet ∷ sheets) (path ∷ paths) (own ∷ placed) listed there =
+    let head : listed_sheet sheet ≡ without_path own = cc in
+    let named : string_bytes sheet.name ≡ own.name = ap (λ (one : ListedSheet). one.name) head in
+    let others : map listed_sheet sheets ≡ map without_path placed = cc in
+    let here : string_bytes path ≡ own.path = cc in
+    let further : map string_bytes paths ≡ map (λ (one : PlacedSheet). one.path) placed = cc in
+    ap (λ (one : List ℕ). sheet_at one (string_bytes path) ∷ sheet_paths sheets paths) named
+    ∙ ap (λ (one : List ℕ). sheet_at own.name one ∷ sheet_paths sheets paths) here
+    ∙ ap (λ (rest : List SheetPath). sheet_at own.name own.path ∷ rest)
+    (sheets_listed sheets paths placed others further)
+
+-- a call that keeps the workbook keeps what it holds of the opening
+holds_kept : (opening : Opening) (old new : Xlsx Contents) → KeepsBook old new
+    → HoldsOpening old.metadata old.paths.items old.shared old.is_1904 opening
+    → HoldsOpening new.metadata new.paths.items new.shared new.is_1904 opening
+holds_kept opening old new keeps holds = record {
+  sheets = ap (λ (own : Metadata). map listed_sheet own.sheets.items) keeps.metadata
+      ∙ holds.sheets;
+  paths = ap (λ (own : Vec (String Global) Global). map string_bytes own.items) keeps.paths
+      ∙ holds.paths;
+  names = ap (λ (own : Metadata). map pair_of own.names.items) keeps.metadata ∙ holds.names;
+  shared = ap shared_said keeps.shared ∙ holds.shared;
+  epoch = keeps.is_1904 ∙ holds.epoch;
+}
+
+-- a workbook that opened, with its tables
+pub opened_with : (parts : List Part) (opening : Opening) (old new : Xlsx Contents)
+    → OpensAs parts opening
+    → HoldsOpening old.metadata old.paths.items old.shared old.is_1904 opening
+    → old.package.parts ≡ parts → old.header_row ≡ FirstNonEmptyRow → KeepsBook old new
+    → new.package.parts ≡ old.package.parts
+    → tables_of old.package.parts (sheets_of_book old) ≡ Some (loaded_tables new)
+    → OpensWithTables parts new
+opened_with parts opening old new opens holds same header keeps parts_kept taken = record {
+  opening = opening;
+  opens = opens;
+  holds = holds_kept opening old new keeps holds;
+  taken = ap (tables_of parts)
+      (sym (sheets_listed old.metadata.sheets.items old.paths.items opening.sheets holds.sheets
+      holds.paths))
+      ∙ ap (λ (own : List Part). tables_of own (sheets_of_book old)) (sym same) ∙ taken;
+  header_row = keeps.header_row ∙ header;
+  same = parts_kept ∙ same;
+}
+
+-- ---- their lines
+
+abbrev pub name_said : SheetTable → List ℕ
+name_said own = own.table.name
+
+-- the tables behind some of them begin with one of this name
+pub record IsNextTable
+    (tables : List SheetTable) (index : ℕ) (name : List ℕ) (rest : List (List ℕ)) : Type 0 where
+  pub own : SheetTable
+  pub there : slice_get tables index ≡ Some own
+  pub named : own.table.name ≡ name
+  pub first : drop index tables ≡ own ∷ drop (suc index) tables
+  pub others : map name_said (drop (suc index) tables) ≡ rest
+  pub within : index < length tables
+
+pub next_table : (tables : List SheetTable) (index : ℕ) (name : List ℕ) (rest : List (List ℕ))
+    → map name_said (drop index tables) ≡ name ∷ rest → IsNextTable tables index name rest
+next_table [] zero name rest is = absurd (cc)
+next_table [] (suc index) name rest is = absurd (cc)
+next_table (own ∷ tables) zero name rest is = record {
+  own = own;
+  there = refl;
+  named = cc;
+  first = refl;
+  others = cc;
+  within = omega arith;
+}
+next_table (own ∷ tables) (suc index) name rest is =
+    let next = next_table tables index name rest is in
+    record {
+      own = next.own;
+      there = next.there;
+      named = next.named;
+      first = next.first;
+      others = next.others;
+      within = omega (arith, next.within);
+    }
+
+-- the line of the table at an index
+pub line_at : (tables : List SheetTable) (index : ℕ) (own : SheetTable)
+    (name sheet : List ℕ) (area : Option Dimensions) (columns : List (List ℕ))
+    → slice_get tables index ≡ Some own → own.table.name ≡ name
+    → Some sheet ≡ option_map (λ (one : SheetTable). one.sheet) (slice_get tables index)
+    → Some area ≡ option_map (λ (one : SheetTable). one.table.area) (slice_get tables index)
+    → Some columns ≡ option_map (λ (one : SheetTable). one.table.columns) (slice_get tables index)
+    → table_line name sheet area columns ≡ line_of_table own
+line_at tables index own name sheet area columns there named on at with =
+    let sheets : Some sheet ≡ Some own.sheet =
+    on ∙ ap (option_map (λ (one : SheetTable). one.sheet)) there in
+    let areas : Some area ≡ Some own.table.area =
+    at ∙ ap (option_map (λ (one : SheetTable). one.table.area)) there in
+    let names : Some columns ≡ Some own.table.columns =
+    with ∙ ap (option_map (λ (one : SheetTable). one.table.columns)) there in
+    let one : sheet ≡ own.sheet = cc in
+    let two : area ≡ own.table.area = cc in
+    let three : columns ≡ own.table.columns = cc in
+    ap (λ (text : List ℕ). table_line text sheet area columns) (sym named)
+    ∙ ap (λ (text : List ℕ). table_line own.table.name text area columns) one
+    ∙ ap (λ (there : Option Dimensions). table_line own.table.name own.sheet there columns) two
+    ∙ ap (table_line own.table.name own.sheet own.table.area) three
+
+-- a line more
+pub lines_more : (tables : List SheetTable) (index : ℕ) (own : SheetTable)
+    (old new whole : List ℕ) → drop index tables ≡ own ∷ drop (suc index) tables
+    → new ≡ old ++ line_of_table own → old ++ table_lines (drop index tables) ≡ whole
+    → new ++ table_lines (drop (suc index) tables) ≡ whole
+lines_more tables index own old new whole first pushed so_far =
+    ap (λ (text : List ℕ). text ++ table_lines (drop (suc index) tables)) pushed
+    ∙ append_assoc old (line_of_table own) (table_lines (drop (suc index) tables))
+    ∙ ap (λ (left : List SheetTable). old ++ table_lines left) (sym first)
+    ∙ so_far
+
+-- where the names end, so do the tables
+pub none_left : (tables : List SheetTable) → map name_said tables ≡ [] → tables ≡ []
+none_left [] is = refl
+none_left (own ∷ tables) is = absurd (cc)
+
+-- the area of a table lies in a worksheet
+pub area_lies : (area : Option Dimensions) → are_sheet_bounds area ≡ true
+    → IfSome area LiesInWorksheet
+area_lies None is = tt
+area_lies (Some own) is =
+    let (rows, columns) = and_both
+    (nat_le own.start.0 own.end.0 && nat_lt own.end.0 MAX_ROWS)
+    (nat_le own.start.1 own.end.1 && nat_lt own.end.1 MAX_COLUMNS) is in
+    let (first_row, last_row) =
+    and_both (nat_le own.start.0 own.end.0) (nat_lt own.end.0 MAX_ROWS) rows in
+    let (first_column, last_column) =
+    and_both (nat_le own.start.1 own.end.1) (nat_lt own.end.1 MAX_COLUMNS) columns in (
+      (
+        grind (arith, nat_tests, first_row, last_row),
+        grind (arith, nat_tests, first_column, last_column),
+      ),
+      (grind (arith, nat_tests, last_row), grind (arith, nat_tests, last_column)),
+    )
+
+-- ---- refusals
+
+-- a workbook that doesn't open with its tables has no list of them
+pub loading_is_listed : (parts : List Part) (error : ToolError)
+    → LoadingFails parts error → CallFails (ListedTablesCause parts) error
+loading_is_listed parts (Workbook (TableNotFound asked)) fails = absurd fails
+loading_is_listed parts error fails = fails
+
+pub opening_fails : (old new : Contents) (error : XlsxError)
+    → IsOpeningError error → OpeningFails (state_of old) (state_of new) error
+    → LoadingFails old.parts (of_workbook error)
+opening_fails old new (TableNotFound asked) is fails = absurd is
+opening_fails old new error is fails =
+    memory_fails (ListedTablesCause old.parts) (OpeningCause old.parts) old new error
+    (λ cause. inl cause) fails
+
+no_table_missing : (asked : String Global) → IsTablesError (TableNotFound asked) → ⊥
+no_table_missing asked (inl is) = is
+no_table_missing asked (inr is) = is
+
+pub loading_fails : {metadata : Metadata} {paths : List (String Global)}
+    {shared : SharedParts} {is_1904 : Bool} (opening : Opening) (old mid new : Contents)
+    (error : XlsxError) → HoldsOpening metadata paths shared is_1904 opening
+    → OpensAs old.parts opening → mid.parts ≡ old.parts → IsTablesError error
+    → AllTablesFail (sheet_paths metadata.sheets.items paths) (state_of mid) (state_of new) error
+    → LoadingFails old.parts (of_workbook error)
+loading_fails opening old mid new (TableNotFound asked) holds opens same is fails =
+    absurd (no_table_missing asked is)
+loading_fails {metadata = metadata} {paths = paths} opening old mid new error holds opens same is
+    fails =
+    let sheets = sheet_paths metadata.sheets.items paths in
+    memory_fails (ListedTablesCause old.parts) (TablesCause mid.parts sheets) mid new error
+    (λ cause. inr (record {
+      opening = opening;
+      opens = opens;
+      cause = subst (λ (own : List SheetPath). TablesCause old.parts own error)
+          (sheets_listed metadata.sheets.items paths opening.sheets holds.sheets holds.paths)
+          (subst (λ (own : List Part). TablesCause own sheets error) same cause);
+    })) fails
+
+-- ---- what is had isn't refused
+
+-- tables that are taken aren't refused, as each is
+abbrev pub TablesNever : Type 0
+TablesNever =
+    (parts : List Part) (sheets : List SheetPath) (found : List SheetTable) (error : XlsxError)
+    → tables_of parts sheets ≡ Some found → TablesCause parts sheets error → ⊥
+
+-- the sheets of a workbook are had once
+pub same_sheets : (parts : List Part) (one two : Opening) → OpensAs parts one
+    → OpensAs parts two → sheets_opened one.sheets ≡ sheets_opened two.sheets
+same_sheets parts one two first second =
+    ap sheets_opened (are_alike parts one two first second).sheets
+
+taken_never : (parts : List Part) (tables : List SheetTable) (error : XlsxError)
+    → TablesNever → HasTables parts tables → HasTablesCause parts error → ⊥
+taken_never parts tables error taken has cause =
+    taken parts (sheets_opened has.opening.sheets) tables error has.taken
+    (subst (λ (own : List SheetPath). TablesCause parts own error)
+    (same_sheets parts cause.opening has.opening cause.opens has.opens) cause.cause)
+
+pub tables_never : (parts : List Part) (tables : List SheetTable) (error : XlsxError)
+    → OpeningsNever → TablesNever → HasTables parts tables → ListedTablesCause parts error → ⊥
+tables_never parts tables error opened taken has (inl cause) =
+    opened parts has.opening error has.opens cause
+tables_never parts tables error opened taken has (inr cause) =
+    taken_never parts tables error taken has cause

@@ -1,0 +1,229 @@
+-- The first table of a name with its data, and why these aren't had.
+use Rattle.std.proofs.Common.{◌≡◌, ◌∙◌, ◌⊎◌, inl, inr, ap, sym, subst, refl, ℕ, List, Option, Some, None}
+use Rattle.std.specs.Prelude.{IsSome, IsSomeAnd}
+use Rattle.cell_data.specs.Table.{table_data}
+use Rattle.cell_data.specs.declared.range.Range.{Range}
+use Rattle.cell_data.specs.declared.table.Table.{Table}
+use Rattle.cell_data.specs.declared.value.Data.{Data}
+use Rattle.cell_data.specs.declared.value.HeaderRow.{HeaderRow}
+use Rattle.cell_data.specs.declared.value.HeaderRow.TheVariants.{FirstNonEmptyRow}
+use Rattle.cell_refs.specs.declared.dimensions.Dimensions.{Dimensions}
+use Rattle.part_events.specs.Memory.{Contents, state_of}
+use Rattle.part_events.specs.Package.{Part}
+use Rattle.xlsx_error.specs.declared.error.XlsxError.{XlsxError}
+use Rattle.xlsx_error.specs.declared.error.XlsxError.TheVariants as workbook
+use Rattle.xlsx_cells.specs.CellsReader.{values_alone}
+use Rattle.xlsx_values.specs.Value.{Grounds}
+use Rattle.xlsx_tables.specs.Tables.{SheetTable, tables_of}
+use Rattle.xlsx_workbook.specs.Sheets.{PlacedSheet}
+use Rattle.xlsx_core.specs.SheetReading.{opened_grounds, path_named}
+use Rattle.xlsx_core.specs.TableData.{first_named, table_of_book, AreaFails, TableDataFails}
+use Rattle.xlsx_core.specs.TableData.{IsOfTable, ReadsValuesIn}
+use Rattle.xlsx_core.specs.TableList.{loaded_tables}
+use Rattle.xlsx_core.specs.Worksheets.{RangeCause, path_of, grounds_of_book}
+use Rattle.xlsx_core.specs.declared.xlsx.Xlsx.{Xlsx}
+use Rattle.xlsx_core.proofs.SheetLaws.{are_alike, same_grounds}
+use Rattle.xlsx_core.proofs.SheetsRead.{opens_placed}
+use Rattle.xlsx_commands.specs.Outputs.{CallFails}
+use Rattle.xlsx_commands.specs.Status.{of_workbook}
+use Rattle.xlsx_commands.specs.TableLists.{HasTables, ListedTablesCause}
+use Rattle.xlsx_commands.specs.TableLists.{HasNamedTable, LacksTable, HasTableCause}
+use Rattle.xlsx_commands.specs.TableLists.{NamedTableCause, HasTable}
+use Rattle.xlsx_commands.specs.TablesOpened.{OpensWithTables, LoadingFails}
+use Rattle.xlsx_commands.specs.declared.error.ToolError.{ToolError}
+use Rattle.xlsx_commands.specs.declared.error.ToolError.TheVariants.{Workbook}
+use Rattle.xlsx_commands.proofs.MemoryCalls.{memory_fails}
+use Rattle.xlsx_commands.proofs.NamedSheets.{OpeningsNever}
+use Rattle.xlsx_commands.proofs.TablesListed.{TablesNever, tables_never, same_sheets}
+
+-- a workbook that doesn't open with its tables has no table of a name
+pub loading_is_named : (parts : List Part) (name : List ℕ) (error : ToolError)
+    → LoadingFails parts error → CallFails (NamedTableCause parts name) error
+loading_is_named parts name (Workbook (workbook.TableNotFound asked)) fails = absurd fails
+loading_is_named parts name (Workbook error) fails = inl fails
+loading_is_named parts name error fails = fails
+
+-- what is said twice of what is there
+both_of : {A : Type 0} (o : Option A) (one two : A → Type 0) → IsSomeAnd o one → IsSomeAnd o two
+    → (x : A) × (o ≡ Some x) × one x × two x
+both_of None one two first second = absurd first
+both_of (Some x) one two first second = (x, refl, first, second)
+
+-- a refusal that isn't for want of the table
+abbrev IsOther : XlsxError → Type 0
+IsOther (workbook.TableNotFound asked) = ⊥
+IsOther error = Unit {0}
+
+cause_is_named : (parts : List Part) (name : List ℕ) (error : XlsxError) → IsOther error
+    → HasTableCause parts name error → NamedTableCause parts name error
+cause_is_named parts name (workbook.TableNotFound asked) other has = absurd other
+cause_is_named parts name error other has = inr has
+
+module _ (parts : List Part) (name : List ℕ) (xlsx : Xlsx Contents)
+    (opened : OpensWithTables parts xlsx) where
+  abbrev has_tables : HasTables parts (loaded_tables xlsx)
+  has_tables = record {
+    opening = opened.opening;
+    opens = opened.opens;
+    taken = opened.taken;
+  }
+
+  book_path : (sheet : List ℕ) → path_of xlsx sheet ≡ path_named sheet opened.opening.sheets
+  book_path sheet =
+      let placed = opens_placed sheet opened.opening opened.holds opened.opens in
+      placed.listed
+      ∙ ap (path_named sheet)
+      (are_alike parts placed.opening opened.opening placed.opens opened.opens).sheets
+
+  book_grounds : grounds_of_book xlsx ≡ opened_grounds opened.opening
+  book_grounds =
+      let placed = opens_placed name opened.opening opened.holds opened.opens in
+      placed.rests ∙ same_grounds parts placed.opening opened.opening placed.opens opened.opens
+
+  own_cause : (own : SheetTable) (error : XlsxError) → table_of_book xlsx name ≡ Some own
+      → IsSome own.table.area
+      → RangeCause own.sheet values_alone (grounds_of_book xlsx) (path_of xlsx own.sheet)
+      xlsx.package.parts error → HasTableCause parts name error
+  own_cause own error is area cause = record {
+    own = own;
+    has = record { tables = loaded_tables xlsx; has = has_tables; named = is };
+    area = area;
+    cause = subst (λ (grounds : Grounds). RangeCause own.sheet values_alone grounds
+        (path_named own.sheet opened.opening.sheets) parts error) book_grounds
+        (subst (λ (path : Option (List ℕ)). RangeCause own.sheet values_alone
+        (grounds_of_book xlsx) path parts error) (book_path own.sheet)
+        (subst (λ (held : List Part). RangeCause own.sheet values_alone (grounds_of_book xlsx)
+        (path_of xlsx own.sheet) held error) opened.same cause));
+  }
+
+  area_fails : (own : SheetTable) (new : Contents) (error : XlsxError)
+      → table_of_book xlsx name ≡ Some own → IsOther error
+      → AreaFails xlsx own.sheet own.table.area (state_of xlsx.package) (state_of new) error
+      → CallFails (NamedTableCause parts name) (of_workbook error)
+  area_fails own new workbook.OutOfMemory is other fails = tt
+  area_fails own new (workbook.NotAWorksheet kind) is other fails = absurd fails.1
+  area_fails own new error is other fails =
+      memory_fails (NamedTableCause parts name)
+      (RangeCause own.sheet values_alone (grounds_of_book xlsx) (path_of xlsx own.sheet)
+      xlsx.package.parts) xlsx.package new error
+      (λ cause. cause_is_named parts name error other (own_cause own error is fails.0 cause))
+      fails.1
+
+  pub data_fails : (new : Contents) (error : XlsxError)
+      → TableDataFails xlsx name (state_of xlsx.package) (state_of new) error
+      → CallFails (NamedTableCause parts name) (of_workbook error)
+  data_fails new workbook.OutOfMemory fails = tt
+  data_fails new (workbook.TableNotFound asked) fails = (
+    fails.0,
+    record { tables = loaded_tables xlsx; has = has_tables; none = fails.1 },
+  )
+  data_fails new error fails =
+      let (own, is, area, again) = both_of (table_of_book xlsx name)
+      (λ own. AreaFails xlsx own.sheet own.table.area (state_of xlsx.package) (state_of new) error)
+      (λ own. AreaFails xlsx own.sheet own.table.area (state_of xlsx.package) (state_of new) error)
+      fails fails in
+      area_fails own new error is tt area
+
+  pub has_table : (table : Table Data)
+      → IsSomeAnd (table_of_book xlsx name) (λ own. IsOfTable own table)
+      → IsSomeAnd (table_of_book xlsx name) (λ own. ReadsValuesIn (grounds_of_book xlsx)
+      xlsx.header_row own.table.area (path_of xlsx own.sheet) xlsx.package.parts
+      (table_data table)) → HasTable parts name table
+  has_table table named reads =
+      let (own, is, of_own, from) = both_of (table_of_book xlsx name)
+      (λ own. IsOfTable own table)
+      (λ own. ReadsValuesIn (grounds_of_book xlsx) xlsx.header_row own.table.area
+      (path_of xlsx own.sheet) xlsx.package.parts (table_data table)) named reads in
+      let area = own.table.area in
+      let there = path_named own.sheet opened.opening.sheets in
+      record {
+        own = own;
+        has = record { tables = loaded_tables xlsx; has = has_tables; named = is };
+        is = of_own;
+        reads = subst (λ (grounds : Grounds). ReadsValuesIn grounds FirstNonEmptyRow area there
+            parts (table_data table)) book_grounds
+            (subst (λ (header : HeaderRow). ReadsValuesIn (grounds_of_book xlsx) header area there
+            parts (table_data table)) opened.header_row
+            (subst (λ (path : Option (List ℕ)). ReadsValuesIn (grounds_of_book xlsx)
+            xlsx.header_row area path parts (table_data table)) (book_path own.sheet)
+            (subst (λ (held : List Part). ReadsValuesIn (grounds_of_book xlsx) xlsx.header_row area
+            (path_of xlsx own.sheet) held (table_data table)) opened.same from)));
+      }
+
+-- ---- what is had isn't refused
+
+-- what is read in an area isn't refused, as each is
+abbrev pub AreasNever : Type 0
+AreasNever =
+    (grounds : Grounds) (header : HeaderRow) (name : List ℕ) (area : Dimensions)
+    (path : Option (List ℕ)) (parts : List Part) (range : Range Data) (error : XlsxError)
+    → ReadsValuesIn grounds header (Some area) path parts range
+    → RangeCause name values_alone grounds path parts error → ⊥
+
+area_never : AreasNever → (grounds : Grounds) (header : HeaderRow) (name : List ℕ)
+    (area : Option Dimensions) (path : Option (List ℕ)) (parts : List Part) (range : Range Data)
+    (error : XlsxError) → IsSome area → ReadsValuesIn grounds header area path parts range
+    → RangeCause name values_alone grounds path parts error → ⊥
+area_never areas grounds header name None path parts range error there reads cause = absurd (cc)
+area_never areas grounds header name (Some area) path parts range error there reads cause =
+    areas grounds header name area path parts range error reads cause
+
+-- the tables of a workbook are had once
+same_tables : (parts : List Part) (one two : List SheetTable) → HasTables parts one
+    → HasTables parts two → one ≡ two
+same_tables parts one two first second =
+    let sheets = same_sheets parts first.opening second.opening first.opens second.opens in
+    let both : Some one ≡ Some two = sym first.taken ∙ ap (tables_of parts) sheets ∙ second.taken in
+    cc
+
+same_table : (parts : List Part) (name : List ℕ) (one two : SheetTable)
+    → HasNamedTable parts name one → HasNamedTable parts name two → one ≡ two
+same_table parts name one two first second =
+    let both : Some one ≡ Some two = sym first.named
+    ∙ ap (first_named name) (same_tables parts first.tables second.tables first.has second.has)
+    ∙ second.named in
+    cc
+
+lacks_never : (parts : List Part) (name : List ℕ) (own : SheetTable)
+    → HasNamedTable parts name own → LacksTable parts name → ⊥
+lacks_never parts name own has lacks =
+    let both : Some own ≡ None = sym has.named
+    ∙ ap (first_named name) (same_tables parts has.tables lacks.tables has.has lacks.has)
+    ∙ lacks.none in
+    absurd (cc)
+
+cause_never : (parts : List Part) (name : List ℕ) (table : Table Data) (error : XlsxError)
+    → AreasNever → HasTable parts name table → HasTableCause parts name error → ⊥
+cause_never parts name table error areas has cause =
+    let here = has.has.has in
+    let there = cause.has.has in
+    let sheets = (are_alike parts here.opening there.opening here.opens there.opens).sheets in
+    let grounds = same_grounds parts here.opening there.opening here.opens there.opens in
+    let own = same_table parts name has.own cause.own has.has cause.has in
+    let area = cause.own.table.area in
+    let sheet = cause.own.sheet in
+    area_never areas (opened_grounds there.opening) FirstNonEmptyRow sheet area
+    (path_named sheet there.opening.sheets) parts (table_data table) error cause.area
+    (subst (λ (own : Grounds). ReadsValuesIn own FirstNonEmptyRow area
+    (path_named sheet there.opening.sheets) parts (table_data table)) grounds
+    (subst (λ (placed : List PlacedSheet). ReadsValuesIn (opened_grounds here.opening)
+    FirstNonEmptyRow area (path_named sheet placed) parts (table_data table)) sheets
+    (subst (λ (one : SheetTable). ReadsValuesIn (opened_grounds here.opening) FirstNonEmptyRow
+    one.table.area (path_named one.sheet here.opening.sheets) parts (table_data table)) own
+    has.reads))) cause.cause
+
+either_never : (parts : List Part) (name : List ℕ) (table : Table Data) (error : XlsxError)
+    → OpeningsNever → TablesNever → AreasNever → HasTable parts name table
+    → ListedTablesCause parts error ⊎ HasTableCause parts name error → ⊥
+either_never parts name table error opened taken areas has (inl cause) =
+    tables_never parts has.has.tables error opened taken has.has.has cause
+either_never parts name table error opened taken areas has (inr cause) =
+    cause_never parts name table error areas has cause
+
+pub table_never : (parts : List Part) (name : List ℕ) (table : Table Data) (error : XlsxError)
+    → OpeningsNever → TablesNever → AreasNever → HasTable parts name table
+    → NamedTableCause parts name error → ⊥
+table_never parts name table (workbook.TableNotFound asked) opened taken areas has cause =
+    lacks_never parts name has.own has.has cause.1
+table_never parts name table error opened taken areas has cause =
+    either_never parts name table error opened taken areas has cause

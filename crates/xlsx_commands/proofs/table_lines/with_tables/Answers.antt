@@ -1,0 +1,31 @@
+use Rattle.std.proofs.Common.{refl}
+use Rattle.std.proofs.lemmas.Result.{err_from_is_err_and}
+use Rattle.xlsx_commands.proofs.TablesListed.{opening_fails, loading_fails, opened_with}
+use Rattle.xlsx_commands.proofs.table_lines.with_tables.Goals as goal
+
+pub returns-in_err-xlsx-clause-err : goal.returns-in_err-xlsx-clause-err
+returns-in_err-xlsx-clause-err c =
+    let failure = c.in_err-xlsx.field-0.0 in
+    let handed = err_from_is_err_and c.from_residual.result c.from_residual.ensures.1 in
+    rw (handed.1, handed.2)
+    (opening_fails c.args.package failure.package failure.error c.in_err-xlsx.ensures.kind
+    c.in_err-xlsx.ensures.err)
+
+pub returns-in_err-load_tables-clause-err : goal.returns-in_err-load_tables-clause-err
+returns-in_err-load_tables-clause-err c =
+    let xlsx = c.in_ok-xlsx.xlsx in
+    let opened = c.in_ok-xlsx.ensures.opens refl in
+    let handed = err_from_is_err_and c.from_residual-in_err-load_tables.result
+    c.from_residual-in_err-load_tables.ensures.1 in
+    rw (handed.1, handed.2)
+    (loading_fails opened.0 c.args.package xlsx.package c.load_tables.new.self.package
+    c.in_err-load_tables.field-0.0 opened.1 opened.2 c.in_ok-xlsx.ensures.uses.parts.parts
+    c.in_err-load_tables.ensures.kind c.in_err-load_tables.ensures.err)
+
+pub returns-clause-ok : goal.returns-clause-ok
+returns-clause-ok c =
+    let opened = c.in_ok-xlsx.ensures.opens refl in
+    opened_with c.args.package.parts opened.0 c.in_ok-xlsx.xlsx c.load_tables.new.self opened.2
+    opened.1 c.in_ok-xlsx.ensures.uses.parts.parts c.in_ok-xlsx.ensures.header_row
+    c.load_tables.ensures.book c.load_tables.ensures.keeps.parts
+    (c.in_ok-load_tables.ensures.tables refl)

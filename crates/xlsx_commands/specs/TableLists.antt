@@ -1,0 +1,98 @@
+-- What `tables` and `table` print of a workbook, and why they can't.
+use Rattle.std.specs.Prelude.{◌≡◌, ◌⊎◌, ℕ, List, map, None, Some, IsSome, string_bytes}
+use Rattle.std.specs.List.{flat_map}
+use Rattle.cell_data.specs.Table.{table_data}
+use Rattle.cell_data.specs.declared.table.Table.{Table}
+use Rattle.cell_data.specs.declared.value.Data.{Data}
+use Rattle.cell_data.specs.declared.value.HeaderRow.TheVariants.{FirstNonEmptyRow}
+use Rattle.list_lines.specs.Lines.{table_line}
+use Rattle.part_events.specs.Package.{Part}
+use Rattle.sheet_listing.specs.SheetListing.{value_lines}
+use Rattle.xlsx_cells.specs.CellsReader.{values_alone}
+use Rattle.xlsx_error.specs.declared.error.XlsxError.{XlsxError}
+use Rattle.xlsx_error.specs.declared.error.XlsxError.TheVariants.{TableNotFound}
+use Rattle.xlsx_parts.specs.SheetPaths.{SheetPath, sheet_at}
+use Rattle.xlsx_tables.specs.Tables.{SheetTable, tables_of, TablesCause}
+use Rattle.xlsx_workbook.specs.Sheets.{PlacedSheet}
+use Rattle.xlsx_open.specs.Opening.{Opening, OpensAs, OpeningCause}
+use Rattle.xlsx_core.specs.SheetReading.{opened_grounds, path_named, value_pairs}
+use Rattle.xlsx_core.specs.TableData.{first_named, IsOfTable, ReadsValuesIn}
+use Rattle.xlsx_core.specs.Worksheets.{RangeCause}
+
+-- the sheets of an opening, by the parts that hold them
+abbrev pub sheets_opened : List PlacedSheet → List SheetPath
+sheets_opened sheets = map (λ (sheet : PlacedSheet). sheet_at sheet.name sheet.path) sheets
+
+-- the workbook opens, and its sheets have these tables
+pub record HasTables (parts : List Part) (tables : List SheetTable) : Type 0 where
+  pub opening : Opening
+  pub opens : OpensAs parts opening
+  pub taken : tables_of parts (sheets_opened opening.sheets) ≡ Some tables
+
+-- it opens, and the tables of its sheets can't be taken
+pub record HasTablesCause (parts : List Part) (error : XlsxError) : Type 0 where
+  pub opening : Opening
+  pub opens : OpensAs parts opening
+  pub cause : TablesCause parts (sheets_opened opening.sheets) error
+
+-- why its tables aren't had
+abbrev pub ListedTablesCause : List Part → XlsxError → Type 0
+ListedTablesCause parts error = OpeningCause parts error ⊎ HasTablesCause parts error
+
+-- ---- their list
+
+abbrev pub line_of_table : SheetTable → List ℕ
+line_of_table own = table_line own.table.name own.sheet own.table.area own.table.columns
+
+abbrev pub table_lines : List SheetTable → List ℕ
+table_lines tables = flat_map line_of_table tables
+
+-- these are the lines of the tables
+pub record AreTableLines (parts : List Part) (lines : List ℕ) : Type 0 where
+  pub tables : List SheetTable
+  pub has : HasTables parts tables
+  pub listed : lines ≡ table_lines tables
+
+-- ---- the values of one
+
+-- the first table of a name is this one
+pub record HasNamedTable (parts : List Part) (name : List ℕ) (own : SheetTable) : Type 0 where
+  pub tables : List SheetTable
+  pub has : HasTables parts tables
+  pub named : first_named name tables ≡ Some own
+
+-- no table has the name
+pub record LacksTable (parts : List Part) (name : List ℕ) : Type 0 where
+  pub tables : List SheetTable
+  pub has : HasTables parts tables
+  pub none : first_named name tables ≡ None
+
+-- what stands in the area of the first table of a name can't be read
+pub record HasTableCause (parts : List Part) (name : List ℕ) (error : XlsxError) : Type 0 where
+  pub own : SheetTable
+  pub has : HasNamedTable parts name own
+  pub area : IsSome own.table.area
+  pub cause :
+      RangeCause own.sheet values_alone (opened_grounds has.has.opening)
+      (path_named own.sheet has.has.opening.sheets) parts error
+
+-- why its data aren't had
+abbrev pub NamedTableCause : List Part → List ℕ → XlsxError → Type 0
+NamedTableCause parts name (TableNotFound asked) =
+    (string_bytes asked ≡ name) × LacksTable parts name
+NamedTableCause parts name error = ListedTablesCause parts error ⊎ HasTableCause parts name error
+
+-- the first table of a name with its data: the values that its sheet has in its area
+pub record HasTable (parts : List Part) (name : List ℕ) (table : Table Data) : Type 0 where
+  pub own : SheetTable
+  pub has : HasNamedTable parts name own
+  pub is : IsOfTable own table
+  pub reads :
+      ReadsValuesIn (opened_grounds has.has.opening) FirstNonEmptyRow own.table.area
+      (path_named own.sheet has.has.opening.sheets) parts (table_data table)
+
+-- these are the lines of the values of that table
+pub record AreTableValueLines (parts : List Part) (name lines : List ℕ) : Type 0 where
+  pub table : Table Data
+  pub has : HasTable parts name table
+  pub listed : lines ≡ value_lines (value_pairs (table_data table))

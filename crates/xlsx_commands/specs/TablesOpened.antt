@@ -1,0 +1,28 @@
+-- An open workbook with its tables, and when it isn't had.
+use Rattle.std.specs.Prelude.{◌≡◌, List, Some}
+use Rattle.cell_data.specs.declared.value.HeaderRow.TheVariants.{FirstNonEmptyRow}
+use Rattle.part_events.specs.Memory.{Contents}
+use Rattle.part_events.specs.Package.{Part}
+use Rattle.xlsx_error.specs.declared.error.XlsxError.TheVariants.{TableNotFound}
+use Rattle.xlsx_tables.specs.Tables.{tables_of}
+use Rattle.xlsx_open.specs.Opening.{Opening, OpensAs, HoldsOpening}
+use Rattle.xlsx_core.specs.TableList.{loaded_tables}
+use Rattle.xlsx_core.specs.declared.xlsx.Xlsx.{Xlsx}
+use Rattle.xlsx_commands.specs.Outputs.{CallFails}
+use Rattle.xlsx_commands.specs.TableLists.{sheets_opened, ListedTablesCause}
+use Rattle.xlsx_commands.specs.declared.error.ToolError.{ToolError}
+use Rattle.xlsx_commands.specs.declared.error.ToolError.TheVariants.{Workbook}
+
+-- the workbook that these parts open as, with its tables, and no header row that was set
+pub record OpensWithTables (parts : List Part) (xlsx : Xlsx Contents) : Type 0 where
+  pub opening : Opening
+  pub opens : OpensAs parts opening
+  pub holds : HoldsOpening xlsx.metadata xlsx.paths.items xlsx.shared xlsx.is_1904 opening
+  pub taken : tables_of parts (sheets_opened opening.sheets) ≡ Some (loaded_tables xlsx)
+  pub header_row : xlsx.header_row ≡ FirstNonEmptyRow
+  pub same : xlsx.package.parts ≡ parts
+
+-- when a workbook isn't opened with its tables; that it lacks one is no reason
+abbrev pub LoadingFails : List Part → ToolError → Type 0
+LoadingFails parts (Workbook (TableNotFound asked)) = ⊥
+LoadingFails parts error = CallFails (ListedTablesCause parts) error

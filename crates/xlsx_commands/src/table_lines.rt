@@ -1,0 +1,90 @@
+ghost use Rattle.std.specs.Prelude.{◌≡◌, ◌<◌, ◌++◌, length, slice_get, string_bytes, Some};
+ghost use Rattle.std.specs.Prelude.{IsSome, OnOk, IfOk, IfErr};
+ghost use Rattle.xlsx_tables.specs.Tables.{SheetTable};
+ghost use Rattle.xlsx_core.specs.TableList.{loaded_tables};
+ghost use Rattle.xlsx_commands.specs.Outputs.{CallFails};
+ghost use Rattle.xlsx_commands.specs.TableLists.{HasTable, ListedTablesCause, NamedTableCause};
+ghost use Rattle.xlsx_commands.specs.TableLists.{line_of_table, table_lines, AreTableLines};
+ghost use Rattle.xlsx_commands.specs.TableLists.{AreTableValueLines};
+ghost use Rattle.xlsx_commands.specs.TablesOpened.{OpensWithTables, LoadingFails};
+
+use crate::error::ToolError;
+use cell_data::{Data, Table};
+use list_lines::push_table_line;
+use part_events::MemoryPackage;
+use sheet_listing::value_lines_of;
+use std::alloc::{AllocError, Global};
+use xlsx_core::Xlsx;
+
+/// The workbook, with the tables of its sheets.
+fn with_tables(alloc: Global, package: MemoryPackage) -> Result<Xlsx<MemoryPackage>, ToolError>
+    ensures loaded { IfOk result (λ xlsx. IsSome xlsx.lists.tables) }
+    ensures ok { IfOk result (OpensWithTables «package».parts) }
+    ensures err { IfErr result (LoadingFails «package».parts) }
+{
+    let mut xlsx = Xlsx::new(alloc, package)?;
+    xlsx.load_tables()?;
+    Ok(xlsx)
+}
+
+/// Appends the line of the table at this index, by its name.
+fn push_table(
+    out: &mut String,
+    xlsx: &Xlsx<MemoryPackage>,
+    index: usize,
+    name: &str,
+) -> Result<(), AllocError>
+    requires loaded { IsSome xlsx.now.lists.tables }
+    requires index { index < length (loaded_tables xlsx.now) }
+    ensures { (own : SheetTable) → slice_get (loaded_tables xlsx.now) index ≡ Some own →
+        own.table.name ≡ name.now → OnOk result
+        (string_bytes out.new ≡ string_bytes out.old ++ line_of_table own) }
+{
+    let sheet = xlsx.table_sheet(index);
+    let area = xlsx.table_area(index);
+    push_table_line(out, name, sheet, area, xlsx.table_columns(index))
+}
+
+fn lines_of_tables(alloc: Global, xlsx: &Xlsx<MemoryPackage>) -> Result<String, AllocError>
+    requires { IsSome xlsx.now.lists.tables }
+    ensures { IfOk result (λ out. string_bytes out ≡ table_lines (loaded_tables xlsx.now)) }
+{
+    let mut out = String::new(alloc);
+    let mut index = 0;
+    'tables: for name in xlsx.table_names() {
+        push_table(&mut out, xlsx, index, name)?;
+        index += 1;
+    }
+    Ok(out)
+}
+
+/// A line for each table of the workbook.
+pub fn table_lines(alloc: Global, package: MemoryPackage) -> Result<Vec<u8>, ToolError>
+    ensures ok { IfOk result (λ output. AreTableLines «package».parts output.items) }
+    ensures err { IfErr result (CallFails (ListedTablesCause «package».parts)) }
+{
+    let xlsx = with_tables(alloc, package)?;
+    Ok(lines_of_tables(alloc, &xlsx)?.into_bytes())
+}
+
+/// The first table of this name, with its data.
+pub fn table_of(alloc: Global, package: MemoryPackage, name: &str) -> Result<Table<Data>, ToolError>
+    ensures ok { IfOk result (HasTable «package».parts name.now) }
+    ensures err { IfErr result (CallFails (NamedTableCause «package».parts name.now)) }
+{
+    let mut xlsx = with_tables(alloc, package)?;
+    Ok(xlsx.table_by_name(name)?)
+}
+
+/// A line for each value in the first table of this name.
+pub fn table_value_lines(
+    alloc: Global,
+    package: MemoryPackage,
+    name: &str,
+) -> Result<Vec<u8>, ToolError>
+    ensures ok { IfOk result (λ output. AreTableValueLines «package».parts name.now output.items) }
+    ensures err { IfErr result (CallFails (NamedTableCause «package».parts name.now)) }
+{
+    let table = table_of(alloc, package, name)?;
+    Ok(value_lines_of(alloc, table.data())?.into_bytes())
+}
