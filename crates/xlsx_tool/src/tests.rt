@@ -79,7 +79,7 @@ struct Setting {
 
 const EASY: Setting = Setting {
     piece: 1_000,
-    room: 1_000,
+    room: 2_000,
     failing_read: None,
     failing_write: None,
 };
