@@ -64,10 +64,10 @@ def package_of(parts):
     return json.dumps({"version": 1, "parts": each}).encode()
 
 
-def package_cut(part, count):
-    """That of the smallest workbook with the first events of a part in front."""
+def package_cut(part, count, *parts):
+    """That of the smallest workbook with the first events of a part, and others, in front."""
     name, markup = part
-    package = json.loads(package_with())
+    package = json.loads(package_with(*parts))
     front = {"name": name, "events": events_of(markup)[:count]}
     return json.dumps({"version": 1, "parts": [front, *package["parts"]]}).encode()
 

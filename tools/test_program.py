@@ -138,6 +138,8 @@ class Edge:
             self.assertEqual(self.run_on(PACKAGE, words), refusal(2), words)
         for words in (["merges"], ["merges", "S", "S"], ["merge", "S"], ["props", "S"], ["prop"]):
             self.assertEqual(self.run_on(PACKAGE, words), refusal(2), words)
+        for words in (["pivots", "S"], ["Pivots"], ["pivot"], ["pivot", "S"]):
+            self.assertEqual(self.run_on(PACKAGE, words), refusal(2), words)
         for words in (["tables", "S"], ["table"], ["table", "S", "S"], ["Tables"], ["Table", "S"]):
             self.assertEqual(self.run_on(PACKAGE, words), refusal(2), words)
         for words in (["links"], ["links", "S", "S"], ["Links", "S"], ["csv"], ["csv", "S", "S"]):

@@ -14,9 +14,10 @@ next_field field = codes "\t" ++ field
 abbrev pub sheet_line : List ℕ → List ℕ → List ℕ → List ℕ
 sheet_line name typ state = escaped name ++ (next_field typ ++ (next_field state ++ codes "\n"))
 
--- the line of a defined name and its text
-abbrev pub name_line : List ℕ → List ℕ → List ℕ
-name_line name text = escaped name ++ (next_field (escaped text) ++ codes "\n")
+-- the line of two texts: of a defined name and what it stands for, or of the sheet of a pivot table
+-- and its name
+abbrev pub pair_line : List ℕ → List ℕ → List ℕ
+pair_line first second = escaped first ++ (next_field (escaped second) ++ codes "\n")
 
 -- a text that is there, which may be empty
 abbrev pub text_field : List ℕ → List ℕ

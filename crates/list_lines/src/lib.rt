@@ -4,7 +4,7 @@
 mod lines;
 
 pub use lines::{
-    push_area_line, push_custom_line, push_link_line, push_name_line, push_property_line,
+    push_area_line, push_custom_line, push_link_line, push_pair_line, push_property_line,
     push_sheet_line, push_table_line,
 };
 

@@ -1,7 +1,7 @@
 ghost use Rattle.std.specs.Prelude.{◌≡◌, ◌++◌, map, string_bytes, OnOk, IfSome};
 ghost use Rattle.std.specs.Option.{option_copied};
 ghost use Rattle.list_lines.specs.Lines.{next_field, text_field, optional_field, area_field};
-ghost use Rattle.list_lines.specs.Lines.{LiesInWorksheet, sheet_line, name_line, area_line};
+ghost use Rattle.list_lines.specs.Lines.{LiesInWorksheet, sheet_line, pair_line, area_line};
 ghost use Rattle.list_lines.specs.Lines.{link_line, property_line, custom_line};
 ghost use Rattle.list_lines.specs.Lines.{optional_area, column_fields, table_line};
 
@@ -27,14 +27,15 @@ pub fn push_sheet_line(
     out.push_str("\n")
 }
 
-/// Appends the line of a defined name and its text, both escaped.
-pub fn push_name_line(out: &mut String, name: &str, text: &str) -> Result<(), AllocError>
+/// Appends the line of two texts, both escaped: of a defined name and what it stands for, or of the
+/// sheet of a pivot table and its name.
+pub fn push_pair_line(out: &mut String, first: &str, second: &str) -> Result<(), AllocError>
     ensures { OnOk result
-        (string_bytes out.new ≡ string_bytes out.old ++ name_line name.now text.now) }
+        (string_bytes out.new ≡ string_bytes out.old ++ pair_line first.now second.now) }
 {
-    push_escaped(out, name)?;
+    push_escaped(out, first)?;
     out.push_str("\t")?;
-    push_escaped(out, text)?;
+    push_escaped(out, second)?;
     out.push_str("\n")
 }
 

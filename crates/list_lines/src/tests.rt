@@ -1,5 +1,5 @@
 use crate::{
-    push_area_line, push_custom_line, push_link_line, push_name_line, push_property_line,
+    push_area_line, push_custom_line, push_link_line, push_pair_line, push_property_line,
     push_sheet_line, push_table_line,
 };
 use cell_refs::Dimensions;
@@ -16,7 +16,7 @@ fn lists_have_their_lines(rt: HostRuntime) -> Result<(), Fail> {
         push_sheet_line(&mut out, name, typ, state)?;
     }
     for (name, text) in [("Q", "S!$A$1"), ("two\nlines", "\r"), ("", "")] {
-        push_name_line(&mut out, name, text)?;
+        push_pair_line(&mut out, name, text)?;
     }
     let wanted = "lists:\nS\tworksheet\thidden\ntab\\there\\\\\tchartsheet\tvisible\n\
         \tdialogsheet\tveryHidden\nQ\tS!$A$1\ntwo\\nlines\t\\r\n\t\n";

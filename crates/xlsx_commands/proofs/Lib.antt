@@ -4,7 +4,9 @@ pub mod MemoryCalls
 pub mod NamedSheets
 pub mod OneListing
 pub mod OutputLemmas
+pub mod PivotsListed
 pub mod PropertiesListed
 pub mod RowsPlaced
+pub mod SheetsOpened
 pub mod TablesListed
 pub mod TablesNamed

@@ -12,7 +12,7 @@ use Rattle.xlsx_core.specs.Links.{links_placed, PlacedLinksCause}
 use Rattle.xlsx_core.specs.SheetReading.{ReadsAs, IsReadable, SheetCause}
 use Rattle.xlsx_commands.specs.BookLists.{sheet_lines, name_lines}
 use Rattle.xlsx_commands.specs.Command.{Command, cells, sheets, names, merges, links, props, csv}
-use Rattle.xlsx_commands.specs.Command.{tables, table}
+use Rattle.xlsx_commands.specs.Command.{tables, table, pivots}
 use Rattle.xlsx_commands.specs.Outputs.{IsOutput, RefusedWorkbookCause, IsTooLarge, OutputCause}
 use Rattle.xlsx_commands.specs.Outputs.{HasOutput}
 use Rattle.xlsx_commands.specs.PropertyLists.{text_of_name}
@@ -20,6 +20,7 @@ use Rattle.xlsx_commands.specs.SheetLists.{MergesPathCause}
 use Rattle.xlsx_commands.specs.declared.error.ToolError.{ToolError}
 use Rattle.xlsx_commands.specs.declared.error.ToolError.TheVariants.{Workbook, BoxTooLarge}
 use Rattle.xlsx_commands.proofs.NamedSheets.{OpeningsNever, MergesNever, named_never, merges_never}
+use Rattle.xlsx_commands.proofs.PivotsListed.{PivotsNever, pivots_never}
 use Rattle.xlsx_commands.proofs.PropertiesListed.{PropertiesNever, listed_never}
 use Rattle.xlsx_commands.proofs.OneListing.{AreReadAlike}
 use Rattle.xlsx_commands.proofs.RowsPlaced.{rows_or_large, rows_never}
@@ -125,6 +126,7 @@ pub record AreNever : Type 0 where
   pub alike : (parts : List Part) (name : List ℕ) → AreReadAlike parts parts name
   pub tables : TablesNever
   pub areas : AreasNever
+  pub pivots : PivotsNever
 
 -- a line for each command
 workbook_never :
@@ -155,6 +157,8 @@ workbook_never never tables parts output error prints cause =
 workbook_never never (table name) parts output error prints cause =
     table_never parts name prints.table error never.openings never.tables never.areas prints.has
     cause
+workbook_never never pivots parts output error prints cause =
+    pivots_never parts prints.pivots error never.openings never.pivots prints.has cause
 
 large_never :
     AreNever → (command : Command) (parts : List Part) (output : List ℕ)

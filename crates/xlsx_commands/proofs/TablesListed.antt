@@ -28,36 +28,17 @@ use Rattle.xlsx_core.specs.Merges.{sheet_paths, sheets_of_book}
 use Rattle.xlsx_core.specs.TableList.{AllTablesFail, loaded_tables}
 use Rattle.xlsx_core.specs.Worksheets.{KeepsBook}
 use Rattle.xlsx_core.specs.declared.xlsx.Xlsx.{Xlsx}
-use Rattle.xlsx_core.proofs.SheetLaws.{are_alike}
 use Rattle.xlsx_commands.specs.Outputs.{CallFails}
 use Rattle.xlsx_commands.specs.Status.{of_workbook}
-use Rattle.xlsx_commands.specs.TableLists.{sheets_opened, HasTables, HasTablesCause}
-use Rattle.xlsx_commands.specs.TableLists.{ListedTablesCause, line_of_table, table_lines}
+use Rattle.xlsx_commands.specs.SheetsOpened.{sheets_opened}
+use Rattle.xlsx_commands.specs.TableLists.{HasTables, ListedTablesCause, line_of_table}
+use Rattle.xlsx_commands.specs.TableLists.{table_lines}
 use Rattle.xlsx_commands.specs.TablesOpened.{OpensWithTables, LoadingFails}
 use Rattle.xlsx_commands.specs.declared.error.ToolError.{ToolError}
 use Rattle.xlsx_commands.specs.declared.error.ToolError.TheVariants.{Workbook}
 use Rattle.xlsx_commands.proofs.MemoryCalls.{memory_fails}
 use Rattle.xlsx_commands.proofs.NamedSheets.{OpeningsNever}
-
--- the lists of a workbook that opened are the sheets of the opening
-pub sheets_listed : (sheets : List Sheet) (paths : List (String Global)) (placed : List PlacedSheet)
-    → map listed_sheet sheets ≡ map without_path placed
-    → map string_bytes paths ≡ map (λ (sheet : PlacedSheet). sheet.path) placed
-    → sheet_paths sheets paths ≡ sheets_opened placed
-sheets_listed [] paths [] listed there = refl
-sheets_listed [] paths (own ∷ placed) listed there = absurd (cc)
-sheets_listed (sheet ∷ sheets) paths [] listed there = absurd (cc)
-sheets_listed (sheet ∷ sheets) [] (own ∷ placed) listed there = absurd (cc)
-sheets_listed (sheet ∷ sheets) (path ∷ paths) (own ∷ placed) listed there =
-    let head : listed_sheet sheet ≡ without_path own = cc in
-    let named : string_bytes sheet.name ≡ own.name = ap (λ (one : ListedSheet). one.name) head in
-    let others : map listed_sheet sheets ≡ map without_path placed = cc in
-    let here : string_bytes path ≡ own.path = cc in
-    let further : map string_bytes paths ≡ map (λ (one : PlacedSheet). one.path) placed = cc in
-    ap (λ (one : List ℕ). sheet_at one (string_bytes path) ∷ sheet_paths sheets paths) named
-    ∙ ap (λ (one : List ℕ). sheet_at own.name one ∷ sheet_paths sheets paths) here
-    ∙ ap (λ (rest : List SheetPath). sheet_at own.name own.path ∷ rest)
-    (sheets_listed sheets paths placed others further)
+use Rattle.xlsx_commands.proofs.SheetsOpened.{sheets_listed, listing_fails, sheets_never}
 
 -- a call that keeps the workbook keeps what it holds of the opening
 holds_kept : (opening : Opening) (old new : Xlsx Contents) → KeepsBook old new
@@ -217,17 +198,8 @@ pub loading_fails : {metadata : Metadata} {paths : List (String Global)}
     → LoadingFails old.parts (of_workbook error)
 loading_fails opening old mid new (TableNotFound asked) holds opens same is fails =
     absurd (no_table_missing asked is)
-loading_fails {metadata = metadata} {paths = paths} opening old mid new error holds opens same is
-    fails =
-    let sheets = sheet_paths metadata.sheets.items paths in
-    memory_fails (ListedTablesCause old.parts) (TablesCause mid.parts sheets) mid new error
-    (λ cause. inr (record {
-      opening = opening;
-      opens = opens;
-      cause = subst (λ (own : List SheetPath). TablesCause old.parts own error)
-          (sheets_listed metadata.sheets.items paths opening.sheets holds.sheets holds.paths)
-          (subst (λ (own : List Part). TablesCause own sheets error) same cause);
-    })) fails
+loading_fails opening old mid new error holds opens same is fails =
+    listing_fails TablesCause opening old mid new error holds opens same fails
 
 -- ---- what is had isn't refused
 
@@ -237,22 +209,8 @@ TablesNever =
     (parts : List Part) (sheets : List SheetPath) (found : List SheetTable) (error : XlsxError)
     → tables_of parts sheets ≡ Some found → TablesCause parts sheets error → ⊥
 
--- the sheets of a workbook are had once
-pub same_sheets : (parts : List Part) (one two : Opening) → OpensAs parts one
-    → OpensAs parts two → sheets_opened one.sheets ≡ sheets_opened two.sheets
-same_sheets parts one two first second =
-    ap sheets_opened (are_alike parts one two first second).sheets
-
-taken_never : (parts : List Part) (tables : List SheetTable) (error : XlsxError)
-    → TablesNever → HasTables parts tables → HasTablesCause parts error → ⊥
-taken_never parts tables error taken has cause =
-    taken parts (sheets_opened has.opening.sheets) tables error has.taken
-    (subst (λ (own : List SheetPath). TablesCause parts own error)
-    (same_sheets parts cause.opening has.opening cause.opens has.opens) cause.cause)
-
 pub tables_never : (parts : List Part) (tables : List SheetTable) (error : XlsxError)
     → OpeningsNever → TablesNever → HasTables parts tables → ListedTablesCause parts error → ⊥
-tables_never parts tables error opened taken has (inl cause) =
-    opened parts has.opening error has.opens cause
-tables_never parts tables error opened taken has (inr cause) =
-    taken_never parts tables error taken has cause
+tables_never parts tables error opened taken has cause =
+    sheets_never TablesCause parts has.opening error opened has.opens
+    (taken parts (sheets_opened has.opening.sheets) tables error has.taken) cause

@@ -34,7 +34,8 @@ use Rattle.xlsx_commands.specs.declared.error.ToolError.{ToolError}
 use Rattle.xlsx_commands.specs.declared.error.ToolError.TheVariants.{Workbook}
 use Rattle.xlsx_commands.proofs.MemoryCalls.{memory_fails}
 use Rattle.xlsx_commands.proofs.NamedSheets.{OpeningsNever}
-use Rattle.xlsx_commands.proofs.TablesListed.{TablesNever, tables_never, same_sheets}
+use Rattle.xlsx_commands.proofs.SheetsOpened.{same_sheets}
+use Rattle.xlsx_commands.proofs.TablesListed.{TablesNever, tables_never}
 
 -- a workbook that doesn't open with its tables has no table of a name
 pub loading_is_named : (parts : List Part) (name : List ℕ) (error : ToolError)

@@ -2,7 +2,7 @@
 use Rattle.std.specs.Prelude.{◌≡◌, ℕ, List, codes, map}
 use Rattle.std.specs.List.{flat_map}
 use Rattle.part_events.specs.Package.{Part}
-use Rattle.list_lines.specs.Lines.{sheet_line, name_line}
+use Rattle.list_lines.specs.Lines.{sheet_line, pair_line}
 use Rattle.xlsx_workbook.specs.KeptContents.{pair_of}
 use Rattle.xlsx_workbook.specs.declared.sheet.Metadata.{Metadata}
 use Rattle.xlsx_workbook.specs.declared.sheet.SheetType.{SheetType}
@@ -28,7 +28,7 @@ sheet_lines sheets =
     flat_map (λ sheet. sheet_line sheet.name (type_word sheet.typ) (state_word sheet.visible)) sheets
 
 abbrev pub name_lines : List (List ℕ × List ℕ) → List ℕ
-name_lines names = flat_map (λ name. name_line name.0 name.1) names
+name_lines names = flat_map (λ name. pair_line name.0 name.1) names
 
 -- the workbook opens, and these are the lines of its sheets
 pub record AreSheetLines (parts : List Part) (lines : List ℕ) : Type 0 where

@@ -22,6 +22,7 @@ pub data Command : Type 0 where
   csv : List ℕ → Command
   tables : Command
   table : List ℕ → Command
+  pivots : Command
 
 abbrev pub command_meant : Asked → Command
 command_meant (asked.Cells name) = cells name.now
@@ -33,6 +34,7 @@ command_meant asked.Props = props
 command_meant (asked.Csv name) = csv name.now
 command_meant asked.Tables = tables
 command_meant (asked.Table name) = table name.now
+command_meant asked.Pivots = pivots
 
 -- a command of one word
 abbrev pub bare_command : List ℕ → Option Command
@@ -40,7 +42,8 @@ bare_command word =
     if bytes_eq word (codes "sheets") then Some sheets
     else (if bytes_eq word (codes "names") then Some names
     else (if bytes_eq word (codes "props") then Some props
-    else (if bytes_eq word (codes "tables") then Some tables else None)))
+    else (if bytes_eq word (codes "tables") then Some tables
+    else (if bytes_eq word (codes "pivots") then Some pivots else None))))
 
 -- a command of two
 abbrev pub named_command : List ℕ → List ℕ → Option Command
@@ -69,3 +72,4 @@ own_parts props = None
 own_parts (csv name) = None
 own_parts tables = None
 own_parts (table name) = None
+own_parts pivots = None

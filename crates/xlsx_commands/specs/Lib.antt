@@ -1,9 +1,11 @@
 pub mod BookLists
 pub mod Command
 pub mod Outputs
+pub mod PivotLists
 pub mod PropertyLists
 pub mod SheetLists
 pub mod SheetRows
+pub mod SheetsOpened
 pub mod Status
 pub mod TableLists
 pub mod TablesOpened

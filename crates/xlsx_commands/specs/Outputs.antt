@@ -9,7 +9,8 @@ use Rattle.xlsx_open.specs.Opening.{OpeningCause}
 use Rattle.xlsx_core.specs.SheetReading.{ReadsAs, SheetCause}
 use Rattle.xlsx_commands.specs.BookLists.{AreSheetLines, AreNameLines}
 use Rattle.xlsx_commands.specs.Command.{Command, cells, sheets, names, merges, links, props, csv}
-use Rattle.xlsx_commands.specs.Command.{tables, table}
+use Rattle.xlsx_commands.specs.Command.{tables, table, pivots}
+use Rattle.xlsx_commands.specs.PivotLists.{ArePivotLines, ListedPivotsCause}
 use Rattle.xlsx_commands.specs.PropertyLists.{ArePropertyLines, ListedPropertiesCause}
 use Rattle.xlsx_commands.specs.SheetLists.{AreMergeLines, NamedMergesCause, AreLinkLines}
 use Rattle.xlsx_commands.specs.SheetLists.{NamedLinksCause}
@@ -41,6 +42,7 @@ IsOutput props parts output = ArePropertyLines parts output
 IsOutput (csv name) parts output = AreRowsOf parts name output
 IsOutput tables parts output = AreTableLines parts output
 IsOutput (table name) parts output = AreTableValueLines parts name output
+IsOutput pivots parts output = ArePivotLines parts output
 
 -- why its workbook refuses it
 unfoldable pub RefusedWorkbookCause : Command → List Part → XlsxError → Type 0
@@ -53,6 +55,7 @@ RefusedWorkbookCause props parts error = ListedPropertiesCause parts error
 RefusedWorkbookCause (csv name) parts error = SheetCause parts name error
 RefusedWorkbookCause tables parts error = ListedTablesCause parts error
 RefusedWorkbookCause (table name) parts error = NamedTableCause parts name error
+RefusedWorkbookCause pivots parts error = ListedPivotsCause parts error
 
 -- why it is refused because an area has too many cells
 unfoldable pub IsTooLarge : Command → List Part → Type 0
@@ -65,6 +68,7 @@ IsTooLarge props parts = ⊥
 IsTooLarge (csv name) parts = HasLargeArea parts name
 IsTooLarge tables parts = ⊥
 IsTooLarge (table name) parts = ⊥
+IsTooLarge pivots parts = ⊥
 
 -- ---- what the rows make
 

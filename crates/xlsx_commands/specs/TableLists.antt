@@ -1,5 +1,5 @@
 -- What `tables` and `table` print of a workbook, and why they can't.
-use Rattle.std.specs.Prelude.{◌≡◌, ◌⊎◌, ℕ, List, map, None, Some, IsSome, string_bytes}
+use Rattle.std.specs.Prelude.{◌≡◌, ◌⊎◌, ℕ, List, None, Some, IsSome, string_bytes}
 use Rattle.std.specs.List.{flat_map}
 use Rattle.cell_data.specs.Table.{table_data}
 use Rattle.cell_data.specs.declared.table.Table.{Table}
@@ -11,17 +11,12 @@ use Rattle.sheet_listing.specs.SheetListing.{value_lines}
 use Rattle.xlsx_cells.specs.CellsReader.{values_alone}
 use Rattle.xlsx_error.specs.declared.error.XlsxError.{XlsxError}
 use Rattle.xlsx_error.specs.declared.error.XlsxError.TheVariants.{TableNotFound}
-use Rattle.xlsx_parts.specs.SheetPaths.{SheetPath, sheet_at}
 use Rattle.xlsx_tables.specs.Tables.{SheetTable, tables_of, TablesCause}
-use Rattle.xlsx_workbook.specs.Sheets.{PlacedSheet}
-use Rattle.xlsx_open.specs.Opening.{Opening, OpensAs, OpeningCause}
+use Rattle.xlsx_open.specs.Opening.{Opening, OpensAs}
 use Rattle.xlsx_core.specs.SheetReading.{opened_grounds, path_named, value_pairs}
 use Rattle.xlsx_core.specs.TableData.{first_named, IsOfTable, ReadsValuesIn}
 use Rattle.xlsx_core.specs.Worksheets.{RangeCause}
-
--- the sheets of an opening, by the parts that hold them
-abbrev pub sheets_opened : List PlacedSheet → List SheetPath
-sheets_opened sheets = map (λ (sheet : PlacedSheet). sheet_at sheet.name sheet.path) sheets
+use Rattle.xlsx_commands.specs.SheetsOpened.{sheets_opened, ListedCause}
 
 -- the workbook opens, and its sheets have these tables
 pub record HasTables (parts : List Part) (tables : List SheetTable) : Type 0 where
@@ -29,15 +24,9 @@ pub record HasTables (parts : List Part) (tables : List SheetTable) : Type 0 whe
   pub opens : OpensAs parts opening
   pub taken : tables_of parts (sheets_opened opening.sheets) ≡ Some tables
 
--- it opens, and the tables of its sheets can't be taken
-pub record HasTablesCause (parts : List Part) (error : XlsxError) : Type 0 where
-  pub opening : Opening
-  pub opens : OpensAs parts opening
-  pub cause : TablesCause parts (sheets_opened opening.sheets) error
-
 -- why its tables aren't had
 abbrev pub ListedTablesCause : List Part → XlsxError → Type 0
-ListedTablesCause parts error = OpeningCause parts error ⊎ HasTablesCause parts error
+ListedTablesCause parts error = ListedCause TablesCause parts error
 
 -- ---- their list
 

@@ -9,7 +9,8 @@ use Rattle.xlsx_open.specs.Opening.{Opening, OpensAs, HoldsOpening}
 use Rattle.xlsx_core.specs.TableList.{loaded_tables}
 use Rattle.xlsx_core.specs.declared.xlsx.Xlsx.{Xlsx}
 use Rattle.xlsx_commands.specs.Outputs.{CallFails}
-use Rattle.xlsx_commands.specs.TableLists.{sheets_opened, ListedTablesCause}
+use Rattle.xlsx_commands.specs.SheetsOpened.{sheets_opened}
+use Rattle.xlsx_commands.specs.TableLists.{ListedTablesCause}
 use Rattle.xlsx_commands.specs.declared.error.ToolError.{ToolError}
 use Rattle.xlsx_commands.specs.declared.error.ToolError.TheVariants.{Workbook}
 

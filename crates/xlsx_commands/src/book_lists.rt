@@ -6,7 +6,7 @@ ghost use Rattle.xlsx_commands.specs.BookLists.{AreSheetLines, AreNameLines, Has
 ghost use Rattle.xlsx_commands.specs.Outputs.{CallFails};
 
 use crate::error::ToolError;
-use list_lines::{push_name_line, push_sheet_line};
+use list_lines::{push_pair_line, push_sheet_line};
 use part_events::MemoryPackage;
 use std::alloc::{AllocError, Global};
 use xlsx_open::{Metadata, Opened, Sheet, SheetType, SheetVisible, open};
@@ -53,7 +53,7 @@ fn lines_of_names(alloc: Global, names: &[(String, String)]) -> Result<String, A
 {
     let mut out = String::new(alloc);
     for name in names {
-        push_name_line(&mut out, name.0.as_str(), name.1.as_str())?;
+        push_pair_line(&mut out, name.0.as_str(), name.1.as_str())?;
     }
     Ok(out)
 }
@@ -68,6 +68,7 @@ fn metadata_of(alloc: Global, package: MemoryPackage) -> Result<Metadata, ToolEr
     let Opened {
         metadata,
         paths: _,
+        folder: _,
         shared: _,
         is_1904: _,
     } = opened;

@@ -23,6 +23,8 @@ pub enum Command<'a> {
     Tables,
     /// The values in the table of this name.
     Table(&'a str),
+    /// The workbook's pivot tables.
+    Pivots,
 }
 
 fn bare_command(word: &str) -> Option<Command<'_>>
@@ -33,6 +35,7 @@ fn bare_command(word: &str) -> Option<Command<'_>>
         "names" => Some(Command::Names),
         "props" => Some(Command::Props),
         "tables" => Some(Command::Tables),
+        "pivots" => Some(Command::Pivots),
         _ => None,
     }
 }

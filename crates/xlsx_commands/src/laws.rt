@@ -15,6 +15,7 @@ use xlsx_core::{
     sheets_go_by_their_parts, table_data_that_are_read_are_not_refused,
 };
 use xlsx_open::openings_have_no_cause_of_a_refusal;
+use xlsx_pivots::pivots_have_no_cause_of_a_refusal;
 use xlsx_properties::properties_have_no_cause_of_a_refusal;
 use xlsx_tables::tables_have_no_cause_of_a_refusal;
 
@@ -31,6 +32,7 @@ pub fn causes_leave_no_output()
     sheets_are_read_alike();
     tables_have_no_cause_of_a_refusal();
     table_data_that_are_read_are_not_refused();
+    pivots_have_no_cause_of_a_refusal();
 }
 
 /// A package has an output for `cells NAME` exactly where its sheet NAME is readable.

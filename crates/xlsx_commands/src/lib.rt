@@ -10,6 +10,7 @@ mod laws;
 mod link_lines;
 mod merge_lines;
 mod output;
+mod pivot_lines;
 mod property_lines;
 mod sheet_rows;
 mod table_lines;

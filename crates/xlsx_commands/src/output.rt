@@ -8,6 +8,7 @@ use crate::command::Command;
 use crate::error::ToolError;
 use crate::link_lines::link_lines;
 use crate::merge_lines::merge_lines;
+use crate::pivot_lines::pivot_lines;
 use crate::property_lines::property_lines;
 use crate::sheet_rows::sheet_rows;
 use crate::table_lines::{table_lines, table_value_lines};
@@ -29,6 +30,7 @@ pub fn own_package(alloc: Global, command: Command<'_>) -> Option<MemoryPackage>
         Command::Csv(_) => None,
         Command::Tables => None,
         Command::Table(_) => None,
+        Command::Pivots => None,
     }
 }
 
@@ -53,5 +55,6 @@ pub fn output_of(
         Command::Csv(name) => sheet_rows(alloc, package, name),
         Command::Tables => table_lines(alloc, package),
         Command::Table(name) => table_value_lines(alloc, package, name),
+        Command::Pivots => pivot_lines(alloc, package),
     }
 }

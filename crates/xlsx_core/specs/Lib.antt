@@ -3,6 +3,7 @@ pub mod Links
 pub mod Listing
 pub mod Merges
 pub mod Opened
+pub mod PivotList
 pub mod SheetReading
 pub mod TableData
 pub mod TableList

@@ -57,6 +57,7 @@ palette_of_book xlsx = xlsx.shared.style_sheet.styles.items
 pub record KeepsBook {P : Type 0} (old new : Xlsx P) : Type 0 where
   pub metadata : new.metadata ≡ old.metadata
   pub paths : new.paths ≡ old.paths
+  pub folder : new.folder ≡ old.folder
   pub shared : new.shared ≡ old.shared
   pub is_1904 : new.is_1904 ≡ old.is_1904
   pub header_row : new.header_row ≡ old.header_row
@@ -71,6 +72,7 @@ pub record SetsHeaderRow {P : Type 0} (header : HeaderRow) (old new : Xlsx P) : 
   pub «package» : new.package ≡ old.package
   pub metadata : new.metadata ≡ old.metadata
   pub paths : new.paths ≡ old.paths
+  pub folder : new.folder ≡ old.folder
   pub shared : new.shared ≡ old.shared
   pub is_1904 : new.is_1904 ≡ old.is_1904
   pub header_row : new.header_row ≡ header

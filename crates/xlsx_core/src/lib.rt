@@ -5,6 +5,7 @@ mod laws;
 mod links;
 mod lists;
 mod merges;
+mod pivots;
 mod placed_sheet;
 mod properties;
 mod ranges;
@@ -28,4 +29,5 @@ pub use xlsx_cells::{SheetCursor, XlsxCellFormula, XlsxCellFormulaMetadataRecord
 pub use xlsx_error::XlsxError;
 pub use xlsx_formulas::XlsxFormulaMetadata;
 pub use xlsx_open::{Metadata, Sheet, SheetType, SheetVisible};
+pub use xlsx_pivots::PivotTables;
 pub use xlsx_properties::{Property, WorkbookProperties};

@@ -2,9 +2,10 @@ ghost use Rattle.std.specs.Prelude.{◌≡◌, ◌<◌, true, map, length, slice
 ghost use Rattle.std.specs.Prelude.{IfErr, IsSome, is_some, None, Some, option_map, string_bytes};
 ghost use Rattle.std.specs.Option.{option_copied};
 ghost use Rattle.cell_refs.specs.Positions.{are_sheet_bounds};
-ghost use Rattle.part_events.specs.Package.{SameParts, KeepsFaults};
+ghost use Rattle.part_events.specs.Package.{Uses, CountsUp};
 ghost use Rattle.xlsx_error.specs.declared.error.XlsxError.TheVariants.{Io};
 ghost use Rattle.xlsx_tables.specs.Tables.{SheetTable, tables_of, IsTablesError};
+ghost use Rattle.xlsx_tables.specs.Tables.{all_table_events, all_table_sections};
 ghost use Rattle.xlsx_core.specs.Merges.{sheet_paths, sheets_of_book};
 ghost use Rattle.xlsx_core.specs.TableList.{sheet_name, table_held, tables_held, loaded_tables};
 ghost use Rattle.xlsx_core.specs.TableList.{AllTablesFail, is_wanted, names_of};
@@ -45,17 +46,20 @@ fn all_tables<P: Package>(
     sheets: &[Sheet],
     paths: &[String],
 ) -> Result<Vec<LoadedTable>, XlsxError>
-    ensures keeps { SameParts (P.state «package».old) (P.state «package».new) }
-    ensures faults { OnOk result
-        ((P.state «package».new).faults ≡ (P.state «package».old).faults) }
+    ensures uses { let old = P.state «package».old in
+        let new = P.state «package».new in
+        let most = all_table_events old.parts (sheet_paths sheets.now paths.now) in
+        Uses most Io result old new }
+    ensures to_end { let old = P.state «package».old in
+        let new = P.state «package».new in
+        let count = all_table_sections old.parts (sheet_paths sheets.now paths.now) in
+        old.is_told ≡ true → OnOk result (CountsUp count old.taken new.taken) }
     ensures tables { let old = P.state «package».old in
         old.is_told ≡ true → IfOk result (λ tables.
         tables_of old.parts (sheet_paths sheets.now paths.now)
         ≡ Some (tables_held sheets.now tables.items)) }
     ensures err { IfErr result (AllTablesFail (sheet_paths sheets.now paths.now)
         (P.state «package».old) (P.state «package».new)) }
-    ensures counts { IfErr result
-        (KeepsFaults Io (P.state «package».old) (P.state «package».new)) }
     ensures kind { IfErr result IsTablesError }
 {
     let mut tables = Vec::new(alloc);
@@ -132,21 +136,23 @@ impl<P: Package> Xlsx<P> {
     /// Fails by the relationships of a sheet or by the part of a table, as `read_sheet_tables`. A
     /// refusal leaves what was loaded as it was.
     pub fn load_tables(&mut self) -> Result<(), XlsxError>
-        ensures keeps { SameParts (P.state self.old.package) (P.state self.new.package) }
+        ensures uses { let old = P.state self.old.package in
+            let new = P.state self.new.package in
+            Uses (all_table_events old.parts (sheets_of_book self.old)) Io result old new }
+        ensures to_end { let old = P.state self.old.package in
+            let count = all_table_sections old.parts (sheets_of_book self.old) in
+            old.is_told ≡ true →
+            OnOk result (CountsUp count old.taken (P.state self.new.package).taken) }
         ensures book { KeepsBook self.old self.new }
         ensures loaded { OnOk result (IsSome self.new.lists.tables) }
         ensures tables { let old = P.state self.old.package in
             old.is_told ≡ true → OnOk result
             (tables_of old.parts (sheets_of_book self.old) ≡ Some (loaded_tables self.new)) }
-        ensures faults { OnOk result
-            ((P.state self.new.package).faults ≡ (P.state self.old.package).faults) }
         ensures regions { self.new.lists.regions ≡ self.old.lists.regions }
         ensures properties { self.new.lists.properties ≡ self.old.lists.properties }
         ensures unchanged { OnErr result (KeepsWorkbook self.old self.new) }
         ensures err { IfErr result (AllTablesFail (sheets_of_book self.old)
             (P.state self.old.package) (P.state self.new.package)) }
-        ensures counts { IfErr result
-            (KeepsFaults Io (P.state self.old.package) (P.state self.new.package)) }
         ensures kind { IfErr result IsTablesError }
     {
         let sheets = &self.metadata.sheets;

@@ -3,6 +3,7 @@ ghost use Rattle.std.specs.Prelude.{MatchResult, IfOk, IfErr};
 ghost use Rattle.xlsx_error.specs.declared.error.XlsxError.TheVariants.{Io};
 ghost use Rattle.xlsx_open.specs.Opening.{Opening, HoldsOpening, OpensAs, OpensSoundly};
 ghost use Rattle.xlsx_open.specs.Opening.{IsOpeningError, OpensFrom, FailsToOpen, OpeningFails};
+ghost use Rattle.xlsx_open.specs.Opening.{LiesIn};
 ghost use Rattle.xlsx_sections.specs.Failing.{SoundFails};
 
 use crate::lists::Lists;
@@ -19,6 +20,7 @@ pub struct Xlsx<P: Package> {
     pub(crate) package: P,
     pub(crate) metadata: Metadata,
     pub(crate) paths: Vec<String>,
+    pub(crate) folder: String,
     pub(crate) shared: SharedParts,
     pub(crate) is_1904: bool,
     pub(crate) header_row: HeaderRow,
@@ -60,6 +62,9 @@ impl<P: Package> Xlsx<P> {
             old.is_told ≡ true → IfOk result (λ xlsx. (opening : Opening)
             × HoldsOpening xlsx.metadata xlsx.paths.items xlsx.shared xlsx.is_1904 opening
             × OpensAs old.parts opening) }
+        ensures folder { let old = P.state «package» in
+            old.is_told ≡ true → IfOk result (λ xlsx.
+            LiesIn old.parts (string_bytes xlsx.folder)) }
         ensures header_row { IfOk result (λ xlsx. xlsx.header_row ≡ FirstNonEmptyRow) }
         ensures regions { IfOk result (λ xlsx. xlsx.lists.regions ≡ None) }
         ensures properties { IfOk result (λ xlsx. xlsx.lists.properties ≡ None) }
@@ -77,6 +82,7 @@ impl<P: Package> Xlsx<P> {
                 package,
                 metadata: opened.metadata,
                 paths: opened.paths,
+                folder: opened.folder,
                 shared: opened.shared,
                 is_1904: opened.is_1904,
                 header_row: HeaderRow::FirstNonEmptyRow,
@@ -105,6 +111,7 @@ impl<P: Package> Xlsx<P> {
             package,
             metadata: _,
             paths: _,
+            folder: _,
             shared: _,
             is_1904: _,
             header_row: _,

@@ -76,6 +76,10 @@ HasPath parts path =
     IsSomeAnd (closed_section_of (codes "Relationships") (codes "_rels/.rels") parts)
     (λ inside. path_in inside ≡ Ok (Some path))
 
+-- the workbook's part lies in this folder
+abbrev pub LiesIn : List Part → List ℕ → Type 0
+LiesIn parts folder = (path : List ℕ) × HasPath parts path × (folder ≡ folder_of path)
+
 -- the workbook's relationships, each by its Id
 abbrev pub HasRelationships : List Part → List ℕ → (List ℕ → Option Related) → Type 0
 HasRelationships parts path related =

@@ -6,7 +6,8 @@ ghost use Rattle.xlsx_workbook.specs.Paths.{workbook_part, relationships_part};
 ghost use Rattle.xlsx_open.specs.Opening.{Opening, HoldsOpening, OpensAs, IsOpeningError};
 ghost use Rattle.xlsx_open.specs.Opening.{OpensPackage, WorkbookOpens, WorkbookFails, BookOpens};
 ghost use Rattle.xlsx_open.specs.Opening.{BookFails, OpeningFails, workbook_events, book_events};
-ghost use Rattle.xlsx_open.specs.Opening.{workbook_sections, TakesBook};
+ghost use Rattle.xlsx_open.specs.Opening.{workbook_sections, TakesBook, LiesIn};
+ghost use Rattle.xlsx_relationships.specs.Paths.{folder_of};
 ghost use Rattle.xlsx_open.specs.SharedParts.{shared_said};
 
 use crate::shared_parts::{SharedParts, read_shared};
@@ -37,6 +38,8 @@ pub struct Opened {
     pub metadata: Metadata,
     /// The path of the part of each sheet, in the order of the sheets.
     pub paths: Vec<String>,
+    /// The folder of the workbook's part, with the slash at its end.
+    pub folder: String,
     /// The shared strings, the theme and the styles.
     pub shared: SharedParts,
     pub is_1904: bool,
@@ -45,6 +48,7 @@ pub struct Opened {
 fn from_contents(
     alloc: Global,
     contents: WorkbookContents,
+    folder: &str,
     shared: SharedParts,
 ) -> Result<Opened, AllocError>
     ensures sheets { IfOk result (λ o.
@@ -52,6 +56,7 @@ fn from_contents(
     ensures paths { IfOk result (λ o.
         o.paths.items ≡ map (λ entry. entry.path) contents.entries.items) }
     ensures names { IfOk result (λ o. o.metadata.names.items ≡ contents.names.items) }
+    ensures folder { IfOk result (λ o. string_bytes o.folder ≡ folder.now) }
     ensures shared { IfOk result (λ o. o.shared ≡ shared) }
     ensures epoch { IfOk result (λ o. o.is_1904 ≡ unwrap_or contents.epoch false) }
 {
@@ -67,25 +72,29 @@ fn from_contents(
             names: contents.names,
         },
         paths,
+        folder: String::from_str(alloc, folder)?,
         shared,
         is_1904: contents.epoch.unwrap_or(false),
     })
 }
 
 /// What a workbook without a part of its own opens as.
-fn nothing_opened(alloc: Global, shared: SharedParts) -> Opened
-    ensures { HoldsOpening result.metadata result.paths.items result.shared result.is_1904
-        (record { sheets = []; names = []; shared = shared_said shared; is_1904 = false }) }
+fn nothing_opened(alloc: Global, folder: &str, shared: SharedParts) -> Result<Opened, AllocError>
+    ensures opened { IfOk result (λ o.
+        HoldsOpening o.metadata o.paths.items o.shared o.is_1904
+        (record { sheets = []; names = []; shared = shared_said shared; is_1904 = false })) }
+    ensures folder { IfOk result (λ o. string_bytes o.folder ≡ folder.now) }
 {
-    Opened {
+    Ok(Opened {
         metadata: Metadata {
             sheets: Vec::new(alloc),
             names: Vec::new(alloc),
         },
         paths: Vec::new(alloc),
+        folder: String::from_str(alloc, folder)?,
         shared,
         is_1904: false,
-    }
+    })
 }
 
 /// The workbook at this path, whose sheets share this.
@@ -107,6 +116,7 @@ fn open_workbook<P: Package>(
         × HoldsOpening o.metadata o.paths.items o.shared o.is_1904 opening
         × (opening.shared ≡ shared_said shared)
         × WorkbookOpens old.parts path.now opening) }
+    ensures folder { IfOk result (λ o. string_bytes o.folder ≡ folder_of path.now) }
     ensures err { let old = P.state «package».old in
         let new = P.state «package».new in
         IfErr result (WorkbookFails path.now old new) }
@@ -120,8 +130,8 @@ fn open_workbook<P: Package>(
         relationships: &relationships,
     };
     match read_contents(alloc, package, part.as_str(), places)? {
-        Some(contents) => Ok(from_contents(alloc, contents, shared)?),
-        None => Ok(nothing_opened(alloc, shared)),
+        Some(contents) => Ok(from_contents(alloc, contents, folder_of(path), shared)?),
+        None => Ok(nothing_opened(alloc, folder_of(path), shared)?),
     }
 }
 
@@ -137,6 +147,7 @@ fn open_at<P: Package>(alloc: Global, package: &mut P, path: &str) -> Result<Ope
         old.is_told ≡ true → IfOk result (λ o. (opening : Opening)
         × HoldsOpening o.metadata o.paths.items o.shared o.is_1904 opening
         × BookOpens old.parts path.now opening) }
+    ensures folder { IfOk result (λ o. string_bytes o.folder ≡ folder_of path.now) }
     ensures err { let old = P.state «package».old in
         let new = P.state «package».new in
         IfErr result (BookFails path.now old new) }
@@ -168,6 +179,8 @@ pub fn open<P: Package>(alloc: Global, package: &mut P) -> Result<Opened, XlsxEr
         old.is_told ≡ true → IfOk result (λ o. (opening : Opening)
         × HoldsOpening o.metadata o.paths.items o.shared o.is_1904 opening
         × OpensAs old.parts opening) }
+    ensures folder { let old = P.state «package».old in
+        old.is_told ≡ true → IfOk result (λ o. LiesIn old.parts (string_bytes o.folder)) }
     ensures err { let old = P.state «package».old in
         let new = P.state «package».new in
         IfErr result (OpeningFails old new) }

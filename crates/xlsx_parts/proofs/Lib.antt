@@ -1,6 +1,7 @@
 pub mod ElementsFound
 pub mod FirstStarts
 pub mod ManySaid
+pub mod SaidFrom
 pub mod SaidRead
 pub mod SoundParts
 pub mod StartLists

@@ -1,4 +1,5 @@
 pub mod PivotsKept
 pub mod PivotsRead
+pub mod PivotsTaken
 pub mod SoundPivots
 pub mod TargetsKept

@@ -11,6 +11,7 @@ use Rattle.xlsx_parts.specs.PartSaid.{section_said}
 use Rattle.xlsx_parts.specs.SheetPaths.{SheetPath}
 use Rattle.xlsx_parts.specs.WholePart.{IfThere}
 use Rattle.xlsx_parts.proofs.ManySaid.{no_some_cause}
+use Rattle.xlsx_parts.proofs.SaidFrom.{mapped_from, and_then_from}
 use Rattle.xlsx_parts.proofs.SoundParts.{no_said_cause, no_first_said_cause}
 use Rattle.xlsx_relationships.specs.Paths.{relationships_beside}
 use Rattle.xlsx_relationships.specs.RelatedParts.{related_parts, all_lead_to, target_path}
@@ -24,16 +25,6 @@ use Rattle.xlsx_pivots.specs.Targets.{definitions_type, records_type, definition
 use Rattle.xlsx_pivots.specs.Targets.{records_path, target_in, target_beside, TargetCause}
 use Rattle.xlsx_pivots.specs.declared.single.Single.{Single}
 use Rattle.xlsx_pivots.specs.declared.single.Single.TheVariants as single
-
-mapped_from : {A B : Type 0} (f : A → B) (found : Option A) (all : B)
-    → option_map f found ≡ Some all → (own : A) × (found ≡ Some own)
-mapped_from f None all is = absurd (cc)
-mapped_from f (Some own) all is = (own, refl)
-
-and_then_from : {A B : Type 0} (f : A → Option B) (found : Option A) (all : B)
-    → option_and_then f found ≡ Some all → (own : A) × (found ≡ Some own) × (f own ≡ Some all)
-and_then_from f None all is = absurd (cc)
-and_then_from f (Some own) all is = (own, refl, is)
 
 -- the one that is said isn't lacking
 one_said : (said : Option (Option (List ℕ))) (own : List ℕ) → only_one said ≡ Some own

@@ -1,13 +1,17 @@
 -- The pivot tables of the sheets of a workbook.
-use Rattle.std.specs.Prelude.{◌⊎◌, ℕ, List, [], ◌∷◌, codes, Option, option_map, option_and_then}
+use Rattle.std.specs.Prelude.{◌⊎◌, ℕ, ◌+◌, List, [], ◌∷◌, codes, Option, option_map, option_and_then}
 use Rattle.std.specs.Prelude.{MatchOption}
-use Rattle.part_events.specs.Package.{Part, part_of}
+use Rattle.std.specs.List.{sum_by}
+use Rattle.std.specs.Option.{option_map_or}
+use Rattle.part_events.specs.Package.{Part, part_of, event_count}
 use Rattle.xlsx_error.specs.declared.error.XlsxError.{XlsxError}
 use Rattle.xlsx_sections.specs.PartSection.{LacksPart}
+use Rattle.xlsx_sections.specs.SectionEvents.{section_events_of}
 use Rattle.xlsx_parts.specs.PartSaid.{all_said}
 use Rattle.xlsx_parts.specs.SheetPaths.{SheetPath}
 use Rattle.xlsx_parts.specs.WholePart.{IfThere, SomeCause}
-use Rattle.xlsx_relationships.specs.RelatedParts.{related_parts, RelatedCause}
+use Rattle.xlsx_relationships.specs.Paths.{relationships_beside}
+use Rattle.xlsx_relationships.specs.RelatedParts.{related_parts, sum_of_related, RelatedCause}
 use Rattle.xlsx_pivots.specs.PivotParts.{name_in_part, NameCause}
 use Rattle.xlsx_pivots.specs.Singles.{only_one}
 use Rattle.xlsx_pivots.specs.Targets.{definitions_type, records_type, definitions_at, records_at}
@@ -72,6 +76,44 @@ pivots_on parts folder sheet =
 -- those of many sheets, one after the other
 abbrev pub pivots_of : List Part → List ℕ → List SheetPath → Option (List PivotSaid)
 pivots_of parts folder sheets = all_said (pivots_on parts folder) sheets
+
+-- what counts of the parts come to in which a pivot table is said: of its own, of its relationships
+-- and, where these lead to definitions, of those beside them
+abbrev pub sum_of_pivot : (List ℕ → ℕ) → (List ℕ → ℕ) → List Part → List ℕ → ℕ
+sum_of_pivot own beside parts path =
+    own path + (beside (relationships_beside path)
+    + option_map_or (λ (there : List ℕ). beside (relationships_beside there))
+    (definitions_at parts path) 0)
+
+-- how many events are taken at most for the pivot table of the part at a path
+abbrev pub pivot_events : List Part → List ℕ → ℕ
+pivot_events parts path = sum_of_pivot (event_count parts) (event_count parts) parts path
+
+-- those up to the ends of the pivot table and of the sections of relationships
+abbrev pub pivot_sections : List Part → List ℕ → ℕ
+pivot_sections parts path =
+    sum_of_pivot (section_events_of (codes "pivotTableDefinition") parts)
+    (section_events_of (codes "Relationships") parts) parts path
+
+-- how many are taken at most for those of the sheet whose part is at a path
+abbrev pub sheet_events : List Part → List ℕ → ℕ
+sheet_events parts path =
+    event_count parts (relationships_beside path)
+    + sum_of_related (pivot_events parts) parts pivot_type path
+
+abbrev pub sheet_sections : List Part → List ℕ → ℕ
+sheet_sections parts path =
+    section_events_of (codes "Relationships") parts (relationships_beside path)
+    + sum_of_related (pivot_sections parts) parts pivot_type path
+
+-- and for those of many sheets
+abbrev pub all_pivot_events : List Part → List SheetPath → ℕ
+all_pivot_events parts sheets =
+    sum_by (λ (sheet : SheetPath). sheet_events parts sheet.path) sheets
+
+abbrev pub all_pivot_sections : List Part → List SheetPath → ℕ
+all_pivot_sections parts sheets =
+    sum_by (λ (sheet : SheetPath). sheet_sections parts sheet.path) sheets
 
 -- why the name of the part at a path can't be taken: the part is absent or refused
 abbrev pub NameAtCause : List Part → List ℕ → XlsxError → Type 0

@@ -10,6 +10,7 @@ ghost use Rattle.xlsx_sections.specs.Elements.{IsInsideRefused, ReachesEnd};
 ghost use Rattle.xlsx_sections.specs.Failing.{FailsBy};
 ghost use Rattle.xlsx_sections.specs.PartSection.{always, SectionFails};
 ghost use Rattle.xlsx_sections.specs.Refusal.{ElementFails, placed_at};
+ghost use Rattle.xlsx_sections.specs.SectionEvents.{ReadsToEnd, section_events};
 ghost use Rattle.xlsx_pivots.specs.PivotErrors.{IsPivotsError};
 ghost use Rattle.xlsx_pivots.specs.PivotParts.{name_kept, name_behind, name_in_part, NameCause};
 ghost use Rattle.xlsx_pivots.specs.Pivots.{name_at, NameAtCause};
@@ -93,6 +94,10 @@ fn name_in_part<P: Package>(
     ensures reads { let old = reading (P.state «package».old) cursor.old in
         let new = reading (P.state «package».new) cursor.new in
         ReadsPart Io result old new }
+    ensures ends { let old = reading (P.state «package».old) cursor.old in
+        let new = reading (P.state «package».new) cursor.new in
+        let count = section_events (codes "pivotTableDefinition") (events_of old) in
+        old.source.is_told ≡ true → OnOk result (new.at ≡ count) }
     ensures name { let old = reading (P.state «package».old) cursor.old in
         old.source.is_told ≡ true →
         IfOk result (λ name. name_in_part (events_of old) ≡ Some (Some (string_bytes name))) }
@@ -126,6 +131,8 @@ pub fn name_at<P: Package>(alloc: Global, package: &mut P, path: &str) -> Result
     ensures uses { let old = P.state «package».old in
         let new = P.state «package».new in
         Uses (event_count old.parts path.now) Io result old new }
+    ensures to_end { ReadsToEnd (codes "pivotTableDefinition") path.now result
+        (P.state «package».old) (P.state «package».new) }
     ensures name { let old = P.state «package».old in
         old.is_told ≡ true →
         IfOk result (λ name. name_at old.parts path.now ≡ Some (string_bytes name)) }

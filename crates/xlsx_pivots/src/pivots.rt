@@ -1,6 +1,7 @@
 ghost use Rattle.std.specs.Prelude.{◌≡◌, ◌++◌, List, map, string_bytes, true, Some, OnOk, IfOk};
 ghost use Rattle.std.specs.Prelude.{IfErr};
-ghost use Rattle.part_events.specs.Package.{SameParts, KeepsFaults};
+ghost use Rattle.std.specs.List.{sum_by};
+ghost use Rattle.part_events.specs.Package.{Uses, CountsUp};
 ghost use Rattle.xlsx_error.specs.declared.error.XlsxError.TheVariants.{Io};
 ghost use Rattle.xlsx_sections.specs.Failing.{FailsBy};
 ghost use Rattle.xlsx_parts.specs.SheetPaths.{sheet_at};
@@ -8,7 +9,9 @@ ghost use Rattle.xlsx_pivots.specs.PivotErrors.{IsPivotsError};
 ghost use Rattle.xlsx_pivots.specs.PivotTables.{pivot_kept, pivots_kept, sheet_given};
 ghost use Rattle.xlsx_pivots.specs.Pivots.{PivotSaid, pivot_at, pivots_at, pivots_by, pivots_on};
 ghost use Rattle.xlsx_pivots.specs.Pivots.{pivots_of, PivotCause, PivotsByCause, PivotsAtCause};
-ghost use Rattle.xlsx_pivots.specs.Pivots.{PivotsCause};
+ghost use Rattle.xlsx_pivots.specs.Pivots.{PivotsCause, pivot_events, pivot_sections};
+ghost use Rattle.xlsx_pivots.specs.Pivots.{sheet_events, sheet_sections, all_pivot_events};
+ghost use Rattle.xlsx_pivots.specs.Pivots.{all_pivot_sections};
 
 use crate::pivot_parts::name_at;
 use crate::pivot_tables::{PivotTable, PivotTables};
@@ -29,16 +32,18 @@ fn pivot_at<P: Package>(
     path: &str,
     folder: &str,
 ) -> Result<PivotTable, XlsxError>
-    ensures keeps { SameParts (P.state «package».old) (P.state «package».new) }
-    ensures faults { OnOk result
-        ((P.state «package».new).faults ≡ (P.state «package».old).faults) }
+    ensures uses { let old = P.state «package».old in
+        let new = P.state «package».new in
+        Uses (pivot_events old.parts path.now) Io result old new }
+    ensures to_end { let old = P.state «package».old in
+        let new = P.state «package».new in
+        let count = pivot_sections old.parts path.now in
+        old.is_told ≡ true → OnOk result (CountsUp count old.taken new.taken) }
     ensures pivot { let old = P.state «package».old in
         old.is_told ≡ true → IfOk result (λ pivot.
         pivot_at old.parts folder.now sheet.now path.now ≡ Some (pivot_kept pivot)) }
     ensures err { let old = P.state «package».old in
         IfErr result (FailsBy (PivotCause old.parts path.now) old (P.state «package».new)) }
-    ensures counts { IfErr result
-        (KeepsFaults Io (P.state «package».old) (P.state «package».new)) }
     ensures kind { IfErr result IsPivotsError }
 {
     let name = name_at(alloc, package, path)?;
@@ -61,17 +66,19 @@ fn push_pivot<P: Package>(
     path: &str,
     folder: &str,
 ) -> Result<(), XlsxError>
-    ensures keeps { SameParts (P.state «package».old) (P.state «package».new) }
-    ensures faults { OnOk result
-        ((P.state «package».new).faults ≡ (P.state «package».old).faults) }
+    ensures uses { let old = P.state «package».old in
+        let new = P.state «package».new in
+        Uses (pivot_events old.parts path.now) Io result old new }
+    ensures to_end { let old = P.state «package».old in
+        let new = P.state «package».new in
+        let count = pivot_sections old.parts path.now in
+        old.is_told ≡ true → OnOk result (CountsUp count old.taken new.taken) }
     ensures pivots { let old = P.state «package».old in
         old.is_told ≡ true → OnOk result ((found : List PivotSaid)
         × (pivots_at old.parts folder.now sheet.now path.now ≡ Some found)
         × (map pivot_kept pivots.new.items ≡ map pivot_kept pivots.old.items ++ found)) }
     ensures err { let old = P.state «package».old in
         IfErr result (FailsBy (PivotCause old.parts path.now) old (P.state «package».new)) }
-    ensures counts { IfErr result
-        (KeepsFaults Io (P.state «package».old) (P.state «package».new)) }
     ensures kind { IfErr result IsPivotsError }
 {
     let pivot = pivot_at(alloc, package, sheet, path, folder)?;
@@ -88,9 +95,13 @@ fn push_pivots<P: Package>(
     paths: &[String],
     folder: &str,
 ) -> Result<(), XlsxError>
-    ensures keeps { SameParts (P.state «package».old) (P.state «package».new) }
-    ensures faults { OnOk result
-        ((P.state «package».new).faults ≡ (P.state «package».old).faults) }
+    ensures uses { let old = P.state «package».old in
+        let new = P.state «package».new in
+        Uses (sum_by (pivot_events old.parts) (map string_bytes paths.now)) Io result old new }
+    ensures to_end { let old = P.state «package».old in
+        let new = P.state «package».new in
+        let count = sum_by (pivot_sections old.parts) (map string_bytes paths.now) in
+        old.is_told ≡ true → OnOk result (CountsUp count old.taken new.taken) }
     ensures pivots { let old = P.state «package».old in
         old.is_told ≡ true → OnOk result ((found : List PivotSaid)
         × (pivots_by old.parts folder.now sheet.now (map string_bytes paths.now) ≡ Some found)
@@ -98,8 +109,6 @@ fn push_pivots<P: Package>(
     ensures err { let old = P.state «package».old in
         IfErr result (FailsBy (PivotsByCause old.parts (map string_bytes paths.now)) old
         (P.state «package».new)) }
-    ensures counts { IfErr result
-        (KeepsFaults Io (P.state «package».old) (P.state «package».new)) }
     ensures kind { IfErr result IsPivotsError }
 {
     let mut left = paths;
@@ -120,17 +129,19 @@ fn push_sheet<P: Package>(
     path: &str,
     folder: &str,
 ) -> Result<(), XlsxError>
-    ensures keeps { SameParts (P.state «package».old) (P.state «package».new) }
-    ensures faults { OnOk result
-        ((P.state «package».new).faults ≡ (P.state «package».old).faults) }
+    ensures uses { let old = P.state «package».old in
+        let new = P.state «package».new in
+        Uses (sheet_events old.parts path.now) Io result old new }
+    ensures to_end { let old = P.state «package».old in
+        let new = P.state «package».new in
+        let count = sheet_sections old.parts path.now in
+        old.is_told ≡ true → OnOk result (CountsUp count old.taken new.taken) }
     ensures pivots { let old = P.state «package».old in
         old.is_told ≡ true → OnOk result ((found : List PivotSaid)
         × (pivots_on old.parts folder.now (sheet_at sheet.now path.now) ≡ Some found)
         × (map pivot_kept pivots.new.items ≡ map pivot_kept pivots.old.items ++ found)) }
     ensures err { let old = P.state «package».old in
         IfErr result (FailsBy (PivotsAtCause old.parts path.now) old (P.state «package».new)) }
-    ensures counts { IfErr result
-        (KeepsFaults Io (P.state «package».old) (P.state «package».new)) }
     ensures kind { IfErr result IsPivotsError }
 {
     let paths = related_parts(alloc, package, path, PIVOT_TYPE)?;
@@ -161,9 +172,13 @@ pub fn find_pivot_tables<P: Package>(
     sheets: &[(String, String)],
     xl_path: &str,
 ) -> Result<PivotTables, XlsxError>
-    ensures keeps { SameParts (P.state «package».old) (P.state «package».new) }
-    ensures faults { OnOk result
-        ((P.state «package».new).faults ≡ (P.state «package».old).faults) }
+    ensures uses { let old = P.state «package».old in
+        let new = P.state «package».new in
+        Uses (all_pivot_events old.parts (map sheet_given sheets.now)) Io result old new }
+    ensures to_end { let old = P.state «package».old in
+        let new = P.state «package».new in
+        let count = all_pivot_sections old.parts (map sheet_given sheets.now) in
+        old.is_told ≡ true → OnOk result (CountsUp count old.taken new.taken) }
     ensures pivots { let old = P.state «package».old in
         old.is_told ≡ true → IfOk result (λ found.
         pivots_of old.parts xl_path.now (map sheet_given sheets.now)
@@ -171,8 +186,6 @@ pub fn find_pivot_tables<P: Package>(
     ensures err { let old = P.state «package».old in
         IfErr result (FailsBy (PivotsCause old.parts (map sheet_given sheets.now)) old
         (P.state «package».new)) }
-    ensures counts { IfErr result
-        (KeepsFaults Io (P.state «package».old) (P.state «package».new)) }
     ensures kind { IfErr result IsPivotsError }
 {
     let mut pivots = Vec::new(alloc);

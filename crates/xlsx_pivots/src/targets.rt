@@ -3,12 +3,13 @@ ghost use Rattle.std.specs.Prelude.{string_bytes, IfOk, OnOk, IfErr};
 ghost use Rattle.part_events.specs.Event.{tag_of};
 ghost use Rattle.part_events.specs.Package.{Uses, event_count};
 ghost use Rattle.part_events.specs.Reading.{reading, open_elements, IsReading, ReadsPart};
-ghost use Rattle.part_events.specs.Walk.{section_ahead, is_closed_ahead};
+ghost use Rattle.part_events.specs.Walk.{section_ahead, is_closed_ahead, section_end};
 ghost use Rattle.xlsx_error.specs.declared.error.XlsxError.TheVariants.{Io};
 ghost use Rattle.xlsx_sections.specs.Elements.{IsInsideRefused};
 ghost use Rattle.xlsx_sections.specs.Failing.{FailsBy};
 ghost use Rattle.xlsx_sections.specs.PartSection.{always, SectionFails};
 ghost use Rattle.xlsx_sections.specs.Refusal.{ElementFails, placed_at};
+ghost use Rattle.xlsx_sections.specs.SectionEvents.{ReadsToEnd};
 ghost use Rattle.xlsx_relationships.specs.Paths.{relationships_beside};
 ghost use Rattle.xlsx_pivots.specs.PivotErrors.{IsPivotsError};
 ghost use Rattle.xlsx_pivots.specs.Targets.{counted, IsWritten, target_kept, target_in};
@@ -87,6 +88,9 @@ fn target_in<P: Package>(
         ReadsPart Io result old new }
     ensures closed { let old = reading (P.state «package».old) cursor.old in
         old.source.is_told ≡ true → OnOk result (is_closed_ahead base old ≡ true) }
+    ensures ends { let old = reading (P.state «package».old) cursor.old in
+        let new = reading (P.state «package».new) cursor.new in
+        old.source.is_told ≡ true → OnOk result (new.at ≡ suc (section_end base old)) }
     ensures target { let old = reading (P.state «package».old) cursor.old in
         old.source.is_told ≡ true → IfOk result (λ target.
         target_in wanted.now single (section_ahead base old)
@@ -123,6 +127,8 @@ fn target_beside<P: Package>(
     ensures uses { let old = P.state «package».old in
         let new = P.state «package».new in
         Uses (event_count old.parts (relationships_beside path.now)) Io result old new }
+    ensures to_end { ReadsToEnd (codes "Relationships") (relationships_beside path.now) result
+        (P.state «package».old) (P.state «package».new) }
     ensures target { let old = P.state «package».old in
         old.is_told ≡ true → IfOk result (λ target.
         target_beside old.parts wanted.now single path.now
@@ -158,6 +164,8 @@ pub fn definitions_at<P: Package>(
     ensures uses { let old = P.state «package».old in
         let new = P.state «package».new in
         Uses (event_count old.parts (relationships_beside path.now)) Io result old new }
+    ensures to_end { ReadsToEnd (codes "Relationships") (relationships_beside path.now) result
+        (P.state «package».old) (P.state «package».new) }
     ensures path { let old = P.state «package».old in
         old.is_told ≡ true → IfOk result (λ there.
         definitions_at old.parts path.now ≡ Some (string_bytes there)) }
@@ -204,6 +212,8 @@ pub fn records_at<P: Package>(
     ensures uses { let old = P.state «package».old in
         let new = P.state «package».new in
         Uses (event_count old.parts (relationships_beside path.now)) Io result old new }
+    ensures to_end { ReadsToEnd (codes "Relationships") (relationships_beside path.now) result
+        (P.state «package».old) (P.state «package».new) }
     ensures path { let old = P.state «package».old in
         old.is_told ≡ true → IfOk result (λ there.
         records_at old.parts folder.now path.now ≡ Some (string_bytes there)) }

@@ -2,7 +2,8 @@
 use Rattle.std.specs.Prelude.{ℕ, ◌-◌, List, [], ◌∷◌, ◌++◌, length, take, drop, nat_eq, codes}
 use Rattle.std.specs.Prelude.{if◌then◌else◌, Option, Some, None, unwrap_or, option_and_then}
 use Rattle.std.specs.Prelude.{Result, Ok, Err}
-use Rattle.std.specs.List.{starts_with}
+use Rattle.std.specs.List.{starts_with, sum_by}
+use Rattle.std.specs.Option.{option_map_or}
 use Rattle.std.specs.Str.{bytes_eq}
 use Rattle.attr_text.specs.Attributes.{lookup}
 use Rattle.attr_text.specs.declared.fault.AttrFault.{AttrFault}
@@ -79,6 +80,11 @@ abbrev pub related_parts : List Part → List ℕ → List ℕ → Option (List 
 related_parts parts wanted path =
     unless_absent [] (part_of parts (relationships_beside path))
     (part_said (codes "Relationships") (all_lead_to path wanted) parts (relationships_beside path))
+
+-- what a count of each part that they lead to comes to
+abbrev pub sum_of_related : (List ℕ → ℕ) → List Part → List ℕ → List ℕ → ℕ
+sum_of_related count parts wanted path =
+    option_map_or (sum_by count) (related_parts parts wanted path) 0
 
 -- why that can't be said
 abbrev pub RelatedCause : List Part → List ℕ → List ℕ → XlsxError → Type 0

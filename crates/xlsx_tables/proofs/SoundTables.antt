@@ -9,6 +9,7 @@ use Rattle.xlsx_parts.specs.PartSaid.{unless_absent}
 use Rattle.xlsx_parts.specs.SheetPaths.{SheetPath}
 use Rattle.xlsx_parts.specs.WholePart.{IfThere}
 use Rattle.xlsx_parts.proofs.ManySaid.{no_some_cause}
+use Rattle.xlsx_parts.proofs.SaidFrom.{mapped_from, and_then_from}
 use Rattle.xlsx_parts.proofs.SoundParts.{no_said_cause, no_first_said_cause}
 use Rattle.xlsx_relationships.specs.Paths.{relationships_beside}
 use Rattle.xlsx_relationships.specs.RelatedParts.{related_parts, all_lead_to}
@@ -22,11 +23,6 @@ pub no_table_cause : (events : List Event) (table : TableSaid) (error : XlsxErro
     → table_of events ≡ Some table → TableCause events error → ⊥
 no_table_cause events table error says cause =
     no_first_said_cause (codes "table") (codes "Table") table_said events error table says cause
-
-mapped_from : {A B : Type 0} (f : A → B) (found : Option A) (all : B)
-    → option_map f found ≡ Some all → (own : A) × (found ≡ Some own)
-mapped_from f None all is = absurd (cc)
-mapped_from f (Some own) all is = (own, refl)
 
 no_cause_at : (part : Option (List Event)) (error : XlsxError) (all : List TableSaid)
     → unless_absent [] part (option_map (λ (own : TableSaid). own ∷ [])
@@ -42,11 +38,6 @@ no_cause_by parts paths error all says cause =
     no_some_cause (table_at parts) (λ (own : List ℕ). IfThere TableCause (part_of parts own))
     paths error all
     (λ path own here there. no_cause_at (part_of parts path) error own here there) says cause
-
-and_then_from : {A B : Type 0} (f : A → Option B) (found : Option A) (all : B)
-    → option_and_then f found ≡ Some all → (own : A) × (found ≡ Some own) × (f own ≡ Some all)
-and_then_from f None all is = absurd (cc)
-and_then_from f (Some own) all is = (own, refl, is)
 
 no_tables_cause : (parts : List Part) (path : List ℕ) (error : XlsxError) (all : List TableSaid)
     → tables_at parts path ≡ Some all → TablesAtCause parts path error → ⊥

@@ -1,12 +1,15 @@
 -- The tables of the sheets of a workbook.
-use Rattle.std.specs.Prelude.{◌⊎◌, ℕ, List, [], ◌∷◌, map, codes, Option, option_map}
+use Rattle.std.specs.Prelude.{◌⊎◌, ℕ, ◌+◌, List, [], ◌∷◌, map, codes, Option, option_map}
 use Rattle.std.specs.Prelude.{option_and_then, MatchOption}
-use Rattle.part_events.specs.Package.{Part, part_of}
+use Rattle.std.specs.List.{sum_by}
+use Rattle.part_events.specs.Package.{Part, part_of, event_count}
 use Rattle.xlsx_error.specs.declared.error.XlsxError.{XlsxError}
+use Rattle.xlsx_sections.specs.SectionEvents.{section_events_of}
 use Rattle.xlsx_parts.specs.PartSaid.{unless_absent, all_said}
 use Rattle.xlsx_parts.specs.SheetPaths.{SheetPath}
 use Rattle.xlsx_parts.specs.WholePart.{IfThere, SomeCause}
-use Rattle.xlsx_relationships.specs.RelatedParts.{related_parts, RelatedCause}
+use Rattle.xlsx_relationships.specs.Paths.{relationships_beside}
+use Rattle.xlsx_relationships.specs.RelatedParts.{related_parts, sum_of_related, RelatedCause}
 use Rattle.xlsx_relationships.specs.RelationshipErrors.{IsRelatedError}
 use Rattle.xlsx_tables.specs.TableErrors.{TableCause, IsTableError}
 use Rattle.xlsx_tables.specs.TableParts.{TableSaid, table_of, table_kept}
@@ -45,6 +48,28 @@ tables_on parts sheet = option_map (map (table_of_sheet sheet.name)) (tables_at 
 -- those of many sheets, one after the other
 abbrev pub tables_of : List Part → List SheetPath → Option (List SheetTable)
 tables_of parts sheets = all_said (tables_on parts) sheets
+
+-- how many events are taken at most for those of a sheet: all of its relationships, and of the
+-- parts that they lead to
+abbrev pub table_events : List Part → List ℕ → ℕ
+table_events parts path =
+    event_count parts (relationships_beside path)
+    + sum_of_related (event_count parts) parts table_type path
+
+-- those up to the ends of the section of relationships, and of the tables
+abbrev pub table_sections : List Part → List ℕ → ℕ
+table_sections parts path =
+    section_events_of (codes "Relationships") parts (relationships_beside path)
+    + sum_of_related (section_events_of (codes "table") parts) parts table_type path
+
+-- those of many sheets
+abbrev pub all_table_events : List Part → List SheetPath → ℕ
+all_table_events parts sheets =
+    sum_by (λ (sheet : SheetPath). table_events parts sheet.path) sheets
+
+abbrev pub all_table_sections : List Part → List SheetPath → ℕ
+all_table_sections parts sheets =
+    sum_by (λ (sheet : SheetPath). table_sections parts sheet.path) sheets
 
 -- why those of the parts at some paths can't be taken: one that is there is refused
 abbrev pub TablesByCause : List Part → List (List ℕ) → XlsxError → Type 0

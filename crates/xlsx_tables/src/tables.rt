@@ -1,14 +1,17 @@
-ghost use Rattle.std.specs.Prelude.{◌≡◌, ◌++◌, List, map, string_bytes, true, Some, OnOk};
+ghost use Rattle.std.specs.Prelude.{◌≡◌, ◌++◌, List, map, string_bytes, true, Some, OnOk, codes};
 ghost use Rattle.std.specs.Prelude.{IfErr, IfSome, option_map, option_to_list};
+ghost use Rattle.std.specs.List.{sum_by};
 ghost use Rattle.cell_refs.specs.Positions.{are_sheet_bounds};
-ghost use Rattle.part_events.specs.Package.{SameParts, KeepsFaults, part_of};
+ghost use Rattle.part_events.specs.Package.{Uses, CountsUp, event_count, part_of};
 ghost use Rattle.xlsx_error.specs.declared.error.XlsxError.TheVariants.{Io};
 ghost use Rattle.xlsx_sections.specs.Failing.{FailsBy};
+ghost use Rattle.xlsx_sections.specs.SectionEvents.{ReadsToEnd, section_events_of};
 ghost use Rattle.xlsx_parts.specs.WholePart.{IfThere};
 ghost use Rattle.xlsx_tables.specs.TableErrors.{TableCause, IsTableError};
 ghost use Rattle.xlsx_tables.specs.TableParts.{TableSaid, table_kept};
 ghost use Rattle.xlsx_tables.specs.Tables.{table_at, tables_by, tables_at, TablesByCause};
 ghost use Rattle.xlsx_tables.specs.Tables.{TablesAtCause, IsTablesError, on_sheet, loaded_of};
+ghost use Rattle.xlsx_tables.specs.Tables.{table_events, table_sections};
 
 use crate::loaded::LoadedTable;
 use crate::table_part::{TablePart, read_table_at};
@@ -44,9 +47,11 @@ fn push_table<P: Package>(
     sheet: usize,
     path: &str,
 ) -> Result<(), XlsxError>
-    ensures keeps { SameParts (P.state «package».old) (P.state «package».new) }
-    ensures faults { OnOk result
-        ((P.state «package».new).faults ≡ (P.state «package».old).faults) }
+    ensures uses { let old = P.state «package».old in
+        let new = P.state «package».new in
+        Uses (event_count old.parts path.now) Io result old new }
+    ensures to_end { ReadsToEnd (codes "table") path.now result (P.state «package».old)
+        (P.state «package».new) }
     ensures tables { let old = P.state «package».old in
         old.is_told ≡ true → OnOk result ((found : List TableSaid)
         × (table_at old.parts path.now ≡ Some found)
@@ -55,8 +60,6 @@ fn push_table<P: Package>(
     ensures err { let old = P.state «package».old in
         IfErr result (FailsBy (IfThere TableCause (part_of old.parts path.now)) old
         (P.state «package».new)) }
-    ensures counts { IfErr result
-        (KeepsFaults Io (P.state «package».old) (P.state «package».new)) }
     ensures kind { IfErr result IsTableError }
 {
     let part = read_table_at(alloc, package, path)?;
@@ -72,9 +75,15 @@ fn push_tables<P: Package>(
     sheet: usize,
     paths: &[String],
 ) -> Result<(), XlsxError>
-    ensures keeps { SameParts (P.state «package».old) (P.state «package».new) }
-    ensures faults { OnOk result
-        ((P.state «package».new).faults ≡ (P.state «package».old).faults) }
+    ensures uses { let old = P.state «package».old in
+        let new = P.state «package».new in
+        let most = sum_by (event_count old.parts) (map string_bytes paths.now) in
+        Uses most Io result old new }
+    ensures to_end { let old = P.state «package».old in
+        let new = P.state «package».new in
+        let count = sum_by (section_events_of (codes "table") old.parts)
+        (map string_bytes paths.now) in
+        old.is_told ≡ true → OnOk result (CountsUp count old.taken new.taken) }
     ensures tables { let old = P.state «package».old in
         old.is_told ≡ true → OnOk result ((found : List TableSaid)
         × (tables_by old.parts (map string_bytes paths.now) ≡ Some found)
@@ -83,8 +92,6 @@ fn push_tables<P: Package>(
     ensures err { let old = P.state «package».old in
         IfErr result (FailsBy (TablesByCause old.parts (map string_bytes paths.now)) old
         (P.state «package».new)) }
-    ensures counts { IfErr result
-        (KeepsFaults Io (P.state «package».old) (P.state «package».new)) }
     ensures kind { IfErr result IsTableError }
 {
     let mut left = paths;
@@ -108,9 +115,13 @@ pub fn read_sheet_tables<P: Package>(
     sheet: usize,
     path: &str,
 ) -> Result<(), XlsxError>
-    ensures keeps { SameParts (P.state «package».old) (P.state «package».new) }
-    ensures faults { OnOk result
-        ((P.state «package».new).faults ≡ (P.state «package».old).faults) }
+    ensures uses { let old = P.state «package».old in
+        let new = P.state «package».new in
+        Uses (table_events old.parts path.now) Io result old new }
+    ensures to_end { let old = P.state «package».old in
+        let new = P.state «package».new in
+        let count = table_sections old.parts path.now in
+        old.is_told ≡ true → OnOk result (CountsUp count old.taken new.taken) }
     ensures tables { let old = P.state «package».old in
         old.is_told ≡ true → OnOk result ((found : List TableSaid)
         × (tables_at old.parts path.now ≡ Some found)
@@ -118,8 +129,6 @@ pub fn read_sheet_tables<P: Package>(
         ≡ map loaded_of tables.old.items ++ map (on_sheet sheet) found)) }
     ensures err { let old = P.state «package».old in
         IfErr result (FailsBy (TablesAtCause old.parts path.now) old (P.state «package».new)) }
-    ensures counts { IfErr result
-        (KeepsFaults Io (P.state «package».old) (P.state «package».new)) }
     ensures kind { IfErr result IsTablesError }
 {
     let paths = related_parts(alloc, package, path, TABLE_TYPE)?;

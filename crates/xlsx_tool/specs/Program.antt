@@ -19,6 +19,7 @@ help_text =
     ++ (codes "       xlsx_tool sheets < package.json\n"
     ++ (codes "       xlsx_tool names < package.json\n"
     ++ (codes "       xlsx_tool tables < package.json\n"
+    ++ (codes "       xlsx_tool pivots < package.json\n"
     ++ (codes "       xlsx_tool props < package.json\n\n"
     ++ (codes "One line is printed, of the worksheet NAME or of the workbook, for each\n\n"
     ++ (codes "  cells   cell with a value, a formula or a style: position, value, formula, fill\n"
@@ -29,9 +30,10 @@ help_text =
     ++ (codes "  sheets  sheet: its name, type, state\n"
     ++ (codes "  names   defined name: the name, its text\n"
     ++ (codes "  tables  table: its name, its sheet, the area of its data, its columns\n"
+    ++ (codes "  pivots  pivot table: its sheet, its name\n"
     ++ (codes "  props   property of the workbook: its name, its text\n\n"
     ++ codes "The fields of a line have tabs between them, and those of csv commas.\n"
-    ))))))))))))))))))
+    ))))))))))))))))))))
 
 abbrev pub version_text : List ℕ
 version_text = codes "xlsx_tool 0.1.0\n"

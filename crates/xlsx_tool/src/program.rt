@@ -24,6 +24,7 @@ Usage: xlsx_tool cells NAME < package.json
        xlsx_tool sheets < package.json
        xlsx_tool names < package.json
        xlsx_tool tables < package.json
+       xlsx_tool pivots < package.json
        xlsx_tool props < package.json
 
 One line is printed, of the worksheet NAME or of the workbook, for each
@@ -36,6 +37,7 @@ One line is printed, of the worksheet NAME or of the workbook, for each
   sheets  sheet: its name, type, state
   names   defined name: the name, its text
   tables  table: its name, its sheet, the area of its data, its columns
+  pivots  pivot table: its sheet, its name
   props   property of the workbook: its name, its text
 
 The fields of a line have tabs between them, and those of csv commas.

@@ -13,5 +13,6 @@ returns c = record {
         alike = c.sheets_are_read_alike.ensures.alike;
         tables = c.tables_have_no_cause_of_a_refusal.ensures.tables;
         areas = c.table_data_that_are_read_are_not_refused.ensures.values;
+        pivots = c.pivots_have_no_cause_of_a_refusal.ensures;
       });
 }

@@ -27,5 +27,5 @@ returns-clause-ok c =
     let opened = c.in_ok-xlsx.ensures.opens refl in
     opened_with c.args.package.parts opened.0 c.in_ok-xlsx.xlsx c.load_tables.new.self opened.2
     opened.1 c.in_ok-xlsx.ensures.uses.parts.parts c.in_ok-xlsx.ensures.header_row
-    c.load_tables.ensures.book c.load_tables.ensures.keeps.parts
+    c.load_tables.ensures.book c.in_ok-load_tables.ensures.uses.parts.parts
     (c.in_ok-load_tables.ensures.tables refl)

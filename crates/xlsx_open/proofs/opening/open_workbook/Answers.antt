@@ -61,8 +61,8 @@ returns-in-Some-clause-opened g c = λ told.
       ),
     )
 
-pub returns-clause-opened : goal.returns-clause-opened
-returns-clause-opened g c = λ told.
+pub returns-in-None-clause-opened : goal.returns-in-None-clause-opened
+returns-in-None-clause-opened g c = λ told.
     let old = g.P.Package.state c.args.package.now in
     let mid = g.P.Package.state c.read_relationships.new.package in
     let path = c.args.path.now in
@@ -82,7 +82,7 @@ returns-clause-opened g c = λ told.
     (sym (c.as_str-2.ensures.value ∙ c.in_ok-part-2.ensures)) ∙ absent
     in (
       record { sheets = []; names = []; shared = shared; is_1904 = false },
-      c.nothing_opened.ensures,
+      c.in_ok-nothing_opened-in-None.ensures.opened,
       refl,
       (related, has, has_nothing old.parts path related shared absent_here),
     )

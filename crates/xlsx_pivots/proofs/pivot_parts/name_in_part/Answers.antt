@@ -1,4 +1,5 @@
-use Rattle.std.proofs.Common.{◌≡◌, ℕ, Some, None, Err, codes, length, ap, ◌∙◌}
+use Rattle.std.proofs.Common.{◌≡◌, ℕ, suc, Some, None, Err, codes, length, ap, sym, ◌∙◌}
+use Rattle.part_events.specs.Walk.{section_end}
 use Rattle.std.proofs.Common.{subst, arith, option_map, string_bytes}
 use Rattle.part_events.specs.Event.{Tag, tag_of}
 use Rattle.part_events.specs.Reading.{reading, events_of}
@@ -11,7 +12,7 @@ use Rattle.xlsx_sections.proofs.Refused.{event_refused, refused_as}
 use Rattle.xlsx_sections.proofs.StartsSaid.{at_start}
 use Rattle.xlsx_parts.specs.FirstElement.{element_in, element_with, IsElementRefused}
 use Rattle.xlsx_parts.specs.FirstElement.{FirstElementCause}
-use Rattle.xlsx_parts.proofs.ElementsFound.{find_element_refused, element_refused}
+use Rattle.xlsx_parts.proofs.ElementsFound.{find_element_refused, element_refused, element_events}
 use Rattle.xlsx_pivots.specs.PivotParts.{name_kept, name_behind, name_said, name_in_part}
 use Rattle.xlsx_pivots.specs.Singles.{Lacks}
 use Rattle.xlsx_pivots.specs.declared.single.Single.TheVariants as single
@@ -81,3 +82,20 @@ returns-in_err-keep_names-clause-err g c =
     (IsElementRefused name_said tag) new error
     (λ refusal is. ap (changed_by (λ own. name_behind own (inside_of s)))
     (c.in_ok-keep_name.ensures.ok (length (inside_of s))) ∙ is) here)))
+
+pub returns-in-Some-kept-clause-ends : goal.returns-in-Some-kept-clause-ends
+returns-in-Some-kept-clause-ends g c = λ told.
+    let name = codes "pivotTableDefinition" in
+    let old = reading (g.P.Package.state c.args.package.now) c.args.cursor.now in
+    let mid = reading (g.P.Package.state c.find_element.new.package) c.find_element.new.cursor in
+    let new = reading (g.P.Package.state c.keep_names.new.package) c.keep_names.new.cursor in
+    let tag = tag_of c.start_tag.result in
+    let s = section_left (length mid.names) mid in
+    let still = c.in_ok-at.ensures.reads.moves.parts.is_told ∙ told in
+    let ends : new.at ≡ suc (section_end (length mid.names) mid) =
+    subst (λ (n : ℕ). new.at ≡ suc (section_end n mid)) c.depth-base.ensures
+    (c.in_ok-keep_names.ensures.reaches still).ends in
+    let there = at_start (λ (own : Tag). element_in name (events_of old)
+    ≡ Some (element_with own s)) c.start_tag.ensures
+    (rw c.in-Some.is at (c.in_ok-at.ensures.found told)) in
+    ends ∙ sym (element_events name (events_of old) (element_with tag s) there)

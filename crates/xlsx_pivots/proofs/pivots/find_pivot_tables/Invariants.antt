@@ -1,9 +1,9 @@
-use Rattle.std.proofs.Common.{◌≡◌, true, map, length, Some}
-use Rattle.part_events.specs.Package.{SameParts}
+use Rattle.std.proofs.Common.{◌≡◌, ◌+◌, ◌≤◌, true, map, length, Some}
+use Rattle.part_events.specs.Package.{SameParts, NeverFalls, CountsUp}
 use Rattle.xlsx_error.specs.declared.error.XlsxError.{XlsxError}
 use Rattle.xlsx_parts.specs.PartSaid.{put_together}
 use Rattle.xlsx_pivots.specs.PivotTables.{pivot_kept, sheet_given}
-use Rattle.xlsx_pivots.specs.Pivots.{pivots_of, PivotsCause}
+use Rattle.xlsx_pivots.specs.Pivots.{pivots_of, PivotsCause, all_pivot_events, all_pivot_sections}
 use Rattle.xlsx_pivots.proofs.pivots.find_pivot_tables.Given as goal
 
 abbrev pub invariant-sheets : goal.invariant-sheets
@@ -13,6 +13,15 @@ invariant-sheets g l =
     record {
       same : SameParts old now;
       faults : now.faults ≡ old.faults;
+      forward : NeverFalls old.taken now.taken;
+      taken :
+          old.is_told ≡ true →
+          now.taken + all_pivot_events old.parts (map sheet_given l.left)
+          ≤ old.taken + all_pivot_events old.parts (map sheet_given l.fn.sheets);
+      counts :
+          old.is_told ≡ true →
+          CountsUp (all_pivot_sections old.parts (map sheet_given l.fn.sheets)) old.taken
+          (now.taken + all_pivot_sections old.parts (map sheet_given l.left));
       said :
           old.is_told ≡ true →
           put_together (Some (map pivot_kept l.pivots.items))

@@ -1,6 +1,9 @@
-use Rattle.std.proofs.Common.{◌≡◌, ◌++◌, List, true, map, length, Some, string_bytes}
-use Rattle.part_events.specs.Package.{SameParts}
+use Rattle.std.proofs.Common.{◌≡◌, ◌+◌, ◌≤◌, ◌++◌, List, true, map, length, Some, string_bytes}
+use Rattle.std.proofs.Common.{codes}
+use Rattle.std.specs.List.{sum_by}
+use Rattle.part_events.specs.Package.{SameParts, NeverFalls, CountsUp, event_count}
 use Rattle.xlsx_error.specs.declared.error.XlsxError.{XlsxError}
+use Rattle.xlsx_sections.specs.SectionEvents.{section_events_of}
 use Rattle.xlsx_parts.specs.PartSaid.{put_together}
 use Rattle.xlsx_tables.specs.TableParts.{TableSaid}
 use Rattle.xlsx_tables.specs.Tables.{tables_by, TablesByCause, loaded_of, on_sheet}
@@ -13,6 +16,17 @@ invariant-paths g l =
     record {
       same : SameParts old now;
       faults : now.faults ≡ old.faults;
+      forward : NeverFalls old.taken now.taken;
+      taken :
+          old.is_told ≡ true →
+          now.taken + sum_by (event_count old.parts) (map string_bytes l.left)
+          ≤ old.taken + sum_by (event_count old.parts) (map string_bytes l.fn.paths);
+      counts :
+          old.is_told ≡ true →
+          CountsUp (sum_by (section_events_of (codes "table") old.parts)
+          (map string_bytes l.fn.paths)) old.taken
+          (now.taken + sum_by (section_events_of (codes "table") old.parts)
+          (map string_bytes l.left));
       said :
           old.is_told ≡ true → (found : List TableSaid)
           × (map loaded_of l.tables.items

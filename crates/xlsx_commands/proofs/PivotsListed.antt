@@ -1,0 +1,53 @@
+-- The pivot tables of a workbook that opened, and why they aren't had.
+use Rattle.std.proofs.Common.{◌≡◌, ◌∙◌, ap, sym, ℕ, List, Some, string_bytes}
+use Rattle.part_events.specs.Memory.{Contents}
+use Rattle.part_events.specs.Package.{Part}
+use Rattle.xlsx_error.specs.declared.error.XlsxError.{XlsxError}
+use Rattle.xlsx_parts.specs.SheetPaths.{SheetPath}
+use Rattle.xlsx_relationships.specs.Paths.{folder_of}
+use Rattle.xlsx_pivots.specs.Pivots.{PivotSaid, pivots_of, PivotsCause}
+use Rattle.xlsx_open.specs.Opening.{Opening, OpensAs, HoldsOpening, LiesIn}
+use Rattle.xlsx_open.proofs.Sound.{same_path}
+use Rattle.xlsx_core.specs.Merges.{sheets_of_book}
+use Rattle.xlsx_core.specs.declared.xlsx.Xlsx.{Xlsx}
+use Rattle.xlsx_commands.specs.PivotLists.{HasPivots, ListedPivotsCause}
+use Rattle.xlsx_commands.specs.SheetsOpened.{sheets_opened}
+use Rattle.xlsx_commands.proofs.NamedSheets.{OpeningsNever}
+use Rattle.xlsx_commands.proofs.SheetsOpened.{sheets_listed, sheets_never}
+
+-- what is found in the sheets of a workbook that opened
+pub has_pivots : (parts : List Part) (opening : Opening) (xlsx : Xlsx Contents)
+    (pivots : List PivotSaid) → OpensAs parts opening
+    → HoldsOpening xlsx.metadata xlsx.paths.items xlsx.shared xlsx.is_1904 opening
+    → LiesIn parts (string_bytes xlsx.folder) → xlsx.package.parts ≡ parts
+    → pivots_of xlsx.package.parts (string_bytes xlsx.folder) (sheets_of_book xlsx) ≡ Some pivots
+    → HasPivots parts pivots
+has_pivots parts opening xlsx pivots opens holds lies same found =
+    let folder : string_bytes xlsx.folder ≡ folder_of opens.path =
+    lies.2 ∙ ap folder_of (same_path parts lies.0 opens.path lies.1 opens.found) in
+    let sheets : sheets_of_book xlsx ≡ sheets_opened opening.sheets =
+    sheets_listed xlsx.metadata.sheets.items xlsx.paths.items opening.sheets holds.sheets
+    holds.paths in
+    record {
+      opening = opening;
+      opens = opens;
+      found = ap (pivots_of parts (folder_of opens.path)) (sym sheets)
+          ∙ ap (λ (own : List ℕ). pivots_of parts own (sheets_of_book xlsx)) (sym folder)
+          ∙ ap (λ (own : List Part). pivots_of own (string_bytes xlsx.folder)
+          (sheets_of_book xlsx)) (sym same)
+          ∙ found;
+    }
+
+-- pivot tables that are found aren't refused, as each is
+abbrev pub PivotsNever : Type 0
+PivotsNever =
+    (parts : List Part) (folder : List ℕ) (sheets : List SheetPath) (found : List PivotSaid)
+    (error : XlsxError)
+    → pivots_of parts folder sheets ≡ Some found → PivotsCause parts sheets error → ⊥
+
+pub pivots_never : (parts : List Part) (pivots : List PivotSaid) (error : XlsxError)
+    → OpeningsNever → PivotsNever → HasPivots parts pivots → ListedPivotsCause parts error → ⊥
+pivots_never parts pivots error opened never has cause =
+    sheets_never PivotsCause parts has.opening error opened has.opens
+    (never parts (folder_of has.opens.path) (sheets_opened has.opening.sheets) pivots error
+    has.found) cause

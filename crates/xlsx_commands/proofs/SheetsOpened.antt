@@ -1,0 +1,78 @@
+-- The sheets of a workbook that opened, and why what is asked of all isn't had.
+use Rattle.std.proofs.Common.{◌≡◌, ◌∙◌, inl, inr, ap, sym, subst, refl, ℕ, List, [], ◌∷◌, map}
+use Rattle.std.proofs.Common.{Bool, String, Global, string_bytes}
+use Rattle.part_events.specs.Memory.{Contents, state_of}
+use Rattle.part_events.specs.Package.{Part}
+use Rattle.xlsx_error.specs.declared.error.XlsxError.{XlsxError}
+use Rattle.xlsx_sections.specs.Failing.{FailsBy}
+use Rattle.xlsx_parts.specs.SheetPaths.{SheetPath, sheet_at}
+use Rattle.xlsx_workbook.specs.Sheets.{PlacedSheet}
+use Rattle.xlsx_workbook.specs.declared.sheet.Metadata.{Metadata}
+use Rattle.xlsx_workbook.specs.declared.sheet.Sheet.{Sheet}
+use Rattle.xlsx_open.specs.Opening.{Opening, OpensAs, HoldsOpening, OpeningCause, ListedSheet}
+use Rattle.xlsx_open.specs.Opening.{listed_sheet, without_path, OpeningFails}
+use Rattle.xlsx_open.specs.declared.shared_parts.SharedParts.{SharedParts}
+use Rattle.xlsx_core.specs.Merges.{sheet_paths}
+use Rattle.xlsx_core.proofs.SheetLaws.{are_alike}
+use Rattle.xlsx_commands.specs.Outputs.{CallFails}
+use Rattle.xlsx_commands.specs.SheetsOpened.{sheets_opened, ListedCause}
+use Rattle.xlsx_commands.specs.Status.{of_workbook}
+use Rattle.xlsx_commands.proofs.MemoryCalls.{memory_fails}
+use Rattle.xlsx_commands.proofs.NamedSheets.{OpeningsNever}
+
+-- the lists of a workbook that opened are the sheets of the opening
+pub sheets_listed : (sheets : List Sheet) (paths : List (String Global)) (placed : List PlacedSheet)
+    → map listed_sheet sheets ≡ map without_path placed
+    → map string_bytes paths ≡ map (λ (sheet : PlacedSheet). sheet.path) placed
+    → sheet_paths sheets paths ≡ sheets_opened placed
+sheets_listed [] paths [] listed there = refl
+sheets_listed [] paths (own ∷ placed) listed there = absurd (cc)
+sheets_listed (sheet ∷ sheets) paths [] listed there = absurd (cc)
+sheets_listed (sheet ∷ sheets) [] (own ∷ placed) listed there = absurd (cc)
+sheets_listed (sheet ∷ sheets) (path ∷ paths) (own ∷ placed) listed there =
+    let head : listed_sheet sheet ≡ without_path own = cc in
+    let named : string_bytes sheet.name ≡ own.name = ap (λ (one : ListedSheet). one.name) head in
+    let others : map listed_sheet sheets ≡ map without_path placed = cc in
+    let here : string_bytes path ≡ own.path = cc in
+    let further : map string_bytes paths ≡ map (λ (one : PlacedSheet). one.path) placed = cc in
+    ap (λ (one : List ℕ). sheet_at one (string_bytes path) ∷ sheet_paths sheets paths) named
+    ∙ ap (λ (one : List ℕ). sheet_at own.name one ∷ sheet_paths sheets paths) here
+    ∙ ap (λ (rest : List SheetPath). sheet_at own.name own.path ∷ rest)
+    (sheets_listed sheets paths placed others further)
+
+-- what is asked of all sheets is refused
+pub listing_fails : {metadata : Metadata} {paths : List (String Global)} {shared : SharedParts}
+    {is_1904 : Bool} (cause_of : List Part → List SheetPath → XlsxError → Type 0)
+    (opening : Opening) (old mid new : Contents) (error : XlsxError)
+    → HoldsOpening metadata paths shared is_1904 opening → OpensAs old.parts opening
+    → mid.parts ≡ old.parts
+    → FailsBy (cause_of mid.parts (sheet_paths metadata.sheets.items paths)) (state_of mid)
+    (state_of new) error → CallFails (ListedCause cause_of old.parts) (of_workbook error)
+listing_fails {metadata = metadata} {paths = paths} cause_of opening old mid new error holds opens
+    same fails =
+    let sheets = sheet_paths metadata.sheets.items paths in
+    memory_fails (ListedCause cause_of old.parts) (cause_of mid.parts sheets) mid new error
+    (λ cause. inr (record {
+      opening = opening;
+      opens = opens;
+      cause = subst (λ (own : List SheetPath). cause_of old.parts own error)
+          (sheets_listed metadata.sheets.items paths opening.sheets holds.sheets holds.paths)
+          (subst (λ (own : List Part). cause_of own sheets error) same cause);
+    })) fails
+
+-- the sheets of a workbook are had once
+pub same_sheets : (parts : List Part) (one two : Opening) → OpensAs parts one
+    → OpensAs parts two → sheets_opened one.sheets ≡ sheets_opened two.sheets
+same_sheets parts one two first second =
+    ap sheets_opened (are_alike parts one two first second).sheets
+
+-- what is had of all sheets isn't refused
+pub sheets_never : (cause_of : List Part → List SheetPath → XlsxError → Type 0)
+    (parts : List Part) (opening : Opening) (error : XlsxError) → OpeningsNever
+    → OpensAs parts opening → (cause_of parts (sheets_opened opening.sheets) error → ⊥)
+    → ListedCause cause_of parts error → ⊥
+sheets_never cause_of parts opening error opened opens never (inl why) =
+    opened parts opening error opens why
+sheets_never cause_of parts opening error opened opens never (inr why) =
+    never (subst (λ (own : List SheetPath). cause_of parts own error)
+    (same_sheets parts why.opening opening why.opens opens) why.cause)

@@ -1,0 +1,32 @@
+-- What `pivots` prints of a workbook, and why it can't.
+use Rattle.std.specs.Prelude.{◌≡◌, ℕ, List, Some}
+use Rattle.std.specs.List.{flat_map}
+use Rattle.list_lines.specs.Lines.{pair_line}
+use Rattle.part_events.specs.Package.{Part}
+use Rattle.xlsx_error.specs.declared.error.XlsxError.{XlsxError}
+use Rattle.xlsx_relationships.specs.Paths.{folder_of}
+use Rattle.xlsx_pivots.specs.PivotTables.{pairs_of}
+use Rattle.xlsx_pivots.specs.Pivots.{PivotSaid, pivots_of, PivotsCause}
+use Rattle.xlsx_open.specs.Opening.{Opening, OpensAs}
+use Rattle.xlsx_commands.specs.SheetsOpened.{sheets_opened, ListedCause}
+
+-- the workbook opens, and its sheets have these pivot tables
+pub record HasPivots (parts : List Part) (pivots : List PivotSaid) : Type 0 where
+  pub opening : Opening
+  pub opens : OpensAs parts opening
+  pub found :
+      pivots_of parts (folder_of opens.path) (sheets_opened opening.sheets) ≡ Some pivots
+
+-- why its pivot tables aren't had
+abbrev pub ListedPivotsCause : List Part → XlsxError → Type 0
+ListedPivotsCause parts error = ListedCause PivotsCause parts error
+
+-- the line of each pivot table, by the name of its sheet and its own
+abbrev pub pivot_lines : List (List ℕ × List ℕ) → List ℕ
+pivot_lines pairs = flat_map (λ pair. pair_line pair.0 pair.1) pairs
+
+-- these are the lines of the pivot tables
+pub record ArePivotLines (parts : List Part) (lines : List ℕ) : Type 0 where
+  pub pivots : List PivotSaid
+  pub has : HasPivots parts pivots
+  pub listed : lines ≡ pivot_lines (pairs_of pivots)

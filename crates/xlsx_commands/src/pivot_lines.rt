@@ -1,0 +1,31 @@
+ghost use Rattle.std.specs.Prelude.{◌≡◌, string_bytes, IfOk, IfErr};
+ghost use Rattle.xlsx_pivots.specs.PivotTables.{pairs_of, pivots_kept};
+ghost use Rattle.xlsx_commands.specs.Outputs.{CallFails};
+ghost use Rattle.xlsx_commands.specs.PivotLists.{ListedPivotsCause, pivot_lines, ArePivotLines};
+
+use crate::error::ToolError;
+use list_lines::push_pair_line;
+use part_events::MemoryPackage;
+use std::alloc::{AllocError, Global};
+use xlsx_core::{PivotTables, Xlsx};
+
+fn lines_of_pivots(alloc: Global, pivots: &PivotTables) -> Result<String, AllocError>
+    ensures { IfOk result (λ out.
+        string_bytes out ≡ pivot_lines (pairs_of (pivots_kept pivots.now))) }
+{
+    let mut out = String::new(alloc);
+    'pivots: for pair in pivots.get_pivot_tables_by_name_and_sheet() {
+        push_pair_line(&mut out, pair.0, pair.1)?;
+    }
+    Ok(out)
+}
+
+/// A line for each pivot table of the workbook.
+pub fn pivot_lines(alloc: Global, package: MemoryPackage) -> Result<Vec<u8>, ToolError>
+    ensures ok { IfOk result (λ output. ArePivotLines «package».parts output.items) }
+    ensures err { IfErr result (CallFails (ListedPivotsCause «package».parts)) }
+{
+    let mut xlsx = Xlsx::new(alloc, package)?;
+    let pivots = xlsx.pivot_tables()?;
+    Ok(lines_of_pivots(alloc, &pivots)?.into_bytes())
+}
