@@ -1,9 +1,10 @@
-use Rattle.std.proofs.Common.{◌≡◌, ℕ, List, true, ◌∙◌, subst, string_bytes}
+use Rattle.std.proofs.Common.{◌≡◌, ℕ, List, true, ◌∙◌, ap, subst, string_bytes}
 use Rattle.std.specs.Prelude.{OnOk}
 use Rattle.std.proofs.lemmas.Result.{err_from_is_err_and, IfOk-weaker, IfErr-weaker}
 use Rattle.part_events.specs.Package.{Uses}
 use Rattle.xlsx_error.specs.declared.error.XlsxError.TheVariants.{Io}
-use Rattle.xlsx_open.specs.Opening.{Opening, HoldsOpening, OpensAs, OpeningFails}
+use Rattle.xlsx_relationships.specs.Paths.{folder_of}
+use Rattle.xlsx_open.specs.Opening.{Opening, HoldsOpening, OpensAs, OpeningFails, LiesIn}
 use Rattle.xlsx_open.specs.Opening.{BookOpens, BookFails, book_events, TakesBook}
 use Rattle.xlsx_open.proofs.Openings.{root_fails, opens_as, book_fails, opens_package}
 use Rattle.xlsx_open.proofs.opening.open.Goals as goal
@@ -59,3 +60,12 @@ returns-clause-err g c =
     (λ e fails. book_fails old mid new path e uses.parts c.in_ok-path.ensures.path
     (subst (λ (own : List ℕ). BookFails own mid new e) c.as_str.ensures.value fails))
     c.open_at.ensures.err
+
+pub returns-clause-folder : goal.returns-clause-folder
+returns-clause-folder g c = λ told.
+    let old = g.P.Package.state c.args.package.now in
+    let path = string_bytes c.in_ok-path.path in
+    IfOk-weaker c.open_at.result (λ o. string_bytes o.folder ≡ folder_of c.as_str.result.now)
+    (λ o. LiesIn old.parts (string_bytes o.folder))
+    (λ o is. (path, c.in_ok-path.ensures.path told, is ∙ ap folder_of c.as_str.ensures.value))
+    c.open_at.ensures.folder

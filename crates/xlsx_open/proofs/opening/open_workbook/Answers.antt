@@ -61,8 +61,8 @@ returns-in-Some-clause-opened g c = λ told.
       ),
     )
 
-pub returns-in-None-clause-opened : goal.returns-in-None-clause-opened
-returns-in-None-clause-opened g c = λ told.
+pub returns-clause-opened : goal.returns-clause-opened
+returns-clause-opened g c = λ told.
     let old = g.P.Package.state c.args.package.now in
     let mid = g.P.Package.state c.read_relationships.new.package in
     let path = c.args.path.now in
