@@ -1,6 +1,6 @@
 #!/usr/bin/env python3
-"""Measures `merges S`, `links S` and `props` of xlsx_tool beside json.load of the same text, and
-prints a table for each list (docs/PERFORMANCE.md)."""
+"""Measures `merges S`, `links S`, `props`, `tables`, `table T1` and `pivots` of xlsx_tool beside
+json.load of the same text, and prints a table for each list (docs/PERFORMANCE.md)."""
 
 import argparse
 import os
@@ -8,6 +8,7 @@ import tempfile
 
 from cells import FRAME, cell_events, text_child
 from measure import (
+    OFFICE,
     TYPES,
     Listing,
     Measured,
@@ -17,6 +18,7 @@ from measure import (
     growth_of,
     head_of,
     program_of,
+    relationships,
     start,
     table,
     write_part,
@@ -51,7 +53,7 @@ def merge_lines(count):
 class Merges:
     """Areas of merged cells."""
 
-    command, count = "merges", 250_000
+    words, count = ["merges", "S"], 250_000
 
     def parts(self, count):
         yield "xl/worksheets/sheet1.xml", sheet_part(merged_cells(count))
@@ -63,7 +65,7 @@ class Merges:
 class MergesBehindCells:
     """Ten areas of merged cells behind so many cells."""
 
-    command, count, areas = "merges", 100_000, 10
+    words, count, areas = ["merges", "S"], 100_000, 10
 
     def cells(self, count):
         yield start("sheetData")
@@ -85,7 +87,7 @@ class MergesBehindCells:
 class Links:
     """Links, over as many relationships, in the other order."""
 
-    command, count = "links", 65_530
+    words, count = ["links", "S"], 65_530
 
     def target(self, number):
         return f"https://example.com/item?number={number}"
@@ -116,7 +118,7 @@ class Links:
 class Properties:
     """Names that users gave, in no order."""
 
-    command, count = "props", 200_000
+    words, count = ["props"], 200_000
 
     def name(self, place, count):
         # 7919 is a prime, so no two of fewer places have one name.
@@ -139,22 +141,146 @@ class Properties:
             yield f"custom:Property {place:06}\t=text of Property {place:06}\n"
 
 
+def rows_of(count):
+    """Rows of three numbers each."""
+    yield start("sheetData")
+    for row in range(1, count + 1):
+        yield start("row", f' r="{row}"')
+        for column in "ABC":
+            yield from cell_events(f' r="{column}{row}"', text_child("v", f"{row}.25"))
+        yield end("row")
+    yield end("sheetData")
+
+
+def table_part(number, area, columns):
+    yield start("table", f' id="{number}" displayName="T{number}" ref="{area}"')
+    yield start("tableColumns", f' count="{len(columns)}"')
+    for place, column in enumerate(columns, 1):
+        yield from element("tableColumn", f' id="{place}" name="{column}"')
+    yield end("tableColumns")
+    yield end("table")
+
+
+def part_of_table(number):
+    return f"xl/tables/table{number}.xml"
+
+
+class TableData:
+    """The values of a table of so many rows, in a sheet of twice as many."""
+
+    words, count = ["table", "T1"], 100_000
+
+    def parts(self, count):
+        related = relationships([("table", "../tables/table1.xml")])
+        yield "xl/worksheets/_rels/sheet1.xml.rels", related
+        yield part_of_table(1), table_part(1, f"A1:C{count + 1}", ("One", "Two", "Three"))
+        yield "xl/worksheets/sheet1.xml", sheet_part(rows_of(2 * count))
+
+    def lines(self, count):
+        for row in range(2, count + 2):
+            for column in "ABC":
+                yield f"{column}{row}\tn:{row}.25\n"
+
+
+class Tables:
+    """Tables of 20 columns on one sheet."""
+
+    words, count = ["tables"], 2_000
+    columns = [f"Column &amp; {place}" for place in range(1, 21)]
+
+    def parts(self, count):
+        targets = [("table", f"../tables/table{number}.xml") for number in range(1, count + 1)]
+        yield "xl/worksheets/_rels/sheet1.xml.rels", relationships(targets)
+        for number in range(1, count + 1):
+            yield part_of_table(number), table_part(number, f"A1:T{number + 1}", self.columns)
+        yield "xl/worksheets/sheet1.xml", sheet_part(rows_of(1))
+
+    def lines(self, count):
+        names = "".join(f"\tColumn & {place}" for place in range(1, 21))
+        for number in range(1, count + 1):
+            yield f"T{number}\tS\tA2:T{number + 1}{names}\n"
+
+
+class TablesOfSheets:
+    """Sheets with a table and a pivot table each: the tables."""
+
+    words, count = ["tables"], 4_000
+
+    def frame(self, count):
+        numbers = range(1, count + 1)
+        sheets = [("worksheet", f"worksheets/sheet{number}.xml") for number in numbers]
+        yield OFFICE
+        yield "xl/_rels/workbook.xml.rels", relationships(sheets)
+        yield "xl/workbook.xml", self.workbook(count)
+
+    def workbook(self, count):
+        yield start("workbook")
+        yield start("sheets")
+        for number in range(1, count + 1):
+            own = f' name="Sheet {number}" sheetId="{number}" r:id="rId{number}"'
+            yield from element("sheet", own)
+        yield end("sheets")
+        yield end("workbook")
+
+    def parts(self, count):
+        for number in range(1, count + 1):
+            related = [
+                ("table", f"../tables/table{number}.xml"),
+                ("pivotTable", f"../pivotTables/pivotTable{number}.xml"),
+            ]
+            yield f"xl/worksheets/_rels/sheet{number}.xml.rels", relationships(related)
+            yield f"xl/worksheets/sheet{number}.xml", sheet_part(rows_of(1))
+            yield part_of_table(number), table_part(number, "A1:C9", ("One", "Two", "Three"))
+            yield from self.pivot_parts(number)
+
+    def pivot_parts(self, number):
+        path = f"pivotTable{number}.xml"
+        yield f"xl/pivotTables/{path}", element("pivotTableDefinition", f' name="P{number}"')
+        cache = f"pivotCacheDefinition{number}.xml"
+        related = [("pivotCacheDefinition", f"../pivotCache/{cache}")]
+        yield f"xl/pivotTables/_rels/{path}.rels", relationships(related)
+        related = [("pivotCacheRecords", f"pivotCacheRecords{number}.xml")]
+        yield f"xl/pivotCache/_rels/{cache}.rels", relationships(related)
+
+    def lines(self, count):
+        for number in range(1, count + 1):
+            yield f"T{number}\tSheet {number}\tA2:C9\tOne\tTwo\tThree\n"
+
+
+class PivotsOfSheets(TablesOfSheets):
+    """Sheets with a table and a pivot table each: the pivot tables."""
+
+    words = ["pivots"]
+
+    def lines(self, count):
+        for number in range(1, count + 1):
+            yield f"Sheet {number}\tP{number}\n"
+
+
 LISTS = {
     "merges": Merges,
     "links": Links,
     "properties": Properties,
     "merges_behind_cells": MergesBehindCells,
+    "table": TableData,
+    "tables": Tables,
+    "tables_of_sheets": TablesOfSheets,
+    "pivots_of_sheets": PivotsOfSheets,
 }
+
+
+def frame_of(kind, count):
+    """The parts of the workbook before those of its lists."""
+    return kind.frame(count) if hasattr(kind, "frame") else FRAME
 
 
 class Size(Measured):
     def __init__(self, folder, program, name, kind, rows):
-        sheet = [] if kind.command == "props" else ["S"]
-        super().__init__(folder, f"{name}-{rows}", [program, kind.command, *sheet])
+        super().__init__(folder, f"{name}-{rows}", [program, *kind.words])
         self.rows, self.listing = rows, Listing()
         with open(self.package, "w", encoding="ascii", newline="") as out:
             out.write('{"version":1,"parts":[')
-            for place, part in enumerate([*FRAME, *kind.parts(rows)]):
+            for place, part in enumerate([*frame_of(kind, rows), *kind.parts(rows)]):
                 out.write("," if place else "")
                 write_part(out, *part)
             out.write("]}")

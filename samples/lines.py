@@ -133,6 +133,23 @@ def properties():
         yield f"{name}\t={text}\n"
 
 
+def tables():
+    """Of each its name, its sheet, the area of its data and its columns."""
+    yield "Sales\tGoods & prices\tA2:B3\tLine_x000a_break\tQty\n"
+    yield "Rates\tGoods & prices\tD3:E4\tColumn1\tColumn2\n"
+    yield "Words\tNotes\tB3:C3\tKey\tText\n"
+
+
+def table_of_sales():
+    for place, value in (("A2", "s:nut"), ("B2", "n:3"), ("A3", "s:bolt"), ("B3", "n:2.5")):
+        yield f"{place}\t{value}\n"
+
+
+def table_of_rates():
+    for place, number in (("D3", 1), ("E3", 2), ("D4", 3), ("E4", 4)):
+        yield f"{place}\tn:{number}\n"
+
+
 def libreoffice():
     for place, text in (("A1", "name"), ("B1", "amount"), ("C1", "date")):
         yield line(place, f"s:{text}")
@@ -174,6 +191,10 @@ LINES = {
     "inline_strings": inline_strings(),
     "chart_sheet": chart_sheet(),
     "shared_formulas": shared_formulas(),
+    "pivot_table.pivots": ["Report\tSold & paid\n"],
+    "tables.tables": tables(),
+    "tables.table": table_of_sales(),
+    "tables.table_of_Rates": table_of_rates(),
     "tables_links_and_merges": tables_links_and_merges(),
     "tables_links_and_merges.merges": ["A8:B9\n"],
     "tables_links_and_merges.merges_of_T": ["A1:C1\n", "A2:A3\n"],

@@ -19,7 +19,7 @@ from openpyxl.writer.theme import theme_xml
 HERE = pathlib.Path(__file__).resolve().parent
 sys.path.insert(0, str(HERE.parent / "tools"))
 
-from fixtures import MIXED, MIXED_LINES, archive
+from fixtures import MIXED, MIXED_LINES, archive, relationships, with_sheets
 
 MADE = datetime.datetime(2024, 1, 2, 3, 4, 5)
 
@@ -172,6 +172,66 @@ def tables_links_and_merges():
     replaced(name, "xl/worksheets/sheet1.xml", b'hyperlink ref="A8"', b'hyperlink ref="A8:B9"')
 
 
+def tables():
+    """Three tables on two sheets: one with totals and a line break in the name of a column, one
+    without a header row, and one of a single row."""
+    name = "tables.xlsx"
+    book = written(name)
+    sheet, other = book.add_worksheet("Goods & prices"), book.add_worksheet("Notes")
+    names = [{"header": "Line\nbreak", "total_string": "Total"}, {"header": "Qty"}]
+    data = [["nut", 3], ["bolt", 2.5]]
+    sheet.add_table("A1:B4", {"name": "Sales", "columns": names, "data": data, "total_row": True})
+    sheet.add_table("D3:E4", {"name": "Rates", "header_row": False, "data": [[1, 2], [3, 4]]})
+    names = [{"header": "Key"}, {"header": "Text"}]
+    other.add_table("B2:C3", {"name": "Words", "columns": names, "data": [[True, "a\tb"]]})
+    book.close()
+    # A spreadsheet program escapes a line break there as in cells; XlsxWriter refers to it.
+    replaced(name, "xl/tables/table1.xml", b"Line&#xA;break", b"Line_x000a_break")
+
+
+# The parts of a pivot table on the second of two sheets, as spreadsheet programs write them: its
+# cache has texts, numbers, a date, truth values and a blank.
+PIVOT = {
+    **with_sheets(('name="Data" sheetId="1"', "worksheet"), ('name="Report" sheetId="2"', "worksheet")),
+    "xl/worksheets/sheet1.xml": "<worksheet><sheetData/></worksheet>",
+    "xl/worksheets/sheet2.xml": "<worksheet><sheetData/></worksheet>",
+    "xl/worksheets/_rels/sheet2.xml.rels": relationships(
+        ("pivotTable", "../pivotTables/pivotTable1.xml")
+    ),
+    "xl/pivotTables/pivotTable1.xml": (
+        '<pivotTableDefinition name="Sold &amp; paid" cacheId="1" dataCaption="Values">'
+        '<location ref="A3:B6" firstHeaderRow="1" firstDataRow="1" firstDataCol="1"/>'
+        '<pivotFields count="4"><pivotField axis="axisRow"/><pivotField/><pivotField/>'
+        "<pivotField/></pivotFields></pivotTableDefinition>"
+    ),
+    "xl/pivotTables/_rels/pivotTable1.xml.rels": relationships(
+        ("pivotCacheDefinition", "../pivotCache/pivotCacheDefinition1.xml")
+    ),
+    "xl/pivotCache/_rels/pivotCacheDefinition1.xml.rels": relationships(
+        ("pivotCacheRecords", "pivotCacheRecords1.xml")
+    ),
+    "xl/pivotCache/pivotCacheDefinition1.xml": (
+        '<pivotCacheDefinition r:id="rId1" recordCount="3"><cacheSource type="worksheet">'
+        '<worksheetSource ref="A1:D4" sheet="Data"/></cacheSource><cacheFields count="4">'
+        '<cacheField name="Item"><sharedItems count="2"><s v="nut"/><s v="bolt"/></sharedItems>'
+        '</cacheField><cacheField name="Price"><sharedItems containsNumber="1"/></cacheField>'
+        '<cacheField name="Sold on"><sharedItems count="2"><d v="2024-01-02T00:00:00"/><m/>'
+        '</sharedItems></cacheField><cacheField name="Paid"><sharedItems/></cacheField>'
+        "</cacheFields></pivotCacheDefinition>"
+    ),
+    "xl/pivotCache/pivotCacheRecords1.xml": (
+        '<pivotCacheRecords count="3"><r><x v="1"/><n v="3"/><x v="0"/><b v="1"/></r>'
+        '<r><x v="0"/><n v="2.50"/><x v="1"/><b v="0"/></r>'
+        '<r><x v="0"/><m/><x v="0"/><e v="#N/A"/></r></pivotCacheRecords>'
+    ),
+}
+
+
+def pivot_table():
+    """A pivot table, with its cache, and no cell."""
+    (HERE / "pivot_table.xlsx").write_bytes(archive(PIVOT))
+
+
 # Comma-separated values, as LibreOffice opens them.
 VALUES = '''\
 name,amount,date
@@ -200,6 +260,8 @@ def main():
     chart_sheet()
     inline_strings()
     tables_links_and_merges()
+    tables()
+    pivot_table()
     libreoffice()
 
 

@@ -97,6 +97,18 @@ value_line entry =
 abbrev pub value_lines : List ((ℕ × ℕ) × CellValue) → List ℕ
 value_lines values = flat_map value_line values
 
+-- a field behind the first of a row
+abbrev pub further_field : CellValue → List ℕ
+further_field value = codes "\t" ++ field (value_field value)
+
+abbrev pub further_fields : List CellValue → List ℕ
+further_fields values = flat_map further_field values
+
+-- the line of a row of values: their fields with tabs between them
+abbrev pub row_line : List CellValue → List ℕ
+row_line [] = codes "\n"
+row_line (value ∷ values) = field (value_field value) ++ (further_fields values ++ codes "\n")
+
 -- the line of a position, where it has a value, a formula or a style id above 0
 abbrev pub line_of : ℕ × ℕ → CellValue → List ℕ → ℕ → Option (List ℕ) → List ℕ
 line_of position value formula id fill =

@@ -3,4 +3,4 @@
 
 mod lines;
 
-pub use lines::{listing_of, push_listing, value_lines_of};
+pub use lines::{listing_of, push_listing, push_row_line, value_lines_of};

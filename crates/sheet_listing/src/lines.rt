@@ -1,5 +1,5 @@
 ghost use Rattle.std.specs.Prelude.{◌≡◌, ◌<◌, ◌++◌, ◌||◌, [], is_some, MatchOption, IfOk, OnOk};
-ghost use Rattle.std.specs.Prelude.{codes, string_bytes, nat_lt, option_and_then, None, OnErr};
+ghost use Rattle.std.specs.Prelude.{codes, string_bytes, nat_lt, option_and_then, None, OnErr, map};
 ghost use Rattle.std.specs.Fmt.{signed_decimal};
 ghost use Rattle.std.specs.Option.{option_copied};
 ghost use Rattle.cell_data.specs.CellValue.{value_of_data, time_value};
@@ -19,7 +19,8 @@ ghost use Rattle.sheet_listing.specs.SheetListing.{IsFirstOf};
 ghost use Rattle.sheet_listing.specs.SheetListing.{IsEarlier, first_place};
 ghost use Rattle.sheet_listing.specs.SheetListing.{shown_color, fill_shown, fill_field, id_given};
 ghost use Rattle.sheet_listing.specs.SheetListing.{lines_with, placed_ids};
-ghost use Rattle.sheet_listing.specs.SheetListing.{value_line, value_lines};
+ghost use Rattle.sheet_listing.specs.SheetListing.{value_line, value_lines, row_line};
+ghost use Rattle.sheet_listing.specs.SheetListing.{further_fields};
 
 use cell_data::{Cell, Data, ExcelDateTime, ExcelDateTimeType, Range, split_at_position};
 use cell_refs::{MAX_COLUMNS, MAX_ROWS, push_reference};
@@ -242,6 +243,31 @@ pub fn value_lines_of(alloc: Global, values: &Range<Data>) -> Result<String, All
         push_value_line(&mut out, cell)?;
     }
     Ok(out)
+}
+
+/// Appends values, each behind a tab.
+fn push_further(out: &mut String, values: &[Data]) -> Result<(), AllocError>
+    ensures { let printed = further_fields (map value_of_data values.now) in
+        OnOk result (string_bytes out.new ≡ string_bytes out.old ++ printed) }
+{
+    for value in values {
+        out.push_str("\t")?;
+        push_data(out, value)?;
+    }
+    Ok(())
+}
+
+/// Appends the line of a row of values, with tabs between them (docs/FORMAT.md). That of an empty
+/// row is empty.
+pub fn push_row_line(out: &mut String, row: &[Data]) -> Result<(), AllocError>
+    ensures { let printed = row_line (map value_of_data row.now) in
+        OnOk result (string_bytes out.new ≡ string_bytes out.old ++ printed) }
+{
+    if let Some((first, others)) = row.split_first() {
+        push_data(out, first)?;
+        push_further(out, others)?;
+    }
+    out.push_str("\n")
 }
 
 /// Appends the fields of a position, counted from 0, with tabs between them.
