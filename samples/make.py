@@ -192,7 +192,9 @@ def tables():
 # The parts of a pivot table on the second of two sheets, as spreadsheet programs write them: its
 # cache has texts, numbers, a date, truth values and a blank.
 PIVOT = {
-    **with_sheets(('name="Data" sheetId="1"', "worksheet"), ('name="Report" sheetId="2"', "worksheet")),
+    **with_sheets(
+        ('name="Data" sheetId="1"', "worksheet"), ('name="Report" sheetId="2"', "worksheet")
+    ),
     "xl/worksheets/sheet1.xml": "<worksheet><sheetData/></worksheet>",
     "xl/worksheets/sheet2.xml": "<worksheet><sheetData/></worksheet>",
     "xl/worksheets/_rels/sheet2.xml.rels": relationships(

@@ -132,7 +132,7 @@ class Samples(unittest.TestCase):
                     self.assertEqual(told_by_events(part["events"]), wanted, part["name"])
 
     def test_all_samples_fit(self):
-        self.assertEqual(len(WORKBOOKS), 10)
+        self.assertEqual(len(WORKBOOKS), 12)
         for path in WORKBOOKS:
             self.assertLess(len(package_text(path)), LIMIT)
 

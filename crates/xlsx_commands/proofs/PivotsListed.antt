@@ -3,8 +3,11 @@ use Rattle.std.proofs.Common.{◌≡◌, ◌∙◌, ap, sym, ℕ, List, Some, st
 use Rattle.part_events.specs.Memory.{Contents}
 use Rattle.part_events.specs.Package.{Part}
 use Rattle.xlsx_error.specs.declared.error.XlsxError.{XlsxError}
+use Rattle.xlsx_error.specs.declared.error.XlsxError.TheVariants.{TableNotFound}
+use Rattle.xlsx_error.specs.declared.error.XlsxError.TheVariants.{PivotTableNotFound}
 use Rattle.xlsx_parts.specs.SheetPaths.{SheetPath}
 use Rattle.xlsx_relationships.specs.Paths.{folder_of}
+use Rattle.xlsx_pivots.specs.PivotErrors.{IsPivotsError}
 use Rattle.xlsx_pivots.specs.Pivots.{PivotSaid, pivots_of, PivotsCause}
 use Rattle.xlsx_open.specs.Opening.{Opening, OpensAs, HoldsOpening, LiesIn}
 use Rattle.xlsx_open.proofs.Sound.{same_path}
@@ -13,7 +16,7 @@ use Rattle.xlsx_core.specs.declared.xlsx.Xlsx.{Xlsx}
 use Rattle.xlsx_commands.specs.PivotLists.{HasPivots, ListedPivotsCause}
 use Rattle.xlsx_commands.specs.SheetsOpened.{sheets_opened}
 use Rattle.xlsx_commands.proofs.NamedSheets.{OpeningsNever}
-use Rattle.xlsx_commands.proofs.SheetsOpened.{sheets_listed, sheets_never}
+use Rattle.xlsx_commands.proofs.SheetsOpened.{sheets_listed, sheets_never, IsNotMissing}
 
 -- what is found in the sheets of a workbook that opened
 pub has_pivots : (parts : List Part) (opening : Opening) (xlsx : Xlsx Contents)
@@ -37,6 +40,11 @@ has_pivots parts opening xlsx pivots opens holds lies same found =
           (sheets_of_book xlsx)) (sym same)
           ∙ found;
     }
+
+pub pivots_there : (error : XlsxError) → IsPivotsError error → IsNotMissing error
+pivots_there (TableNotFound asked) is = is
+pivots_there (PivotTableNotFound asked) is = is
+pivots_there error is = tt
 
 -- pivot tables that are found aren't refused, as each is
 abbrev pub PivotsNever : Type 0

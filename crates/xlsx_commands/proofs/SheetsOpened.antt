@@ -4,19 +4,23 @@ use Rattle.std.proofs.Common.{Bool, String, Global, string_bytes}
 use Rattle.part_events.specs.Memory.{Contents, state_of}
 use Rattle.part_events.specs.Package.{Part}
 use Rattle.xlsx_error.specs.declared.error.XlsxError.{XlsxError}
+use Rattle.xlsx_error.specs.declared.error.XlsxError.TheVariants as workbook
 use Rattle.xlsx_sections.specs.Failing.{FailsBy}
 use Rattle.xlsx_parts.specs.SheetPaths.{SheetPath, sheet_at}
 use Rattle.xlsx_workbook.specs.Sheets.{PlacedSheet}
 use Rattle.xlsx_workbook.specs.declared.sheet.Metadata.{Metadata}
 use Rattle.xlsx_workbook.specs.declared.sheet.Sheet.{Sheet}
 use Rattle.xlsx_open.specs.Opening.{Opening, OpensAs, HoldsOpening, OpeningCause, ListedSheet}
-use Rattle.xlsx_open.specs.Opening.{listed_sheet, without_path, OpeningFails}
+use Rattle.xlsx_open.specs.Opening.{listed_sheet, without_path, OpeningFails, IsOpeningError}
 use Rattle.xlsx_open.specs.declared.shared_parts.SharedParts.{SharedParts}
 use Rattle.xlsx_core.specs.Merges.{sheet_paths}
 use Rattle.xlsx_core.proofs.SheetLaws.{are_alike}
 use Rattle.xlsx_commands.specs.Outputs.{CallFails}
 use Rattle.xlsx_commands.specs.SheetsOpened.{sheets_opened, ListedCause}
+use Rattle.xlsx_commands.specs.SheetsRefused.{ListingFails}
 use Rattle.xlsx_commands.specs.Status.{of_workbook}
+use Rattle.xlsx_commands.specs.declared.error.ToolError.{ToolError}
+use Rattle.xlsx_commands.specs.declared.error.ToolError.TheVariants.{Workbook}
 use Rattle.xlsx_commands.proofs.MemoryCalls.{memory_fails}
 use Rattle.xlsx_commands.proofs.NamedSheets.{OpeningsNever}
 
@@ -40,25 +44,64 @@ sheets_listed (sheet ∷ sheets) (path ∷ paths) (own ∷ placed) listed there 
     ∙ ap (λ (rest : List SheetPath). sheet_at own.name own.path ∷ rest)
     (sheets_listed sheets paths placed others further)
 
+-- a refusal that isn't for want of a table or of a pivot table
+abbrev pub IsNotMissing : XlsxError → Type 0
+IsNotMissing (workbook.TableNotFound asked) = ⊥
+IsNotMissing (workbook.PivotTableNotFound asked) = ⊥
+IsNotMissing error = Unit {0}
+
+listing_fails : (cause_of : List Part → List SheetPath → XlsxError → Type 0)
+    (parts : List Part) (error : XlsxError) → IsNotMissing error
+    → CallFails (ListedCause cause_of parts) (of_workbook error)
+    → ListingFails cause_of parts (of_workbook error)
+listing_fails cause_of parts (workbook.TableNotFound asked) there fails = absurd there
+listing_fails cause_of parts (workbook.PivotTableNotFound asked) there fails = absurd there
+listing_fails cause_of parts error there fails = fails
+
+pub listing_is_listed : (cause_of : List Part → List SheetPath → XlsxError → Type 0)
+    (parts : List Part) (error : ToolError) → ListingFails cause_of parts error
+    → CallFails (ListedCause cause_of parts) error
+listing_is_listed cause_of parts (Workbook (workbook.TableNotFound asked)) fails = absurd fails
+listing_is_listed cause_of parts (Workbook (workbook.PivotTableNotFound asked)) fails =
+    absurd fails
+listing_is_listed cause_of parts error fails = fails
+
+opening_there : (error : XlsxError) → IsOpeningError error → IsNotMissing error
+opening_there (workbook.TableNotFound asked) is = is
+opening_there (workbook.PivotTableNotFound asked) is = is
+opening_there error is = tt
+
+-- the workbook doesn't open
+pub opening_unlisted : (cause_of : List Part → List SheetPath → XlsxError → Type 0)
+    (old new : Contents) (error : XlsxError) → IsOpeningError error
+    → OpeningFails (state_of old) (state_of new) error
+    → ListingFails cause_of old.parts (of_workbook error)
+opening_unlisted cause_of old new error is fails =
+    listing_fails cause_of old.parts error (opening_there error is)
+    (memory_fails (ListedCause cause_of old.parts) (OpeningCause old.parts) old new error
+    (λ cause. inl cause) fails)
+
 -- what is asked of all sheets is refused
-pub listing_fails : {metadata : Metadata} {paths : List (String Global)} {shared : SharedParts}
-    {is_1904 : Bool} (cause_of : List Part → List SheetPath → XlsxError → Type 0)
-    (opening : Opening) (old mid new : Contents) (error : XlsxError)
+pub sheets_unlisted : {metadata : Metadata} {paths : List (String Global)}
+    {shared : SharedParts} {is_1904 : Bool}
+    (cause_of : List Part → List SheetPath → XlsxError → Type 0) (opening : Opening)
+    (old mid new : Contents) (error : XlsxError)
     → HoldsOpening metadata paths shared is_1904 opening → OpensAs old.parts opening
-    → mid.parts ≡ old.parts
+    → mid.parts ≡ old.parts → IsNotMissing error
     → FailsBy (cause_of mid.parts (sheet_paths metadata.sheets.items paths)) (state_of mid)
-    (state_of new) error → CallFails (ListedCause cause_of old.parts) (of_workbook error)
-listing_fails {metadata = metadata} {paths = paths} cause_of opening old mid new error holds opens
-    same fails =
+    (state_of new) error → ListingFails cause_of old.parts (of_workbook error)
+sheets_unlisted {metadata = metadata} {paths = paths} cause_of opening old mid new error holds
+    opens same there fails =
     let sheets = sheet_paths metadata.sheets.items paths in
-    memory_fails (ListedCause cause_of old.parts) (cause_of mid.parts sheets) mid new error
+    listing_fails cause_of old.parts error there
+    (memory_fails (ListedCause cause_of old.parts) (cause_of mid.parts sheets) mid new error
     (λ cause. inr (record {
       opening = opening;
       opens = opens;
       cause = subst (λ (own : List SheetPath). cause_of old.parts own error)
           (sheets_listed metadata.sheets.items paths opening.sheets holds.sheets holds.paths)
           (subst (λ (own : List Part). cause_of own sheets error) same cause);
-    })) fails
+    })) fails)
 
 -- the sheets of a workbook are had once
 pub same_sheets : (parts : List Part) (one two : Opening) → OpensAs parts one

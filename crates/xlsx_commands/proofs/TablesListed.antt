@@ -1,6 +1,6 @@
 -- The tables of a workbook that opened, and why they aren't had.
-use Rattle.std.proofs.Common.{◌≡◌, ◌⊎◌, ◌∙◌, inl, inr, ap, sym, subst, refl, ℕ, List, [], ◌∷◌, map}
-use Rattle.std.proofs.Common.{Bool, true, Option, Some, None, String, Global, string_bytes}
+use Rattle.std.proofs.Common.{◌≡◌, ◌∙◌, inl, inr, ap, sym, refl, ℕ, List, [], ◌∷◌, map}
+use Rattle.std.proofs.Common.{true, Option, Some, None, String, Global, string_bytes}
 use Rattle.std.proofs.Common.{zero, suc, ◌<◌, ◌++◌, ◌&&◌, length, drop, append_assoc, arith}
 use Rattle.std.specs.Prelude.{Vec, slice_get, option_map, IfSome, nat_le, nat_lt}
 use Rattle.std.proofs.lemmas.Bool.Decides.{nat_tests}
@@ -10,35 +10,27 @@ use Rattle.cell_refs.specs.declared.dimensions.Dimensions.{Dimensions}
 use Rattle.cell_data.proofs.Placing.{and_both}
 use Rattle.list_lines.specs.Lines.{LiesInWorksheet, table_line}
 use Rattle.cell_data.specs.declared.value.HeaderRow.TheVariants.{FirstNonEmptyRow}
-use Rattle.part_events.specs.Memory.{Contents, state_of}
+use Rattle.part_events.specs.Memory.{Contents}
 use Rattle.part_events.specs.Package.{Part}
 use Rattle.xlsx_error.specs.declared.error.XlsxError.{XlsxError}
 use Rattle.xlsx_error.specs.declared.error.XlsxError.TheVariants.{TableNotFound}
-use Rattle.xlsx_parts.specs.SheetPaths.{SheetPath, sheet_at}
+use Rattle.xlsx_error.specs.declared.error.XlsxError.TheVariants.{PivotTableNotFound}
+use Rattle.xlsx_parts.specs.SheetPaths.{SheetPath}
 use Rattle.xlsx_tables.specs.Tables.{SheetTable, tables_of, TablesCause, IsTablesError}
 use Rattle.xlsx_workbook.specs.KeptContents.{pair_of}
-use Rattle.xlsx_workbook.specs.Sheets.{PlacedSheet}
 use Rattle.xlsx_workbook.specs.declared.sheet.Metadata.{Metadata}
-use Rattle.xlsx_workbook.specs.declared.sheet.Sheet.{Sheet}
-use Rattle.xlsx_open.specs.Opening.{Opening, OpensAs, HoldsOpening, OpeningCause, ListedSheet}
-use Rattle.xlsx_open.specs.Opening.{listed_sheet, without_path, OpeningFails, IsOpeningError}
+use Rattle.xlsx_open.specs.Opening.{Opening, OpensAs, HoldsOpening, listed_sheet}
 use Rattle.xlsx_open.specs.SharedParts.{shared_said}
-use Rattle.xlsx_open.specs.declared.shared_parts.SharedParts.{SharedParts}
-use Rattle.xlsx_core.specs.Merges.{sheet_paths, sheets_of_book}
-use Rattle.xlsx_core.specs.TableList.{AllTablesFail, loaded_tables}
+use Rattle.xlsx_core.specs.Merges.{sheets_of_book}
+use Rattle.xlsx_core.specs.TableList.{loaded_tables}
 use Rattle.xlsx_core.specs.Worksheets.{KeepsBook}
 use Rattle.xlsx_core.specs.declared.xlsx.Xlsx.{Xlsx}
-use Rattle.xlsx_commands.specs.Outputs.{CallFails}
-use Rattle.xlsx_commands.specs.Status.{of_workbook}
 use Rattle.xlsx_commands.specs.SheetsOpened.{sheets_opened}
 use Rattle.xlsx_commands.specs.TableLists.{HasTables, ListedTablesCause, line_of_table}
 use Rattle.xlsx_commands.specs.TableLists.{table_lines}
-use Rattle.xlsx_commands.specs.TablesOpened.{OpensWithTables, LoadingFails}
-use Rattle.xlsx_commands.specs.declared.error.ToolError.{ToolError}
-use Rattle.xlsx_commands.specs.declared.error.ToolError.TheVariants.{Workbook}
-use Rattle.xlsx_commands.proofs.MemoryCalls.{memory_fails}
+use Rattle.xlsx_commands.specs.TablesOpened.{OpensWithTables}
 use Rattle.xlsx_commands.proofs.NamedSheets.{OpeningsNever}
-use Rattle.xlsx_commands.proofs.SheetsOpened.{sheets_listed, listing_fails, sheets_never}
+use Rattle.xlsx_commands.proofs.SheetsOpened.{sheets_listed, sheets_never, IsNotMissing}
 
 -- a call that keeps the workbook keeps what it holds of the opening
 holds_kept : (opening : Opening) (old new : Xlsx Contents) → KeepsBook old new
@@ -172,34 +164,12 @@ area_lies (Some own) is =
 
 -- ---- refusals
 
--- a workbook that doesn't open with its tables has no list of them
-pub loading_is_listed : (parts : List Part) (error : ToolError)
-    → LoadingFails parts error → CallFails (ListedTablesCause parts) error
-loading_is_listed parts (Workbook (TableNotFound asked)) fails = absurd fails
-loading_is_listed parts error fails = fails
-
-pub opening_fails : (old new : Contents) (error : XlsxError)
-    → IsOpeningError error → OpeningFails (state_of old) (state_of new) error
-    → LoadingFails old.parts (of_workbook error)
-opening_fails old new (TableNotFound asked) is fails = absurd is
-opening_fails old new error is fails =
-    memory_fails (ListedTablesCause old.parts) (OpeningCause old.parts) old new error
-    (λ cause. inl cause) fails
-
-no_table_missing : (asked : String Global) → IsTablesError (TableNotFound asked) → ⊥
-no_table_missing asked (inl is) = is
-no_table_missing asked (inr is) = is
-
-pub loading_fails : {metadata : Metadata} {paths : List (String Global)}
-    {shared : SharedParts} {is_1904 : Bool} (opening : Opening) (old mid new : Contents)
-    (error : XlsxError) → HoldsOpening metadata paths shared is_1904 opening
-    → OpensAs old.parts opening → mid.parts ≡ old.parts → IsTablesError error
-    → AllTablesFail (sheet_paths metadata.sheets.items paths) (state_of mid) (state_of new) error
-    → LoadingFails old.parts (of_workbook error)
-loading_fails opening old mid new (TableNotFound asked) holds opens same is fails =
-    absurd (no_table_missing asked is)
-loading_fails opening old mid new error holds opens same is fails =
-    listing_fails TablesCause opening old mid new error holds opens same fails
+pub tables_there : (error : XlsxError) → IsTablesError error → IsNotMissing error
+tables_there (TableNotFound asked) (inl is) = is
+tables_there (TableNotFound asked) (inr is) = is
+tables_there (PivotTableNotFound asked) (inl is) = is
+tables_there (PivotTableNotFound asked) (inr is) = is
+tables_there error is = tt
 
 -- ---- what is had isn't refused
 

@@ -14,7 +14,7 @@ use Rattle.xlsx_error.specs.declared.error.XlsxError.{XlsxError}
 use Rattle.xlsx_error.specs.declared.error.XlsxError.TheVariants as workbook
 use Rattle.xlsx_cells.specs.CellsReader.{values_alone}
 use Rattle.xlsx_values.specs.Value.{Grounds}
-use Rattle.xlsx_tables.specs.Tables.{SheetTable, tables_of}
+use Rattle.xlsx_tables.specs.Tables.{SheetTable, tables_of, TablesCause}
 use Rattle.xlsx_workbook.specs.Sheets.{PlacedSheet}
 use Rattle.xlsx_core.specs.SheetReading.{opened_grounds, path_named}
 use Rattle.xlsx_core.specs.TableData.{first_named, table_of_book, AreaFails, TableDataFails}
@@ -29,7 +29,8 @@ use Rattle.xlsx_commands.specs.Status.{of_workbook}
 use Rattle.xlsx_commands.specs.TableLists.{HasTables, ListedTablesCause}
 use Rattle.xlsx_commands.specs.TableLists.{HasNamedTable, LacksTable, HasTableCause}
 use Rattle.xlsx_commands.specs.TableLists.{NamedTableCause, HasTable}
-use Rattle.xlsx_commands.specs.TablesOpened.{OpensWithTables, LoadingFails}
+use Rattle.xlsx_commands.specs.SheetsRefused.{ListingFails}
+use Rattle.xlsx_commands.specs.TablesOpened.{OpensWithTables}
 use Rattle.xlsx_commands.specs.declared.error.ToolError.{ToolError}
 use Rattle.xlsx_commands.specs.declared.error.ToolError.TheVariants.{Workbook}
 use Rattle.xlsx_commands.proofs.MemoryCalls.{memory_fails}
@@ -39,8 +40,9 @@ use Rattle.xlsx_commands.proofs.TablesListed.{TablesNever, tables_never}
 
 -- a workbook that doesn't open with its tables has no table of a name
 pub loading_is_named : (parts : List Part) (name : List ℕ) (error : ToolError)
-    → LoadingFails parts error → CallFails (NamedTableCause parts name) error
+    → ListingFails TablesCause parts error → CallFails (NamedTableCause parts name) error
 loading_is_named parts name (Workbook (workbook.TableNotFound asked)) fails = absurd fails
+loading_is_named parts name (Workbook (workbook.PivotTableNotFound asked)) fails = absurd fails
 loading_is_named parts name (Workbook error) fails = inl fails
 loading_is_named parts name error fails = fails
 

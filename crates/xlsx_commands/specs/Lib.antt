@@ -6,6 +6,7 @@ pub mod PropertyLists
 pub mod SheetLists
 pub mod SheetRows
 pub mod SheetsOpened
+pub mod SheetsRefused
 pub mod Status
 pub mod TableLists
 pub mod TablesOpened

@@ -1,18 +1,13 @@
--- An open workbook with its tables, and when it isn't had.
+-- An open workbook with its tables.
 use Rattle.std.specs.Prelude.{◌≡◌, List, Some}
 use Rattle.cell_data.specs.declared.value.HeaderRow.TheVariants.{FirstNonEmptyRow}
 use Rattle.part_events.specs.Memory.{Contents}
 use Rattle.part_events.specs.Package.{Part}
-use Rattle.xlsx_error.specs.declared.error.XlsxError.TheVariants.{TableNotFound}
 use Rattle.xlsx_tables.specs.Tables.{tables_of}
 use Rattle.xlsx_open.specs.Opening.{Opening, OpensAs, HoldsOpening}
 use Rattle.xlsx_core.specs.TableList.{loaded_tables}
 use Rattle.xlsx_core.specs.declared.xlsx.Xlsx.{Xlsx}
-use Rattle.xlsx_commands.specs.Outputs.{CallFails}
 use Rattle.xlsx_commands.specs.SheetsOpened.{sheets_opened}
-use Rattle.xlsx_commands.specs.TableLists.{ListedTablesCause}
-use Rattle.xlsx_commands.specs.declared.error.ToolError.{ToolError}
-use Rattle.xlsx_commands.specs.declared.error.ToolError.TheVariants.{Workbook}
 
 -- the workbook that these parts open as, with its tables, and no header row that was set
 pub record OpensWithTables (parts : List Part) (xlsx : Xlsx Contents) : Type 0 where
@@ -22,8 +17,3 @@ pub record OpensWithTables (parts : List Part) (xlsx : Xlsx Contents) : Type 0 w
   pub taken : tables_of parts (sheets_opened opening.sheets) ≡ Some (loaded_tables xlsx)
   pub header_row : xlsx.header_row ≡ FirstNonEmptyRow
   pub same : xlsx.package.parts ≡ parts
-
--- when a workbook isn't opened with its tables; that it lacks one is no reason
-abbrev pub LoadingFails : List Part → ToolError → Type 0
-LoadingFails parts (Workbook (TableNotFound asked)) = ⊥
-LoadingFails parts error = CallFails (ListedTablesCause parts) error

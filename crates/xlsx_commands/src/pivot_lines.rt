@@ -1,7 +1,10 @@
 ghost use Rattle.std.specs.Prelude.{◌≡◌, string_bytes, IfOk, IfErr};
 ghost use Rattle.xlsx_pivots.specs.PivotTables.{pairs_of, pivots_kept};
+ghost use Rattle.xlsx_pivots.specs.Pivots.{PivotsCause};
 ghost use Rattle.xlsx_commands.specs.Outputs.{CallFails};
-ghost use Rattle.xlsx_commands.specs.PivotLists.{ListedPivotsCause, pivot_lines, ArePivotLines};
+ghost use Rattle.xlsx_commands.specs.PivotLists.{HasPivots, ListedPivotsCause, pivot_lines};
+ghost use Rattle.xlsx_commands.specs.PivotLists.{ArePivotLines};
+ghost use Rattle.xlsx_commands.specs.SheetsRefused.{ListingFails};
 
 use crate::error::ToolError;
 use list_lines::push_pair_line;
@@ -20,12 +23,25 @@ fn lines_of_pivots(alloc: Global, pivots: &PivotTables) -> Result<String, AllocE
     Ok(out)
 }
 
+/// The pivot tables of the workbook, and its package.
+pub fn find_pivots(
+    alloc: Global,
+    package: MemoryPackage,
+) -> Result<(PivotTables, MemoryPackage), ToolError>
+    ensures ok { IfOk result (λ found. HasPivots «package».parts (pivots_kept found.0)) }
+    ensures same { IfOk result (λ found. found.1.parts ≡ «package».parts) }
+    ensures err { IfErr result (ListingFails PivotsCause «package».parts) }
+{
+    let mut xlsx = Xlsx::new(alloc, package)?;
+    let pivots = xlsx.pivot_tables()?;
+    Ok((pivots, xlsx.into_package()))
+}
+
 /// A line for each pivot table of the workbook.
 pub fn pivot_lines(alloc: Global, package: MemoryPackage) -> Result<Vec<u8>, ToolError>
     ensures ok { IfOk result (λ output. ArePivotLines «package».parts output.items) }
     ensures err { IfErr result (CallFails (ListedPivotsCause «package».parts)) }
 {
-    let mut xlsx = Xlsx::new(alloc, package)?;
-    let pivots = xlsx.pivot_tables()?;
+    let (pivots, _package) = find_pivots(alloc, package)?;
     Ok(lines_of_pivots(alloc, &pivots)?.into_bytes())
 }

@@ -1,12 +1,13 @@
 ghost use Rattle.std.specs.Prelude.{◌≡◌, ◌<◌, ◌++◌, length, slice_get, string_bytes, Some};
 ghost use Rattle.std.specs.Prelude.{IsSome, OnOk, IfOk, IfErr};
-ghost use Rattle.xlsx_tables.specs.Tables.{SheetTable};
+ghost use Rattle.xlsx_tables.specs.Tables.{SheetTable, TablesCause};
 ghost use Rattle.xlsx_core.specs.TableList.{loaded_tables};
 ghost use Rattle.xlsx_commands.specs.Outputs.{CallFails};
 ghost use Rattle.xlsx_commands.specs.TableLists.{HasTable, ListedTablesCause, NamedTableCause};
 ghost use Rattle.xlsx_commands.specs.TableLists.{line_of_table, table_lines, AreTableLines};
 ghost use Rattle.xlsx_commands.specs.TableLists.{AreTableValueLines};
-ghost use Rattle.xlsx_commands.specs.TablesOpened.{OpensWithTables, LoadingFails};
+ghost use Rattle.xlsx_commands.specs.SheetsRefused.{ListingFails};
+ghost use Rattle.xlsx_commands.specs.TablesOpened.{OpensWithTables};
 
 use crate::error::ToolError;
 use cell_data::{Data, Table};
@@ -20,7 +21,7 @@ use xlsx_core::Xlsx;
 fn with_tables(alloc: Global, package: MemoryPackage) -> Result<Xlsx<MemoryPackage>, ToolError>
     ensures loaded { IfOk result (λ xlsx. IsSome xlsx.lists.tables) }
     ensures ok { IfOk result (OpensWithTables «package».parts) }
-    ensures err { IfErr result (LoadingFails «package».parts) }
+    ensures err { IfErr result (ListingFails TablesCause «package».parts) }
 {
     let mut xlsx = Xlsx::new(alloc, package)?;
     xlsx.load_tables()?;

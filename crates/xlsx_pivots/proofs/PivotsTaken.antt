@@ -58,7 +58,8 @@ pivot_uses path there old mid further new first second found third =
     let last : UsesPackage (event_count old.parts (relationships_beside there)) further new =
     subst (λ (parts : List Part). UsesPackage (event_count parts (relationships_beside there))
     further new) both.parts.parts third in
-    told_uses {A = Unit {0}} (Ok tt) (three old.parts path there) (pivot_events old.parts path) old new
+    told_uses {A = Unit {0}} (Ok tt) (three old.parts path there) (pivot_events old.parts path) old
+    new
     (λ told. sum_found (event_count old.parts) (event_count old.parts) old.parts path there
     (subst (λ (parts : List Part). definitions_at parts path ≡ Some there) first.parts.parts
     (found (first.parts.is_told ∙ told))))
@@ -76,8 +77,8 @@ pivot_leaves path there error old mid further new first second found third =
     error =
     subst (λ (parts : List Part). LeavesPackage (event_count parts (relationships_beside there)) Io
     further new error) both.parts.parts third in
-    told_uses {A = Unit {0}} (Err error) (three old.parts path there) (pivot_events old.parts path) old
-    new
+    told_uses {A = Unit {0}} (Err error) (three old.parts path there)
+    (pivot_events old.parts path) old new
     (λ told. sum_found (event_count old.parts) (event_count old.parts) old.parts path there
     (subst (λ (parts : List Part). definitions_at parts path ≡ Some there) first.parts.parts
     (found (first.parts.is_told ∙ told))))

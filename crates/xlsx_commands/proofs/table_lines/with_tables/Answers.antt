@@ -1,6 +1,8 @@
 use Rattle.std.proofs.Common.{refl}
 use Rattle.std.proofs.lemmas.Result.{err_from_is_err_and}
-use Rattle.xlsx_commands.proofs.TablesListed.{opening_fails, loading_fails, opened_with}
+use Rattle.xlsx_tables.specs.Tables.{TablesCause}
+use Rattle.xlsx_commands.proofs.SheetsOpened.{opening_unlisted, sheets_unlisted}
+use Rattle.xlsx_commands.proofs.TablesListed.{tables_there, opened_with}
 use Rattle.xlsx_commands.proofs.table_lines.with_tables.Goals as goal
 
 pub returns-in_err-xlsx-clause-err : goal.returns-in_err-xlsx-clause-err
@@ -8,8 +10,8 @@ returns-in_err-xlsx-clause-err c =
     let failure = c.in_err-xlsx.field-0.0 in
     let handed = err_from_is_err_and c.from_residual.result c.from_residual.ensures.1 in
     rw (handed.1, handed.2)
-    (opening_fails c.args.package failure.package failure.error c.in_err-xlsx.ensures.kind
-    c.in_err-xlsx.ensures.err)
+    (opening_unlisted TablesCause c.args.package failure.package failure.error
+    c.in_err-xlsx.ensures.kind c.in_err-xlsx.ensures.err)
 
 pub returns-in_err-load_tables-clause-err : goal.returns-in_err-load_tables-clause-err
 returns-in_err-load_tables-clause-err c =
@@ -18,9 +20,11 @@ returns-in_err-load_tables-clause-err c =
     let handed = err_from_is_err_and c.from_residual-in_err-load_tables.result
     c.from_residual-in_err-load_tables.ensures.1 in
     rw (handed.1, handed.2)
-    (loading_fails opened.0 c.args.package xlsx.package c.load_tables.new.self.package
-    c.in_err-load_tables.field-0.0 opened.1 opened.2 c.in_ok-xlsx.ensures.uses.parts.parts
-    c.in_err-load_tables.ensures.kind c.in_err-load_tables.ensures.err)
+    (sheets_unlisted TablesCause opened.0 c.args.package xlsx.package
+    c.load_tables.new.self.package c.in_err-load_tables.field-0.0 opened.1 opened.2
+    c.in_ok-xlsx.ensures.uses.parts.parts
+    (tables_there c.in_err-load_tables.field-0.0 c.in_err-load_tables.ensures.kind)
+    c.in_err-load_tables.ensures.err)
 
 pub returns-clause-ok : goal.returns-clause-ok
 returns-clause-ok c =

@@ -1,0 +1,18 @@
+-- When what is asked of all sheets of a workbook is refused.
+use Rattle.std.specs.Prelude.{List}
+use Rattle.part_events.specs.Package.{Part}
+use Rattle.xlsx_error.specs.declared.error.XlsxError.{XlsxError}
+use Rattle.xlsx_error.specs.declared.error.XlsxError.TheVariants.{TableNotFound}
+use Rattle.xlsx_error.specs.declared.error.XlsxError.TheVariants.{PivotTableNotFound}
+use Rattle.xlsx_parts.specs.SheetPaths.{SheetPath}
+use Rattle.xlsx_commands.specs.Outputs.{CallFails}
+use Rattle.xlsx_commands.specs.SheetsOpened.{ListedCause}
+use Rattle.xlsx_commands.specs.declared.error.ToolError.{ToolError}
+use Rattle.xlsx_commands.specs.declared.error.ToolError.TheVariants.{Workbook}
+
+-- that a table or a pivot table of some name is missing is no reason
+abbrev pub ListingFails :
+    (List Part → List SheetPath → XlsxError → Type 0) → List Part → ToolError → Type 0
+ListingFails cause_of parts (Workbook (TableNotFound asked)) = ⊥
+ListingFails cause_of parts (Workbook (PivotTableNotFound asked)) = ⊥
+ListingFails cause_of parts error = CallFails (ListedCause cause_of parts) error
