@@ -1,8 +1,10 @@
 #!/usr/bin/env python3
-"""Measures `cells S` of xlsx_tool beside json.load of the same text, and prints one table
-(docs/PERFORMANCE.md)."""
+"""Measures `cells S` or `csv S` of xlsx_tool beside json.load of the same text, and prints one
+table (docs/PERFORMANCE.md)."""
 
 import argparse
+import csv
+import io
 import os
 import shutil
 import sys
@@ -59,6 +61,13 @@ def line_of(reference, value="-", formula=None, fill="-"):
     return f"{reference}\t{value}\t{'-' if formula is None else '=' + escaped(formula)}\t{fill}\n"
 
 
+def record_of(fields):
+    """A record of CSV as Python's own writer has it."""
+    out = io.StringIO()
+    csv.writer(out, lineterminator="\n").writerow(fields)
+    return out.getvalue()
+
+
 def cell_events(attributes, *children):
     """A cell with its children, each the name, the attributes and the events in it."""
     yield start("c", attributes)
@@ -99,6 +108,9 @@ class Texts:
             line_of(reference, f"s:{escaped(text)}", formula)
             for reference, formula, text in self.cells_of(row)
         )
+
+    def row_fields(self, row):
+        return [text for _, _, text in self.cells_of(row)]
 
 
 class Shared:
@@ -189,6 +201,12 @@ class Values:
             + line_of(f"E{row}", f"s:{self.string(row % 20_000)}")
             + line_of(f"F{row}", f"s:inline {row}")
         )
+
+    def row_fields(self, row):
+        place = row * 7919 % 20_000
+        truth = "true" if row % 2 else "false"
+        texts = [self.string(row % 20_000), f"inline {row}"]
+        return [f"{row}.25", self.string(place), truth, str(row), *texts]
 
 
 class Styled:
@@ -303,9 +321,16 @@ MIXES = {
 }
 
 
-def write_package(path, limit, mix):
-    """Writes a package with as many rows as fit into the limit. Answers its size, its rows and its
-    listing."""
+# What a command prints of a row of a mix; `csv` takes those of values alone.
+PRINTED = {
+    "cells": lambda mix, row: mix.row_lines(row),
+    "csv": lambda mix, row: record_of(mix.row_fields(row)),
+}
+
+
+def write_package(path, limit, mix, printed):
+    """Writes a package with as many rows as fit into the limit. Answers its size, its rows and what
+    is printed of them."""
     frame = "".join(
         f"{spelled({'name': name, 'events': events})}," for name, events in mix.frame
     )
@@ -323,7 +348,7 @@ def write_package(path, limit, mix):
             rows += 1
             size += len(text)
             out.write(text)
-            listing.add(mix.row_lines(rows).encode())
+            listing.add(printed(mix, rows).encode())
         out.write(tail)
     if rows == 0:
         sys.exit("cells.py: not one row fits into this size")
@@ -332,9 +357,10 @@ def write_package(path, limit, mix):
 
 
 class Size(Measured):
-    def __init__(self, folder, program, limit, mix):
-        super().__init__(folder, limit, [program, "cells", "S"])
-        self.size, self.rows, self.listing = write_package(self.package, limit, mix)
+    def __init__(self, folder, program, limit, mix, command):
+        super().__init__(folder, limit, [program, command, "S"])
+        written = write_package(self.package, limit, mix, PRINTED[command])
+        self.size, self.rows, self.listing = written
 
 
 # The runs that end with a stage: what the stage gives, whether the text is a package, the sheet,
@@ -383,6 +409,9 @@ def main():
     )
     parser.add_argument("--mix", choices=MIXES, default="texts", help="what the cells hold")
     parser.add_argument(
+        "--command", choices=PRINTED, default="cells", help="what prints them (default: cells)"
+    )
+    parser.add_argument(
         "--stages",
         action="store_true",
         help="measure what each stage adds on the larger text, and nothing beside it",
@@ -395,12 +424,14 @@ def main():
     program = program_of(asked)
     with tempfile.TemporaryDirectory() as folder:
         mix = MIXES[asked.mix]()
+        if asked.command == "csv" and not hasattr(mix, "row_fields"):
+            parser.error("csv is measured of values and texts")
         if asked.stages:
-            whole = Size(folder, program, asked.bytes, mix)
+            whole = Size(folder, program, asked.bytes, mix, asked.command)
             table(STAGE_HEAD, list(stage_rows(whole, asked.repeats)))
             return
-        half = Size(folder, program, asked.bytes // 2, mix)
-        whole = Size(folder, program, asked.bytes, mix)
+        half = Size(folder, program, asked.bytes // 2, mix, asked.command)
+        whole = Size(folder, program, asked.bytes, mix, asked.command)
         for _ in range(asked.repeats):
             half.run()
             whole.run()

@@ -150,6 +150,14 @@ def table_of_rates():
         yield f"{place}\tn:{number}\n"
 
 
+def rows_of_pivot():
+    """The names of the fields, and the records with what their numbers mean."""
+    yield "s:Item\ts:Price\ts:Sold on\ts:Paid\n"
+    yield "s:bolt\tn:3\ti:2024-01-02T00:00:00\tb:true\n"
+    yield "s:nut\tn:2.5\t-\tb:false\n"
+    yield "s:nut\t-\ti:2024-01-02T00:00:00\te:#REF!\n"
+
+
 def libreoffice():
     for place, text in (("A1", "name"), ("B1", "amount"), ("C1", "date")):
         yield line(place, f"s:{text}")
@@ -166,11 +174,16 @@ def libreoffice():
     yield line("C5", "s:\\t", "CHAR(9)")
 
 
-def libreoffice_rows():
-    """Its values as CSV, by Python's own writer."""
+def records(rows):
+    """Rows as CSV, by Python's own writer."""
     out = io.StringIO()
+    csv.writer(out, lineterminator="\n").writerows(rows)
+    yield out.getvalue()
+
+
+def libreoffice_rows():
     days = [(datetime.datetime(2024, *day) - FIRST_DAYS[1900]).days for day in ((1, 2), (2, 3))]
-    csv.writer(out, lineterminator="\n").writerows(
+    return records(
         [
             ["name", "amount", "date"],
             ["nut", "10.5", days[0]],
@@ -179,7 +192,6 @@ def libreoffice_rows():
             ["true", "#N/A", "\t"],
         ]
     )
-    yield out.getvalue()
 
 
 LINES = {
@@ -191,8 +203,11 @@ LINES = {
     "inline_strings": inline_strings(),
     "chart_sheet": chart_sheet(),
     "shared_formulas": shared_formulas(),
+    "pivot_table.pivot": rows_of_pivot(),
     "pivot_table.pivots": ["Report\tSold & paid\n"],
     "tables.tables": tables(),
+    "tables.csv_table": records([["Line_x000a_break", "Qty"], ["nut", "3"], ["bolt", "2.5"]]),
+    "tables.csv_table_of_Words": records([["Key", "Text"], ["true", "a\tb"]]),
     "tables.table": table_of_sales(),
     "tables.table_of_Rates": table_of_rates(),
     "tables_links_and_merges": tables_links_and_merges(),

@@ -7,7 +7,15 @@ import unittest
 TOP = pathlib.Path(__file__).resolve().parent.parent
 DOCUMENTS = [TOP / "README.md", TOP / "CONTRIBUTING.md", *sorted((TOP / "docs").glob("*.md"))]
 # Crates of tests, whose functions promise nothing.
-OF_TESTS = {"test_packages", "worked_lists", "worked_rows", "worked_styles", "worked_values"}
+OF_TESTS = {
+    "test_packages",
+    "test_tables",
+    "worked_lists",
+    "worked_rows",
+    "worked_styles",
+    "worked_tables",
+    "worked_values",
+}
 
 QUOTED = re.compile(r"`([^`\n]+)`")
 WORD = re.compile(r"[A-Za-z_][A-Za-z0-9_]*")

@@ -22,6 +22,18 @@ DEFINITIONS_RELATED = (
 )
 PARTS = [RELATED, PIVOT, PIVOT_RELATED, DEFINITIONS_RELATED]
 FOUND = "S\tP1\n"
+DEFINITIONS = (
+    "xl/pivotCache/pivotCacheDefinition1.xml",
+    '<pivotCacheDefinition><cacheFields><cacheField name="Kind"><sharedItems><s v="nut"/>'
+    '<s v="bolt"/></sharedItems></cacheField><cacheField name="Qty"><sharedItems/></cacheField>'
+    "</cacheFields></pivotCacheDefinition>",
+)
+RECORDS = (
+    "xl/pivotCache/pivotCacheRecords1.xml",
+    '<pivotCacheRecords><r><x v="1"/><n v="3"/></r><r><x v="0"/><n v="2.50"/></r>'
+    "</pivotCacheRecords>",
+)
+ROWS = "s:Kind\ts:Qty\ns:bolt\tn:3\ns:nut\tn:2.5\n"
 
 
 def absent(name):
@@ -105,11 +117,135 @@ WITHOUT = [
 ]
 
 
+def field(inside, attributes=' name="Kind"'):
+    """Definitions with one field."""
+    return f"<x><cacheFields><cacheField{attributes}>{inside}</cacheField></cacheFields></x>"
+
+
+def with_records(inside):
+    return f"<pivotCacheRecords>{inside}</pivotCacheRecords>"
+
+
+ITEMS = "<sharedItems><s v='nut'/><s v='bolt'/></sharedItems>".replace("'", '"')
+NO_ROWS = "s:Kind\ts:Qty\n"
+
+# What a case shows, the definitions, None for those above, the records, and the rows or why there
+# are none.
+CACHES = [
+    ("no field", "<x/>", "<pivotCacheRecords/>", "\n"),
+    ("no record", None, "<pivotCacheRecords/>", NO_ROWS),
+    ("a field without a name", field(ITEMS, ""), "<pivotCacheRecords/>", "\n"),
+    ("a field with a formula", field(ITEMS, ' name="A" formula="B"'), with_records("<r/>"), "\n\n"),
+    ("a grouped field", field(ITEMS + "<g><groupItems/></g>"), with_records("<r/>"), "\n\n"),
+    ("a name with a reference", field("", ' name="a&amp;b"'), with_records(""), "s:a&b\n"),
+    (
+        "items at depth 1 of the first alone",
+        field("<sharedItems><s v=\"a\"><s v=\"b\"/></s><q/><s v=\"c\"/></sharedItems>" + ITEMS),
+        with_records('<r><x v="1"/></r>'),
+        "s:Kind\ns:c\n",
+    ),
+    (
+        "each kind of item",
+        None,
+        with_records(
+            '<r><s v="a&amp;b"/><n v="-0"/><b v="1"/><d v="2024-01-02"/><e v="#N/A"/><m/></r>'
+        ),
+        NO_ROWS + "s:a&amp;b\tn:0\tb:true\ti:2024-01-02\te:#REF!\t-\n",
+    ),
+    (
+        "each without its text",
+        None,
+        with_records("<r><s/><n/><b/><d/><e/><m/><x/></r>"),
+        NO_ROWS + "-\t-\t-\t-\t-\t-\t-\n",
+    ),
+    (
+        "numbers of 64 bits and beside them",
+        None,
+        with_records(
+            '<r><n v="9223372036854775807"/><n v="-9223372036854775808"/>'
+            '<n v="9223372036854775808"/><n v="+1"/><n v="1e5"/><n v=".5"/><b v="TRUE"/></r>'
+        ),
+        NO_ROWS + "n:9223372036854775807\tn:-9223372036854775808\te:#DATA!\te:#DATA!\te:#DATA!"
+        "\tn:0.5\te:#DATA!\n",
+    ),
+    (
+        "an element of another name takes no place",
+        None,
+        with_records('<r><q v="1"/><x v="1"/><r><x v="9"/></r></r>'),
+        NO_ROWS + "s:bolt\n",
+    ),
+    (
+        "more values than fields",
+        None,
+        with_records('<r><x v="0"/><n v="1"/><n v="2"/><x/></r>'),
+        NO_ROWS + "s:nut\tn:1\tn:2\t-\n",
+    ),
+    (
+        "an item that isn't there",
+        None,
+        with_records('<r><x v="2"/></r>'),
+        refused("pivot cache item index out of range"),
+    ),
+    (
+        "a number that is none",
+        None,
+        with_records('<r><x v="+1"/></r>'),
+        refused("pivot cache x:v attribute must be a number"),
+    ),
+    (
+        "a number past 64 bits",
+        None,
+        with_records('<r><x v="18446744073709551616"/></r>'),
+        refused("pivot cache x:v attribute must be a number"),
+    ),
+    (
+        "a place with no field",
+        None,
+        with_records('<r><m/><m/><x v="0"/></r>'),
+        refused("pivot cache field index out of range"),
+    ),
+    ("no section of records", None, "<x/>", ended("pivotCacheRecords")),
+    ("fields that end in one", '<x><cacheField name="A">', "", ended("cacheField")),
+    ("fields that end elsewhere", "<x><cacheFields>", "<pivotCacheRecords/>", "\n"),
+    (
+        "definitions that break the nesting",
+        "<x></y>",
+        "",
+        refused("Xml error: end tag mismatch at 1"),
+    ),
+]
+
+
 class Pivots(unittest.TestCase):
-    def check(self, package, wanted, shown):
+    def check(self, package, wanted, shown, words=("pivots",)):
         for build in BUILDS:
-            ran = subprocess.run([OUT / build, "pivots"], input=package, capture_output=True)
+            ran = subprocess.run([OUT / build, *words], input=package, capture_output=True)
             self.assertIn((ran.returncode, ran.stdout, ran.stderr), told(wanted), shown)
+
+    def check_rows(self, package, wanted, shown):
+        self.check(package, wanted, shown, ["pivot", "S", "P1"])
+
+    def test_rows_of_pivot_tables_are_printed_or_refused(self):
+        package = package_with(*PARTS, DEFINITIONS, RECORDS)
+        self.check_rows(package, ROWS, "fields and records")
+        for shown, definitions, records, wanted in CACHES:
+            parts = [(DEFINITIONS[0], definitions or DEFINITIONS[1]), (RECORDS[0], records)]
+            self.check_rows(package_with(*PARTS, *parts), wanted, shown)
+
+    def test_pivot_tables_go_by_the_names_of_their_sheets_and_their_own(self):
+        package = package_with(*PARTS, DEFINITIONS, RECORDS)
+        for sheet, name in (("T", "P1"), ("s", "P1"), ("S", "P2"), ("S", "p1"), ("S", "")):
+            wanted = refused(f"Pivot Table '{name}' was not found on worksheet")
+            self.check(package, wanted, (sheet, name), ["pivot", sheet, name])
+
+    def test_the_parts_of_a_cache_are_left_out_or_cut(self):
+        parts = [DEFINITIONS, RECORDS]
+        for part in parts:
+            others = [*PARTS, *(own for own in parts if own != part)]
+            self.check_rows(package_with(*others), absent(part[0]), part[0])
+        for count in range(1, len(events_of(RECORDS[1]))):
+            package = package_cut(RECORDS, count, *PARTS, DEFINITIONS)
+            self.check_rows(package, ended("pivotCacheRecords"), count)
 
     def test_pivot_tables_are_listed_or_refused(self):
         self.check(package_with(*PARTS), FOUND, "one pivot table")

@@ -138,11 +138,13 @@ class Edge:
             self.assertEqual(self.run_on(PACKAGE, words), refusal(2), words)
         for words in (["merges"], ["merges", "S", "S"], ["merge", "S"], ["props", "S"], ["prop"]):
             self.assertEqual(self.run_on(PACKAGE, words), refusal(2), words)
-        for words in (["pivots", "S"], ["Pivots"], ["pivot"], ["pivot", "S"]):
+        for words in (["pivots", "S"], ["pivot"], ["pivot", "S"], ["pivot", "S", "P", "P"]):
             self.assertEqual(self.run_on(PACKAGE, words), refusal(2), words)
         for words in (["tables", "S"], ["table"], ["table", "S", "S"], ["Tables"], ["Table", "S"]):
             self.assertEqual(self.run_on(PACKAGE, words), refusal(2), words)
         for words in (["links"], ["links", "S", "S"], ["Links", "S"], ["csv"], ["csv", "S", "S"]):
+            self.assertEqual(self.run_on(PACKAGE, words), refusal(2), words)
+        for words in (["csv-table"], ["csv-table", "S", "S"], ["csv_table", "S"], ["csv-", "S"]):
             self.assertEqual(self.run_on(PACKAGE, words), refusal(2), words)
         for words in (["--help", "--version"], ["--help", "S"], ["cells", b"\xff"]):
             self.assertEqual(self.run_on(PACKAGE, words), refusal(2), words)

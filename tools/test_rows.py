@@ -18,6 +18,7 @@ from noted import (
     with_data,
 )
 from test_program import BUILDS, OUT
+from test_tables import NO_END, NUT, RELATED, TABLE_NAME, table
 
 TOO_LARGE = [(10, b"", b"box too large\n")]
 STYLES = (
@@ -83,6 +84,32 @@ ROWS = [
     ),
 ]
 
+NO_TRUTH = refused("Unrecognized boolean cell value: x")
+BROKEN = (SHEET_NAME, with_data(numbers("A1") + cell("B1", "x", ' t="b"')))
+CHART = (SHEET_NAME, "<chartsheet/>")
+QUOTED = table(columns=["a,b", "&quot;"])
+
+# What a case shows, the part of a table, that of its sheet, and the records of the table.
+TABLES = [
+    ("headers and totals", table(), NUT, "Name,Qty\nnut,3\n,\n"),
+    ("no totals", table(""), NUT, "Name,Qty\nnut,3\n,\n,\n"),
+    ("no headers", table('headerRowCount="0"', ref="A2:B2"), NUT, "Name,Qty\nnut,3\n"),
+    ("fewer names than columns", table(columns=["Name"]), NUT, "Name,\nnut,3\n,\n"),
+    ("no name", table(columns=[]), NUT, ",\nnut,3\n,\n"),
+    ("more names than columns", table(ref="A1:A3"), NUT, "Name\nnut\n"),
+    ("one column with an empty value", table(ref="A1:A4"), NUT, 'Name\nnut\n""\n'),
+    ("one column without a name", table(ref="B1:B3", columns=[]), NUT, '""\n3\n'),
+    ("names with a comma and a quote", QUOTED, NUT, '"a,b",""""\nnut,3\n,\n'),
+    ("an area without a value", table(ref="D1:E4"), NUT, "Name,Qty\n,\n,\n"),
+    ("no row of data", table(ref="A1:B2"), NUT, "Name,Qty\n"),
+    ("no row of data, and no name", table(ref="A1:B2", columns=[]), NUT, ""),
+    ("more names, and no row of data", table(ref="A1:A2"), NUT, "Name,Qty\n"),
+    ("a sheet that isn't read", table(ref="A1:B2"), BROKEN, "Name,Qty\n"),
+    ("a sheet that is refused", table(), BROKEN, NO_TRUTH),
+    ("a chart sheet", table(), CHART, "Name,Qty\n,\n,\n"),
+    ("a table that is refused", "<x/>", NUT, NO_END),
+]
+
 
 class Rows(unittest.TestCase):
     def check(self, package, words, wanted, shown):
@@ -135,6 +162,31 @@ class Rows(unittest.TestCase):
         package = package_with((SHEET_NAME, "<chartsheet/>"))
         wanted = refused("Expecting a worksheet, got chartsheet")
         self.check(package, ["csv", "S"], wanted, "a chart sheet")
+
+    def test_tables_have_a_header_and_rows(self):
+        for shown, part, sheet, wanted in TABLES:
+            package = package_with(RELATED, (TABLE_NAME, part), sheet)
+            self.check(package, ["csv-table", "T1"], wanted, shown)
+
+    def test_a_table_of_too_many_cells_is_refused(self):
+        # No cell of the area has a value.
+        empty = (SHEET_NAME, with_data(""))
+        for ref in ("A1:XFD1026", "A1:Q1048576"):
+            package = package_with(RELATED, (TABLE_NAME, table("", ref)), empty)
+            self.check(package, ["csv-table", "T1"], TOO_LARGE, ref)
+        package = package_with(RELATED, (TABLE_NAME, table("", "A1:XFD1026")), BROKEN)
+        self.check(package, ["csv-table", "T1"], NO_TRUTH, "a sheet that is refused")
+
+    def test_rows_need_a_table(self):
+        package = package_with(RELATED, (TABLE_NAME, table()), NUT)
+        for name in ("T2", "t1", "S", ""):
+            self.check(package, ["csv-table", name], refused(f"Table '{name}' not found"), name)
+        package = package_of([ROOT, RELATIONSHIPS, WORKBOOK, RELATED, (TABLE_NAME, table())])
+        wanted = refused("Worksheet 'S' not found")
+        self.check(package, ["csv-table", "T1"], wanted, "no part of the sheet")
+        package = package_of(SMALLEST[1:])
+        wanted = refused("File not found '_rels/.rels'")
+        self.check(package, ["csv-table", "T1"], wanted, "no workbook")
 
 
 if __name__ == "__main__":

@@ -56,12 +56,12 @@ echo "rt $* speaks of $(basename "$PWD")"
 [ ! -e "$FAILING" ] || [ "$1" != run ] || exit 1
 [ "$1" != run ] || cp "$STAND_IN" out/xlsx_tool
 """
-COMMANDS = (
-    "cells", "merges", "links", "csv", "table", "sheets", "names", "tables", "pivots", "props"
-)
+NAMED = ("cells", "merges", "links", "csv", "csv-table", "table")
+COMMANDS = (*NAMED, "sheets", "names", "tables", "pivots", "props")
 USAGE = """\
-usage: ./xlsx FILE.xlsx cells NAME       (or merges, links, csv or table NAME, or sheets,
-                                          names, tables, pivots or props)
+usage: ./xlsx FILE.xlsx cells NAME       (or merges, links, csv, csv-table or table NAME,
+                                          pivot SHEET NAME, or sheets, names, tables,
+                                          pivots or props)
        ./xlsx cells NAME < package.json
        ./xlsx --help
 """

@@ -7,8 +7,6 @@ mod link_tests;
 #[cfg(test)]
 mod merge_tests;
 #[cfg(test)]
+mod opening;
+#[cfg(test)]
 mod property_tests;
-#[cfg(test)]
-mod table_data_tests;
-#[cfg(test)]
-mod table_tests;

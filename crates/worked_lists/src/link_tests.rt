@@ -1,20 +1,16 @@
 //! The hyperlinks of sheets, by both calls that read them.
 
+use crate::opening::opened;
 use part_events::{FailingPackage, MemoryPackage, Package};
 use std::alloc::Global;
+use std::process::Abort;
 use std::test::Fail;
 use test_packages::{Part, RELATIONSHIPS, ROOT, SHEET_NAME, WORKBOOK, WORKBOOK_NAME, package_of};
-use xlsx_core::{Hyperlink, OpenFailure, Xlsx};
+use test_tables::{assert_text, cases, cut};
+use xlsx_core::{Hyperlink, Xlsx};
 
 /// The name of the part of the sheet's relationships.
 const BESIDE: &str = "xl/worksheets/_rels/sheet1.xml.rels";
-
-fn opened<P: Package + Drop>(alloc: Global, package: P) -> Result<Xlsx<P>, Fail> {
-    match Xlsx::new(alloc, package) {
-        Ok(xlsx) => Ok(xlsx),
-        Err(OpenFailure { error, package: _ }) => Err(Fail::from(error)),
-    }
-}
 
 /// A text that may be absent: `-`, or `=` and the text.
 fn push_optional(out: &mut String, text: &Option<String>) -> Result<(), Fail> {
@@ -79,196 +75,170 @@ const ONE_TARGET: &str =
     r#"<Relationships><Relationship Id="a" Type="T/relationships/hyperlink" Target="t"/></Relationships>"#;
 
 /// What stands in a sheet's part, and its links, where `a` leads to `t`.
-const SHEET_CASES: [(&str, &str); 47] = [
-    ("<worksheet><sheetData/></worksheet>", ""),
-    ("", ""),
-    (
-        r#"<worksheet><hyperlinks/><hyperlinks><hyperlink ref="A1"/></hyperlinks></worksheet>"#,
-        "",
-    ),
-    (
-        r#"<worksheet><extLst><hyperlinks><hyperlink ref="A1"/></hyperlinks></extLst><hyperlinks><hyperlink ref="B1"/></hyperlinks></worksheet>"#,
-        "(0,0)-(0,0) - - - -;",
-    ),
-    (
-        r#"<worksheet><hyperlink ref="A1"/><hyperlinks><x><hyperlink ref="B1"/></x></hyperlinks></worksheet>"#,
-        "(0,1)-(0,1) - - - -;",
-    ),
-    (
-        r#"<worksheet><hyperlinks><hyperlink ref="A1"/>"#,
-        "XmlEof(\"hyperlinks\")",
-    ),
-    ("<worksheet><sheetData>", ""),
-    (
-        r#"<worksheet><sheetData></x><hyperlinks><hyperlink ref="A1"/></hyperlinks>"#,
-        "Xml(EndMismatch { at: 2 })",
-    ),
-    (
-        r#"<worksheet><hyperlinks><hyperlink ref="A1"></x>"#,
-        "Xml(EndMismatch { at: 3 })",
-    ),
-    (
-        r#"<worksheet><hyperlinks><hyperlink ref="A1"/></hyperlinks></x>"#,
-        "(0,0)-(0,0) - - - -;",
-    ),
-    (
-        r#"<worksheet><sheetData><c r="!" x></c></sheetData><hyperlinks><hyperlink ref="A1"/></hyperlinks></worksheet>"#,
-        "(0,0)-(0,0) - - - -;",
-    ),
-    (
-        r#"<x:hyperlinks><x:hyperlink ref="A1"/></x:hyperlinks>"#,
-        "(0,0)-(0,0) - - - -;",
-    ),
-    (
-        r#"<hyperlinks><hyperlink ref=""/></hyperlinks>"#,
-        "RangeWithoutRowComponent",
-    ),
-    (
-        r#"<hyperlinks><hyperlink ref="A0"/></hyperlinks>"#,
-        "RangeWithoutRowComponent",
-    ),
-    (
-        r#"<hyperlinks><hyperlink ref="XFE1"/></hyperlinks>"#,
-        "ColumnNumberOverflow",
-    ),
-    (
-        r#"<hyperlinks><hyperlink ref="A1:B2:C3"/></hyperlinks>"#,
-        "DimensionCount(3)",
-    ),
-    (
-        r#"<hyperlinks><hyperlink ref="$A$1"/></hyperlinks>"#,
-        "Alphanumeric(36)",
-    ),
-    (
-        r#"<hyperlinks><hyperlink ref="a1"/><hyperlink/><hyperlink ref="B2:A1"/></hyperlinks>"#,
-        "(0,0)-(0,0) - - - -;(1,1)-(0,0) - - - -;",
-    ),
-    (
-        r#"<hyperlinks><hyperlink ref="A1"/><hyperlink ref="A0"/></hyperlinks>"#,
-        "RangeWithoutRowComponent",
-    ),
-    (r#"<hyperlinks></hyperlinks><hyperlink ref="A0"/>"#, ""),
-    (
-        r#"<hyperlinks><hyperlink ref="A1" x/></hyperlinks>"#,
-        "XmlAttr(ExpectedEq(10))",
-    ),
-    (
-        r#"<hyperlinks><hyperlink ref="A1" location="l" display="d" tooltip="p" x/></hyperlinks>"#,
-        "XmlAttr(ExpectedEq(47))",
-    ),
-    (
-        r#"<hyperlinks><hyperlink ref="A1" location="l" display="d" tooltip="p" id="a" x/></hyperlinks>"#,
-        "(0,0)-(0,0) =t =l =d =p;",
-    ),
-    (
-        r#"<hyperlinks><hyperlink x/></hyperlinks>"#,
-        "XmlAttr(ExpectedEq(1))",
-    ),
-    (
-        r#"<hyperlinks><hyperlink ref="A1" ref="B1"/></hyperlinks>"#,
-        "(0,0)-(0,0) - - - -;",
-    ),
-    (
-        r#"<hyperlinks><hyperlink location="l" display="d" tooltip="p" r:id="a"/></hyperlinks>"#,
-        "",
-    ),
-    (
-        r#"<hyperlinks><hyperlink location="&bogus;" display="&bogus;" tooltip="&bogus;"/></hyperlinks>"#,
-        "",
-    ),
-    (
-        r#"<hyperlinks><hyperlink ref="A1" r:id="a"/></hyperlinks>"#,
-        "(0,0)-(0,0) =t - - -;",
-    ),
-    (
-        r#"<hyperlinks><hyperlink ref="A1" id="a"/></hyperlinks>"#,
-        "(0,0)-(0,0) =t - - -;",
-    ),
-    (
-        r#"<hyperlinks><hyperlink ref="A1" x:id="a" id="b"/></hyperlinks>"#,
-        "(0,0)-(0,0) =t - - -;",
-    ),
-    (
-        r#"<hyperlinks><hyperlink ref="A1" rid="a"/></hyperlinks>"#,
-        "(0,0)-(0,0) - - - -;",
-    ),
-    (
-        r#"<hyperlinks><hyperlink ref="A1" r:id="b"/></hyperlinks>"#,
-        "(0,0)-(0,0) - - - -;",
-    ),
-    (
-        r#"<hyperlinks><hyperlink ref="A1" r:id="A"/></hyperlinks>"#,
-        "(0,0)-(0,0) - - - -;",
-    ),
-    (
-        r#"<hyperlinks><hyperlink ref="A1" r:id=""/></hyperlinks>"#,
-        "(0,0)-(0,0) - - - -;",
-    ),
-    (
-        r#"<hyperlinks><hyperlink ref="A1" location="" display="" tooltip=""/></hyperlinks>"#,
-        "(0,0)-(0,0) - = = =;",
-    ),
-    (
-        r#"<hyperlinks><hyperlink ref="A1" location="a&amp;b"/></hyperlinks>"#,
-        "(0,0)-(0,0) - =a&b - -;",
-    ),
-    (
-        r#"<hyperlinks><hyperlink ref="A1" display="a&amp;b"/></hyperlinks>"#,
-        "(0,0)-(0,0) - - =a&b -;",
-    ),
-    (
-        r#"<hyperlinks><hyperlink ref="A1" tooltip="a&amp;b"/></hyperlinks>"#,
-        "(0,0)-(0,0) - - - =a&b;",
-    ),
-    (
-        r#"<hyperlinks><hyperlink ref="A1" location="&bogus;"/></hyperlinks>"#,
-        "Xml(Entity { at: 1 })",
-    ),
-    (
-        r#"<hyperlinks><hyperlink ref="A1" display="&bogus;"/></hyperlinks>"#,
-        "Xml(Entity { at: 1 })",
-    ),
-    (
-        r#"<hyperlinks><hyperlink ref="A1"/><hyperlink ref="A1" tooltip="&bogus;"/></hyperlinks>"#,
-        "Xml(Entity { at: 3 })",
-    ),
-    (
-        r#"<hyperlinks><hyperlink ref="A1" location="_x0041_" display="_x000D_" tooltip="_xD800_"/></hyperlinks>"#,
-        "(0,0)-(0,0) - =A =\r =_xD800_;",
-    ),
-    (
-        r#"<hyperlinks><hyperlink ref="A1" location="&#95;x0041_"/></hyperlinks>"#,
-        "(0,0)-(0,0) - =A - -;",
-    ),
-    (
-        r#"<hyperlinks><hyperlink ref="A1" location="_x0026_amp;"/></hyperlinks>"#,
-        "(0,0)-(0,0) - =&amp; - -;",
-    ),
-    (
-        r#"<hyperlinks><hyperlink ref="&#65;1"/></hyperlinks>"#,
-        "Alphanumeric(38)",
-    ),
-    (
-        r#"<hyperlinks><hyperlink ref="A1" r:id="&#97;"/></hyperlinks>"#,
-        "(0,0)-(0,0) - - - -;",
-    ),
-    (
-        r#"<hyperlinks><hyperlink ref="A1"><hyperlink ref="B1"/></hyperlink></hyperlinks>"#,
-        "(0,0)-(0,0) - - - -;(0,1)-(0,1) - - - -;",
-    ),
-];
+const SHEET_CASES: &str = r#"
+<worksheet><sheetData/></worksheet>
+=
+
+
+=
+
+<worksheet><hyperlinks/><hyperlinks><hyperlink ref="A1"/></hyperlinks></worksheet>
+=
+
+<worksheet><extLst><hyperlinks><hyperlink ref="A1"/></hyperlinks></extLst><hyperlinks><hyperlink ref="B1"/></hyperlinks></worksheet>
+= (0,0)-(0,0) - - - -;
+
+<worksheet><hyperlink ref="A1"/><hyperlinks><x><hyperlink ref="B1"/></x></hyperlinks></worksheet>
+= (0,1)-(0,1) - - - -;
+
+<worksheet><hyperlinks><hyperlink ref="A1"/>
+= XmlEof("hyperlinks")
+
+<worksheet><sheetData>
+=
+
+<worksheet><sheetData></x><hyperlinks><hyperlink ref="A1"/></hyperlinks>
+= Xml(EndMismatch { at: 2 })
+
+<worksheet><hyperlinks><hyperlink ref="A1"></x>
+= Xml(EndMismatch { at: 3 })
+
+<worksheet><hyperlinks><hyperlink ref="A1"/></hyperlinks></x>
+= (0,0)-(0,0) - - - -;
+
+<worksheet><sheetData><c r="!" x></c></sheetData><hyperlinks><hyperlink ref="A1"/></hyperlinks></worksheet>
+= (0,0)-(0,0) - - - -;
+
+<x:hyperlinks><x:hyperlink ref="A1"/></x:hyperlinks>
+= (0,0)-(0,0) - - - -;
+
+<hyperlinks><hyperlink ref=""/></hyperlinks>
+= RangeWithoutRowComponent
+
+<hyperlinks><hyperlink ref="A0"/></hyperlinks>
+= RangeWithoutRowComponent
+
+<hyperlinks><hyperlink ref="XFE1"/></hyperlinks>
+= ColumnNumberOverflow
+
+<hyperlinks><hyperlink ref="A1:B2:C3"/></hyperlinks>
+= DimensionCount(3)
+
+<hyperlinks><hyperlink ref="$A$1"/></hyperlinks>
+= Alphanumeric(36)
+
+<hyperlinks><hyperlink ref="a1"/><hyperlink/><hyperlink ref="B2:A1"/></hyperlinks>
+= (0,0)-(0,0) - - - -;(1,1)-(0,0) - - - -;
+
+<hyperlinks><hyperlink ref="A1"/><hyperlink ref="A0"/></hyperlinks>
+= RangeWithoutRowComponent
+
+<hyperlinks></hyperlinks><hyperlink ref="A0"/>
+=
+
+<hyperlinks><hyperlink ref="A1" x/></hyperlinks>
+= XmlAttr(ExpectedEq(10))
+
+<hyperlinks><hyperlink ref="A1" location="l" display="d" tooltip="p" x/></hyperlinks>
+= XmlAttr(ExpectedEq(47))
+
+<hyperlinks><hyperlink ref="A1" location="l" display="d" tooltip="p" id="a" x/></hyperlinks>
+= (0,0)-(0,0) =t =l =d =p;
+
+<hyperlinks><hyperlink x/></hyperlinks>
+= XmlAttr(ExpectedEq(1))
+
+<hyperlinks><hyperlink ref="A1" ref="B1"/></hyperlinks>
+= (0,0)-(0,0) - - - -;
+
+<hyperlinks><hyperlink location="l" display="d" tooltip="p" r:id="a"/></hyperlinks>
+=
+
+<hyperlinks><hyperlink location="&bogus;" display="&bogus;" tooltip="&bogus;"/></hyperlinks>
+=
+
+<hyperlinks><hyperlink ref="A1" r:id="a"/></hyperlinks>
+= (0,0)-(0,0) =t - - -;
+
+<hyperlinks><hyperlink ref="A1" id="a"/></hyperlinks>
+= (0,0)-(0,0) =t - - -;
+
+<hyperlinks><hyperlink ref="A1" x:id="a" id="b"/></hyperlinks>
+= (0,0)-(0,0) =t - - -;
+
+<hyperlinks><hyperlink ref="A1" rid="a"/></hyperlinks>
+= (0,0)-(0,0) - - - -;
+
+<hyperlinks><hyperlink ref="A1" r:id="b"/></hyperlinks>
+= (0,0)-(0,0) - - - -;
+
+<hyperlinks><hyperlink ref="A1" r:id="A"/></hyperlinks>
+= (0,0)-(0,0) - - - -;
+
+<hyperlinks><hyperlink ref="A1" r:id=""/></hyperlinks>
+= (0,0)-(0,0) - - - -;
+
+<hyperlinks><hyperlink ref="A1" location="" display="" tooltip=""/></hyperlinks>
+= (0,0)-(0,0) - = = =;
+
+<hyperlinks><hyperlink ref="A1" location="a&amp;b"/></hyperlinks>
+= (0,0)-(0,0) - =a&b - -;
+
+<hyperlinks><hyperlink ref="A1" display="a&amp;b"/></hyperlinks>
+= (0,0)-(0,0) - - =a&b -;
+
+<hyperlinks><hyperlink ref="A1" tooltip="a&amp;b"/></hyperlinks>
+= (0,0)-(0,0) - - - =a&b;
+
+<hyperlinks><hyperlink ref="A1" location="&bogus;"/></hyperlinks>
+= Xml(Entity { at: 1 })
+
+<hyperlinks><hyperlink ref="A1" display="&bogus;"/></hyperlinks>
+= Xml(Entity { at: 1 })
+
+<hyperlinks><hyperlink ref="A1"/><hyperlink ref="A1" tooltip="&bogus;"/></hyperlinks>
+= Xml(Entity { at: 3 })
+
+<hyperlinks><hyperlink ref="A1" location="&#95;x0041_"/></hyperlinks>
+= (0,0)-(0,0) - =A - -;
+
+<hyperlinks><hyperlink ref="A1" location="_x0026_amp;"/></hyperlinks>
+= (0,0)-(0,0) - =&amp; - -;
+
+<hyperlinks><hyperlink ref="&#65;1"/></hyperlinks>
+= Alphanumeric(38)
+
+<hyperlinks><hyperlink ref="A1" r:id="&#97;"/></hyperlinks>
+= (0,0)-(0,0) - - - -;
+
+<hyperlinks><hyperlink ref="A1"><hyperlink ref="B1"/></hyperlink></hyperlinks>
+= (0,0)-(0,0) - - - -;(0,1)-(0,1) - - - -;
+"#;
+
+/// A sheet whose link has each escape, and the link.
+const ESCAPES: (&str, &str) = (
+    r#"<hyperlinks><hyperlink ref="A1" location="_x0041_" display="_x000D_" tooltip="_xD800_"/></hyperlinks>"#,
+    "(0,0)-(0,0) - =A =\r =_xD800_;",
+);
+
+/// The links of a sheet are those that are wanted, by its name and by its index.
+fn assert_links(rt: &impl Abort, alloc: Global, sheet: &str, links: &str) -> Result<(), Fail> {
+    let mut xlsx = opened(alloc, linked(alloc, sheet, ONE_TARGET)?)?;
+    let told = links_told(alloc, &mut xlsx, "S")?;
+    assert_text(rt, &told, links, sheet);
+    let told = numbered_told(alloc, &mut xlsx, 0)?;
+    assert_text(rt, &told, links, sheet);
+    Ok(())
+}
 
 #[test]
 fn links_are_read_and_refused(rt: HostRuntime) -> Result<(), Fail> {
     let alloc = rt.alloc();
-    for (sheet, links) in SHEET_CASES {
-        let mut xlsx = opened(alloc, linked(alloc, sheet, ONE_TARGET)?)?;
-        let told = links_told(alloc, &mut xlsx, "S")?;
-        assert_eq!(rt; told.as_str(), links, "of {sheet}");
-        let told = numbered_told(alloc, &mut xlsx, 0)?;
-        assert_eq!(rt; told.as_str(), links, "by index of {sheet}");
+    for case in cases(SHEET_CASES) {
+        let (sheet, links) = cut(case);
+        assert_links(&rt, alloc, sheet, links)?;
     }
-    Ok(())
+    assert_links(&rt, alloc, ESCAPES.0, ESCAPES.1)
 }
 
 /// A link whose Id is `a`, and one whose Id is empty.
@@ -282,122 +252,136 @@ const NOWHERE: &str = "(0,0)-(0,0) - - - -;(0,1)-(0,1) - - - -;";
 const TO_T: &str = "(0,0)-(0,0) =t - - -;(0,1)-(0,1) - - - -;";
 
 /// What stands in the part of the relationships, and the two links.
-const TARGET_CASES: [(&str, &str); 26] = [
-    (ONE_TARGET, TO_T),
-    ("", "XmlEof(\"Relationships\")"),
-    ("<x/>", "XmlEof(\"Relationships\")"),
-    ("<Relationships>", "XmlEof(\"Relationships\")"),
-    (
-        r#"<Relationships><Relationship Id="a" Type="/relationships/hyperlink" Target="t">"#,
-        "XmlEof(\"Relationships\")",
-    ),
-    (
-        r#"<Relationships><Relationship Id="a" Type="/relationships/hyperlink" Target="t"/>"#,
-        "XmlEof(\"Relationships\")",
-    ),
-    ("<Relationships></x>", "Xml(EndMismatch { at: 1 })"),
-    ("<x></y><Relationships/>", "Xml(EndMismatch { at: 1 })"),
-    ("<Relationships></Relationships></x>", NOWHERE),
-    (
-        r#"<Relationships><x><r:Relationship Id="a" Type="/relationships/hyperlink" Target="t"/></x></Relationships>"#,
-        TO_T,
-    ),
-    (
-        r#"<x><Relationship Id="a" Type="/relationships/hyperlink" Target="t"/><Relationships/></x>"#,
-        NOWHERE,
-    ),
-    (
-        r#"<Relationships><Relationship Id="a" Type="relationships/hyperlink" Target="t"/><Relationship Id="a" Target="u"/></Relationships>"#,
-        NOWHERE,
-    ),
-    (
-        r#"<Relationships><Relationship Id="a" Type="/relationships/hyperlink"/></Relationships>"#,
-        "(0,0)-(0,0) = - - -;(0,1)-(0,1) - - - -;",
-    ),
-    (
-        r#"<Relationships><Relationship Id="a" Type="/relationships/hyperlink" Target="u"/><Relationship Id="a" Type="/relationships/hyperlink" Target="t"/></Relationships>"#,
-        TO_T,
-    ),
-    (
-        r#"<Relationships><Relationship Id="a" Type="/relationships/hyperlink" Target="t"/><Relationship Id="a" Type="/relationships/table" Target="u"/></Relationships>"#,
-        TO_T,
-    ),
-    (
-        r#"<Relationships><Relationship Id="" Type="/relationships/hyperlink" Target="t"/><Relationship Type="/relationships/hyperlink" Target="t"/></Relationships>"#,
-        NOWHERE,
-    ),
-    (
-        r#"<Relationships><Relationship Id="" Type="/relationships/hyperlink" Target="&bogus;"/><Relationship Type="/relationships/hyperlink" Target="&bogus;"/></Relationships>"#,
-        NOWHERE,
-    ),
-    (
-        r#"<Relationships><Relationship Id="a" Type="/relationships/worksheet" Target="&bogus;"/></Relationships>"#,
-        NOWHERE,
-    ),
-    (
-        r#"<Relationships><Relationship Id="z" Type="/relationships/hyperlink" Target="&bogus;"/></Relationships>"#,
-        "Xml(Entity { at: 1 })",
-    ),
-    (
-        r#"<Relationships><Relationship Id="a" Type="/relationships/hyperlink" Target="u"/><Relationship Id="a" Type="/relationships/hyperlink" Target="&amp"/></Relationships>"#,
-        "Xml(Entity { at: 3 })",
-    ),
-    (
-        r#"<Relationships><Relationship Id="a" Type="/relationships/hyperlink" Target="a&amp;b"/></Relationships>"#,
-        "(0,0)-(0,0) =a&b - - -;(0,1)-(0,1) - - - -;",
-    ),
-    (
-        r#"<Relationships><Relationship Id="a" Type="/relationships/hyperlink" Target="_x0041_&#95;x0041_"/></Relationships>"#,
-        "(0,0)-(0,0) =AA - - -;(0,1)-(0,1) - - - -;",
-    ),
-    (
-        r#"<Relationships><Relationship Id="a" Type="/relationships/hyperlink" Target="_x0026_amp;_xD800_"/></Relationships>"#,
-        "(0,0)-(0,0) =&amp;_xD800_ - - -;(0,1)-(0,1) - - - -;",
-    ),
-    (
-        r#"<Relationships><Relationship Id="a" Type="/relationships/hyperlink" Target="t" x/></Relationships>"#,
-        TO_T,
-    ),
-    (
-        r#"<Relationships><Relationship Type="y" Target="t" x/></Relationships>"#,
-        "XmlAttr(ExpectedEq(21))",
-    ),
-    (
-        r#"<Relationships><Relationship Id="a" Id="b" Type="/relationships/hyperlink" Target="t"/></Relationships>"#,
-        TO_T,
-    ),
-];
+const TARGET_CASES: &str = r#"
+<Relationships><Relationship Id="a" Type="T/relationships/hyperlink" Target="t"/></Relationships>
+= (0,0)-(0,0) =t - - -;(0,1)-(0,1) - - - -;
+
+
+= XmlEof("Relationships")
+
+<x/>
+= XmlEof("Relationships")
+
+<Relationships>
+= XmlEof("Relationships")
+
+<Relationships><Relationship Id="a" Type="/relationships/hyperlink" Target="t">
+= XmlEof("Relationships")
+
+<Relationships><Relationship Id="a" Type="/relationships/hyperlink" Target="t"/>
+= XmlEof("Relationships")
+
+<Relationships></x>
+= Xml(EndMismatch { at: 1 })
+
+<x></y><Relationships/>
+= Xml(EndMismatch { at: 1 })
+
+<Relationships></Relationships></x>
+= (0,0)-(0,0) - - - -;(0,1)-(0,1) - - - -;
+
+<Relationships><x><r:Relationship Id="a" Type="/relationships/hyperlink" Target="t"/></x></Relationships>
+= (0,0)-(0,0) =t - - -;(0,1)-(0,1) - - - -;
+
+<x><Relationship Id="a" Type="/relationships/hyperlink" Target="t"/><Relationships/></x>
+= (0,0)-(0,0) - - - -;(0,1)-(0,1) - - - -;
+
+<Relationships><Relationship Id="a" Type="relationships/hyperlink" Target="t"/><Relationship Id="a" Target="u"/></Relationships>
+= (0,0)-(0,0) - - - -;(0,1)-(0,1) - - - -;
+
+<Relationships><Relationship Id="a" Type="/relationships/hyperlink"/></Relationships>
+= (0,0)-(0,0) = - - -;(0,1)-(0,1) - - - -;
+
+<Relationships><Relationship Id="a" Type="/relationships/hyperlink" Target="u"/><Relationship Id="a" Type="/relationships/hyperlink" Target="t"/></Relationships>
+= (0,0)-(0,0) =t - - -;(0,1)-(0,1) - - - -;
+
+<Relationships><Relationship Id="a" Type="/relationships/hyperlink" Target="t"/><Relationship Id="a" Type="/relationships/table" Target="u"/></Relationships>
+= (0,0)-(0,0) =t - - -;(0,1)-(0,1) - - - -;
+
+<Relationships><Relationship Id="" Type="/relationships/hyperlink" Target="t"/><Relationship Type="/relationships/hyperlink" Target="t"/></Relationships>
+= (0,0)-(0,0) - - - -;(0,1)-(0,1) - - - -;
+
+<Relationships><Relationship Id="" Type="/relationships/hyperlink" Target="&bogus;"/><Relationship Type="/relationships/hyperlink" Target="&bogus;"/></Relationships>
+= (0,0)-(0,0) - - - -;(0,1)-(0,1) - - - -;
+
+<Relationships><Relationship Id="a" Type="/relationships/worksheet" Target="&bogus;"/></Relationships>
+= (0,0)-(0,0) - - - -;(0,1)-(0,1) - - - -;
+
+<Relationships><Relationship Id="z" Type="/relationships/hyperlink" Target="&bogus;"/></Relationships>
+= Xml(Entity { at: 1 })
+
+<Relationships><Relationship Id="a" Type="/relationships/hyperlink" Target="u"/><Relationship Id="a" Type="/relationships/hyperlink" Target="&amp"/></Relationships>
+= Xml(Entity { at: 3 })
+
+<Relationships><Relationship Id="a" Type="/relationships/hyperlink" Target="a&amp;b"/></Relationships>
+= (0,0)-(0,0) =a&b - - -;(0,1)-(0,1) - - - -;
+
+<Relationships><Relationship Id="a" Type="/relationships/hyperlink" Target="_x0041_&#95;x0041_"/></Relationships>
+= (0,0)-(0,0) =AA - - -;(0,1)-(0,1) - - - -;
+
+<Relationships><Relationship Id="a" Type="/relationships/hyperlink" Target="_x0026_amp;_xD800_"/></Relationships>
+= (0,0)-(0,0) =&amp;_xD800_ - - -;(0,1)-(0,1) - - - -;
+
+<Relationships><Relationship Id="a" Type="/relationships/hyperlink" Target="t" x/></Relationships>
+= (0,0)-(0,0) =t - - -;(0,1)-(0,1) - - - -;
+
+<Relationships><Relationship Type="y" Target="t" x/></Relationships>
+= XmlAttr(ExpectedEq(21))
+
+<Relationships><Relationship Id="a" Id="b" Type="/relationships/hyperlink" Target="t"/></Relationships>
+= (0,0)-(0,0) =t - - -;(0,1)-(0,1) - - - -;
+"#;
 
 #[test]
 fn targets_are_read_and_refused(rt: HostRuntime) -> Result<(), Fail> {
     let alloc = rt.alloc();
-    for (beside, links) in TARGET_CASES {
+    for case in cases(TARGET_CASES) {
+        let (beside, links) = cut(case);
         let mut xlsx = opened(alloc, linked(alloc, TWO_LINKS, beside)?)?;
         let told = links_told(alloc, &mut xlsx, "S")?;
-        assert_eq!(rt; told.as_str(), links, "of {beside}");
+        assert_text(&rt, &told, links, beside);
     }
     let parts = [ROOT, RELATIONSHIPS, WORKBOOK, (SHEET_NAME, TWO_LINKS)];
     let mut xlsx = opened(alloc, package_of(alloc, &parts)?)?;
     let told = links_told(alloc, &mut xlsx, "S")?;
-    assert_eq!(rt; told.as_str(), NOWHERE, "without relationships");
+    assert_text(&rt, &told, NOWHERE, "without relationships");
     Ok(())
 }
 
 /// The target of a sheet's relationship, the path of its part, and where the relationships of that
 /// are.
-const PLACES: [(&str, &str, &str); 6] = [
-    ("a/b/x.xml", "xl/a/b/x.xml", "xl/a/b/_rels/x.xml.rels"),
-    ("/x.xml", "x.xml", "_rels/x.xml.rels"),
-    ("//x.xml", "/x.xml", "_rels/x.xml.rels"),
-    ("//a/x.xml", "/a/x.xml", "/a/_rels/x.xml.rels"),
-    ("/a/", "a/", "a/_rels/.rels"),
-    ("", "xl/", "xl/_rels/.rels"),
-];
+const PLACES: &str = "
+a/b/x.xml
+= xl/a/b/x.xml
+= xl/a/b/_rels/x.xml.rels
+
+/x.xml
+= x.xml
+= _rels/x.xml.rels
+
+//x.xml
+= /x.xml
+= _rels/x.xml.rels
+
+//a/x.xml
+= /a/x.xml
+= /a/_rels/x.xml.rels
+
+/a/
+= a/
+= a/_rels/.rels
+
+
+= xl/
+= xl/_rels/.rels
+";
 
 #[test]
 fn targets_are_looked_for_beside_the_part(rt: HostRuntime) -> Result<(), Fail> {
     let alloc = rt.alloc();
-    for (target, path, beside) in PLACES {
+    for case in cases(PLACES) {
+        let (target, places) = cut(case);
+        let (path, beside) = cut(places);
         let related = format!(in alloc;
             "<Relationships><Relationship Id=\"rId1\" Type=\"x/worksheet\" Target=\"{target}\"/></Relationships>"
         )?;
@@ -405,7 +389,7 @@ fn targets_are_looked_for_beside_the_part(rt: HostRuntime) -> Result<(), Fail> {
         let package = package_by(alloc, related, (path, TWO_LINKS), (beside, ONE_TARGET))?;
         let mut xlsx = opened(alloc, package)?;
         let told = links_told(alloc, &mut xlsx, "S")?;
-        assert_eq!(rt; told.as_str(), TO_T, "by {target}");
+        assert_text(&rt, &told, TO_T, target);
     }
     Ok(())
 }
@@ -441,7 +425,7 @@ fn links_go_by_the_names_of_sheets(rt: HostRuntime) -> Result<(), Fail> {
         (7, "WorksheetNotFound(\"Sheet index 7 out of range\")"),
     ] {
         let told = numbered_told(alloc, &mut xlsx, id)?;
-        assert_eq!(rt; told.as_str(), links, "of sheet {id}");
+        assert!(rt; told.as_str() == links, "of sheet {id}");
     }
     for (name, links) in [
         ("S", TO_T),
@@ -449,7 +433,7 @@ fn links_go_by_the_names_of_sheets(rt: HostRuntime) -> Result<(), Fail> {
         ("Z", "WorksheetNotFound(\"Z\")"),
     ] {
         let told = links_told(alloc, &mut xlsx, name)?;
-        assert_eq!(rt; told.as_str(), links, "of {name}");
+        assert_text(&rt, &told, links, name);
     }
     Ok(())
 }
@@ -476,7 +460,7 @@ fn links_have_areas_and_copies(rt: HostRuntime) -> Result<(), Fail> {
     let parts = [ROOT, RELATIONSHIPS, WORKBOOK, LINKS, LINKS_BESIDE];
     let mut xlsx = opened(alloc, package_of(alloc, &parts)?)?;
     let told = numbered_told(alloc, &mut xlsx, 0)?;
-    assert_eq!(rt; told.as_str(), BOTH);
+    assert_text(&rt, &told, BOTH, "by index");
     let links = xlsx.hyperlinks_by_sheet_name("S")?;
     let [outside, inside] = links.as_slice() else {
         return Err(Fail::new("there are two links"));
@@ -518,7 +502,7 @@ fn a_fault_in_links_is_told(rt: HostRuntime) -> Result<(), Fail> {
     for call in OPENING..OPENING + CALLS {
         for by_name in [false, true] {
             let told = failing_told(alloc, call, by_name)?;
-            assert_eq!(rt; told.as_str(), expected.as_str(), "at call {call}");
+            assert!(rt; told == expected, "at call {call}");
         }
     }
     Ok(())

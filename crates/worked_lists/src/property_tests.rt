@@ -1,10 +1,12 @@
 //! The properties of a workbook, by the parts that say them.
 
+use crate::opening::opened;
 use part_events::{FailingPackage, MemoryPackage, Package};
 use std::alloc::Global;
 use std::test::Fail;
 use test_packages::{Part, RELATIONSHIPS, ROOT, SHEET, WORKBOOK, package_of};
-use xlsx_core::{OpenFailure, Property, WorkbookProperties, Xlsx};
+use test_tables::{assert_text, cases, cut};
+use xlsx_core::{Property, WorkbookProperties, Xlsx};
 
 const CORE: &str = "docProps/core.xml";
 
@@ -31,13 +33,6 @@ const NAMED: [(&str, Property); 17] = [
     ("template", Property::Template),
     ("manager", Property::Manager),
 ];
-
-fn opened<P: Package + Drop>(alloc: Global, package: P) -> Result<Xlsx<P>, Fail> {
-    match Xlsx::new(alloc, package) {
-        Ok(xlsx) => Ok(xlsx),
-        Err(OpenFailure { error, package: _ }) => Err(Fail::from(error)),
-    }
-}
 
 /// The texts of properties, in their order, and then those that users named.
 fn texts_of(alloc: Global, properties: &WorkbookProperties) -> Result<String, Fail> {
@@ -66,140 +61,152 @@ fn workbook_of<'a>(alloc: Global, part: Part<'a>, other: Part<'a>) -> Result<Mem
 }
 
 /// The name of a part, what stands in it, and what is told of the properties.
-const CASES: [(&str, &str, &str); 33] = [
-    (
-        CORE,
-        "<cp:coreProperties><dc:creator>Ann <!amp> Bo</dc:creator></cp:coreProperties>",
-        "creator=Ann & Bo;",
-    ),
-    (CORE, "", ""),
-    (
-        CORE,
-        "<a><lastModifiedBy>b</lastModifiedBy><created>c</created><modified>d</modified><title>e</title></a>",
-        "last_modified_by=b;created=c;modified=d;title=e;",
-    ),
-    (
-        CORE,
-        "<a><subject>f</subject><description>g</description><keywords>h</keywords><category>i</category></a>",
-        "subject=f;description=g;keywords=h;category=i;",
-    ),
-    (
-        CORE,
-        "<a><contentStatus>j</contentStatus><revision>k</revision><version>l</version><Company>m</Company></a>",
-        "content_status=j;revision=k;version=l;company=m;",
-    ),
-    (
-        PROGRAM,
-        "<a><Application>n</Application><AppVersion>o</AppVersion><Template>p</Template><Manager>q</Manager></a>",
-        "application=n;app_version=o;template=p;manager=q;",
-    ),
-    (
-        PROGRAM,
-        "<a><title>T</title><Company>D</Company></a>",
-        "company=D;",
-    ),
-    (
-        CORE,
-        "<a><creator>x</creator><creator></creator></a>",
-        "creator=x;",
-    ),
-    (
-        CORE,
-        "<a><creator>x</creator><creator>y</creator></a>",
-        "creator=y;",
-    ),
-    (CORE, "<a><creator>a<x/>b</creator></a>", ""),
-    (CORE, "<a><creator>a<x>b</x></creator></a>", ""),
-    (
-        CORE,
-        "<a><creator><title>b</title></creator></a>",
-        "title=b;",
-    ),
-    (
-        CORE,
-        "<a><creator><!bogus></creator></a>",
-        "Xml(Entity { at: 2 })",
-    ),
-    (
-        CORE,
-        "<a><creator><!bogus><x/></creator></a>",
-        "Xml(Entity { at: 2 })",
-    ),
-    (CORE, "<a><!bogus><creator>x</creator></a>", "creator=x;"),
-    (CORE, "<a><creator>x</a>", "Xml(EndMismatch { at: 3 })"),
-    (CORE, "<a><creator>x", ""),
-    (CORE, "<a><creator><!data></creator></a>", ""),
-    (CORE, "<a><creator>a<!>b</creator></a>", "creator=ab;"),
-    (
-        CUSTOM,
-        r#"<Properties><property name="A"><vt:lpwstr>1</vt:lpwstr></property></Properties>"#,
-        "A:1;",
-    ),
-    (CUSTOM, r#"<p><property name="A"/></p>"#, "A:;"),
-    (
-        CUSTOM,
-        r#"<p><property name="A">x<v>1</v>y</property></p>"#,
-        "A:1;",
-    ),
-    (CUSTOM, "<p><property><v>1</v></property></p>", ""),
-    (
-        CUSTOM,
-        r#"<p><property name="A"><v>1</v><w>2</w></property></p>"#,
-        "A:12;",
-    ),
-    (
-        CUSTOM,
-        r#"<p><property name="B"><v>1</v></property><property name="A"><v>2</v></property></p>"#,
-        "A:2;B:1;",
-    ),
-    (
-        CUSTOM,
-        r#"<p><property name="A"><v>1</v></property><property name="A"><v>2</v></property></p>"#,
-        "A:2;",
-    ),
-    (
-        CUSTOM,
-        r#"<p><property name="A"><v>1</v><property name="B"><v>2</v></property></property></p>"#,
-        "B:2;",
-    ),
-    (
-        CUSTOM,
-        r#"<p><property name="a&amp;b"><v>1</v></property></p>"#,
-        "a&b:1;",
-    ),
-    (
-        CUSTOM,
-        r#"<p><property name="&bogus;"/></p>"#,
-        "Xml(Entity { at: 1 })",
-    ),
-    (
-        CUSTOM,
-        r#"<p><property name="A"><v><!bogus></v></property></p>"#,
-        "Xml(Entity { at: 3 })",
-    ),
-    (
-        CUSTOM,
-        r#"<p><property name="A"><!bogus><v>1</v></property></p>"#,
-        "A:1;",
-    ),
-    (
-        CUSTOM,
-        "<p><property x></property></p>",
-        "XmlAttr(ExpectedEq(1))",
-    ),
-    (CUSTOM, "<p></q>", "Xml(EndMismatch { at: 1 })"),
-];
+const CASES: &str = r#"
+docProps/core.xml
+= <cp:coreProperties><dc:creator>Ann <!amp> Bo</dc:creator></cp:coreProperties>
+= creator=Ann & Bo;
+
+docProps/core.xml
+=
+=
+
+docProps/core.xml
+= <a><lastModifiedBy>b</lastModifiedBy><created>c</created><modified>d</modified><title>e</title></a>
+= last_modified_by=b;created=c;modified=d;title=e;
+
+docProps/core.xml
+= <a><subject>f</subject><description>g</description><keywords>h</keywords><category>i</category></a>
+= subject=f;description=g;keywords=h;category=i;
+
+docProps/core.xml
+= <a><contentStatus>j</contentStatus><revision>k</revision><version>l</version><Company>m</Company></a>
+= content_status=j;revision=k;version=l;company=m;
+
+docProps/app.xml
+= <a><Application>n</Application><AppVersion>o</AppVersion><Template>p</Template><Manager>q</Manager></a>
+= application=n;app_version=o;template=p;manager=q;
+
+docProps/app.xml
+= <a><title>T</title><Company>D</Company></a>
+= company=D;
+
+docProps/core.xml
+= <a><creator>x</creator><creator></creator></a>
+= creator=x;
+
+docProps/core.xml
+= <a><creator>x</creator><creator>y</creator></a>
+= creator=y;
+
+docProps/core.xml
+= <a><creator>a<x/>b</creator></a>
+=
+
+docProps/core.xml
+= <a><creator>a<x>b</x></creator></a>
+=
+
+docProps/core.xml
+= <a><creator><title>b</title></creator></a>
+= title=b;
+
+docProps/core.xml
+= <a><creator><!bogus></creator></a>
+= Xml(Entity { at: 2 })
+
+docProps/core.xml
+= <a><creator><!bogus><x/></creator></a>
+= Xml(Entity { at: 2 })
+
+docProps/core.xml
+= <a><!bogus><creator>x</creator></a>
+= creator=x;
+
+docProps/core.xml
+= <a><creator>x</a>
+= Xml(EndMismatch { at: 3 })
+
+docProps/core.xml
+= <a><creator>x
+=
+
+docProps/core.xml
+= <a><creator><!data></creator></a>
+=
+
+docProps/core.xml
+= <a><creator>a<!>b</creator></a>
+= creator=ab;
+
+docProps/custom.xml
+= <Properties><property name="A"><vt:lpwstr>1</vt:lpwstr></property></Properties>
+= A:1;
+
+docProps/custom.xml
+= <p><property name="A"/></p>
+= A:;
+
+docProps/custom.xml
+= <p><property name="A">x<v>1</v>y</property></p>
+= A:1;
+
+docProps/custom.xml
+= <p><property><v>1</v></property></p>
+=
+
+docProps/custom.xml
+= <p><property name="A"><v>1</v><w>2</w></property></p>
+= A:12;
+
+docProps/custom.xml
+= <p><property name="B"><v>1</v></property><property name="A"><v>2</v></property></p>
+= A:2;B:1;
+
+docProps/custom.xml
+= <p><property name="A"><v>1</v></property><property name="A"><v>2</v></property></p>
+= A:2;
+
+docProps/custom.xml
+= <p><property name="A"><v>1</v><property name="B"><v>2</v></property></property></p>
+= B:2;
+
+docProps/custom.xml
+= <p><property name="a&amp;b"><v>1</v></property></p>
+= a&b:1;
+
+docProps/custom.xml
+= <p><property name="&bogus;"/></p>
+= Xml(Entity { at: 1 })
+
+docProps/custom.xml
+= <p><property name="A"><v><!bogus></v></property></p>
+= Xml(Entity { at: 3 })
+
+docProps/custom.xml
+= <p><property name="A"><!bogus><v>1</v></property></p>
+= A:1;
+
+docProps/custom.xml
+= <p><property x></property></p>
+= XmlAttr(ExpectedEq(1))
+
+docProps/custom.xml
+= <p></q>
+= Xml(EndMismatch { at: 1 })
+"#;
 
 #[test]
 fn properties_are_read_and_refused(rt: HostRuntime) -> Result<(), Fail> {
     let alloc = rt.alloc();
-    for (name, markup, wanted) in CASES {
+    for case in cases(CASES) {
+        let (name, behind) = cut(case);
+        let (markup, wanted) = cut(behind);
         let package = workbook_of(alloc, (name, markup), ("x", ""))?;
         let mut xlsx = opened(alloc, package)?;
         let first = told(alloc, &mut xlsx)?;
-        assert_eq!(rt; first.as_str(), wanted, "of {name}: {markup}");
+        assert_text(&rt, &first, wanted, markup);
         let again = told(alloc, &mut xlsx)?;
-        assert_eq!(rt; again.as_str(), wanted, "again of {name}: {markup}");
+        assert_text(&rt, &again, wanted, markup);
     }
     Ok(())
 }
@@ -211,7 +218,7 @@ fn the_programs_part_is_read_behind_the_core_part(rt: HostRuntime) -> Result<(),
     let core = (CORE, "<a><Company>C</Company><Manager>M</Manager></a>");
     let mut xlsx = opened(alloc, workbook_of(alloc, program, core)?)?;
     let first = told(alloc, &mut xlsx)?;
-    assert_eq!(rt; first.as_str(), "company=D;manager=M;");
+    assert_text(&rt, &first, "company=D;manager=M;", "both parts");
     Ok(())
 }
 
@@ -238,11 +245,8 @@ fn a_fault_in_properties_is_told_and_keeps_none(rt: HostRuntime) -> Result<(), F
     // Three parts are looked for, and of the two that are there 5 and 4 events and their ends taken.
     for call in OPENING..OPENING + 3 + 6 + 5 {
         let told = failing_told(rt.alloc(), call)?;
-        assert_eq!(rt;
-            told.as_str(),
-            "Io title=T;A:; title=T;A:; 1",
-            "at call {call}"
-        );
+        let wanted = "Io title=T;A:; title=T;A:; 1";
+        assert!(rt; told.as_str() == wanted, "at call {call}");
     }
     Ok(())
 }
@@ -256,6 +260,6 @@ fn a_copy_has_the_same_texts(rt: HostRuntime) -> Result<(), Fail> {
     let properties = xlsx.workbook_properties()?;
     let copy = properties.clone_in(alloc)?;
     let texts = texts_of(alloc, &copy)?;
-    assert_eq!(rt; texts.as_str(), "title=T;A:1;");
+    assert_text(&rt, &texts, "title=T;A:1;", "a copy");
     Ok(())
 }

@@ -8,6 +8,7 @@ use part_events::{
 use std::alloc::{AllocError, Global};
 use std::process::Abort;
 use std::test::Fail;
+use test_tables::assert_text;
 
 fn start(name: &str) -> PartEvent<'_> {
     PartEvent::Start(StartTag {
@@ -250,27 +251,25 @@ fn texts_are_joined(rt: HostRuntime) -> Result<(), Fail> {
     Ok(())
 }
 
+/// The texts of faults, each twice, and of the other errors of a stream.
+const TEXTS: &str =
+    "end tag mismatch at 4, end tag mismatch at 4;unclosed element at 0, unclosed element at 0;unknown entity at 12, unknown entity at 12;the package could not be read;out of memory;";
+
 #[test]
 fn each_refusal_has_its_text(rt: HostRuntime) -> Result<(), Fail> {
     let alloc = rt.alloc();
-    for (fault, text) in [
-        (XmlFault::EndMismatch { at: 4 }, "end tag mismatch at 4"),
-        (XmlFault::Unclosed { at: 0 }, "unclosed element at 0"),
-        (XmlFault::Entity { at: 12 }, "unknown entity at 12"),
+    let mut told = String::new(alloc);
+    for fault in [
+        XmlFault::EndMismatch { at: 4 },
+        XmlFault::Unclosed { at: 0 },
+        XmlFault::Entity { at: 12 },
     ] {
-        let shown = format!(in alloc; "{fault}")?;
-        assert!(rt; shown.as_str() == text, "{text}");
-        let error = StreamError::Xml(fault);
-        let shown = format!(in alloc; "{error}")?;
-        assert!(rt; shown.as_str() == text, "{text}");
+        write!(told, "{fault}, {};", StreamError::Xml(fault))?;
     }
-    for (error, text) in [
-        (StreamError::Io, "the package could not be read"),
-        (StreamError::OutOfMemory, "out of memory"),
-    ] {
-        let shown = format!(in alloc; "{error}")?;
-        assert!(rt; shown.as_str() == text, "{text}");
+    for error in [StreamError::Io, StreamError::OutOfMemory] {
+        write!(told, "{error};")?;
     }
+    assert_text(&rt, &told, TEXTS, "each refusal");
     Ok(())
 }
 

@@ -2,69 +2,57 @@ use attr_text::AttrFault;
 use part_events::XmlFault;
 use std::alloc::{AllocError, Global};
 use std::test::Fail;
+use test_tables::assert_text;
 use xlsx_error::XlsxError;
+
+/// The texts of refusals, a line each.
+const TEXTS: &str = "out of memory
+the reader has failed before
+I/O error
+Xml error: end tag mismatch at 7
+Xml error: unclosed element at 7
+Xml error: unknown entity at 7
+Xml attribute error: expected '=' at 2
+Xml attribute error: unquoted value at 13
+Unexpected end of xml, expecting '</c>'
+Expecting 'dimension' node
+Relationship not found
+Expecting alphanumeric character, got C3
+Range is missing the expected column component.
+Range is missing the expected row component.
+column number overflow
+row number overflow
+Range dimension must be lower than 2. Got 3
+no name for pivot table
+";
 
 #[test]
 fn each_refusal_has_its_text(rt: HostRuntime) -> Result<(), Fail> {
     let at = 7;
-    for (refusal, want) in [
-        (XlsxError::OutOfMemory, "out of memory"),
-        (XlsxError::Failed, "the reader has failed before"),
-        (XlsxError::Io, "I/O error"),
-        (
-            XlsxError::Xml(XmlFault::EndMismatch { at }),
-            "Xml error: end tag mismatch at 7",
-        ),
-        (
-            XlsxError::Xml(XmlFault::Unclosed { at }),
-            "Xml error: unclosed element at 7",
-        ),
-        (
-            XlsxError::Xml(XmlFault::Entity { at }),
-            "Xml error: unknown entity at 7",
-        ),
-        (
-            XlsxError::XmlAttr(AttrFault::ExpectedEq(2)),
-            "Xml attribute error: expected '=' at 2",
-        ),
-        (
-            XlsxError::XmlAttr(AttrFault::UnquotedValue(13)),
-            "Xml attribute error: unquoted value at 13",
-        ),
-        (
-            XlsxError::XmlEof("c"),
-            "Unexpected end of xml, expecting '</c>'",
-        ),
-        (
-            XlsxError::UnexpectedNode("dimension"),
-            "Expecting 'dimension' node",
-        ),
-        (XlsxError::RelationshipNotFound, "Relationship not found"),
-        (
-            XlsxError::Alphanumeric(0xC3),
-            "Expecting alphanumeric character, got C3",
-        ),
-        (
-            XlsxError::RangeWithoutColumnComponent,
-            "Range is missing the expected column component.",
-        ),
-        (
-            XlsxError::RangeWithoutRowComponent,
-            "Range is missing the expected row component.",
-        ),
-        (XlsxError::ColumnNumberOverflow, "column number overflow"),
-        (XlsxError::RowNumberOverflow, "row number overflow"),
-        (
-            XlsxError::DimensionCount(3),
-            "Range dimension must be lower than 2. Got 3",
-        ),
-        (
-            XlsxError::Unexpected("no name for pivot table"),
-            "no name for pivot table",
-        ),
+    let mut told = String::new(rt.alloc());
+    for refusal in [
+        XlsxError::OutOfMemory,
+        XlsxError::Failed,
+        XlsxError::Io,
+        XlsxError::Xml(XmlFault::EndMismatch { at }),
+        XlsxError::Xml(XmlFault::Unclosed { at }),
+        XlsxError::Xml(XmlFault::Entity { at }),
+        XlsxError::XmlAttr(AttrFault::ExpectedEq(2)),
+        XlsxError::XmlAttr(AttrFault::UnquotedValue(13)),
+        XlsxError::XmlEof("c"),
+        XlsxError::UnexpectedNode("dimension"),
+        XlsxError::RelationshipNotFound,
+        XlsxError::Alphanumeric(0xC3),
+        XlsxError::RangeWithoutColumnComponent,
+        XlsxError::RangeWithoutRowComponent,
+        XlsxError::ColumnNumberOverflow,
+        XlsxError::RowNumberOverflow,
+        XlsxError::DimensionCount(3),
+        XlsxError::Unexpected("no name for pivot table"),
     ] {
-        assert_eq!(rt; refusal.to_string(rt.alloc())?.as_str(), want);
+        write!(told, "{refusal}\n")?;
     }
+    assert_text(&rt, &told, TEXTS, "each refusal");
     Ok(())
 }
 
@@ -88,23 +76,26 @@ fn refusal_with(alloc: Global, number: usize) -> Result<XlsxError, AllocError> {
     })
 }
 
+/// Their texts, a line each.
+const TOLD_TEXTS: &str = r#"Parse float error: a b
+Parse integer error: a b
+File not found 'a b'
+Unknown cell 't' attribute: "a b"
+Unrecognized sheet:state: a b
+Unsupported cell error value 'a b'
+Worksheet 'a b' not found
+Table 'a b' not found
+Expecting a worksheet, got a b
+Pivot Table 'a b' was not found on worksheet
+"#;
+
 #[test]
 fn refusals_tell_the_text_that_they_have(rt: HostRuntime) -> Result<(), Fail> {
-    let texts = [
-        "Parse float error: a b",
-        "Parse integer error: a b",
-        "File not found 'a b'",
-        "Unknown cell 't' attribute: \"a b\"",
-        "Unrecognized sheet:state: a b",
-        "Unsupported cell error value 'a b'",
-        "Worksheet 'a b' not found",
-        "Table 'a b' not found",
-        "Expecting a worksheet, got a b",
-        "Pivot Table 'a b' was not found on worksheet",
-    ];
-    for (number, want) in texts.into_iter().enumerate() {
+    let mut told = String::new(rt.alloc());
+    for number in 0..10 {
         let refusal = refusal_with(rt.alloc(), number)?;
-        assert_eq!(rt; refusal.to_string(rt.alloc())?.as_str(), want);
+        write!(told, "{refusal}\n")?;
     }
+    assert_text(&rt, &told, TOLD_TEXTS, "each refusal");
     Ok(())
 }

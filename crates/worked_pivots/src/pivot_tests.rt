@@ -2,8 +2,10 @@
 
 use part_events::MemoryPackage;
 use std::alloc::Global;
+use std::process::Abort;
 use std::test::Fail;
 use test_packages::{Part, SHEET_NAME, add_front};
+use test_tables::{assert_text, cases, cut};
 use xlsx_pivots::{PivotTables, find_pivot_tables};
 
 /// What the types of the relationships of these parts begin with.
@@ -88,213 +90,181 @@ const FOUND: &str =
     "S P1 xl/pivotCache/pivotCacheDefinition1.xml xl/pivotCache/pivotCacheRecords1.xml;";
 
 /// Each part left out.
-const LEFT_OUT: [(&str, &str); 4] = [
-    (SHEET_RELATED, ""),
-    (PIVOT, r#"FileNotFound("xl/pivotTables/pivotTable1.xml")"#),
-    (
-        PIVOT_RELATED,
-        r#"FileNotFound("xl/pivotTables/_rels/pivotTable1.xml.rels")"#,
-    ),
-    (
-        DEFINITIONS_RELATED,
-        r#"FileNotFound("xl/pivotCache/_rels/pivotCacheDefinition1.xml.rels")"#,
-    ),
-];
+const LEFT_OUT: &str = r#"
+xl/worksheets/_rels/sheet1.xml.rels
+=
+
+xl/pivotTables/pivotTable1.xml
+= FileNotFound("xl/pivotTables/pivotTable1.xml")
+
+xl/pivotTables/_rels/pivotTable1.xml.rels
+= FileNotFound("xl/pivotTables/_rels/pivotTable1.xml.rels")
+
+xl/pivotCache/_rels/pivotCacheDefinition1.xml.rels
+= FileNotFound("xl/pivotCache/_rels/pivotCacheDefinition1.xml.rels")
+"#;
 
 /// The relationships of the sheet.
-const SHEETS: [(&str, &str); 15] = [
-    ("<Relationships/>", ""),
-    ("", r#"XmlEof("Relationships")"#),
-    (
-        r#"<Relationships><Relationship Type="T/pivotTable" Target="../pivotTables/pivotTable1.xml"/>"#,
-        r#"XmlEof("Relationships")"#,
-    ),
-    ("<Relationships></x>", "Xml(EndMismatch { at: 1 })"),
-    (
-        r#"<Relationships><Relationship Type="x/pivotTable" Target="../pivotTables/pivotTable1.xml"/></Relationships>"#,
-        "",
-    ),
-    (
-        r#"<Relationships><Relationship Type="T/pivotTable" Target=""/></Relationships>"#,
-        "",
-    ),
-    (
-        r#"<Relationships><Relationship Type="T/pivotTable" Target="/"/></Relationships>"#,
-        r#"FileNotFound("")"#,
-    ),
-    (
-        r#"<Relationships><Relationship Type="T/pivotTable" Target="pivotTable1.xml"/></Relationships>"#,
-        r#"FileNotFound("pivotTable1.xml")"#,
-    ),
-    (
-        r#"<Relationships><Relationship Type="T/pivotTable" Target="../../pivotTable1.xml"/></Relationships>"#,
-        r#"FileNotFound("xl/../pivotTable1.xml")"#,
-    ),
-    (
-        r#"<Relationships><Relationship Type="T/pivotTable" Target="../pivotTables\PIVOTTABLE1.xml"/></Relationships>"#,
-        r#"FileNotFound("xl/_rels/pivotTables\\PIVOTTABLE1.xml.rels")"#,
-    ),
-    (
-        r#"<Relationships><Relationship Type="T/pivotTable" Target="/xl/pivotTables/pivotTable1.xml"/></Relationships>"#,
-        FOUND,
-    ),
-    (
-        r#"<Relationships><Relationship Type="T/pivotTable" Target="&#46;./pivotTables/pivotTable1.xml"/></Relationships>"#,
-        FOUND,
-    ),
-    (
-        r#"<Relationships><Relationship Type="T/pivotTable" Target="&bogus;"/></Relationships>"#,
-        "Xml(Entity { at: 1 })",
-    ),
-    (
-        r#"<Relationships><Relationship Type="T/pivotTable" Target="../pivotTables/pivotTable1.xml" x></Relationship></Relationships>"#,
-        FOUND,
-    ),
-    (
-        r#"<Relationships><Relationship Type="x" Target="&bogus;"/><Relationship Type="T/pivotTable" Target="../pivotTables/pivotTable1.xml"/></Relationships>"#,
-        FOUND,
-    ),
-];
+const SHEETS: &str = r#"
+<Relationships/>
+=
+
+
+= XmlEof("Relationships")
+
+<Relationships><Relationship Type="T/pivotTable" Target="../pivotTables/pivotTable1.xml"/>
+= XmlEof("Relationships")
+
+<Relationships></x>
+= Xml(EndMismatch { at: 1 })
+
+<Relationships><Relationship Type="x/pivotTable" Target="../pivotTables/pivotTable1.xml"/></Relationships>
+=
+
+<Relationships><Relationship Type="T/pivotTable" Target=""/></Relationships>
+=
+
+<Relationships><Relationship Type="T/pivotTable" Target="/"/></Relationships>
+= FileNotFound("")
+
+<Relationships><Relationship Type="T/pivotTable" Target="pivotTable1.xml"/></Relationships>
+= FileNotFound("pivotTable1.xml")
+
+<Relationships><Relationship Type="T/pivotTable" Target="../../pivotTable1.xml"/></Relationships>
+= FileNotFound("xl/../pivotTable1.xml")
+
+<Relationships><Relationship Type="T/pivotTable" Target="../pivotTables\PIVOTTABLE1.xml"/></Relationships>
+= FileNotFound("xl/_rels/pivotTables\\PIVOTTABLE1.xml.rels")
+
+<Relationships><Relationship Type="T/pivotTable" Target="/xl/pivotTables/pivotTable1.xml"/></Relationships>
+= S P1 xl/pivotCache/pivotCacheDefinition1.xml xl/pivotCache/pivotCacheRecords1.xml;
+
+<Relationships><Relationship Type="T/pivotTable" Target="&#46;./pivotTables/pivotTable1.xml"/></Relationships>
+= S P1 xl/pivotCache/pivotCacheDefinition1.xml xl/pivotCache/pivotCacheRecords1.xml;
+
+<Relationships><Relationship Type="T/pivotTable" Target="&bogus;"/></Relationships>
+= Xml(Entity { at: 1 })
+
+<Relationships><Relationship Type="T/pivotTable" Target="../pivotTables/pivotTable1.xml" x></Relationship></Relationships>
+= S P1 xl/pivotCache/pivotCacheDefinition1.xml xl/pivotCache/pivotCacheRecords1.xml;
+
+<Relationships><Relationship Type="x" Target="&bogus;"/><Relationship Type="T/pivotTable" Target="../pivotTables/pivotTable1.xml"/></Relationships>
+= S P1 xl/pivotCache/pivotCacheDefinition1.xml xl/pivotCache/pivotCacheRecords1.xml;
+"#;
 
 /// The part of the pivot table.
-const PIVOTS: [(&str, &str); 13] = [
-    ("", r#"XmlEof("pivotTableDefinition")"#),
-    (r#"<x name="P1"/>"#, r#"XmlEof("pivotTableDefinition")"#),
-    (
-        "<pivotTableDefinition>",
-        r#"XmlEof("pivotTableDefinition")"#,
-    ),
-    (
-        r#"<pivotTableDefinition name="P1">"#,
-        r#"XmlEof("pivotTableDefinition")"#,
-    ),
-    ("<pivotTableDefinition></x>", "Xml(EndMismatch { at: 1 })"),
-    (
-        r#"<y></x><pivotTableDefinition name="P1"/>"#,
-        "Xml(EndMismatch { at: 1 })",
-    ),
-    (
-        "<pivotTableDefinition/>",
-        r#"Unexpected("no name for pivot table")"#,
-    ),
-    (
-        r#"<pivotTableDefinition name="P1"><x><pivotTableDefinition name="P1"/></x></pivotTableDefinition>"#,
-        r#"Unexpected("multiple name entries for one pivot table path")"#,
-    ),
-    (
-        r#"<pivotTableDefinition><x><pivotTableDefinition name="a&amp;b"/></x></pivotTableDefinition>"#,
-        "S a&b xl/pivotCache/pivotCacheDefinition1.xml xl/pivotCache/pivotCacheRecords1.xml;",
-    ),
-    (
-        r#"<x><pivotTableDefinition name="P1"/><pivotTableDefinition name="P2"/></x></y>"#,
-        FOUND,
-    ),
-    (
-        r#"<pivotTableDefinition name="_x000a_"/>"#,
-        "S _x000a_ xl/pivotCache/pivotCacheDefinition1.xml xl/pivotCache/pivotCacheRecords1.xml;",
-    ),
-    (
-        r#"<pivotTableDefinition name="&bogus;"/>"#,
-        "Xml(Entity { at: 0 })",
-    ),
-    (
-        "<pivotTableDefinition x></pivotTableDefinition>",
-        "XmlAttr(ExpectedEq(1))",
-    ),
-];
+const PIVOTS: &str = r#"
+
+= XmlEof("pivotTableDefinition")
+
+<x name="P1"/>
+= XmlEof("pivotTableDefinition")
+
+<pivotTableDefinition>
+= XmlEof("pivotTableDefinition")
+
+<pivotTableDefinition name="P1">
+= XmlEof("pivotTableDefinition")
+
+<pivotTableDefinition></x>
+= Xml(EndMismatch { at: 1 })
+
+<y></x><pivotTableDefinition name="P1"/>
+= Xml(EndMismatch { at: 1 })
+
+<pivotTableDefinition/>
+= Unexpected("no name for pivot table")
+
+<pivotTableDefinition name="P1"><x><pivotTableDefinition name="P1"/></x></pivotTableDefinition>
+= Unexpected("multiple name entries for one pivot table path")
+
+<pivotTableDefinition><x><pivotTableDefinition name="a&amp;b"/></x></pivotTableDefinition>
+= S a&b xl/pivotCache/pivotCacheDefinition1.xml xl/pivotCache/pivotCacheRecords1.xml;
+
+<x><pivotTableDefinition name="P1"/><pivotTableDefinition name="P2"/></x></y>
+= S P1 xl/pivotCache/pivotCacheDefinition1.xml xl/pivotCache/pivotCacheRecords1.xml;
+
+<pivotTableDefinition name="_x000a_"/>
+= S _x000a_ xl/pivotCache/pivotCacheDefinition1.xml xl/pivotCache/pivotCacheRecords1.xml;
+
+<pivotTableDefinition name="&bogus;"/>
+= Xml(Entity { at: 0 })
+
+<pivotTableDefinition x></pivotTableDefinition>
+= XmlAttr(ExpectedEq(1))
+"#;
 
 /// The relationships of the pivot table.
-const DEFINITIONS: [(&str, &str); 13] = [
-    (
-        "<Relationships/>",
-        r#"Unexpected("no pivot cache definition found for pivot table")"#,
-    ),
-    ("<x/>", r#"XmlEof("Relationships")"#),
-    (
-        r#"<Relationships><Relationship Type="T/pivotCacheDefinition" Target=""/>"#,
-        r#"XmlEof("Relationships")"#,
-    ),
-    (
-        r#"<Relationships><Relationship Type="x/pivotCacheDefinition" Target="a.xml"/></Relationships>"#,
-        r#"Unexpected("no pivot cache definition found for pivot table")"#,
-    ),
-    (
-        r#"<Relationships><Relationship Type="T/pivotCacheDefinition" Target=""/><Relationship Type="T/pivotCacheDefinition"/></Relationships>"#,
-        r#"Unexpected("no pivot cache definition found for pivot table")"#,
-    ),
-    (
-        r#"<Relationships><Relationship Type="T/pivotCacheDefinition" Target="../pivotCache/pivotCacheDefinition1.xml"/><Relationship Type="T/pivotCacheDefinition" Target="../pivotCache/pivotCacheDefinition1.xml"/></Relationships>"#,
-        r#"Unexpected("multiple pivot cache definition relationships found for one pivot table")"#,
-    ),
-    (
-        r#"<Relationships><Relationship Type="T/pivotCacheDefinition" Target=""/><Relationship Type="T/pivotCacheDefinition" Target="../pivotCache/pivotCacheDefinition1.xml"/></Relationships>"#,
-        FOUND,
-    ),
-    (
-        r#"<Relationships><Relationship Type="T/pivotCacheDefinition" Target="../pivotCache/pivotCacheDefinition1.xml"/><Relationship Type="T/pivotCacheDefinition" Target=""/></Relationships>"#,
-        r#"Unexpected("multiple pivot cache definition relationships found for one pivot table")"#,
-    ),
-    (
-        r#"<Relationships><Relationship Type="T/pivotCacheDefinition" Target="/"/></Relationships>"#,
-        r#"FileNotFound("_rels/.rels")"#,
-    ),
-    (
-        r#"<Relationships><Relationship Type="T/pivotCacheDefinition" Target="/xl/pivotCache/pivotCacheDefinition1.xml"/></Relationships>"#,
-        FOUND,
-    ),
-    (
-        r#"<Relationships><Relationship Type="T/pivotCacheDefinition" Target="&bogus;"/></Relationships>"#,
-        "Xml(Entity { at: 1 })",
-    ),
-    (
-        r#"<Relationships><Relationship Type="x" Target="&bogus;"/><Relationship Type="T/pivotCacheDefinition" Target="../pivotCache/pivotCacheDefinition1.xml"/></Relationships>"#,
-        FOUND,
-    ),
-    (
-        r#"<Relationships><Relationship Type="T/pivotCacheDefinition" x></Relationship></Relationships>"#,
-        "XmlAttr(ExpectedEq(97))",
-    ),
-];
+const DEFINITIONS: &str = r#"
+<Relationships/>
+= Unexpected("no pivot cache definition found for pivot table")
+
+<x/>
+= XmlEof("Relationships")
+
+<Relationships><Relationship Type="T/pivotCacheDefinition" Target=""/>
+= XmlEof("Relationships")
+
+<Relationships><Relationship Type="x/pivotCacheDefinition" Target="a.xml"/></Relationships>
+= Unexpected("no pivot cache definition found for pivot table")
+
+<Relationships><Relationship Type="T/pivotCacheDefinition" Target=""/><Relationship Type="T/pivotCacheDefinition"/></Relationships>
+= Unexpected("no pivot cache definition found for pivot table")
+
+<Relationships><Relationship Type="T/pivotCacheDefinition" Target="../pivotCache/pivotCacheDefinition1.xml"/><Relationship Type="T/pivotCacheDefinition" Target="../pivotCache/pivotCacheDefinition1.xml"/></Relationships>
+= Unexpected("multiple pivot cache definition relationships found for one pivot table")
+
+<Relationships><Relationship Type="T/pivotCacheDefinition" Target=""/><Relationship Type="T/pivotCacheDefinition" Target="../pivotCache/pivotCacheDefinition1.xml"/></Relationships>
+= S P1 xl/pivotCache/pivotCacheDefinition1.xml xl/pivotCache/pivotCacheRecords1.xml;
+
+<Relationships><Relationship Type="T/pivotCacheDefinition" Target="../pivotCache/pivotCacheDefinition1.xml"/><Relationship Type="T/pivotCacheDefinition" Target=""/></Relationships>
+= Unexpected("multiple pivot cache definition relationships found for one pivot table")
+
+<Relationships><Relationship Type="T/pivotCacheDefinition" Target="/"/></Relationships>
+= FileNotFound("_rels/.rels")
+
+<Relationships><Relationship Type="T/pivotCacheDefinition" Target="/xl/pivotCache/pivotCacheDefinition1.xml"/></Relationships>
+= S P1 xl/pivotCache/pivotCacheDefinition1.xml xl/pivotCache/pivotCacheRecords1.xml;
+
+<Relationships><Relationship Type="T/pivotCacheDefinition" Target="&bogus;"/></Relationships>
+= Xml(Entity { at: 1 })
+
+<Relationships><Relationship Type="x" Target="&bogus;"/><Relationship Type="T/pivotCacheDefinition" Target="../pivotCache/pivotCacheDefinition1.xml"/></Relationships>
+= S P1 xl/pivotCache/pivotCacheDefinition1.xml xl/pivotCache/pivotCacheRecords1.xml;
+
+<Relationships><Relationship Type="T/pivotCacheDefinition" x></Relationship></Relationships>
+= XmlAttr(ExpectedEq(97))
+"#;
 
 /// The relationships of the definitions, and the path of the records or why there is none.
-const RECORDS: [(&str, &str); 9] = [
-    (
-        "<Relationships/>",
-        r#"Unexpected("no pivot cache records found for pivot table")"#,
-    ),
-    (
-        r#"<Relationships><Relationship Type="T/pivotCacheRecords" Target="a.xml"/><Relationship Type="T/pivotCacheRecords" Target=""/></Relationships>"#,
-        r#"Unexpected("multiple pivot cache record relationships found for one pivot table")"#,
-    ),
-    (
-        r#"<Relationships><Relationship Type="T/pivotCacheRecords" Target=""/><Relationship Type="T/pivotCacheRecords" Target="pivotCacheRecords1.xml"/></Relationships>"#,
-        FOUND,
-    ),
-    (
-        r#"<Relationships><Relationship Type="T/pivotCacheRecords" Target="/"/></Relationships>"#,
-        "S P1 xl/pivotCache/pivotCacheDefinition1.xml xl/pivotCache/;",
-    ),
-    (
-        r#"<Relationships><Relationship Type="T/pivotCacheRecords" Target="/pivotCacheRecords1.xml"/></Relationships>"#,
-        FOUND,
-    ),
-    (
-        r#"<Relationships><Relationship Type="T/pivotCacheRecords" Target="/xl/pivotCache/pivotCacheRecords1.xml"/></Relationships>"#,
-        FOUND,
-    ),
-    (
-        r#"<Relationships><Relationship Type="T/pivotCacheRecords" Target="//xl/pivotCache/r.xml"/></Relationships>"#,
-        "S P1 xl/pivotCache/pivotCacheDefinition1.xml xl/pivotCache//xl/pivotCache/r.xml;",
-    ),
-    (
-        r#"<Relationships><Relationship Type="T/pivotCacheRecords" Target="../r.xml"/></Relationships>"#,
-        "S P1 xl/pivotCache/pivotCacheDefinition1.xml xl/pivotCache/../r.xml;",
-    ),
-    (
-        r#"<Relationships><Relationship Type="T/pivotCacheRecords" Target="xl/pivotCacheX/r.xml"/></Relationships>"#,
-        "S P1 xl/pivotCache/pivotCacheDefinition1.xml xl/pivotCacheX/r.xml;",
-    ),
-];
+const RECORDS: &str = r#"
+<Relationships/>
+= Unexpected("no pivot cache records found for pivot table")
+
+<Relationships><Relationship Type="T/pivotCacheRecords" Target="a.xml"/><Relationship Type="T/pivotCacheRecords" Target=""/></Relationships>
+= Unexpected("multiple pivot cache record relationships found for one pivot table")
+
+<Relationships><Relationship Type="T/pivotCacheRecords" Target=""/><Relationship Type="T/pivotCacheRecords" Target="pivotCacheRecords1.xml"/></Relationships>
+= S P1 xl/pivotCache/pivotCacheDefinition1.xml xl/pivotCache/pivotCacheRecords1.xml;
+
+<Relationships><Relationship Type="T/pivotCacheRecords" Target="/"/></Relationships>
+= S P1 xl/pivotCache/pivotCacheDefinition1.xml xl/pivotCache/;
+
+<Relationships><Relationship Type="T/pivotCacheRecords" Target="/pivotCacheRecords1.xml"/></Relationships>
+= S P1 xl/pivotCache/pivotCacheDefinition1.xml xl/pivotCache/pivotCacheRecords1.xml;
+
+<Relationships><Relationship Type="T/pivotCacheRecords" Target="/xl/pivotCache/pivotCacheRecords1.xml"/></Relationships>
+= S P1 xl/pivotCache/pivotCacheDefinition1.xml xl/pivotCache/pivotCacheRecords1.xml;
+
+<Relationships><Relationship Type="T/pivotCacheRecords" Target="//xl/pivotCache/r.xml"/></Relationships>
+= S P1 xl/pivotCache/pivotCacheDefinition1.xml xl/pivotCache//xl/pivotCache/r.xml;
+
+<Relationships><Relationship Type="T/pivotCacheRecords" Target="../r.xml"/></Relationships>
+= S P1 xl/pivotCache/pivotCacheDefinition1.xml xl/pivotCache/../r.xml;
+
+<Relationships><Relationship Type="T/pivotCacheRecords" Target="xl/pivotCacheX/r.xml"/></Relationships>
+= S P1 xl/pivotCache/pivotCacheDefinition1.xml xl/pivotCacheX/r.xml;
+"#;
 
 /// A second pivot table of the sheet, which has the name of the first one, and its cache.
 const MORE_PARTS: [Part<'static>; 4] = [
@@ -327,9 +297,10 @@ fn told_without(alloc: Global, name: &str) -> Result<String, Fail> {
 #[test]
 fn parts_of_pivots_may_be_absent(rt: HostRuntime) -> Result<(), Fail> {
     let alloc = rt.alloc();
-    for (name, pivots) in LEFT_OUT {
+    for case in cases(LEFT_OUT) {
+        let (name, pivots) = cut(case);
         let told = told_without(alloc, name)?;
-        assert_eq!(rt; told.as_str(), pivots, "without {name}");
+        assert_text(&rt, &told, pivots, name);
     }
     Ok(())
 }
@@ -341,44 +312,34 @@ fn told_with(alloc: Global, name: &str, markup: &str) -> Result<String, Fail> {
     pivots_told(alloc, package_with(alloc, &parts)?, &["S"])
 }
 
-#[test]
-fn pivots_are_found_by_relationships(rt: HostRuntime) -> Result<(), Fail> {
-    let alloc = rt.alloc();
-    for (markup, pivots) in SHEETS {
-        let told = told_with(alloc, SHEET_RELATED, markup)?;
-        assert_eq!(rt; told.as_str(), pivots, "of {markup}");
+/// Each case of a table is the markup of this part in front of the others, and what is told then.
+fn assert_pivots(rt: &impl Abort, alloc: Global, name: &str, table: &str) -> Result<(), Fail> {
+    for case in cases(table) {
+        let (markup, pivots) = cut(case);
+        let told = told_with(alloc, name, markup)?;
+        assert_text(rt, &told, pivots, markup);
     }
     Ok(())
+}
+
+#[test]
+fn pivots_are_found_by_relationships(rt: HostRuntime) -> Result<(), Fail> {
+    assert_pivots(&rt, rt.alloc(), SHEET_RELATED, SHEETS)
 }
 
 #[test]
 fn parts_of_pivots_are_read_and_refused(rt: HostRuntime) -> Result<(), Fail> {
-    let alloc = rt.alloc();
-    for (markup, pivots) in PIVOTS {
-        let told = told_with(alloc, PIVOT, markup)?;
-        assert_eq!(rt; told.as_str(), pivots, "of {markup}");
-    }
-    Ok(())
+    assert_pivots(&rt, rt.alloc(), PIVOT, PIVOTS)
 }
 
 #[test]
 fn definitions_are_found_by_relationships(rt: HostRuntime) -> Result<(), Fail> {
-    let alloc = rt.alloc();
-    for (markup, pivots) in DEFINITIONS {
-        let told = told_with(alloc, PIVOT_RELATED, markup)?;
-        assert_eq!(rt; told.as_str(), pivots, "of {markup}");
-    }
-    Ok(())
+    assert_pivots(&rt, rt.alloc(), PIVOT_RELATED, DEFINITIONS)
 }
 
 #[test]
 fn records_are_found_by_relationships(rt: HostRuntime) -> Result<(), Fail> {
-    let alloc = rt.alloc();
-    for (markup, pivots) in RECORDS {
-        let told = told_with(alloc, DEFINITIONS_RELATED, markup)?;
-        assert_eq!(rt; told.as_str(), pivots, "of {markup}");
-    }
-    Ok(())
+    assert_pivots(&rt, rt.alloc(), DEFINITIONS_RELATED, RECORDS)
 }
 
 #[test]
@@ -403,15 +364,13 @@ fn pivots_are_asked_by_names(rt: HostRuntime) -> Result<(), Fail> {
     for (sheet, name) in pivots.get_pivot_tables_by_name_and_sheet() {
         write!(told, "{sheet} {name};")?;
     }
-    assert_eq!(rt;
-        told.as_str(),
-        "S P1;S P1;S P1;T P1;T P1;T P1;S P1;S P1;S P1;"
-    );
+    let wanted = "S P1;S P1;S P1;T P1;T P1;T P1;S P1;S P1;S P1;";
+    assert_text(&rt, &told, wanted, "all");
     let mut names = String::new(alloc);
     for name in pivots.pivot_tables_by_sheet("T") {
         write!(names, "{name};")?;
     }
-    assert_eq!(rt; names.as_str(), "P1;P1;P1;");
+    assert_text(&rt, &names, "P1;P1;P1;", "of T");
     assert!(rt; pivots.pivot_tables_by_sheet("U").next().is_none());
     let first = (
         "xl/pivotCache/pivotCacheDefinition1.xml",

@@ -25,7 +25,7 @@ fn a_fault_of_each_call_is_told(rt: HostRuntime) -> Result<(), Fail> {
     for call in 0..CALLS + 1 {
         let found = answer_failing(rt.alloc(), call)?;
         let wanted = if call < CALLS { "Io" } else { MINIMAL_ANSWER };
-        assert_eq!(rt; found.as_str(), wanted, "at call {call}");
+        assert!(rt; found.as_str() == wanted, "at call {call}: {found}");
     }
     Ok(())
 }
@@ -36,7 +36,7 @@ fn the_package_is_handed_back(rt: HostRuntime) -> Result<(), Fail> {
     let calls = vec![in alloc; 0u64]?;
     let failing = FailingPackage::new(package_of(alloc, &[ROOT])?, calls);
     let SheetAnswer { result, package } = read_sheet(alloc, failing, "S");
-    assert_eq!(rt; result.err(), Some(XlsxError::Io));
-    assert_eq!(rt; package.faults(), 1);
+    assert!(rt; result.err() == Some(XlsxError::Io));
+    assert!(rt; package.faults() == 1);
     Ok(())
 }

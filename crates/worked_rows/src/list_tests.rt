@@ -2,7 +2,7 @@
 
 use crate::answers::push_values;
 use crate::opening_tests::opened;
-use crate::worksheet_tests::{TWO_CELLS, push_area};
+use crate::worksheet_tests::{TWO_CELLS, header_row, push_area};
 use cell_data::{DataRef, HeaderRow, Range};
 use part_events::{FailingPackage, MemoryPackage, Package};
 use std::alloc::Global;
@@ -10,6 +10,7 @@ use std::test::Fail;
 use test_packages::{
     Part, ROOT, SHEET_NAME, STRINGS_NAME, WORKBOOK_NAME, package_of, package_with,
 };
+use test_tables::{assert_text, cases, cut};
 use xlsx_core::Xlsx;
 
 /// Three sheets, of which the third has the name of the first and the part of the second.
@@ -58,40 +59,43 @@ fn three_sheets(alloc: Global, front: &[Part<'_>]) -> Result<MemoryPackage, Fail
 const T: &str = "T (2,2)-(2,2):(2,2 n:7);";
 
 /// The part of the first sheet, and what is listed of it, once for each sheet of its name.
-const PARTS: [(&str, &str); 7] = [
-    (TWO_CELLS, "S (1,0)-(3,1):(1,0 n:1)(3,1 n:2);"),
-    ("<chartsheet/>", "S ;"),
-    ("<worksheet><sheetData/></worksheet>", "S ;"),
-    (
-        r#"<worksheet><sheetData><c r="B3"><f t="shared" si="x">1</f><v>5</v></c></sheetData></worksheet>"#,
-        "S (2,1)-(2,1):(2,1 n:5);",
-    ),
-    (
-        r#"<worksheet><sheetData><c r="B3" t="n"><v>inf</v></c></sheetData></worksheet>"#,
-        "",
-    ),
-    (
-        r#"<worksheet><dimension/><sheetData><c r="B3"><v>5</v></c></sheetData></worksheet>"#,
-        "",
-    ),
-    ("<worksheet><sheetData>", ""),
-];
+const PARTS: &str = r#"
+<worksheet><sheetData><row r="2"><c r="A2"><v>1</v></c></row><row r="4"><c r="B4"><v>2</v></c></row></sheetData></worksheet>
+= S (1,0)-(3,1):(1,0 n:1)(3,1 n:2);
+
+<chartsheet/>
+= S ;
+
+<worksheet><sheetData/></worksheet>
+= S ;
+
+<worksheet><sheetData><c r="B3"><f t="shared" si="x">1</f><v>5</v></c></sheetData></worksheet>
+= S (2,1)-(2,1):(2,1 n:5);
+
+<worksheet><sheetData><c r="B3" t="n"><v>inf</v></c></sheetData></worksheet>
+=
+
+<worksheet><dimension/><sheetData><c r="B3"><v>5</v></c></sheetData></worksheet>
+=
+
+<worksheet><sheetData>
+=
+"#;
 
 #[test]
 fn sheets_are_listed_by_their_names_or_left_out(rt: HostRuntime) -> Result<(), Fail> {
     let alloc = rt.alloc();
-    for (sheet, own) in PARTS {
+    for case in cases(PARTS) {
+        let (sheet, own) = cut(case);
         let mut xlsx = opened(alloc, three_sheets(alloc, &[(SHEET_NAME, sheet)])?)?;
         let want = format!(in alloc; "{own}{T}{own}")?;
-        assert_eq!(rt;
-            listed(alloc, &mut xlsx)?.as_str(),
-            want.as_str(),
-            "of {sheet}"
-        );
-        assert_eq!(rt; xlsx.faults(), 0);
+        let told = listed(alloc, &mut xlsx)?;
+        assert_text(&rt, &told, &want, sheet);
+        assert!(rt; xlsx.faults() == 0, "of {sheet}");
     }
     let mut xlsx = opened(alloc, three_sheets(alloc, &[])?)?;
-    assert_eq!(rt; listed(alloc, &mut xlsx)?.as_str(), T);
+    let told = listed(alloc, &mut xlsx)?;
+    assert_text(&rt, &told, T, "no first sheet");
     Ok(())
 }
 
@@ -100,7 +104,7 @@ fn listed_sheets_begin_with_the_header_row(rt: HostRuntime) -> Result<(), Fail> 
     let alloc = rt.alloc();
     let mut xlsx = opened(alloc, package_with(alloc, (SHEET_NAME, TWO_CELLS))?)?;
     let told = listed(alloc, xlsx.with_header_row(HeaderRow::Row(2)))?;
-    assert_eq!(rt; told.as_str(), "S (2,1)-(3,1):(3,1 n:2);");
+    assert_text(&rt, &told, "S (2,1)-(3,1):(3,1 n:2);", "from row 2");
     Ok(())
 }
 
@@ -121,8 +125,12 @@ fn a_fault_of_each_call_lists_no_sheet(rt: HostRuntime) -> Result<(), Fail> {
         let mut xlsx = opened(alloc, FailingPackage::new(package, calls))?;
         let told = listed(alloc, &mut xlsx)?;
         let is_told = told.as_str() == "Io";
-        assert_eq!(rt; is_told, call < LISTING_CALLS, "at call {call}: {told}");
-        assert_eq!(rt; xlsx.faults() == 1, call < LISTING_CALLS, "at call {call}");
+        let fails = call < LISTING_CALLS;
+        let is_counted = xlsx.faults() == 1;
+        assert!(rt;
+            is_told == fails && is_counted == fails,
+            "at call {call}: {told}"
+        );
     }
     Ok(())
 }
@@ -156,40 +164,45 @@ const STRINGS: Part<'static> = (
 );
 
 /// Sheets, header rows, and what is read with shared strings by their places.
-const PLACES: [(&str, HeaderRow, &str); 6] = [
-    (TWO_CELLS, HeaderRow::Row(0), "(0,0)-(3,1):1;2;"),
-    (TWO_CELLS, HeaderRow::Row(2), "(2,1)-(3,1):2;"),
-    (
-        r#"<worksheet><sheetData><c r="B2" t="s"><v>0</v></c><c r="A2" t="s"><v>1</v></c><c r="B2" t="s"><v>1</v></c></sheetData></worksheet>"#,
-        HeaderRow::FirstNonEmptyRow,
-        "(1,0)-(1,1):string 1;string 1;",
-    ),
-    (
-        r#"<worksheet><sheetData><c r="B2" t="s"><v>2</v></c></sheetData></worksheet>"#,
-        HeaderRow::FirstNonEmptyRow,
-        "Unexpected(\"Cell string index not found in shared strings table\")",
-    ),
-    ("<chartsheet/>", HeaderRow::FirstNonEmptyRow, ""),
-    (
-        "<chartsheet><dimension/></chartsheet>",
-        HeaderRow::FirstNonEmptyRow,
-        "UnexpectedNode(\"dimension\")",
-    ),
-];
+const PLACES: &str = r#"
+<worksheet><sheetData><row r="2"><c r="A2"><v>1</v></c></row><row r="4"><c r="B4"><v>2</v></c></row></sheetData></worksheet>
+= 0
+= (0,0)-(3,1):1;2;
+
+<worksheet><sheetData><row r="2"><c r="A2"><v>1</v></c></row><row r="4"><c r="B4"><v>2</v></c></row></sheetData></worksheet>
+= 2
+= (2,1)-(3,1):2;
+
+<worksheet><sheetData><c r="B2" t="s"><v>0</v></c><c r="A2" t="s"><v>1</v></c><c r="B2" t="s"><v>1</v></c></sheetData></worksheet>
+= first
+= (1,0)-(1,1):string 1;string 1;
+
+<worksheet><sheetData><c r="B2" t="s"><v>2</v></c></sheetData></worksheet>
+= first
+= Unexpected("Cell string index not found in shared strings table")
+
+<chartsheet/>
+= first
+=
+
+<chartsheet><dimension/></chartsheet>
+= first
+= UnexpectedNode("dimension")
+"#;
 
 #[test]
 fn shared_strings_are_read_by_their_places(rt: HostRuntime) -> Result<(), Fail> {
     let alloc = rt.alloc();
-    for (sheet, header_row, want) in PLACES {
+    for case in cases(PLACES) {
+        let (sheet, wanted) = cut(case);
+        let (row, wanted) = cut(wanted);
         let front = [STRINGS, (SHEET_NAME, sheet)];
         let mut xlsx = opened(alloc, three_sheets(alloc, &front)?)?;
-        let told = places_told(alloc, xlsx.with_header_row(header_row))?;
-        assert_eq!(rt; told.as_str(), want, "of {sheet}");
+        let told = places_told(alloc, xlsx.with_header_row(header_row(row)))?;
+        assert_text(&rt, &told, wanted, sheet);
     }
     let mut xlsx = opened(alloc, three_sheets(alloc, &[])?)?;
-    assert_eq!(rt;
-        places_told(alloc, &mut xlsx)?.as_str(),
-        "WorksheetNotFound(\"S\")"
-    );
+    let told = places_told(alloc, &mut xlsx)?;
+    assert_text(&rt, &told, "WorksheetNotFound(\"S\")", "no first sheet");
     Ok(())
 }

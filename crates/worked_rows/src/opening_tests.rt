@@ -33,9 +33,9 @@ fn shared_strings_are_told_by_their_places(rt: HostRuntime) -> Result<(), Fail> 
         (3, None),
         (usize::MAX, None),
     ] {
-        assert_eq!(rt; xlsx.shared_string(index), wanted, "at {index}");
+        assert!(rt; xlsx.shared_string(index) == wanted, "at {index}");
     }
-    assert_eq!(rt; xlsx.into_package().part_count(), 4);
+    assert!(rt; xlsx.into_package().part_count() == 4);
     Ok(())
 }
 
@@ -56,12 +56,12 @@ fn a_workbook_tells_its_epoch_and_its_theme(rt: HostRuntime) -> Result<(), Fail>
     let alloc = rt.alloc();
     let plain = opened(alloc, package_of(alloc, &[ROOT, RELATIONSHIPS, WORKBOOK])?)?;
     assert!(rt; !plain.has_1904_epoch() && plain.theme_defaulted());
-    assert_eq!(rt; plain.metadata().sheets.len(), 1);
+    assert!(rt; plain.metadata().sheets.len() == 1);
     let own = opened(
         alloc,
         package_of(alloc, &[ROOT, RELATIONSHIPS, DATED, THEME])?,
     )?;
     assert!(rt; own.has_1904_epoch() && !own.theme_defaulted());
-    assert_eq!(rt; own.faults(), 0);
+    assert!(rt; own.faults() == 0);
     Ok(())
 }

@@ -12,21 +12,11 @@ use part_events::{FailingPackage, Package, XlReader};
 use std::alloc::Global;
 use std::test::Fail;
 use test_packages::{SHEET, SHEET_NAME, package_of, sheet_part};
+use test_tables::{assert_text, cases, cut};
 use xlsx_cells::{XlsxCellFormula, XlsxCellFormulaMetadataRecord, XlsxCellReader, open_data};
 use xlsx_error::XlsxError;
 use xlsx_formulas::XlsxFormulaMetadata;
 use xlsx_values::to_data;
-
-/// What a reader is asked for.
-#[derive(Clone, Copy)]
-enum Call {
-    Value,
-    ValueAndStyleId,
-    Formula,
-    ValueAndFormula,
-    Metadata,
-    StyleId,
-}
 
 /// The number formats of the styles 0, 1 and 2.
 const FORMATS: [CellFormat; 3] = [
@@ -170,27 +160,27 @@ fn push_cell_style(
     Ok(())
 }
 
-/// Appends what the reader answers to this call.
+/// Appends what the reader answers to the call that this word names.
 fn push_answer<P: Package>(
     out: &mut String,
     alloc: Global,
     strings: &[String],
     reader: &mut XlsxCellReader<'_, P>,
-    call: Call,
+    call: &str,
 ) -> Result<(), Fail>
     requires { IsStreaming (stream_by P.state reader.old) }
     ensures { IsStreaming (stream_by P.state reader.new) }
 {
     match call {
-        Call::Value => push_cell_value(out, alloc, strings, reader.next_cell()),
-        Call::ValueAndStyleId => {
+        "value" => push_cell_value(out, alloc, strings, reader.next_cell()),
+        "value+style" => {
             push_value_and_style(out, alloc, strings, reader.next_cell_with_style_id())
         }
-        Call::Formula => push_cell_formula(out, reader.next_formula()),
-        Call::ValueAndFormula => {
+        "formula" => push_cell_formula(out, reader.next_formula()),
+        "value+formula" => {
             push_value_and_formula(out, alloc, strings, reader.next_cell_with_formula())
         }
-        Call::Metadata => {
+        "metadata" => {
             push_value_and_metadata(
                 out,
                 alloc,
@@ -198,12 +188,13 @@ fn push_answer<P: Package>(
                 reader.next_cell_with_formula_metadata(),
             )
         }
-        Call::StyleId => push_cell_style(out, reader.next_style_id()),
+        "style" => push_cell_style(out, reader.next_style_id()),
+        other => Ok(write!(out, "no call is {other}")?),
     }
 }
 
 /// What these calls of one reader over three styles answer, or why it can't be made.
-fn told<P: Package>(alloc: Global, package: &mut P, calls: &[Call]) -> Result<String, Fail> {
+fn told<P: Package>(alloc: Global, package: &mut P, calls: &str) -> Result<String, Fail> {
     let mut out = String::new(alloc);
     let strings = vec![in alloc; String::from_str(alloc, "zero")?]?;
     let xml = match XlReader::open(alloc, package, SHEET_NAME) {
@@ -225,341 +216,265 @@ fn told<P: Package>(alloc: Global, package: &mut P, calls: &[Call]) -> Result<St
             return Ok(out);
         }
     };
-    'calls: for call in calls {
-        push_answer(&mut out, alloc, &strings, &mut reader, *call)?;
+    'calls: for call in calls.split(' ') {
+        push_answer(&mut out, alloc, &strings, &mut reader, call)?;
     }
     Ok(out)
 }
-
-const VALUES: &[Call] = &[Call::Value, Call::Value, Call::Value];
-
-const FORMULAS: &[Call] = &[Call::Formula, Call::Formula, Call::Formula];
-
-const TURNS: &[Call] = &[Call::Value, Call::Formula, Call::Value, Call::Formula];
-
-const LAST_VALUES: &[Call] = &[Call::Formula, Call::Value, Call::Value];
-
-const STYLE_IDS: &[Call] = &[Call::StyleId, Call::StyleId, Call::Value, Call::StyleId];
-
-const STYLES_AND_VALUES: &[Call] = &[Call::StyleId, Call::Value, Call::Value, Call::StyleId];
-
-/// Cells with style ids of which two count over three styles.
-const STYLED: &str =
-    r#"<row r="2"><c s="0"/><c s="01"><q/></c><c s="3"/><c s="+1"/><c r="E2" s="2" t=wide/><c/></row>"#;
 
 /// A formula of a group in A1, with a value, and one that is derived from it in A2.
 const GROUP: &str =
     r#"<row r="1"><c r="A1"><f t="shared" ref="A1:A2" si="0">B1</f><v>1</v></c></row><row><c><f t="shared" si="0"/></c></row>"#;
 
 /// What a case shows, the data of a sheet, what a reader of them is asked for, and its answers.
-const DATA: [(&str, &str, &[Call], &str); 17] = [
-    (
-        "style ids that count, whatever else stands in their cells",
-        STYLED,
-        STYLE_IDS,
-        "(1,1 style 1)(1,4 style 2)(1,5 Empty).",
-    ),
-    (
-        "style ids and values in turn",
-        STYLED,
-        STYLES_AND_VALUES,
-        "(1,1 style 1)(1,2 Empty)(1,3 Empty)(1,4 style 2)",
-    ),
-    (
-        "the attributes of a cell refuse its style id",
-        "<c s=1/>",
-        STYLE_IDS,
-        "XmlAttr(UnquotedValue(3));Failed;Failed;Failed;",
-    ),
-    (
-        "values and formulas in turn",
-        GROUP,
-        TURNS,
-        "(0,0 n:1)(1,0 =)..",
-    ),
-    ("formulas alone", GROUP, FORMULAS, "(0,0 =B1)(1,0 =B2)."),
-    (
-        "a value behind a formula",
-        GROUP,
-        LAST_VALUES,
-        "(0,0 =B1)(1,0 Empty).",
-    ),
-    (
-        "a refused reader fails from then on",
-        "<c><q/></c>",
-        TURNS,
-        "UnexpectedNode(\"v, f, or is\");Failed;Failed;Failed;",
-    ),
-    (
-        "an end that breaks the nesting",
-        "<row><c></row>",
-        TURNS,
-        "Xml(EndMismatch { at: 4 });Failed;Failed;Failed;",
-    ),
-    (
-        "each cell has a position, also an empty one",
-        r#"<row r="2"><c r="C5"/><c/></row><c/>"#,
-        VALUES,
-        "(4,2 Empty)(1,3 Empty)(2,0 Empty)",
-    ),
-    (
-        "a cell behind the last column",
-        r#"<c r="XFD1"/><c/>"#,
-        VALUES,
-        "(0,16383 Empty)ColumnNumberOverflow;Failed;",
-    ),
-    (
-        "a cell behind the last row",
-        r#"<row r="1048576"><c/></row><c/>"#,
-        VALUES,
-        "(1048575,0 Empty)RowNumberOverflow;Failed;",
-    ),
-    (
-        "numbers go by the format of their style",
-        r#"<c s="0"><v>1.5</v></c><c s="1"><v>1.5</v></c><c s="2"><v>1.5</v></c>"#,
-        VALUES,
-        "(0,0 n:1.5)(0,1 t:1.5 of 1904)(0,2 d:1.5 of 1904)",
-    ),
-    (
-        "a style that is no number is the first, one past the formats says nothing",
-        r#"<c><v>1.5</v></c><c s="3"><v>1.5</v></c><c s="x"><v>1.5</v></c>"#,
-        VALUES,
-        "(0,0 n:1.5)(0,1 n:1.5)(0,2 n:1.5)",
-    ),
-    (
-        "a shared string, and one that isn't there",
-        r#"<c t="s"><v>0</v></c><c t="s"><v>1</v></c>"#,
-        VALUES,
-        r#"(0,0 s:zero)Unexpected("Cell string index not found in shared strings table");Failed;"#,
-    ),
-    (
-        "formulas aren't asked for values that are at fault",
-        r#"<c t="n"><f>A1</f><v>x</v></c>"#,
-        FORMULAS,
-        "(0,0 =A1)..",
-    ),
-    (
-        "values aren't asked for formulas that are at fault",
-        r#"<c><f t="shared"><!nbsp></f><v>1</v></c>"#,
-        VALUES,
-        "(0,0 n:1)..",
-    ),
-    (
-        "the same, asked for formulas",
-        r#"<c><f t="shared" si="0"><!nbsp></f><v>1</v></c>"#,
-        FORMULAS,
-        "Xml(Entity { at: 4 });Failed;Failed;",
-    ),
-];
+const DATA: &str = r#"
+style ids that count, whatever else stands in their cells
+= <row r="2"><c s="0"/><c s="01"><q/></c><c s="3"/><c s="+1"/><c r="E2" s="2" t=wide/><c/></row>
+= style style value style
+= (1,1 style 1)(1,4 style 2)(1,5 Empty).
+
+style ids and values in turn
+= <row r="2"><c s="0"/><c s="01"><q/></c><c s="3"/><c s="+1"/><c r="E2" s="2" t=wide/><c/></row>
+= style value value style
+= (1,1 style 1)(1,2 Empty)(1,3 Empty)(1,4 style 2)
+
+the attributes of a cell refuse its style id
+= <c s=1/>
+= style style value style
+= XmlAttr(UnquotedValue(3));Failed;Failed;Failed;
+
+values and formulas in turn
+= <row r="1"><c r="A1"><f t="shared" ref="A1:A2" si="0">B1</f><v>1</v></c></row><row><c><f t="shared" si="0"/></c></row>
+= value formula value formula
+= (0,0 n:1)(1,0 =)..
+
+formulas alone
+= <row r="1"><c r="A1"><f t="shared" ref="A1:A2" si="0">B1</f><v>1</v></c></row><row><c><f t="shared" si="0"/></c></row>
+= formula formula formula
+= (0,0 =B1)(1,0 =B2).
+
+a value behind a formula
+= <row r="1"><c r="A1"><f t="shared" ref="A1:A2" si="0">B1</f><v>1</v></c></row><row><c><f t="shared" si="0"/></c></row>
+= formula value value
+= (0,0 =B1)(1,0 Empty).
+
+a refused reader fails from then on
+= <c><q/></c>
+= value formula value formula
+= UnexpectedNode("v, f, or is");Failed;Failed;Failed;
+
+an end that breaks the nesting
+= <row><c></row>
+= value formula value formula
+= Xml(EndMismatch { at: 4 });Failed;Failed;Failed;
+
+each cell has a position, also an empty one
+= <row r="2"><c r="C5"/><c/></row><c/>
+= value value value
+= (4,2 Empty)(1,3 Empty)(2,0 Empty)
+
+a cell behind the last column
+= <c r="XFD1"/><c/>
+= value value value
+= (0,16383 Empty)ColumnNumberOverflow;Failed;
+
+a cell behind the last row
+= <row r="1048576"><c/></row><c/>
+= value value value
+= (1048575,0 Empty)RowNumberOverflow;Failed;
+
+numbers go by the format of their style
+= <c s="0"><v>1.5</v></c><c s="1"><v>1.5</v></c><c s="2"><v>1.5</v></c>
+= value value value
+= (0,0 n:1.5)(0,1 t:1.5 of 1904)(0,2 d:1.5 of 1904)
+
+a style that is no number is the first, one past the formats says nothing
+= <c><v>1.5</v></c><c s="3"><v>1.5</v></c><c s="x"><v>1.5</v></c>
+= value value value
+= (0,0 n:1.5)(0,1 n:1.5)(0,2 n:1.5)
+
+a shared string, and one that isn't there
+= <c t="s"><v>0</v></c><c t="s"><v>1</v></c>
+= value value value
+= (0,0 s:zero)Unexpected("Cell string index not found in shared strings table");Failed;
+
+formulas aren't asked for values that are at fault
+= <c t="n"><f>A1</f><v>x</v></c>
+= formula formula formula
+= (0,0 =A1)..
+
+values aren't asked for formulas that are at fault
+= <c><f t="shared"><!nbsp></f><v>1</v></c>
+= value value value
+= (0,0 n:1)..
+
+the same, asked for formulas
+= <c><f t="shared" si="0"><!nbsp></f><v>1</v></c>
+= formula formula formula
+= Xml(Entity { at: 4 });Failed;Failed;
+"#;
 
 #[test]
 fn cells_are_asked_for_one_by_one(rt: HostRuntime) -> Result<(), Fail> {
     let alloc = rt.alloc();
-    for (shown, data, calls, wanted) in DATA {
+    for case in cases(DATA) {
+        let (shown, data) = cut(case);
+        let (data, calls) = cut(data);
+        let (calls, wanted) = cut(calls);
         let sheet = sheet_part(alloc, data)?;
         let mut package = package_of(alloc, &[(SHEET_NAME, sheet.as_str())])?;
         let found = told(alloc, &mut package, calls)?;
-        assert_eq!(rt; found.as_str(), wanted, "{shown}");
+        assert_text(&rt, &found, wanted, shown);
     }
     Ok(())
 }
 
-/// A1 with the master `B1` of A1 to A3, A2 with the master `C9` of A2 to A3, and A3 that is
-/// derived, all of one index.
-const TWO_MASTERS: &str =
-    r#"<c r="A1"><f t="shared" ref="A1:A3" si="0">B1</f></c><c r="A2"><f t="shared" ref="A2:A3" si="0">C9</f></c><c r="A3"><f t="shared" si="0"/></c>"#;
-
-/// A master with an empty text, and a cell that is derived from it.
-const EMPTY_MASTER: &str =
-    r#"<c r="A1"><f t="shared" ref="A1:A2" si="0"></f></c><c r="A2"><f t="shared" si="0"/></c>"#;
-
-/// A master, behind which its cell has an empty formula, and a cell that is derived from it.
-const MASTER_AND_MORE: &str =
-    r#"<c r="A1"><f t="shared" si="0" ref="A1:A2">B1</f><f/></c><c r="A2"><f t="shared" si="0"/></c>"#;
-
-/// A type that isn't known, and a formula of a group without index.
-const BOTH_AT_FAULT: &str = r#"<c r="A1" t="x"><f t="shared"/><v>1</v></c>"#;
-
 /// What a case shows, the data of a sheet, what a reader of them is asked for, and its answers,
 /// where several may come between marks `|`.
-const MIXED: [(&str, &str, &[Call], &str); 27] = [
-    (
-        "metadata keep no master",
-        TWO_MASTERS,
-        &[Call::Formula, Call::Metadata, Call::Formula],
-        "(0,0 =B1)(1,0 Empty group 0 1,0 to 2,0 C9)(2,0 =B3)",
-    ),
-    (
-        "the last master counts",
-        TWO_MASTERS,
-        FORMULAS,
-        "(0,0 =B1)(1,0 =C9)(2,0 =C10)",
-    ),
-    (
-        "metadata before masters",
-        TWO_MASTERS,
-        &[Call::Metadata, Call::Formula, Call::Formula],
-        "(0,0 Empty group 0 0,0 to 2,0 B1)(1,0 =C9)(2,0 =C10)",
-    ),
-    (
-        "a value with its formula keeps a master",
-        TWO_MASTERS,
-        &[Call::ValueAndFormula, Call::Value, Call::Formula],
-        "(0,0 Empty =B1)(1,0 Empty)(2,0 =B3)",
-    ),
-    (
-        "a value with its style id keeps none",
-        TWO_MASTERS,
-        &[
-            Call::ValueAndStyleId,
-            Call::ValueAndStyleId,
-            Call::ValueAndFormula,
-        ],
-        "(0,0 Empty style 0)(1,0 Empty style 0)(2,0 Empty -)",
-    ),
-    (
-        "a style id keeps none",
-        r#"<c r="A1" s="1"><f t="shared" ref="A1:A2" si="0">B1</f></c><c r="A2"><f t="shared" si="0"/></c>"#,
-        &[Call::StyleId, Call::Formula],
-        "(0,0 style 1)(1,0 =)",
-    ),
-    (
-        "a group with its value, and one cell of it",
-        GROUP,
-        &[Call::Metadata, Call::Metadata, Call::Metadata],
-        "(0,0 n:1 group 0 0,0 to 1,0 B1)(1,0 Empty of group 0).",
-    ),
-    (
-        "a formula without text is none",
-        EMPTY_MASTER,
-        &[Call::ValueAndFormula, Call::ValueAndFormula],
-        "(0,0 Empty -)(1,0 Empty -)",
-    ),
-    (
-        "and the master of a group",
-        EMPTY_MASTER,
-        &[Call::Metadata, Call::Metadata],
-        "(0,0 Empty group 0 0,0 to 1,0 )(1,0 Empty of group 0)",
-    ),
-    (
-        "a group without master has no formula, and its text is dropped",
-        r#"<c><f t="shared" si="7">Z9</f></c><c><f t="shared" si="7">Z9</f></c>"#,
-        &[Call::ValueAndFormula, Call::Metadata],
-        "(0,0 Empty -)(0,1 Empty of group 7)",
-    ),
-    (
-        "but is read",
-        r#"<c><f t="shared" si="7"><!x></f></c>"#,
-        &[Call::Metadata, Call::ValueAndFormula],
-        "Xml(Entity { at: 4 });Failed;",
-    ),
-    (
-        "a master behind which its cell has another formula is kept",
-        MASTER_AND_MORE,
-        &[Call::ValueAndFormula, Call::ValueAndFormula],
-        "(0,0 Empty -)(1,0 Empty =B2)",
-    ),
-    (
-        "metadata are those of the last formula",
-        MASTER_AND_MORE,
-        &[Call::Metadata, Call::Metadata],
-        "(0,0 Empty -)(1,0 Empty of group 0)",
-    ),
-    (
-        "a formula of another type is its cell's own",
-        r#"<c><f>B1</f><f t="array" ref="x">C1</f></c><c><f t="dataTable" ref="B2:B5" r1="A1"/></c>"#,
-        &[Call::Metadata, Call::Metadata],
-        "(0,0 Empty own C1)(0,1 Empty -)",
-    ),
-    (
-        "the largest index, and an area as it is written",
-        r#"<c><f t="shared" si="18446744073709551615" ref="C3:B2">B1</f></c><c><f t="shared" si="18446744073709551615"/></c>"#,
-        &[Call::Metadata, Call::Metadata],
-        "(0,0 Empty group 18446744073709551615 2,2 to 1,1 B1)(0,1 Empty of group 18446744073709551615)",
-    ),
-    (
-        "a style id as it is written, also past the styles",
-        r#"<c s="5"/><c s="01"/><c s="+1"/><c/>"#,
-        &[
-            Call::ValueAndStyleId,
-            Call::ValueAndStyleId,
-            Call::ValueAndStyleId,
-            Call::ValueAndStyleId,
-        ],
-        "(0,0 Empty style 5)(0,1 Empty style 1)(0,2 Empty style 0)(0,3 Empty style 0)",
-    ),
-    (
-        "a value at fault",
-        BOTH_AT_FAULT,
-        &[Call::Value, Call::StyleId],
-        "CellTAttribute(\"x\");Failed;",
-    ),
-    (
-        "a value at fault beside its style id",
-        BOTH_AT_FAULT,
-        &[Call::ValueAndStyleId, Call::Metadata],
-        "CellTAttribute(\"x\");Failed;",
-    ),
-    (
-        "a formula at fault",
-        BOTH_AT_FAULT,
-        &[Call::Formula, Call::ValueAndFormula],
-        "Unexpected(\"si attribute is mandatory if it is shared\");Failed;",
-    ),
-    (
-        "either is told where both are asked for",
-        BOTH_AT_FAULT,
-        &[Call::ValueAndFormula, Call::Value],
-        "CellTAttribute(\"x\");Failed;|Unexpected(\"si attribute is mandatory if it is shared\");Failed;",
-    ),
-    (
-        "and beside the metadata",
-        BOTH_AT_FAULT,
-        &[Call::Metadata, Call::Value],
-        "CellTAttribute(\"x\");Failed;|Unexpected(\"si attribute is mandatory if it is shared\");Failed;",
-    ),
-    (
-        "neither is at fault for a style id",
-        BOTH_AT_FAULT,
-        &[Call::StyleId],
-        ".",
-    ),
-    (
-        "attributes at fault behind the style id",
-        r#"<c r="A1" s="1" t=x/><c r="B1" s="1" t=x/><c r="C1" s="1" t=x/>"#,
-        &[Call::Formula, Call::StyleId, Call::Value, Call::StyleId],
-        "(0,0 =)(0,1 style 1)XmlAttr(UnquotedValue(16));Failed;",
-    ),
-    (
-        "the same beside the value",
-        r#"<c r="A1" s="1" t=x/>"#,
-        &[Call::ValueAndStyleId, Call::ValueAndFormula],
-        "XmlAttr(UnquotedValue(16));Failed;",
-    ),
-    (
-        "the same beside the value and its formula",
-        r#"<c r="A1" s="1" t=x/>"#,
-        &[Call::ValueAndFormula, Call::Formula],
-        "XmlAttr(UnquotedValue(16));Failed;",
-    ),
-    (
-        "the same beside the formula",
-        r#"<c r="A1" s="1" t=x/>"#,
-        &[Call::Metadata, Call::StyleId],
-        "XmlAttr(UnquotedValue(16));Failed;",
-    ),
-    (
-        "attributes at fault without a style id",
-        r#"<c r="A1" t=x/>"#,
-        &[Call::StyleId, Call::Formula],
-        "XmlAttr(UnquotedValue(10));Failed;",
-    ),
-];
+const MIXED: &str = r#"
+metadata keep no master
+= <c r="A1"><f t="shared" ref="A1:A3" si="0">B1</f></c><c r="A2"><f t="shared" ref="A2:A3" si="0">C9</f></c><c r="A3"><f t="shared" si="0"/></c>
+= formula metadata formula
+= (0,0 =B1)(1,0 Empty group 0 1,0 to 2,0 C9)(2,0 =B3)
+
+the last master counts
+= <c r="A1"><f t="shared" ref="A1:A3" si="0">B1</f></c><c r="A2"><f t="shared" ref="A2:A3" si="0">C9</f></c><c r="A3"><f t="shared" si="0"/></c>
+= formula formula formula
+= (0,0 =B1)(1,0 =C9)(2,0 =C10)
+
+metadata before masters
+= <c r="A1"><f t="shared" ref="A1:A3" si="0">B1</f></c><c r="A2"><f t="shared" ref="A2:A3" si="0">C9</f></c><c r="A3"><f t="shared" si="0"/></c>
+= metadata formula formula
+= (0,0 Empty group 0 0,0 to 2,0 B1)(1,0 =C9)(2,0 =C10)
+
+a value with its formula keeps a master
+= <c r="A1"><f t="shared" ref="A1:A3" si="0">B1</f></c><c r="A2"><f t="shared" ref="A2:A3" si="0">C9</f></c><c r="A3"><f t="shared" si="0"/></c>
+= value+formula value formula
+= (0,0 Empty =B1)(1,0 Empty)(2,0 =B3)
+
+a value with its style id keeps none
+= <c r="A1"><f t="shared" ref="A1:A3" si="0">B1</f></c><c r="A2"><f t="shared" ref="A2:A3" si="0">C9</f></c><c r="A3"><f t="shared" si="0"/></c>
+= value+style value+style value+formula
+= (0,0 Empty style 0)(1,0 Empty style 0)(2,0 Empty -)
+
+a style id keeps none
+= <c r="A1" s="1"><f t="shared" ref="A1:A2" si="0">B1</f></c><c r="A2"><f t="shared" si="0"/></c>
+= style formula
+= (0,0 style 1)(1,0 =)
+
+a group with its value, and one cell of it
+= <row r="1"><c r="A1"><f t="shared" ref="A1:A2" si="0">B1</f><v>1</v></c></row><row><c><f t="shared" si="0"/></c></row>
+= metadata metadata metadata
+= (0,0 n:1 group 0 0,0 to 1,0 B1)(1,0 Empty of group 0).
+
+a formula without text is none
+= <c r="A1"><f t="shared" ref="A1:A2" si="0"></f></c><c r="A2"><f t="shared" si="0"/></c>
+= value+formula value+formula
+= (0,0 Empty -)(1,0 Empty -)
+
+and the master of a group
+= <c r="A1"><f t="shared" ref="A1:A2" si="0"></f></c><c r="A2"><f t="shared" si="0"/></c>
+= metadata metadata
+= (0,0 Empty group 0 0,0 to 1,0 )(1,0 Empty of group 0)
+
+a group without master has no formula, and its text is dropped
+= <c><f t="shared" si="7">Z9</f></c><c><f t="shared" si="7">Z9</f></c>
+= value+formula metadata
+= (0,0 Empty -)(0,1 Empty of group 7)
+
+but is read
+= <c><f t="shared" si="7"><!x></f></c>
+= metadata value+formula
+= Xml(Entity { at: 4 });Failed;
+
+a master behind which its cell has another formula is kept
+= <c r="A1"><f t="shared" si="0" ref="A1:A2">B1</f><f/></c><c r="A2"><f t="shared" si="0"/></c>
+= value+formula value+formula
+= (0,0 Empty -)(1,0 Empty =B2)
+
+metadata are those of the last formula
+= <c r="A1"><f t="shared" si="0" ref="A1:A2">B1</f><f/></c><c r="A2"><f t="shared" si="0"/></c>
+= metadata metadata
+= (0,0 Empty -)(1,0 Empty of group 0)
+
+a formula of another type is its cell's own
+= <c><f>B1</f><f t="array" ref="x">C1</f></c><c><f t="dataTable" ref="B2:B5" r1="A1"/></c>
+= metadata metadata
+= (0,0 Empty own C1)(0,1 Empty -)
+
+the largest index, and an area as it is written
+= <c><f t="shared" si="18446744073709551615" ref="C3:B2">B1</f></c><c><f t="shared" si="18446744073709551615"/></c>
+= metadata metadata
+= (0,0 Empty group 18446744073709551615 2,2 to 1,1 B1)(0,1 Empty of group 18446744073709551615)
+
+a style id as it is written, also past the styles
+= <c s="5"/><c s="01"/><c s="+1"/><c/>
+= value+style value+style value+style value+style
+= (0,0 Empty style 5)(0,1 Empty style 1)(0,2 Empty style 0)(0,3 Empty style 0)
+
+a value at fault
+= <c r="A1" t="x"><f t="shared"/><v>1</v></c>
+= value style
+= CellTAttribute("x");Failed;
+
+a value at fault beside its style id
+= <c r="A1" t="x"><f t="shared"/><v>1</v></c>
+= value+style metadata
+= CellTAttribute("x");Failed;
+
+a formula at fault
+= <c r="A1" t="x"><f t="shared"/><v>1</v></c>
+= formula value+formula
+= Unexpected("si attribute is mandatory if it is shared");Failed;
+
+either is told where both are asked for
+= <c r="A1" t="x"><f t="shared"/><v>1</v></c>
+= value+formula value
+= CellTAttribute("x");Failed;|Unexpected("si attribute is mandatory if it is shared");Failed;
+
+and beside the metadata
+= <c r="A1" t="x"><f t="shared"/><v>1</v></c>
+= metadata value
+= CellTAttribute("x");Failed;|Unexpected("si attribute is mandatory if it is shared");Failed;
+
+neither is at fault for a style id
+= <c r="A1" t="x"><f t="shared"/><v>1</v></c>
+= style
+= .
+
+attributes at fault behind the style id
+= <c r="A1" s="1" t=x/><c r="B1" s="1" t=x/><c r="C1" s="1" t=x/>
+= formula style value style
+= (0,0 =)(0,1 style 1)XmlAttr(UnquotedValue(16));Failed;
+
+the same beside the value
+= <c r="A1" s="1" t=x/>
+= value+style value+formula
+= XmlAttr(UnquotedValue(16));Failed;
+
+the same beside the value and its formula
+= <c r="A1" s="1" t=x/>
+= value+formula formula
+= XmlAttr(UnquotedValue(16));Failed;
+
+the same beside the formula
+= <c r="A1" s="1" t=x/>
+= metadata style
+= XmlAttr(UnquotedValue(16));Failed;
+
+attributes at fault without a style id
+= <c r="A1" t=x/>
+= style formula
+= XmlAttr(UnquotedValue(10));Failed;
+"#;
 
 #[test]
 fn calls_are_mixed(rt: HostRuntime) -> Result<(), Fail> {
     let alloc = rt.alloc();
-    for (shown, data, calls, wanted) in MIXED {
+    for case in cases(MIXED) {
+        let (shown, data) = cut(case);
+        let (data, calls) = cut(data);
+        let (calls, wanted) = cut(calls);
         let sheet = sheet_part(alloc, data)?;
         let mut package = package_of(alloc, &[(SHEET_NAME, sheet.as_str())])?;
         let found = told(alloc, &mut package, calls)?;
@@ -568,134 +483,134 @@ fn calls_are_mixed(rt: HostRuntime) -> Result<(), Fail> {
     Ok(())
 }
 
-/// The first events of a sheet, what a reader of them is asked for twice, and its answers.
-const FRONTS: [(&str, Call, &str); 29] = [
-    (
-        "<chartsheet/>",
-        Call::Value,
-        "NotAWorksheet(\"chartsheet\")",
-    ),
-    (
-        r#"<dimension ref="A1"/>"#,
-        Call::Value,
-        "XmlEof(\"worksheet\")",
-    ),
-    ("<dimension/>", Call::Value, "UnexpectedNode(\"dimension\")"),
-    (
-        "<chartsheet><dimension>",
-        Call::Value,
-        "UnexpectedNode(\"dimension\")",
-    ),
-    (
-        r#"<sheetData><c r="A1">"#,
-        Call::Value,
-        "XmlEof(\"c\");Failed;",
-    ),
-    (
-        r#"<sheetData><c r="A1">"#,
-        Call::Formula,
-        "XmlEof(\"c\");Failed;",
-    ),
-    (
-        "<sheetData><c><f>",
-        Call::Value,
-        "Xml(Unclosed { at: 3 });Failed;",
-    ),
-    ("<sheetData><c><f>", Call::Formula, "XmlEof(\"f\");Failed;"),
-    (
-        "<sheetData><c><f>",
-        Call::ValueAndStyleId,
-        "Xml(Unclosed { at: 3 });Failed;",
-    ),
-    (
-        "<sheetData><c><f>",
-        Call::ValueAndFormula,
-        "XmlEof(\"f\");Failed;",
-    ),
-    ("<sheetData><c><f>", Call::Metadata, "XmlEof(\"f\");Failed;"),
-    ("<sheetData><c><f>", Call::StyleId, "XmlEof(\"c\");Failed;"),
-    ("<sheetData><c><v>", Call::Value, "XmlEof(\"v\");Failed;"),
-    ("<sheetData><c><v>", Call::StyleId, "XmlEof(\"c\");Failed;"),
-    (
-        "<sheetData><c><v>",
-        Call::ValueAndStyleId,
-        "XmlEof(\"v\");Failed;",
-    ),
-    (
-        "<sheetData><c><v>",
-        Call::ValueAndFormula,
-        "XmlEof(\"v\");Failed;",
-    ),
-    ("<sheetData><c><v>", Call::Metadata, "XmlEof(\"v\");Failed;"),
-    (
-        "<sheetData><c><v>",
-        Call::Formula,
-        "Xml(Unclosed { at: 3 });Failed;",
-    ),
-    (
-        r#"<sheetData><c t="str"><v>"#,
-        Call::Value,
-        "XmlEof(\"v\");Failed;",
-    ),
-    (
-        r#"<sheetData><c t="str"><v>"#,
-        Call::Formula,
-        "Xml(Unclosed { at: 3 });Failed;",
-    ),
-    (
-        "<sheetData><c><v>1",
-        Call::Value,
-        "Xml(Unclosed { at: 4 });Failed;",
-    ),
-    (
-        "<sheetData><c><v>1",
-        Call::Formula,
-        "Xml(Unclosed { at: 4 });Failed;",
-    ),
-    (
-        "<sheetData><c><is><t>",
-        Call::Value,
-        "XmlEof(\"t\");Failed;",
-    ),
-    (
-        "<sheetData><c><is><t>",
-        Call::Formula,
-        "Xml(Unclosed { at: 4 });Failed;",
-    ),
-    (
-        r#"<sheetData><c r="A1"><v>1</v></c>"#,
-        Call::Value,
-        "(0,0 n:1)XmlEof(\"sheetData\");",
-    ),
-    (
-        r#"<sheetData><c r="A1"><f>B1</f></c>"#,
-        Call::Formula,
-        "(0,0 =B1)XmlEof(\"sheetData\");",
-    ),
-    (
-        r#"<sheetData><c/><c s="1"/>"#,
-        Call::StyleId,
-        "(0,1 style 1)XmlEof(\"sheetData\");",
-    ),
-    (
-        r#"<sheetData><c r="A1"><v>1</v></c></row>"#,
-        Call::Value,
-        "(0,0 n:1)Xml(EndMismatch { at: 6 });",
-    ),
-    (
-        r#"<sheetData><c s="1"/></row>"#,
-        Call::StyleId,
-        "(0,0 style 1)Xml(EndMismatch { at: 3 });",
-    ),
-];
+/// The first events of a sheet, what a reader of them is asked for, and its answers.
+const FRONTS: &str = r#"
+<chartsheet/>
+= value value
+= NotAWorksheet("chartsheet")
+
+<dimension ref="A1"/>
+= value value
+= XmlEof("worksheet")
+
+<dimension/>
+= value value
+= UnexpectedNode("dimension")
+
+<chartsheet><dimension>
+= value value
+= UnexpectedNode("dimension")
+
+<sheetData><c r="A1">
+= value value
+= XmlEof("c");Failed;
+
+<sheetData><c r="A1">
+= formula formula
+= XmlEof("c");Failed;
+
+<sheetData><c><f>
+= value value
+= Xml(Unclosed { at: 3 });Failed;
+
+<sheetData><c><f>
+= formula formula
+= XmlEof("f");Failed;
+
+<sheetData><c><f>
+= value+style value+style
+= Xml(Unclosed { at: 3 });Failed;
+
+<sheetData><c><f>
+= value+formula value+formula
+= XmlEof("f");Failed;
+
+<sheetData><c><f>
+= metadata metadata
+= XmlEof("f");Failed;
+
+<sheetData><c><f>
+= style style
+= XmlEof("c");Failed;
+
+<sheetData><c><v>
+= value value
+= XmlEof("v");Failed;
+
+<sheetData><c><v>
+= style style
+= XmlEof("c");Failed;
+
+<sheetData><c><v>
+= value+style value+style
+= XmlEof("v");Failed;
+
+<sheetData><c><v>
+= value+formula value+formula
+= XmlEof("v");Failed;
+
+<sheetData><c><v>
+= metadata metadata
+= XmlEof("v");Failed;
+
+<sheetData><c><v>
+= formula formula
+= Xml(Unclosed { at: 3 });Failed;
+
+<sheetData><c t="str"><v>
+= value value
+= XmlEof("v");Failed;
+
+<sheetData><c t="str"><v>
+= formula formula
+= Xml(Unclosed { at: 3 });Failed;
+
+<sheetData><c><v>1
+= value value
+= Xml(Unclosed { at: 4 });Failed;
+
+<sheetData><c><v>1
+= formula formula
+= Xml(Unclosed { at: 4 });Failed;
+
+<sheetData><c><is><t>
+= value value
+= XmlEof("t");Failed;
+
+<sheetData><c><is><t>
+= formula formula
+= Xml(Unclosed { at: 4 });Failed;
+
+<sheetData><c r="A1"><v>1</v></c>
+= value value
+= (0,0 n:1)XmlEof("sheetData");
+
+<sheetData><c r="A1"><f>B1</f></c>
+= formula formula
+= (0,0 =B1)XmlEof("sheetData");
+
+<sheetData><c/><c s="1"/>
+= style style
+= (0,1 style 1)XmlEof("sheetData");
+
+<sheetData><c r="A1"><v>1</v></c></row>
+= value value
+= (0,0 n:1)Xml(EndMismatch { at: 6 });
+
+<sheetData><c s="1"/></row>
+= style style
+= (0,0 style 1)Xml(EndMismatch { at: 3 });
+"#;
 
 #[test]
 fn the_end_of_a_part_is_told_by_what_is_asked_for(rt: HostRuntime) -> Result<(), Fail> {
     let alloc = rt.alloc();
-    for (front, call, wanted) in FRONTS {
+    for case in cases(FRONTS) {
+        let (front, calls) = cut(case);
+        let (calls, wanted) = cut(calls);
         let mut package = package_of(alloc, &[(SHEET_NAME, front)])?;
-        let found = told(alloc, &mut package, &[call, call])?;
-        assert_eq!(rt; found.as_str(), wanted, "{front}");
+        let found = told(alloc, &mut package, calls)?;
+        assert_text(&rt, &found, wanted, front);
     }
     Ok(())
 }
@@ -715,8 +630,8 @@ fn a_fault_of_the_package_is_told_once(rt: HostRuntime) -> Result<(), Fail> {
     ] {
         let calls = vec![in alloc; number]?;
         let mut package = FailingPackage::new(package_of(alloc, &[SHEET])?, calls);
-        let found = told(alloc, &mut package, VALUES)?;
-        assert_eq!(rt; found.as_str(), wanted, "call {number}");
+        let found = told(alloc, &mut package, "value value value")?;
+        assert!(rt; found.as_str() == wanted, "call {number}: {found}");
     }
     Ok(())
 }
@@ -742,7 +657,7 @@ fn a_reader_goes_on_behind_the_head(rt: HostRuntime) -> Result<(), Fail> {
     let alloc = rt.alloc();
     let sheet = sheet_part(alloc, GROUP)?;
     let mut package = package_of(alloc, &[(SHEET_NAME, sheet.as_str())])?;
-    assert_eq!(rt; count_cells(alloc, &mut package, SHEET_NAME)?, 2);
-    assert_eq!(rt; count_cells(alloc, &mut package, "none")?, 0);
+    assert!(rt; count_cells(alloc, &mut package, SHEET_NAME)? == 2);
+    assert!(rt; count_cells(alloc, &mut package, "none")? == 0);
     Ok(())
 }

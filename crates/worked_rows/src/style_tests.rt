@@ -1,11 +1,13 @@
 //! The styles of worksheets, over the styles of their workbook.
 
+use crate::opening_tests::opened;
 use cell_styles::StyleRange;
 use part_events::MemoryPackage;
 use std::alloc::Global;
 use std::test::Fail;
 use test_packages::{RELATIONSHIPS, ROOT, SHEET_NAME, WORKBOOK, add_front, package_of};
-use xlsx_core::{OpenFailure, Xlsx};
+use test_tables::{assert_text, cases, cut};
+use xlsx_core::Xlsx;
 
 const STYLED: &str =
     r#"<worksheet><sheetData><row r="1"><c r="A1" s="1"/><c r="A1" s="2"/><c r="C1" s="0"/><c r="F1" s="4"/></row><row r="3"><c r="D3" s="03"/><c s="+1"/></row></sheetData></worksheet>"#;
@@ -21,10 +23,7 @@ fn workbook_of(alloc: Global, sheet: &str, count: usize) -> Result<Xlsx<MemoryPa
     add_front(&mut package, alloc, (SHEET_NAME, sheet), usize::MAX)?;
     let styles = ("xl/styles.xml", styles.as_str());
     add_front(&mut package, alloc, styles, usize::MAX)?;
-    match Xlsx::new(alloc, package) {
-        Ok(xlsx) => Ok(xlsx),
-        Err(OpenFailure { error, package: _ }) => Err(Fail::from(error)),
-    }
+    opened(alloc, package)
 }
 
 /// The corners of a range, and its positions with an id above 0.
@@ -49,40 +48,60 @@ fn styles_told(alloc: Global, xlsx: &mut Xlsx<MemoryPackage>, name: &str) -> Res
 }
 
 /// The part of a sheet, the name that is asked for, how many styles there are, and the answer.
-const SHEETS: [(&str, &str, usize, &str); 8] = [
-    (STYLED, "S", 4, "(0,0)-(2,3):(0,0 1)(2,3 3)"),
-    (STYLED, "S", 3, "(0,0)-(0,0):(0,0 1)"),
-    (STYLED, "S", 0, ""),
-    (STYLED, "T", 4, "WorksheetNotFound(\"T\")"),
-    ("<chartsheet/>", "S", 4, "NotAWorksheet(\"chartsheet\")"),
-    (
-        r#"<worksheet><sheetData><c s="1"><q/></c></sheetData></worksheet>"#,
-        "S",
-        4,
-        "(0,0)-(0,0):(0,0 1)",
-    ),
-    (
-        r#"<worksheet><sheetData><c r="A1" s=1/></sheetData></worksheet>"#,
-        "S",
-        4,
-        "XmlAttr(UnquotedValue(10))",
-    ),
-    (
-        r#"<worksheet><sheetData><c s="1"><v>"#,
-        "S",
-        4,
-        "XmlEof(\"c\")",
-    ),
-];
+const SHEETS: &str = r#"
+<worksheet><sheetData><row r="1"><c r="A1" s="1"/><c r="A1" s="2"/><c r="C1" s="0"/><c r="F1" s="4"/></row><row r="3"><c r="D3" s="03"/><c s="+1"/></row></sheetData></worksheet>
+= S
+= 4
+= (0,0)-(2,3):(0,0 1)(2,3 3)
+
+<worksheet><sheetData><row r="1"><c r="A1" s="1"/><c r="A1" s="2"/><c r="C1" s="0"/><c r="F1" s="4"/></row><row r="3"><c r="D3" s="03"/><c s="+1"/></row></sheetData></worksheet>
+= S
+= 3
+= (0,0)-(0,0):(0,0 1)
+
+<worksheet><sheetData><row r="1"><c r="A1" s="1"/><c r="A1" s="2"/><c r="C1" s="0"/><c r="F1" s="4"/></row><row r="3"><c r="D3" s="03"/><c s="+1"/></row></sheetData></worksheet>
+= S
+= 0
+=
+
+<worksheet><sheetData><row r="1"><c r="A1" s="1"/><c r="A1" s="2"/><c r="C1" s="0"/><c r="F1" s="4"/></row><row r="3"><c r="D3" s="03"/><c s="+1"/></row></sheetData></worksheet>
+= T
+= 4
+= WorksheetNotFound("T")
+
+<chartsheet/>
+= S
+= 4
+= NotAWorksheet("chartsheet")
+
+<worksheet><sheetData><c s="1"><q/></c></sheetData></worksheet>
+= S
+= 4
+= (0,0)-(0,0):(0,0 1)
+
+<worksheet><sheetData><c r="A1" s=1/></sheetData></worksheet>
+= S
+= 4
+= XmlAttr(UnquotedValue(10))
+
+<worksheet><sheetData><c s="1"><v>
+= S
+= 4
+= XmlEof("c")
+"#;
 
 #[test]
 fn the_first_id_of_a_position_gives_its_style(rt: HostRuntime) -> Result<(), Fail> {
     let alloc = rt.alloc();
-    for (sheet, name, count, wanted) in SHEETS {
+    for case in cases(SHEETS) {
+        let (sheet, name) = cut(case);
+        let (name, count) = cut(name);
+        let (count, wanted) = cut(count);
+        let count = count.parse::<usize>()?;
         let mut xlsx = workbook_of(alloc, sheet, count)?;
-        assert_eq!(rt; xlsx.styles().len(), count);
+        assert!(rt; xlsx.styles().len() == count, "of {sheet}");
         let told = styles_told(alloc, &mut xlsx, name)?;
-        assert_eq!(rt; told.as_str(), wanted, "of {name} in {sheet}");
+        assert_text(&rt, &told, wanted, sheet);
     }
     Ok(())
 }
@@ -93,7 +112,7 @@ fn readers_have_the_styles_of_their_workbook(rt: HostRuntime) -> Result<(), Fail
     let mut xlsx = workbook_of(alloc, STYLED, 3)?;
     assert!(rt; xlsx.theme_defaulted());
     let mut reader = xlsx.worksheet_cells_reader("S")?;
-    assert_eq!(rt; reader.styles().len(), 3);
+    assert!(rt; reader.styles().len() == 3);
     assert!(rt; reader.next_style_id()? == Some((0, 0, 1)));
     assert!(rt; reader.next_style_id()? == Some((0, 0, 2)));
     assert!(rt; reader.next_style_id()?.is_none());

@@ -9,6 +9,7 @@ use part_events::{PartEvent, StartTag, XlReader, XmlFault};
 use std::alloc::Global;
 use std::test::Fail;
 use test_packages::package_of;
+use test_tables::assert_text;
 use xlsx_error::XlsxError;
 use xlsx_styles::{
     default_theme_colors, parse_alignment, parse_border, parse_color, parse_fill, parse_font,
@@ -154,7 +155,7 @@ fn fills_are_read(rt: HostRuntime) -> Result<(), Fail> {
     let Err(XlsxError::XmlEof(name)) = fill_in(alloc, "<fill><patternFill>") else {
         return Err("not refused")?;
     };
-    assert_eq!(rt; name, "fill");
+    assert_text(&rt, name, "fill", "the end");
     Ok(())
 }
 
@@ -187,12 +188,12 @@ fn fonts_are_read(rt: HostRuntime) -> Result<(), Fail> {
     let Some(name) = font.name else {
         return Err("no name")?;
     };
-    assert_eq!(rt; name.as_str(), "A&B");
+    assert_text(&rt, &name, "A&B", "told");
     let faulty = r#"<font><name val="A&B"/></font>"#;
     let Err(XlsxError::Xml(XmlFault::Entity { at })) = font_in(alloc, faulty) else {
         return Err("not refused")?;
     };
-    assert_eq!(rt; at, 1);
+    assert!(rt; at == 1);
     Ok(())
 }
 
@@ -221,7 +222,7 @@ fn elements_without_a_value_hold(rt: HostRuntime) -> Result<(), Fail> {
     let Some(name) = font.name else {
         return Err("no name")?;
     };
-    assert_eq!(rt; name.as_str(), "Arial");
+    assert_text(&rt, &name, "Arial", "told");
     Ok(())
 }
 
@@ -272,7 +273,7 @@ fn a_part_that_ends_in_borders_tells_where(rt: HostRuntime) -> Result<(), Fail> 
         let Err(XlsxError::XmlEof(name)) = borders_in(alloc, markup, true, true) else {
             return Err("not refused")?;
         };
-        assert_eq!(rt; name, wanted);
+        assert_text(&rt, name, wanted, "the end");
     }
     Ok(())
 }

@@ -6,6 +6,7 @@ use part_events::{Cursor, Package, XmlFault};
 use std::alloc::{AllocError, Global};
 use std::test::Fail;
 use test_packages::package_of;
+use test_tables::assert_text;
 use xlsx_error::XlsxError;
 use xlsx_formats::{FormatCodes, Formatting, NamedLists, read_format, read_number_formats};
 use xlsx_sections::enter;
@@ -79,12 +80,12 @@ fn faults_of_number_formats_are_told(rt: HostRuntime) -> Result<(), Fail> {
     let Err(XlsxError::XmlEof(name)) = keep_codes(alloc, "<numFmts><numFmt>", &mut kept) else {
         return Err("not refused")?;
     };
-    assert_eq!(rt; name, "numFmts");
+    assert_text(&rt, name, "numFmts", "the end");
     let faulty = r#"<numFmts><numFmt numFmtId="1" formatCode="&a">"#;
     let Err(XlsxError::Xml(XmlFault::Entity { at })) = keep_codes(alloc, faulty, &mut kept) else {
         return Err("not refused")?;
     };
-    assert_eq!(rt; at, 1);
+    assert!(rt; at == 1);
     Ok(())
 }
 
@@ -133,7 +134,7 @@ fn number_formats_go_by_their_ids(rt: HostRuntime) -> Result<(), Fail> {
             (None, None) => {}
             (Some(named), Some((id, code))) => {
                 assert!(rt; named.format_id == Some(id), "at {attributes}");
-                assert_eq!(rt; named.format_code.as_str(), code);
+                assert_text(&rt, &named.format_code, code, attributes);
             }
             _ => return Err("another number format")?,
         }
@@ -219,6 +220,6 @@ fn the_last_alignment_and_protection_count(rt: HostRuntime) -> Result<(), Fail> 
     let Err(XlsxError::XmlEof(name)) = formatting_in(alloc, OPEN_SETTINGS, &lists) else {
         return Err("not refused")?;
     };
-    assert_eq!(rt; name, "xf");
+    assert_text(&rt, name, "xf", "the end");
     Ok(())
 }

@@ -4,6 +4,7 @@ use part_events::{FailingPackage, MemoryPackage, XlReader, XmlFault};
 use std::alloc::Global;
 use std::test::Fail;
 use test_packages::{events_of, package_front, package_of};
+use test_tables::assert_text;
 use xlsx_error::XlsxError;
 use xlsx_theme::{ThemeColors, read_theme, read_theme_colors};
 
@@ -72,14 +73,14 @@ const DEFAULT: &str = "#FFFFFF #000000 #EEECE1 #1F497D #4F81BD #C0504D #9BBB59 #
 fn light_colors_are_numbered_before_dark_ones(rt: HostRuntime) -> Result<(), Fail> {
     let alloc = rt.alloc();
     let found = scheme_told(alloc, FOUR_SLOTS, 20)?;
-    assert_eq!(rt; found.as_str(), "#FFFFFE #000001 #EEECE1 #1F497D ");
+    assert_text(&rt, &found, "#FFFFFE #000001 #EEECE1 #1F497D ", "told");
     Ok(())
 }
 
 #[test]
 fn a_theme_that_is_cut_is_the_default(rt: HostRuntime) -> Result<(), Fail> {
     let alloc = rt.alloc();
-    assert_eq!(rt; events_of(alloc, FOUR_SLOTS)?.len(), 20);
+    assert!(rt; events_of(alloc, FOUR_SLOTS)?.len() == 20);
     for count in 0..20usize {
         let mut package = held_package(alloc, FOUR_SLOTS, count)?;
         let theme = read_theme(alloc, &mut package, PATH)?;
@@ -122,10 +123,15 @@ const SLOTS: &str = r#"
 #[test]
 fn slots_are_read(rt: HostRuntime) -> Result<(), Fail> {
     let alloc = rt.alloc();
-    assert_eq!(rt; events_of(alloc, SLOTS)?.len(), 31);
+    assert!(rt; events_of(alloc, SLOTS)?.len() == 31);
     let theme = scheme_in(alloc, SLOTS, 31)?;
     let found = told(alloc, &theme)?;
-    assert_eq!(rt; found.as_str(), "#000000 #112233 #000005 #000003 #000006 ");
+    assert_text(
+        &rt,
+        &found,
+        "#000000 #112233 #000005 #000003 #000006 ",
+        "told",
+    );
     assert!(rt; theme.colors.get(1).map(|color| color.alpha) == Some(0x80));
     Ok(())
 }
@@ -140,11 +146,11 @@ fn parts_without_colors_leave_the_default_theme(rt: HostRuntime) -> Result<(), F
         ("<theme><dk1/>", 3),
     ] {
         let found = scheme_told(alloc, markup, count)?;
-        assert_eq!(rt; found.as_str(), DEFAULT, "of {markup}");
+        assert_text(&rt, &found, DEFAULT, markup);
     }
     for path in [PATH, "xl/theme1.xml"] {
         let found = theme_told(alloc, FAULTY_SLOT, path)?;
-        assert_eq!(rt; found.as_str(), DEFAULT, "at {path}");
+        assert_text(&rt, &found, DEFAULT, path);
     }
     Ok(())
 }

@@ -7,6 +7,7 @@ use attr_text::{
 use std::alloc::{AllocError, Global};
 use std::process::Abort;
 use std::test::Fail;
+use test_tables::{assert_text, cases, cut};
 
 /// The items of a text, each in brackets.
 fn shown(alloc: Global, text: &str) -> Result<String, AllocError> {
@@ -42,42 +43,97 @@ fn items_are_pairs_and_perhaps_a_fault(rt: HostRuntime) -> Result<(), Fail> {
     Ok(())
 }
 
+/// What two lookups of a key say of an attribute text: by its name, and by its local name.
+fn lookups_told(alloc: Global, text: &str, key: &str) -> Result<String, AllocError> {
+    let tag = Tag { text };
+    format!(in alloc; "{:?} {:?}", tag.raw_attr(key), tag.raw_attr_local(key))
+}
+
+/// Attribute texts, a key, and what the two lookups say.
+const LOOKUPS: &str = r#"
+good="1" good="2" bad=3
+= good
+= Ok(Some("1")) Ok(Some("1"))
+
+good="1" good="2" bad=3
+= x
+= Err(UnquotedValue(22)) Err(UnquotedValue(22))
+
+cstate="print" r:embed="rId1"
+= embed
+= Ok(None) Ok(Some("rId1"))
+
+cstate="print" r:embed="rId1"
+= state
+= Ok(None) Ok(None)
+"#;
+
+/// A name, a local name, and whether it is that of the name.
+const MATCHES: &str = "
+:id
+= id
+= true
+
+rid
+= id
+= false
+
+id
+= id
+= true
+
+r:id
+= id
+= true
+
+id
+= r:id
+= false
+
+a:
+=
+= true
+";
+
+/// A name, and its local name.
+const LOCAL_NAMES: &str = "
+a:b:c
+= c
+
+row
+= row
+
+x:
+=
+
+:
+=
+
+
+=
+";
+
 #[test]
-fn lookups_take_the_first_pair_of_each_key(rt: HostRuntime) {
-    let faulty = "good=\"1\" good=\"2\" bad=3";
-    let prefixed = "cstate=\"print\" r:embed=\"rId1\"";
-    let fault = Err(AttrFault::UnquotedValue(22));
-    for (text, key, want, want_local) in [
-        (faulty, "good", Ok(Some("1")), Ok(Some("1"))),
-        (faulty, "x", fault, fault),
-        (prefixed, "embed", Ok(None), Ok(Some("rId1"))),
-        (prefixed, "state", Ok(None), Ok(None)),
-    ] {
+fn lookups_take_the_first_pair_of_each_key(rt: HostRuntime) -> Result<(), Fail> {
+    for case in cases(LOOKUPS) {
+        let (text, key) = cut(case);
+        let (key, wanted) = cut(key);
         let tag = Tag { text };
-        assert!(rt; tag.attributes_raw() == text);
-        assert!(rt; tag.iter_raw_attrs().count() > 1, "{text:?}");
-        assert!(rt; tag.raw_attr(key) == want, "{key:?}");
-        assert!(rt; tag.raw_attr_local(key) == want_local, "{key:?}");
+        assert!(rt; tag.attributes_raw() == text && tag.iter_raw_attrs().count() > 1);
+        let told = lookups_told(rt.alloc(), text, key)?;
+        assert_text(&rt, &told, wanted, case);
     }
-    for (key, local, want) in [
-        (":id", "id", true),
-        ("rid", "id", false),
-        ("id", "id", true),
-        ("r:id", "id", true),
-        ("id", "r:id", false),
-        ("a:", "", true),
-    ] {
-        assert!(rt; local_name_matches(key, local) == want, "{key:?}");
+    for case in cases(MATCHES) {
+        let (key, local) = cut(case);
+        let (local, wanted) = cut(local);
+        let matches = local_name_matches(key, local);
+        assert_text(&rt, if matches { "true" } else { "false" }, wanted, case);
     }
-    for (name, want) in [
-        ("a:b:c", "c"),
-        ("row", "row"),
-        ("x:", ""),
-        (":", ""),
-        ("", ""),
-    ] {
-        assert!(rt; local_name(name) == want, "{name:?}");
+    for case in cases(LOCAL_NAMES) {
+        let (name, wanted) = cut(case);
+        assert_text(&rt, local_name(name), wanted, case);
     }
+    Ok(())
 }
 
 #[test]

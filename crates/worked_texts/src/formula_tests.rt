@@ -3,75 +3,150 @@ use formula_shift::{
     expanded_len,
 };
 use std::test::Fail;
+use test_tables::{assert_text, cases, cut};
+
+/// The position whose row and column a text has, counted from 0.
+fn place_of(text: &str) -> Result<(u32, u32), Fail> {
+    let (row, column) = text.split_once(' ').unwrap_or((text, ""));
+    Ok((row.parse::<u32>()?, column.parse::<u32>()?))
+}
+
+/// A formula of A1, where it is moved to, and what it is there.
+const MOVED: &str = r#"
+A1+$B1+C$1+$D$1
+= 2 3
+= D3+$B3+F$1+$D$1
+
+SUM(Sheet1!A1,'My Sheet'!$B2)
+= 1 1
+= SUM(Sheet1!B2,'My Sheet'!$B3)
+
+'Q1'!A1
+= 1 0
+= 'Q1'!A2
+
+T[Q1]+Q1
+= 0 1
+= T[Q1]+R1
+
+SUM(A1:XFE1)
+= 1 1
+= SUM(A1:XFE1)
+
+A1:A1048576
+= 1 1
+= A1:A1048576
+
+Valid: A1 Invalid: A1B1 A1$ $$A1 $A$$1 A$$1 A:1 1:A 1 A A1:1 A1:B A$A1 A1$2 $1 $A Valid: C1:D1
+= 1 1
+= Valid: B2 Invalid: A1B1 A1$ $$A1 $A$$1 A$$1 A:1 1:A 1 A A1:1 A1:B A$A1 A1$2 $1 $A Valid: D2:E2
+
+A4294967297
+= 1 0
+= A4294967297
+
+0E5
+= 1 0
+= 0E5
+
+a01
+= 0 0
+= A1
+
+A1
+= 4294967295 0
+= A1
+
+éA1
+= 0 1
+= éB1
+
+"A1
+= 0 1
+= "A1
+
+[x'[A1]+A1
+= 0 1
+= [x'[A1]+B1
+
+'It''s A1'!A1
+= 0 1
+= 'It''s A1'!B1
+
+LOG10(A1)
+= 0 1
+= LOG10(B1)
+
+$E:F
+= 0 1
+= $E:G
+
+CONCATENATE(A1, "A1", Table1[Column1])
+= 1 0
+= CONCATENATE(A2, "A1", Table1[Column1])
+
+한글 A1 テスト
+= 0 1
+= 한글 B1 テスト
+
+ABS(AND(Q1934;AA1_SOMETHING))
+= 0 1
+= ABS(AND(R1934;AA1_SOMETHING))
+
+Z1+A3B
+= 0 1
+= AA1+A3B
+
+A6+NO1.VARIABLE+\NO1
+= 1 0
+= A7+NO1.VARIABLE+\NO1
+
+SUM($E:F,5:$6)
+= 1 1
+= SUM($E:G,6:$6)
+
+Z9+3
+= 1 0
+= Z10+3
+
+A1!B2
+= 1 0
+= A1!B3
+
+NO1..VARIABLE+A1
+= 0 1
+= NO1..VARIABLE+B1
+"#;
 
 #[test]
 fn references_move_and_all_else_stays(rt: HostRuntime) -> Result<(), Fail> {
-    let cases = [
-        ("A1+$B1+C$1+$D$1", (2, 3), "D3+$B3+F$1+$D$1"),
-        (
-            "SUM(Sheet1!A1,'My Sheet'!$B2)",
-            (1, 1),
-            "SUM(Sheet1!B2,'My Sheet'!$B3)",
-        ),
-        ("'Q1'!A1", (1, 0), "'Q1'!A2"),
-        ("T[Q1]+Q1", (0, 1), "T[Q1]+R1"),
-        ("SUM(A1:XFE1)", (1, 1), "SUM(A1:XFE1)"),
-        ("A1:A1048576", (1, 1), "A1:A1048576"),
-        (
-            "Valid: A1 Invalid: A1B1 A1$ $$A1 $A$$1 A$$1 A:1 1:A 1 A A1:1 A1:B A$A1 A1$2 $1 $A Valid: C1:D1",
-            (1, 1),
-            "Valid: B2 Invalid: A1B1 A1$ $$A1 $A$$1 A$$1 A:1 1:A 1 A A1:1 A1:B A$A1 A1$2 $1 $A Valid: D2:E2",
-        ),
-        ("A4294967297", (1, 0), "A4294967297"),
-        ("0E5", (1, 0), "0E5"),
-        ("a01", (0, 0), "A1"),
-        ("A1", (u32::MAX, 0), "A1"),
-        ("éA1", (0, 1), "éB1"),
-        ("\"A1", (0, 1), "\"A1"),
-        ("[x'[A1]+A1", (0, 1), "[x'[A1]+B1"),
-        ("'It''s A1'!A1", (0, 1), "'It''s A1'!B1"),
-        ("LOG10(A1)", (0, 1), "LOG10(B1)"),
-        ("$E:F", (0, 1), "$E:G"),
-        (
-            "CONCATENATE(A1, \"A1\", Table1[Column1])",
-            (1, 0),
-            "CONCATENATE(A2, \"A1\", Table1[Column1])",
-        ),
-        ("한글 A1 テスト", (0, 1), "한글 B1 テスト"),
-        (
-            "ABS(AND(Q1934;AA1_SOMETHING))",
-            (0, 1),
-            "ABS(AND(R1934;AA1_SOMETHING))",
-        ),
-        ("Z1+A3B", (0, 1), "AA1+A3B"),
-        ("A6+NO1.VARIABLE+\\NO1", (1, 0), "A7+NO1.VARIABLE+\\NO1"),
-        ("SUM($E:F,5:$6)", (1, 1), "SUM($E:G,6:$6)"),
-        ("Z9+3", (1, 0), "Z10+3"),
-        ("A1!B2", (1, 0), "A1!B3"),
-        ("NO1..VARIABLE+A1", (0, 1), "NO1..VARIABLE+B1"),
-    ];
-    let mut out = String::new(rt.alloc());
-    for (formula, end, expanded) in cases {
-        let text = expand_shared_formula(rt.alloc(), formula, (0, 0), end)?;
-        assert_eq!(rt; text.as_str(), expanded);
+    let alloc = rt.alloc();
+    let mut out = String::new(alloc);
+    for case in cases(MOVED) {
+        let (formula, place) = cut(case);
+        let (place, expanded) = cut(place);
+        let end = place_of(place)?;
+        let text = expand_shared_formula(alloc, formula, (0, 0), end)?;
+        assert_text(&rt, &text, expanded, formula);
         expand_shared_formula_into(formula, (0, 0), end, &mut out)?;
-        assert_eq!(rt; out.as_str(), expanded);
-        assert_eq!(rt; expanded_len(formula, (0, 0), end), expanded.len() as u128);
+        assert_text(&rt, &out, expanded, formula);
+        let length = expanded_len(formula, (0, 0), end);
+        assert!(rt; length == expanded.len() as u128, "{formula}");
     }
     Ok(())
 }
 
 #[test]
 fn formulas_move_by_the_way_from_start_to_end(rt: HostRuntime) -> Result<(), Fail> {
-    let cases = [
+    let ways = [
         ("B3+$B$3", (4, 2), (5, 1), "A4+$B$3"),
         ("B3:C4", (7, 7), (5, 6), "A1:B2"),
         ("A1", (3, 0), (2, 0), "A1"),
         ("A1:B3", (3, 0), (2, 0), "A1:B3"),
     ];
-    for (formula, start, end, expanded) in cases {
+    for (formula, start, end, expanded) in ways {
         let text = expand_shared_formula(rt.alloc(), formula, start, end)?;
-        assert_eq!(rt; text.as_str(), expanded);
+        assert_text(&rt, &text, expanded, formula);
     }
     Ok(())
 }
@@ -86,7 +161,7 @@ fn corners_are_parsed(rt: HostRuntime) {
             absolute_col,
         })
     };
-    let cases = [
+    let corners = [
         ("A1", cell(0, 0, false, false)),
         ("$A1", cell(0, 0, false, true)),
         ("A$1", cell(0, 0, true, false)),
@@ -111,15 +186,15 @@ fn corners_are_parsed(rt: HostRuntime) {
         ("1048577", None),
         ("A99999999999999999999", None),
     ];
-    for (text, corner) in cases {
-        assert_eq!(rt; Corner::parse(text), corner, "at {text}");
+    for (text, corner) in corners {
+        assert!(rt; Corner::parse(text) == corner, "at {text}");
     }
-    assert_eq!(rt; Reference::parse("E"), None);
+    assert!(rt; Reference::parse("E") == None);
 }
 
 #[test]
 fn references_are_displaced_and_spelled(rt: HostRuntime) -> Result<(), Fail> {
-    let cases = [
+    let words = [
         ("A1", (1, 1), Some("B2")),
         ("$A$1:$B$2", (1, 1), Some("$A$1:$B$2")),
         ("E:F", (1, 0), Some("E:F")),
@@ -127,7 +202,7 @@ fn references_are_displaced_and_spelled(rt: HostRuntime) -> Result<(), Fail> {
         ("XFD:XFD", (0, 1), None),
         ("A1", (i64::MAX, i64::MIN), None),
     ];
-    for (word, offset, spelled) in cases {
+    for (word, offset, spelled) in words {
         let moved = match Reference::parse(word) {
             Some(reference) => reference.displaced(offset),
             None => None,
@@ -136,7 +211,7 @@ fn references_are_displaced_and_spelled(rt: HostRuntime) -> Result<(), Fail> {
         if let Some(reference) = moved {
             reference.push_to(&mut out)?;
         }
-        assert_eq!(rt; out.as_str(), spelled.unwrap_or(""), "at {word}");
+        assert_text(&rt, &out, spelled.unwrap_or(""), word);
     }
     Ok(())
 }
@@ -157,10 +232,10 @@ fn a_formula_is_cut_by_the_first_byte_of_the_rest(rt: HostRuntime) {
     ];
     let mut pieces = Pieces::new("SUM('It''s'!$A$1:B2 + é, [a[b]'']\"A1\")'open");
     for piece in cut {
-        assert_eq!(rt; pieces.next(), Some(piece));
+        assert!(rt; pieces.next() == Some(piece));
     }
-    assert_eq!(rt; pieces.next(), None);
-    assert_eq!(rt; Pieces::new("A1").as_str(), "A1");
-    assert_eq!(rt; Piece::Group("[x]").as_str(), "[x]");
-    assert_eq!(rt; Pieces::new("A1+B2").count(), 3);
+    assert!(rt; pieces.next() == None);
+    assert_text(&rt, Pieces::new("A1").as_str(), "A1", "pieces");
+    assert_text(&rt, Piece::Group("[x]").as_str(), "[x]", "a group");
+    assert!(rt; Pieces::new("A1+B2").count() == 3);
 }

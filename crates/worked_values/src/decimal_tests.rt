@@ -3,80 +3,124 @@
 use decimals::Decimal;
 use std::alloc::{AllocError, Global};
 use std::test::Fail;
+use test_tables::{assert_text, cases, cut};
 
-/// The text of the number that a text writes.
-fn reprinted(alloc: Global, text: &str) -> Result<Option<String>, AllocError> {
-    let Some(number) = Decimal::parse(text) else {
-        return Ok(None);
-    };
+/// The text of the number that a text writes, or that it writes none.
+fn reprinted(alloc: Global, text: &str) -> Result<String, AllocError> {
     let mut out = String::new(alloc);
-    number.push_to(&mut out)?;
-    Ok(Some(out))
+    match Decimal::parse(text) {
+        Some(number) => number.push_to(&mut out)?,
+        None => out.push_str("no number")?,
+    }
+    Ok(out)
 }
+
+/// Texts, and the numbers that they write.
+const NUMBERS: &str = "
+-0.50
+= -0.5
+
+1e3
+= 1000
+
+1E30
+= 1E30
+
++.5
+= 0.5
+
+0E99999999999
+= 0
+
+-0
+= 0
+
+007.
+= 7
+
+7e20
+= 700000000000000000000
+
+7e21
+= 7E21
+
+12345e-2
+= 123.45
+
+-5e-20
+= -0.00000000000000000005
+
+5e-21
+= 5E-21
+
+1E-0000000000000000000000000000000000000000000000003
+= 0.001
+
+170141183460469231731687303715884105727
+= 170141183460469231731687303715884105727
+
+-1.70141183460469231731687303715884105728000000000000000000000000000
+= -170141183460469231731687303715884105728E-38
+
+17014118346046923173168730371588410572.6E1
+= 170141183460469231731687303715884105726
+
+10E2147483646
+= 1E2147483647
+
+0.1E-2147483647
+= 1E-2147483648
+";
 
 #[test]
 fn numbers_are_printed_in_one_form(rt: HostRuntime) -> Result<(), Fail> {
     let alloc = rt.alloc();
-    for (text, want) in [
-        ("-0.50", "-0.5"),
-        ("1e3", "1000"),
-        ("1E30", "1E30"),
-        ("+.5", "0.5"),
-        ("0E99999999999", "0"),
-        ("-0", "0"),
-        ("007.", "7"),
-        ("7e20", "700000000000000000000"),
-        ("7e21", "7E21"),
-        ("12345e-2", "123.45"),
-        ("-5e-20", "-0.00000000000000000005"),
-        ("5e-21", "5E-21"),
-        (
-            "1E-0000000000000000000000000000000000000000000000003",
-            "0.001",
-        ),
-        (
-            "170141183460469231731687303715884105727",
-            "170141183460469231731687303715884105727",
-        ),
-        (
-            "-1.70141183460469231731687303715884105728000000000000000000000000000",
-            "-170141183460469231731687303715884105728E-38",
-        ),
-        (
-            "17014118346046923173168730371588410572.6E1",
-            "170141183460469231731687303715884105726",
-        ),
-        ("10E2147483646", "1E2147483647"),
-        ("0.1E-2147483647", "1E-2147483648"),
-    ] {
-        match reprinted(alloc, text)? {
-            Some(out) => assert_eq!(rt; out.as_str(), want, "at {text}"),
-            None => assert!(rt; false, "at {text}"),
-        }
+    for case in cases(NUMBERS) {
+        let (text, wanted) = cut(case);
+        let printed = reprinted(alloc, text)?;
+        assert_text(&rt, &printed, wanted, text);
     }
     Ok(())
 }
 
+/// Texts that write no number.
+const OTHERS: &str = "
+170141183460469231731687303715884105728
+
+10E2147483647
+
+0.1E-2147483648
+
+1E99999999999999999999999999999999999999999999999999
+
+123456789012345678901234567890123456789012345678901234567890
+
+.
+
+1e
+
+
+
+-
+
+1.2.3
+
+1e5.
+
+1e+-5
+
+ 1
+
+inf
+
+nan
+
+0x1
+";
+
 #[test]
 fn other_texts_are_no_numbers(rt: HostRuntime) {
-    for text in [
-        "170141183460469231731687303715884105728",
-        "10E2147483647",
-        "0.1E-2147483648",
-        "1E99999999999999999999999999999999999999999999999999",
-        "123456789012345678901234567890123456789012345678901234567890",
-        ".",
-        "1e",
-        "",
-        "-",
-        "1.2.3",
-        "1e5.",
-        "1e+-5",
-        " 1",
-        "inf",
-        "nan",
-        "0x1",
-    ] {
+    for text in cases(OTHERS) {
         assert!(rt; Decimal::parse(text).is_none(), "at {text}");
     }
 }

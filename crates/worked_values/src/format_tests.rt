@@ -1,41 +1,89 @@
 //! What number formats make of numbers.
 
-use cell_data::{
-    CellFormat, builtin_format_by_id, builtin_format_code_by_id, detect_custom_number_format,
-};
+use cell_data::{builtin_format_by_id, builtin_format_code_by_id, detect_custom_number_format};
+use std::test::Fail;
+use test_tables::{assert_text, cases, cut};
+
+/// Number formats, and what they make of a number.
+const FORMATS: &str = r#"
+[hh]:mm
+= TimeDelta
+
+yyyy-mm-dd
+= DateTime
+
+0.00"d"
+= Other
+
+[Red]0;d
+= Other
+
+0 A/P
+= DateTime
+
+[hH]
+= TimeDelta
+
+[]0
+= Other
+
+[h
+= Other
+
+"d
+= Other
+
+\d_m0
+= Other
+
+\éd
+= DateTime
+
+[$-409]D
+= DateTime
+
+
+= Other
+"#;
 
 #[test]
-fn formats_tell_dates_from_numbers(rt: HostRuntime) {
-    for (format, want) in [
-        ("[hh]:mm", CellFormat::TimeDelta),
-        ("yyyy-mm-dd", CellFormat::DateTime),
-        ("0.00\"d\"", CellFormat::Other),
-        ("[Red]0;d", CellFormat::Other),
-        ("0 A/P", CellFormat::DateTime),
-        ("[hH]", CellFormat::TimeDelta),
-        ("[]0", CellFormat::Other),
-        ("[h", CellFormat::Other),
-        ("\"d", CellFormat::Other),
-        ("\\d_m0", CellFormat::Other),
-        ("\\éd", CellFormat::DateTime),
-        ("[$-409]D", CellFormat::DateTime),
-        ("", CellFormat::Other),
-    ] {
-        assert!(rt; detect_custom_number_format(format) == want, "at {format}");
+fn formats_tell_dates_from_numbers(rt: HostRuntime) -> Result<(), Fail> {
+    let alloc = rt.alloc();
+    for case in cases(FORMATS) {
+        let (format, wanted) = cut(case);
+        let kind = format!(in alloc; "{:?}", detect_custom_number_format(format))?;
+        assert_text(&rt, &kind, wanted, format);
     }
+    Ok(())
 }
 
+/// Ids of built-in formats, and what they make of a number.
+const BUILT_IN: &str = "
+14
+= DateTime
+
+22
+= DateTime
+
+23
+= Other
+
+46
+= TimeDelta
+
+014
+= Other
+";
+
 #[test]
-fn built_in_formats_have_ids(rt: HostRuntime) {
-    for (id, want) in [
-        ("14", CellFormat::DateTime),
-        ("22", CellFormat::DateTime),
-        ("23", CellFormat::Other),
-        ("46", CellFormat::TimeDelta),
-        ("014", CellFormat::Other),
-    ] {
-        assert!(rt; builtin_format_by_id(id) == want, "at {id}");
+fn built_in_formats_have_ids(rt: HostRuntime) -> Result<(), Fail> {
+    let alloc = rt.alloc();
+    for case in cases(BUILT_IN) {
+        let (id, wanted) = cut(case);
+        let kind = format!(in alloc; "{:?}", builtin_format_by_id(id))?;
+        assert_text(&rt, &kind, wanted, id);
     }
     assert!(rt; builtin_format_code_by_id(22) == Some("m/d/yy h:mm"));
     assert!(rt; builtin_format_code_by_id(5) == None);
+    Ok(())
 }

@@ -3,9 +3,10 @@ ghost use Rattle.cell_data.specs.Cells.{IsInSheet};
 
 use cell_data::{Cell, CellErrorType, Data, Decimal, ExcelDateTime, ExcelDateTimeType, Range};
 use cell_styles::{Color, Fill, FillPattern, Style, StyleRange};
-use sheet_listing::{push_listing, value_lines_of};
+use sheet_listing::{push_listing, push_row_line, value_lines_of};
 use std::alloc::{AllocError, Global};
 use std::test::Fail;
+use test_tables::assert_text;
 
 fn number(text: &str) -> Data {
     match Decimal::parse(text) {
@@ -72,42 +73,59 @@ fn filled(pattern: FillPattern, foreground: Option<Color>, background: Option<Co
     }
 }
 
+/// The lines of values of each kind, of which the last has none.
+const VALUE_LINES: &str = "C5\tn:2\t-\t-
+C5\tn:-10.5\t-\t-
+C5\tn:-7\t-\t-
+C5\ts:zero\t-\t-
+C5\ts:a<A\t-\t-
+C5\ts:a\\\\b\\tc\\nd\\re\t-\t-
+C5\tb:true\t-\t-
+C5\tb:false\t-\t-
+C5\tt:45292 date 1900\t-\t-
+C5\tt:0.5 duration 1904\t-\t-
+C5\ti:2024-01-01\t-\t-
+C5\te:#DIV/0!\t-\t-
+C5\te:#N/A\t-\t-
+C5\te:#NAME?\t-\t-
+C5\te:#NULL!\t-\t-
+C5\te:#NUM!\t-\t-
+C5\te:#REF!\t-\t-
+C5\te:#VALUE!\t-\t-
+";
+
 #[test]
 fn each_kind_of_value_has_its_mark(rt: HostRuntime) -> Result<(), Fail> {
     let alloc = rt.alloc();
     let date = ExcelDateTimeType::DateTime;
     let duration = ExcelDateTimeType::TimeDelta;
     let iso = String::from_str(alloc, "2024-01-01")?;
-    let rows = [
-        (number("2"), "C5\tn:2\t-\t-\n"),
-        (number("-10.5"), "C5\tn:-10.5\t-\t-\n"),
-        (Data::Int(-7), "C5\tn:-7\t-\t-\n"),
-        (text(alloc, "zero")?, "C5\ts:zero\t-\t-\n"),
-        (text(alloc, "a<A")?, "C5\ts:a<A\t-\t-\n"),
-        (
-            text(alloc, "a\\b\tc\nd\re")?,
-            "C5\ts:a\\\\b\\tc\\nd\\re\t-\t-\n",
-        ),
-        (Data::Bool(true), "C5\tb:true\t-\t-\n"),
-        (Data::Bool(false), "C5\tb:false\t-\t-\n"),
-        (time("45292", date, false), "C5\tt:45292 date 1900\t-\t-\n"),
-        (
-            time("0.5", duration, true),
-            "C5\tt:0.5 duration 1904\t-\t-\n",
-        ),
-        (Data::DateTimeIso(iso), "C5\ti:2024-01-01\t-\t-\n"),
-        (Data::Error(CellErrorType::Div0), "C5\te:#DIV/0!\t-\t-\n"),
-        (Data::Error(CellErrorType::NA), "C5\te:#N/A\t-\t-\n"),
-        (Data::Error(CellErrorType::Name), "C5\te:#NAME?\t-\t-\n"),
-        (Data::Error(CellErrorType::Null), "C5\te:#NULL!\t-\t-\n"),
-        (Data::Error(CellErrorType::Num), "C5\te:#NUM!\t-\t-\n"),
-        (Data::Error(CellErrorType::Ref), "C5\te:#REF!\t-\t-\n"),
-        (Data::Error(CellErrorType::Value), "C5\te:#VALUE!\t-\t-\n"),
-        (Data::Empty, ""),
+    let values = [
+        number("2"),
+        number("-10.5"),
+        Data::Int(-7),
+        text(alloc, "zero")?,
+        text(alloc, "a<A")?,
+        text(alloc, "a\\b\tc\nd\re")?,
+        Data::Bool(true),
+        Data::Bool(false),
+        time("45292", date, false),
+        time("0.5", duration, true),
+        Data::DateTimeIso(iso),
+        Data::Error(CellErrorType::Div0),
+        Data::Error(CellErrorType::NA),
+        Data::Error(CellErrorType::Name),
+        Data::Error(CellErrorType::Null),
+        Data::Error(CellErrorType::Num),
+        Data::Error(CellErrorType::Ref),
+        Data::Error(CellErrorType::Value),
+        Data::Empty,
     ];
-    for (value, wanted) in rows {
-        assert_eq!(rt; lines_of_value(alloc, value)?.as_str(), wanted);
+    let mut lines = String::new(alloc);
+    for value in values {
+        lines.push_str(&lines_of_value(alloc, value)?)?;
     }
+    assert_text(&rt, &lines, VALUE_LINES, "values");
     Ok(())
 }
 
@@ -142,7 +160,7 @@ fn formulas_stand_beside_their_values(rt: HostRuntime) -> Result<(), Fail> {
     let wanted = "A1\ts:Date\t-\t-\nB1\ts:Amount\t-\t-\nC1\ts: Total\t-\t-\n\
         A2\tt:45292 date 1900\t-\t-\nB2\tn:10.5\t-\t-\nC2\tn:10.5\t=SUM(B$2:B2)\t-\n\
         A3\tt:45293 date 1900\t-\t-\nB3\tn:4\t-\t-\nC3\tn:14.5\t=SUM(B$2:B3)\t-\n";
-    assert_eq!(rt; out.as_str(), wanted);
+    assert_text(&rt, &out, wanted, "lines");
     Ok(())
 }
 
@@ -171,7 +189,7 @@ fn positions_of_both_lists_are_listed_row_by_row(rt: HostRuntime) -> Result<(), 
     push_unstyled(&mut out, &numbers, &texts)?;
     let wanted = "lines:\nC1\t-\t=A1\t-\nC2\t-\t=B2\t-\nD2\tn:2\t-\t-\n\
         C5\tn:1\t=1\\t1\t-\nA1048576\tn:1\t-\t-\n";
-    assert_eq!(rt; out.as_str(), wanted);
+    assert_text(&rt, &out, wanted, "lines");
     Ok(())
 }
 
@@ -222,7 +240,7 @@ fn fills_are_told(rt: HostRuntime) -> Result<(), Fail> {
     let wanted = "A1\tn:1\t-\t-\nA2\t-\t-\t-\nB2\tn:2\t-\t#DDD9C3\nC2\t-\t=A1\t#000001\n\
         A3\t-\t-\t#000001\nB3\tn:3\t-\t#000001\nC3\t-\t=A1\t#000001\nD3\t-\t-\t-\n\
         D4\t-\t-\t-\n";
-    assert_eq!(rt; out.as_str(), wanted);
+    assert_text(&rt, &out, wanted, "lines");
     Ok(())
 }
 
@@ -238,6 +256,18 @@ fn values_have_lines_of_their_own(rt: HostRuntime) -> Result<(), Fail> {
     let cells = values(alloc, Vec::from_array(alloc, cells)?)?;
     let lines = value_lines_of(alloc, &cells)?;
     let wanted = "B1\tt:45292 date 1900\nD1\tn:-10.5\nC3\t-\nC5\ts:tab\\there\n";
-    assert_eq!(rt; lines.as_str(), wanted);
+    assert_text(&rt, &lines, wanted, "lines");
+    Ok(())
+}
+
+#[test]
+fn a_row_of_values_has_one_line(rt: HostRuntime) -> Result<(), Fail> {
+    let alloc = rt.alloc();
+    let row = [text(alloc, "bolt")?, Data::Int(-3), Data::Empty, number("2.50")];
+    let mut out = String::new(alloc);
+    push_row_line(&mut out, &row)?;
+    push_row_line(&mut out, &row[..1])?;
+    push_row_line(&mut out, &row[..0])?;
+    assert_text(&rt, &out, "s:bolt\tn:-3\t-\tn:2.5\ns:bolt\n\n", "lines");
     Ok(())
 }

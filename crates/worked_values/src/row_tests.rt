@@ -7,6 +7,7 @@ use cell_refs::{MAX_COLUMNS, MAX_ROWS};
 use csv::{ReaderBuilder, StringRecord};
 use std::alloc::{AllocError, Global};
 use std::test::Fail;
+use test_tables::assert_text;
 use xlsx_rows::{CsvError, push_field, rows_csv};
 
 fn number(text: &str) -> Data {
@@ -27,11 +28,8 @@ fn days(text: &str, kind: ExcelDateTimeType, is_1904: bool) -> Data {
     }
 }
 
-fn field(alloc: Global, value: &Data) -> Result<String, AllocError> {
-    let mut out = String::new(alloc);
-    push_field(&mut out, value)?;
-    Ok(out)
-}
+/// The fields of values of each kind, each with a mark behind it.
+const FIELDS: &str = "10.5|1E30|-7|=A1, \t|true|false|45292|0.5|2024-01-01|#DIV/0!|#DATA!||";
 
 #[test]
 fn each_kind_of_value_has_its_field(rt: HostRuntime) -> Result<(), Fail> {
@@ -39,23 +37,26 @@ fn each_kind_of_value_has_its_field(rt: HostRuntime) -> Result<(), Fail> {
     let date = ExcelDateTimeType::DateTime;
     let duration = ExcelDateTimeType::TimeDelta;
     let iso = String::from_str(alloc, "2024-01-01")?;
-    let rows = [
-        (number("10.5"), "10.5"),
-        (number("1e30"), "1E30"),
-        (Data::Int(-7), "-7"),
-        (Data::String(String::from_str(alloc, "=A1, \t")?), "=A1, \t"),
-        (Data::Bool(true), "true"),
-        (Data::Bool(false), "false"),
-        (days("45292", date, false), "45292"),
-        (days("0.5", duration, true), "0.5"),
-        (Data::DateTimeIso(iso), "2024-01-01"),
-        (Data::Error(CellErrorType::Div0), "#DIV/0!"),
-        (Data::Error(CellErrorType::GettingData), "#DATA!"),
-        (Data::Empty, ""),
+    let values = [
+        number("10.5"),
+        number("1e30"),
+        Data::Int(-7),
+        Data::String(String::from_str(alloc, "=A1, \t")?),
+        Data::Bool(true),
+        Data::Bool(false),
+        days("45292", date, false),
+        days("0.5", duration, true),
+        Data::DateTimeIso(iso),
+        Data::Error(CellErrorType::Div0),
+        Data::Error(CellErrorType::GettingData),
+        Data::Empty,
     ];
-    for (value, wanted) in rows {
-        assert_eq!(rt; field(alloc, &value)?.as_str(), wanted);
+    let mut fields = String::new(alloc);
+    for value in values {
+        push_field(&mut fields, &value)?;
+        fields.push_str("|")?;
     }
+    assert_text(&rt, &fields, FIELDS, "values");
     Ok(())
 }
 
@@ -92,10 +93,8 @@ fn rows_have_a_field_for_each_column(rt: HostRuntime) -> Result<(), Fail> {
         ("=A1", "", (1, 0), "=A1\n\"\"\n"),
     ] {
         let range = two_texts(alloc, first, second, place)?;
-        assert_eq!(rt;
-            rows_csv(alloc, None, &range)?.as_slice(),
-            wanted.as_bytes()
-        );
+        let rows = rows_csv(alloc, None, &range)?;
+        assert_text(&rt, std::str::from_utf8(&rows)?, wanted, "rows");
     }
     Ok(())
 }
@@ -110,10 +109,8 @@ fn a_reader_gives_the_rows_back(rt: HostRuntime) -> Result<(), Fail> {
     ];
     let range = Range::from_sparse(alloc, Vec::from_array(alloc, cells)?, Data::Empty)?;
     let text = rows_csv(alloc, None, &range)?;
-    assert_eq!(rt;
-        text.as_slice(),
-        b"\"a,b\",\"say \"\"x\"\"\"\n,1\n".as_slice()
-    );
+    let wanted = "\"a,b\",\"say \"\"x\"\"\"\n,1\n";
+    assert_text(&rt, std::str::from_utf8(&text)?, wanted, "rows");
     let mut reader = ReaderBuilder::new()
         .has_headers(false)
         .from_reader(alloc, text.as_slice());
@@ -140,10 +137,15 @@ fn a_header_stands_before_the_rows(rt: HostRuntime) -> Result<(), Fail> {
     let used = Range::from_sparse(alloc, Vec::from_array(alloc, cells)?, Data::Empty)?;
     let table = used.range((1, 0), (2, 1));
     let rows = rows_csv(alloc, Some(&header), &table)?;
-    assert_eq!(rt; rows.as_slice(), b"Name,Qty\nnut,3\n,\n".as_slice());
+    assert_text(
+        &rt,
+        std::str::from_utf8(&rows)?,
+        "Name,Qty\nnut,3\n,\n",
+        "rows",
+    );
     let none = Range::from_sparse(alloc, Vec::new(alloc), Data::Empty)?;
     let names = rows_csv(alloc, Some(&header), &none)?;
-    assert_eq!(rt; names.as_slice(), b"Name,Qty\n".as_slice());
+    assert_text(&rt, std::str::from_utf8(&names)?, "Name,Qty\n", "rows");
     assert!(rt; rows_csv(alloc, Some(&[]), &none)?.is_empty());
     assert!(rt; rows_csv(alloc, None, &none)?.is_empty());
     Ok(())
@@ -158,7 +160,12 @@ fn a_blank_fills_places_without_a_cell(rt: HostRuntime) -> Result<(), Fail> {
     ];
     let range = Range::from_sparse(alloc, Vec::from_array(alloc, cells)?, Data::Bool(false))?;
     let rows = rows_csv(alloc, None, &range)?;
-    assert_eq!(rt; rows.as_slice(), b"1,false\nfalse,\n".as_slice());
+    assert_text(
+        &rt,
+        std::str::from_utf8(&rows)?,
+        "1,false\nfalse,\n",
+        "rows",
+    );
     Ok(())
 }
 
@@ -212,11 +219,10 @@ fn a_box_of_more_than_the_most_cells_is_too_large(rt: HostRuntime) -> Result<(),
 #[test]
 fn refusals_of_rows_have_texts(rt: HostRuntime) -> Result<(), Fail> {
     let alloc = rt.alloc();
-    for (error, wanted) in [
-        (CsvError::BoxTooLarge, "box too large"),
-        (CsvError::OutOfMemory, "out of memory"),
-    ] {
-        assert_eq!(rt; format!(in alloc; "{error}")?.as_str(), wanted);
+    let mut told = String::new(alloc);
+    for error in [CsvError::BoxTooLarge, CsvError::OutOfMemory] {
+        write!(told, "{error};")?;
     }
+    assert_text(&rt, &told, "box too large;out of memory;", "refusals");
     Ok(())
 }

@@ -6,29 +6,61 @@ use cell_data::{
 use decimals::Decimal;
 use std::alloc::{AllocError, Global};
 use std::test::Fail;
+use test_tables::{assert_text, cases, cut};
 
-#[test]
-fn texts_name_errors(rt: HostRuntime) {
-    for (text, want) in [
-        ("#DIV/0!", Some(CellErrorType::Div0)),
-        ("#N/A", Some(CellErrorType::NA)),
-        ("#NAME?", Some(CellErrorType::Name)),
-        ("#NULL!", Some(CellErrorType::Null)),
-        ("#NUM!", Some(CellErrorType::Num)),
-        ("#REF!", Some(CellErrorType::Ref)),
-        ("#VALUE!", Some(CellErrorType::Value)),
-        ("#value!", None),
-        ("", None),
-    ] {
-        assert!(rt; text.parse::<CellErrorType>().ok() == want, "at {text}");
+/// Texts, and the errors that they name.
+const ERRORS: &str = "
+#DIV/0!
+= Div0
+
+#N/A
+= NA
+
+#NAME?
+= Name
+
+#NULL!
+= Null
+
+#NUM!
+= Num
+
+#REF!
+= Ref
+
+#VALUE!
+= Value
+
+#value!
+= no error
+
+
+= no error
+";
+
+fn error_told(alloc: Global, text: &str) -> Result<String, AllocError> {
+    match text.parse::<CellErrorType>() {
+        Ok(error) => format!(in alloc; "{error:?}"),
+        Err(_) => String::from_str(alloc, "no error"),
     }
 }
 
 #[test]
+fn texts_name_errors(rt: HostRuntime) -> Result<(), Fail> {
+    let alloc = rt.alloc();
+    for case in cases(ERRORS) {
+        let (text, wanted) = cut(case);
+        let told = error_told(alloc, text)?;
+        assert_text(&rt, &told, wanted, text);
+    }
+    Ok(())
+}
+
+#[test]
 fn a_text_of_no_error_is_unknown(rt: HostRuntime) -> Result<(), Fail> {
-    assert_eq!(rt; "#value!".parse::<CellErrorType>(), Err(UnknownCellError));
+    assert!(rt; "#value!".parse::<CellErrorType>() == Err(UnknownCellError));
     let shown = UnknownCellError.to_string(rt.alloc())?;
-    assert_eq!(rt; shown.as_str(), "unknown cell error");
+    assert_text(&rt, &shown, "unknown cell error", "#value!");
     Ok(())
 }
 

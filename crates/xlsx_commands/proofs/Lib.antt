@@ -1,4 +1,5 @@
 pub mod AreasInside
+pub mod CachesRead
 pub mod LinksInside
 pub mod MemoryCalls
 pub mod NamedSheets
@@ -10,3 +11,4 @@ pub mod RowsPlaced
 pub mod SheetsOpened
 pub mod TablesListed
 pub mod TablesNamed
+pub mod TablesPlaced

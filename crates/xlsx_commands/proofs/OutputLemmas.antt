@@ -12,7 +12,7 @@ use Rattle.xlsx_core.specs.Links.{links_placed, PlacedLinksCause}
 use Rattle.xlsx_core.specs.SheetReading.{ReadsAs, IsReadable, SheetCause}
 use Rattle.xlsx_commands.specs.BookLists.{sheet_lines, name_lines}
 use Rattle.xlsx_commands.specs.Command.{Command, cells, sheets, names, merges, links, props, csv}
-use Rattle.xlsx_commands.specs.Command.{tables, table, pivots}
+use Rattle.xlsx_commands.specs.Command.{csv_table, tables, table, pivots, pivot}
 use Rattle.xlsx_commands.specs.Outputs.{IsOutput, RefusedWorkbookCause, IsTooLarge, OutputCause}
 use Rattle.xlsx_commands.specs.Outputs.{HasOutput}
 use Rattle.xlsx_commands.specs.PropertyLists.{text_of_name}
@@ -20,12 +20,14 @@ use Rattle.xlsx_commands.specs.SheetLists.{MergesPathCause}
 use Rattle.xlsx_commands.specs.declared.error.ToolError.{ToolError}
 use Rattle.xlsx_commands.specs.declared.error.ToolError.TheVariants.{Workbook, BoxTooLarge}
 use Rattle.xlsx_commands.proofs.NamedSheets.{OpeningsNever, MergesNever, named_never, merges_never}
+use Rattle.xlsx_commands.proofs.CachesRead.{CachesNever, rows_never_refused}
 use Rattle.xlsx_commands.proofs.PivotsListed.{PivotsNever, pivots_never}
 use Rattle.xlsx_commands.proofs.PropertiesListed.{PropertiesNever, listed_never}
 use Rattle.xlsx_commands.proofs.OneListing.{AreReadAlike}
 use Rattle.xlsx_commands.proofs.RowsPlaced.{rows_or_large, rows_never}
 use Rattle.xlsx_commands.proofs.TablesListed.{TablesNever, tables_never}
 use Rattle.xlsx_commands.proofs.TablesNamed.{AreasNever, table_never}
+use Rattle.xlsx_commands.proofs.TablesPlaced.{records_or_large, records_never, values_of_table}
 
 pub ok_at :
     {A E : Type 0} (result : Result A E) (x : A) (P : A → Type 0)
@@ -84,6 +86,21 @@ pub readable_by_area : (parts : List Part) (name : List ℕ)
 unfolding IsTooLarge
 readable_by_area parts name large = (large.values, large.formulas, large.styles, large.reads)
 
+pub records_of_values : (parts : List Part) (name : List ℕ) → HasOutput (table name) parts
+    → HasOutput (csv_table name) parts ⊎ IsTooLarge (csv_table name) parts
+unfolding IsOutput IsTooLarge
+records_of_values parts name (output, lines) = records_or_large parts name lines.table lines.has
+
+pub values_by_records : (parts : List Part) (name : List ℕ)
+    → HasOutput (csv_table name) parts → HasOutput (table name) parts
+unfolding IsOutput
+values_by_records parts name (output, rows) = values_of_table parts name rows.table rows.has
+
+pub values_by_area : (parts : List Part) (name : List ℕ)
+    → IsTooLarge (csv_table name) parts → HasOutput (table name) parts
+unfolding IsOutput IsTooLarge
+values_by_area parts name large = values_of_table parts name large.table large.has
+
 -- ---- sheets and names
 
 pub lists_of_opened : (parts : List Part)
@@ -127,6 +144,7 @@ pub record AreNever : Type 0 where
   pub tables : TablesNever
   pub areas : AreasNever
   pub pivots : PivotsNever
+  pub caches : CachesNever
 
 -- a line for each command
 workbook_never :
@@ -152,6 +170,9 @@ workbook_never never props parts output error prints cause =
     never.properties prints.opens prints.say cause
 workbook_never never (csv name) parts output error prints cause =
     never.sheets parts name prints.values prints.formulas prints.styles error prints.reads cause
+workbook_never never (csv_table name) parts output error prints cause =
+    table_never parts name prints.table error never.openings never.tables never.areas prints.has
+    cause
 workbook_never never tables parts output error prints cause =
     tables_never parts prints.tables error never.openings never.tables prints.has cause
 workbook_never never (table name) parts output error prints cause =
@@ -159,6 +180,9 @@ workbook_never never (table name) parts output error prints cause =
     cause
 workbook_never never pivots parts output error prints cause =
     pivots_never parts prints.pivots error never.openings never.pivots prints.has cause
+workbook_never never (pivot sheet name) parts output error prints cause =
+    rows_never_refused parts sheet name prints.definitions prints.records prints.rows error
+    never.openings never.pivots never.caches prints.has prints.read cause
 
 large_never :
     AreNever → (command : Command) (parts : List Part) (output : List ℕ)
@@ -166,6 +190,8 @@ large_never :
 unfolding IsOutput IsTooLarge
 large_never never (csv name) parts output prints large =
     rows_never parts name output (never.alike parts name) prints large
+large_never never (csv_table name) parts output prints large =
+    records_never parts name output prints large
 large_never never _ parts output prints large = absurd large
 
 pub never_both :

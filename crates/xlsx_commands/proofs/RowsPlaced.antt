@@ -1,5 +1,5 @@
 -- The rows of a sheet: those of a range by what its values mean, and when there are none.
-use Rattle.std.proofs.Common.{◌≡◌, ◌∙◌, ℕ, ◌+◌, ◌-◌, ◌<◌, ◌≤◌, List, [], ◌∷◌, map, cond}
+use Rattle.std.proofs.Common.{◌≡◌, ◌∙◌, ℕ, ◌+◌, ◌-◌, ◌<◌, ◌≤◌, List, [], ◌∷◌, ◌++◌, map, cond}
 use Rattle.std.proofs.Common.{true, false, refl, sym, ap, subst, arith, inl, inr, ◌⊎◌, Option, Some, None}
 use Rattle.std.proofs.Common.{Result, Ok, Err}
 use mathlib.Core.Path.{fun_ext}
@@ -29,13 +29,15 @@ use Rattle.xlsx_core.specs.Worksheets.{HasLeastRanges}
 use Rattle.xlsx_core.specs.declared.sheet_reading.SheetReading.{SheetReading}
 use Rattle.xlsx_error.specs.declared.error.XlsxError.{XlsxError}
 use Rattle.xlsx_error.specs.declared.error.XlsxError.TheVariants as workbook
-use Rattle.xlsx_rows.specs.RowsText.{field_of, data_field, record_text, rows_text}
+use Rattle.xlsx_rows.specs.RowsText.{field_of, data_field, header_text, record_text, rows_text}
 use Rattle.xlsx_rows.specs.declared.error.CsvError.{CsvError}
 use Rattle.xlsx_rows.specs.declared.error.CsvError.TheVariants.{BoxTooLarge, OutOfMemory}
 use Rattle.xlsx_commands.specs.Outputs.{CallFails, RowsFail}
 use Rattle.xlsx_commands.specs.SheetRows.{fields_placed, rows_placed, area_count, AreRowsOf}
 use Rattle.xlsx_commands.specs.SheetRows.{HasLargeArea}
 use Rattle.xlsx_commands.specs.Status.{of_workbook, of_rows}
+use Rattle.xlsx_commands.specs.declared.error.ToolError.{ToolError}
+use Rattle.xlsx_commands.specs.declared.error.ToolError.TheVariants as tool
 use Rattle.xlsx_commands.proofs.OneListing.{AreReadAlike}
 
 -- ---- a range by what its values mean
@@ -67,14 +69,17 @@ fields_meant range row is =
     (fun_ext (λ k. ap field_of
     (meant_there (start.0 + row, start.1 + k) (cells_of range) (blank_of range) is)))
 
-rows_meant : (range : Range Data) → value_of_data (blank_of range) ≡ nothing
-    → rows_text None range ≡ rows_placed (value_pairs range) (bounds_of range)
+pub rows_meant : (header : Option (List (List ℕ))) (range : Range Data)
+    → value_of_data (blank_of range) ≡ nothing
+    → rows_text header range
+    ≡ header_text header ++ rows_placed (value_pairs range) (bounds_of range)
 unfolding rows_text
-rows_meant range is =
+rows_meant header range is =
     let rows = range_with_len 0 (height_of (bounds_of range)) in
-    flat_map-map record_text (λ row. row_values range row 0) rows
+    ap (λ (text : List ℕ). header_text header ++ text)
+    (flat_map-map record_text (λ row. row_values range row 0) rows
     ∙ ap (λ (record_at : ℕ → List ℕ). flat_map record_at rows)
-    (fun_ext (λ row. ap (row_text default_writer) (fields_meant range row is)))
+    (fun_ext (λ row. ap (row_text default_writer) (fields_meant range row is))))
 
 -- ---- a sheet that is read
 
@@ -90,7 +95,7 @@ module _ (parts : List Part) (name : List ℕ) (found : SheetReading)
     styles = found.styles;
     reads = reads;
     fits = subst (λ (area : Option Dimensions). area_count area ≤ 16777216) least.0.bounds fits;
-    listed = is ∙ rows_meant found.values least.0.blank
+    listed = is ∙ rows_meant None found.values least.0.blank
         ∙ ap (rows_placed (value_pairs found.values)) least.0.bounds;
   }
 
@@ -125,6 +130,12 @@ pub call_fails : (cause : XlsxError → Type 0) (large : Type 0) (error : XlsxEr
     → CallFails cause (of_workbook error) → RowsFail cause large (of_workbook error)
 call_fails cause large workbook.OutOfMemory fails = fails
 call_fails cause large error fails = fails
+
+-- and a call that is refused as the program is
+pub refused_alike : (cause : XlsxError → Type 0) (large : Type 0) (error : ToolError)
+    → CallFails cause error → RowsFail cause large error
+refused_alike cause large tool.BoxTooLarge fails = absurd fails
+refused_alike cause large error fails = fails
 
 -- ---- the laws
 
@@ -164,7 +175,7 @@ same_rows parts other name rows others law first second =
     ∙ ap (λ (own : List ((ℕ × ℕ) × CellValue)). rows_placed own (least_area own)) same.0
     ∙ sym second.listed
 
-not_both : (one two : ℕ) → one ≡ two → one ≤ 16777216 → 16777216 < two → ⊥
+pub not_both : (one two : ℕ) → one ≡ two → one ≤ 16777216 → 16777216 < two → ⊥
 not_both one two same fits large = omega arith
 
 -- and an area that is too large or isn't

@@ -1,5 +1,5 @@
 -- The sheets of a workbook that opened, and why what is asked of all isn't had.
-use Rattle.std.proofs.Common.{◌≡◌, ◌∙◌, inl, inr, ap, sym, subst, refl, ℕ, List, [], ◌∷◌, map}
+use Rattle.std.proofs.Common.{◌≡◌, ◌∙◌, inl, inr, ap, subst, refl, ℕ, List, [], ◌∷◌, map}
 use Rattle.std.proofs.Common.{Bool, String, Global, string_bytes}
 use Rattle.part_events.specs.Memory.{Contents, state_of}
 use Rattle.part_events.specs.Package.{Part}

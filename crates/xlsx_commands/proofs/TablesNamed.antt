@@ -179,7 +179,7 @@ same_tables parts one two first second =
     let both : Some one ≡ Some two = sym first.taken ∙ ap (tables_of parts) sheets ∙ second.taken in
     cc
 
-same_table : (parts : List Part) (name : List ℕ) (one two : SheetTable)
+pub same_table : (parts : List Part) (name : List ℕ) (one two : SheetTable)
     → HasNamedTable parts name one → HasNamedTable parts name two → one ≡ two
 same_table parts name one two first second =
     let both : Some one ≡ Some two = sym first.named

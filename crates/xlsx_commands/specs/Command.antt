@@ -20,9 +20,11 @@ pub data Command : Type 0 where
   links : List ℕ → Command
   props : Command
   csv : List ℕ → Command
+  csv_table : List ℕ → Command
   tables : Command
   table : List ℕ → Command
   pivots : Command
+  pivot : List ℕ → List ℕ → Command
 
 abbrev pub command_meant : Asked → Command
 command_meant (asked.Cells name) = cells name.now
@@ -32,9 +34,11 @@ command_meant (asked.Merges name) = merges name.now
 command_meant (asked.Links name) = links name.now
 command_meant asked.Props = props
 command_meant (asked.Csv name) = csv name.now
+command_meant (asked.CsvTable name) = csv_table name.now
 command_meant asked.Tables = tables
 command_meant (asked.Table name) = table name.now
 command_meant asked.Pivots = pivots
+command_meant (asked.Pivot sheet name) = pivot sheet.now name.now
 
 -- a command of one word
 abbrev pub bare_command : List ℕ → Option Command
@@ -52,14 +56,21 @@ named_command word name =
     else (if bytes_eq word (codes "merges") then Some (merges name)
     else (if bytes_eq word (codes "links") then Some (links name)
     else (if bytes_eq word (codes "csv") then Some (csv name)
-    else (if bytes_eq word (codes "table") then Some (table name) else None))))
+    else (if bytes_eq word (codes "csv-table") then Some (csv_table name)
+    else (if bytes_eq word (codes "table") then Some (table name) else None)))))
+
+-- a command of three
+abbrev pub placed_command : List ℕ → List ℕ → List ℕ → Option Command
+placed_command word sheet name =
+    if bytes_eq word (codes "pivot") then Some (pivot sheet name) else None
 
 -- the command that words are; no other words are one
 abbrev pub command_of : List (List ℕ) → Option Command
 command_of [] = None
 command_of (word ∷ []) = bare_command word
 command_of (word ∷ name ∷ []) = named_command word name
-command_of (word ∷ name ∷ further ∷ words) = None
+command_of (word ∷ sheet ∷ name ∷ []) = placed_command word sheet name
+command_of (word ∷ sheet ∷ name ∷ further ∷ words) = None
 
 -- the parts that a command works on where it reads no input
 unfoldable pub own_parts : Command → Option (List Part)
@@ -70,6 +81,8 @@ own_parts (merges name) = None
 own_parts (links name) = None
 own_parts props = None
 own_parts (csv name) = None
+own_parts (csv_table name) = None
 own_parts tables = None
 own_parts (table name) = None
 own_parts pivots = None
+own_parts (pivot sheet name) = None

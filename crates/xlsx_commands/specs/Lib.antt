@@ -1,4 +1,5 @@
 pub mod BookLists
+pub mod CacheRows
 pub mod Command
 pub mod Outputs
 pub mod PivotLists
@@ -9,4 +10,5 @@ pub mod SheetsOpened
 pub mod SheetsRefused
 pub mod Status
 pub mod TableLists
+pub mod TableRows
 pub mod TablesOpened

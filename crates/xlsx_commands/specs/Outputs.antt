@@ -9,7 +9,8 @@ use Rattle.xlsx_open.specs.Opening.{OpeningCause}
 use Rattle.xlsx_core.specs.SheetReading.{ReadsAs, SheetCause}
 use Rattle.xlsx_commands.specs.BookLists.{AreSheetLines, AreNameLines}
 use Rattle.xlsx_commands.specs.Command.{Command, cells, sheets, names, merges, links, props, csv}
-use Rattle.xlsx_commands.specs.Command.{tables, table, pivots}
+use Rattle.xlsx_commands.specs.CacheRows.{ArePivotRows, NamedPivotCause}
+use Rattle.xlsx_commands.specs.Command.{csv_table, tables, table, pivots, pivot}
 use Rattle.xlsx_commands.specs.PivotLists.{ArePivotLines, ListedPivotsCause}
 use Rattle.xlsx_commands.specs.PropertyLists.{ArePropertyLines, ListedPropertiesCause}
 use Rattle.xlsx_commands.specs.SheetLists.{AreMergeLines, NamedMergesCause, AreLinkLines}
@@ -17,6 +18,7 @@ use Rattle.xlsx_commands.specs.SheetLists.{NamedLinksCause}
 use Rattle.xlsx_commands.specs.SheetRows.{AreRowsOf, HasLargeArea}
 use Rattle.xlsx_commands.specs.TableLists.{AreTableLines, AreTableValueLines, ListedTablesCause}
 use Rattle.xlsx_commands.specs.TableLists.{NamedTableCause}
+use Rattle.xlsx_commands.specs.TableRows.{AreTableRows, HasLargeTable}
 use Rattle.xlsx_commands.specs.declared.error.ToolError.{ToolError}
 use Rattle.xlsx_commands.specs.declared.error.ToolError.TheVariants.{Workbook, OutOfMemory}
 use Rattle.xlsx_commands.specs.declared.error.ToolError.TheVariants.{BoxTooLarge}
@@ -40,9 +42,11 @@ IsOutput (merges name) parts output = AreMergeLines parts name output
 IsOutput (links name) parts output = AreLinkLines parts name output
 IsOutput props parts output = ArePropertyLines parts output
 IsOutput (csv name) parts output = AreRowsOf parts name output
+IsOutput (csv_table name) parts output = AreTableRows parts name output
 IsOutput tables parts output = AreTableLines parts output
 IsOutput (table name) parts output = AreTableValueLines parts name output
 IsOutput pivots parts output = ArePivotLines parts output
+IsOutput (pivot sheet name) parts output = ArePivotRows parts sheet name output
 
 -- why its workbook refuses it
 unfoldable pub RefusedWorkbookCause : Command → List Part → XlsxError → Type 0
@@ -53,9 +57,11 @@ RefusedWorkbookCause (merges name) parts error = NamedMergesCause parts name err
 RefusedWorkbookCause (links name) parts error = NamedLinksCause parts name error
 RefusedWorkbookCause props parts error = ListedPropertiesCause parts error
 RefusedWorkbookCause (csv name) parts error = SheetCause parts name error
+RefusedWorkbookCause (csv_table name) parts error = NamedTableCause parts name error
 RefusedWorkbookCause tables parts error = ListedTablesCause parts error
 RefusedWorkbookCause (table name) parts error = NamedTableCause parts name error
 RefusedWorkbookCause pivots parts error = ListedPivotsCause parts error
+RefusedWorkbookCause (pivot sheet name) parts error = NamedPivotCause parts sheet name error
 
 -- why it is refused because an area has too many cells
 unfoldable pub IsTooLarge : Command → List Part → Type 0
@@ -66,9 +72,11 @@ IsTooLarge (merges name) parts = ⊥
 IsTooLarge (links name) parts = ⊥
 IsTooLarge props parts = ⊥
 IsTooLarge (csv name) parts = HasLargeArea parts name
+IsTooLarge (csv_table name) parts = HasLargeTable parts name
 IsTooLarge tables parts = ⊥
 IsTooLarge (table name) parts = ⊥
 IsTooLarge pivots parts = ⊥
+IsTooLarge (pivot sheet name) parts = ⊥
 
 -- ---- what the rows make
 

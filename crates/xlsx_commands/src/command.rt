@@ -1,6 +1,6 @@
 ghost use Rattle.std.specs.Prelude.{◌≡◌, option_map};
 ghost use Rattle.xlsx_commands.specs.Command.{texts, command_meant, bare_command, named_command};
-ghost use Rattle.xlsx_commands.specs.Command.{command_of};
+ghost use Rattle.xlsx_commands.specs.Command.{placed_command, command_of};
 
 /// What the words ask for.
 #[derive(Clone, Copy)]
@@ -19,12 +19,16 @@ pub enum Command<'a> {
     Props,
     /// The rows of the values of the worksheet of this name, as CSV.
     Csv(&'a str),
+    /// The columns and the rows of the table of this name, as CSV.
+    CsvTable(&'a str),
     /// The workbook's tables.
     Tables,
     /// The values in the table of this name.
     Table(&'a str),
     /// The workbook's pivot tables.
     Pivots,
+    /// The rows of the cache of the pivot table of the second name, on the worksheet of the first.
+    Pivot(&'a str, &'a str),
 }
 
 fn bare_command(word: &str) -> Option<Command<'_>>
@@ -49,7 +53,18 @@ fn named_command<'a>(word: &str, name: &'a str) -> Option<Command<'a>>
         "merges" => Some(Command::Merges(name)),
         "links" => Some(Command::Links(name)),
         "csv" => Some(Command::Csv(name)),
+        "csv-table" => Some(Command::CsvTable(name)),
         "table" => Some(Command::Table(name)),
+        _ => None,
+    }
+}
+
+fn placed_command<'a>(word: &str, sheet: &'a str, name: &'a str) -> Option<Command<'a>>
+    ensures { option_map (λ command. command_meant command) result
+        ≡ placed_command word.now sheet.now name.now }
+{
+    match word {
+        "pivot" => Some(Command::Pivot(sheet, name)),
         _ => None,
     }
 }
@@ -61,6 +76,7 @@ pub fn command_of(words: &[String]) -> Option<Command<'_>>
     match words {
         [word] => bare_command(word.as_str()),
         [word, name] => named_command(word.as_str(), name.as_str()),
+        [word, sheet, name] => placed_command(word.as_str(), sheet.as_str(), name.as_str()),
         _ => None,
     }
 }

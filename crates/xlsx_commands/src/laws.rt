@@ -3,7 +3,8 @@ ghost use Rattle.part_events.specs.Package.{Part};
 ghost use Rattle.xlsx_open.specs.Opening.{OpensSoundly};
 ghost use Rattle.xlsx_core.specs.Agreement.{HaveSameSheet};
 ghost use Rattle.xlsx_core.specs.SheetReading.{IsReadable};
-ghost use Rattle.xlsx_commands.specs.Command.{Command, cells, sheets, names, csv};
+ghost use Rattle.xlsx_commands.specs.Command.{Command, cells, sheets, names, csv, csv_table};
+ghost use Rattle.xlsx_commands.specs.Command.{table};
 ghost use Rattle.xlsx_commands.specs.Outputs.{AreLinesOf, IsOutput, IsTooLarge, OutputCause};
 ghost use Rattle.xlsx_commands.specs.Outputs.{HasOutput};
 ghost use Rattle.xlsx_commands.specs.SheetRows.{AreRowsOf};
@@ -15,6 +16,7 @@ use xlsx_core::{
     sheets_go_by_their_parts, table_data_that_are_read_are_not_refused,
 };
 use xlsx_open::openings_have_no_cause_of_a_refusal;
+use xlsx_pivot_cache::caches_have_no_cause_of_a_refusal;
 use xlsx_pivots::pivots_have_no_cause_of_a_refusal;
 use xlsx_properties::properties_have_no_cause_of_a_refusal;
 use xlsx_tables::tables_have_no_cause_of_a_refusal;
@@ -33,6 +35,7 @@ pub fn causes_leave_no_output()
     tables_have_no_cause_of_a_refusal();
     table_data_that_are_read_are_not_refused();
     pivots_have_no_cause_of_a_refusal();
+    caches_have_no_cause_of_a_refusal();
 }
 
 /// A package has an output for `cells NAME` exactly where its sheet NAME is readable.
@@ -74,6 +77,17 @@ pub fn readable_sheets_have_rows()
         HasOutput (csv name) parts → IsReadable parts name }
     ensures large { (parts : List Part) (name : List ℕ) →
         IsTooLarge (csv name) parts → IsReadable parts name }
+{}
+
+/// A package has an output for `csv-table NAME`, or too large an area for it, exactly where it has
+/// one for `table NAME`.
+pub fn tables_with_values_have_rows()
+    ensures onward { (parts : List Part) (name : List ℕ) → HasOutput (table name) parts →
+        HasOutput (csv_table name) parts ⊎ IsTooLarge (csv_table name) parts }
+    ensures back { (parts : List Part) (name : List ℕ) →
+        HasOutput (csv_table name) parts → HasOutput (table name) parts }
+    ensures large { (parts : List Part) (name : List ℕ) →
+        IsTooLarge (csv_table name) parts → HasOutput (table name) parts }
 {}
 
 /// A sheet has one text of rows, and so have the sheets of two packages that have the same parts

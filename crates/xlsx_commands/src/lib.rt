@@ -11,14 +11,17 @@ mod link_lines;
 mod merge_lines;
 mod output;
 mod pivot_lines;
+mod pivot_rows;
 mod property_lines;
 mod sheet_rows;
 mod table_lines;
+mod table_rows;
 
 pub use command::{Command, command_of};
 pub use error::ToolError;
 pub use laws::{
     causes_leave_no_output, readable_sheets_have_lines, readable_sheets_have_rows,
-    sheets_have_one_listing, sheets_have_one_text_of_rows, workbooks_that_open_have_lists,
+    sheets_have_one_listing, sheets_have_one_text_of_rows, tables_with_values_have_rows,
+    workbooks_that_open_have_lists,
 };
 pub use output::{output_of, own_package};

@@ -9,9 +9,11 @@ use crate::error::ToolError;
 use crate::link_lines::link_lines;
 use crate::merge_lines::merge_lines;
 use crate::pivot_lines::pivot_lines;
+use crate::pivot_rows::pivot_rows;
 use crate::property_lines::property_lines;
 use crate::sheet_rows::sheet_rows;
 use crate::table_lines::{table_lines, table_value_lines};
+use crate::table_rows::table_rows;
 use part_events::MemoryPackage;
 use std::alloc::Global;
 
@@ -28,9 +30,11 @@ pub fn own_package(alloc: Global, command: Command<'_>) -> Option<MemoryPackage>
         Command::Links(_) => None,
         Command::Props => None,
         Command::Csv(_) => None,
+        Command::CsvTable(_) => None,
         Command::Tables => None,
         Command::Table(_) => None,
         Command::Pivots => None,
+        Command::Pivot(_, _) => None,
     }
 }
 
@@ -53,8 +57,10 @@ pub fn output_of(
         Command::Links(name) => link_lines(alloc, package, name),
         Command::Props => property_lines(alloc, package),
         Command::Csv(name) => sheet_rows(alloc, package, name),
+        Command::CsvTable(name) => table_rows(alloc, package, name),
         Command::Tables => table_lines(alloc, package),
         Command::Table(name) => table_value_lines(alloc, package, name),
         Command::Pivots => pivot_lines(alloc, package),
+        Command::Pivot(sheet, name) => pivot_rows(alloc, package, sheet, name),
     }
 }

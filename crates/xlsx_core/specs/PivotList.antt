@@ -1,12 +1,32 @@
 -- The pivot tables of an open workbook.
-use Rattle.std.specs.Prelude.{List}
+use Rattle.std.specs.Prelude.{◌≡◌, ⊤, ℕ, List, Option, Some, None, string_bytes}
 use Rattle.part_events.specs.Package.{PackageState}
 use Rattle.xlsx_error.specs.declared.error.XlsxError.{XlsxError}
+use Rattle.xlsx_error.specs.declared.error.XlsxError.TheVariants.{OutOfMemory}
+use Rattle.xlsx_error.specs.declared.error.XlsxError.TheVariants.{PivotTableNotFound}
 use Rattle.xlsx_sections.specs.Failing.{FailsBy}
 use Rattle.xlsx_parts.specs.SheetPaths.{SheetPath}
 use Rattle.xlsx_pivots.specs.Pivots.{PivotsCause}
+use Rattle.xlsx_pivot_cache.specs.CacheErrors.{IsCacheFieldsError}
+use Rattle.xlsx_pivot_cache.specs.CacheIter.{OpenCacheFails}
 
 -- when the pivot tables of all sheets can't be taken
 abbrev pub AllPivotsFail :
     List SheetPath → PackageState → PackageState → XlsxError → Type 0
 AllPivotsFail sheets old new error = FailsBy (PivotsCause old.parts sheets) old new error
+
+-- the refusal where no pivot table has a name on a sheet; want of memory may come at any time
+abbrev pub IsNoPivotTable : List ℕ → XlsxError → Type 0
+IsNoPivotTable name OutOfMemory = ⊤
+IsNoPivotTable name (PivotTableNotFound asked) = string_bytes asked ≡ name
+IsNoPivotTable name _ = ⊥
+
+-- when the cache at two paths can't be opened, or there is none; which refusals that can be
+abbrev pub PivotDataFails :
+    List ℕ → Option (List ℕ × List ℕ) → PackageState → XlsxError → Type 0
+PivotDataFails name None old error = IsNoPivotTable name error
+PivotDataFails name (Some paths) old error = OpenCacheFails paths.0 paths.1 old error
+
+abbrev pub IsPivotDataError : List ℕ → Option (List ℕ × List ℕ) → XlsxError → Type 0
+IsPivotDataError name None error = IsNoPivotTable name error
+IsPivotDataError name (Some paths) error = IsCacheFieldsError error

@@ -1,11 +1,15 @@
 ghost use Rattle.std.specs.Prelude.{◌≡◌, true, map, Some, string_bytes, IfOk, OnOk, IfErr};
+ghost use Rattle.std.specs.Prelude.{IsSomeAnd};
+ghost use Rattle.part_events.specs.Lending.{LentFails};
 ghost use Rattle.part_events.specs.Package.{Uses, CountsUp};
 ghost use Rattle.xlsx_error.specs.declared.error.XlsxError.TheVariants.{Io};
 ghost use Rattle.xlsx_pivots.specs.PivotErrors.{IsPivotsError};
-ghost use Rattle.xlsx_pivots.specs.PivotTables.{sheet_given, pivots_kept};
+ghost use Rattle.xlsx_pivots.specs.PivotTables.{sheet_given, pivots_kept, paths_of};
 ghost use Rattle.xlsx_pivots.specs.Pivots.{pivots_of, all_pivot_events, all_pivot_sections};
 ghost use Rattle.xlsx_core.specs.Merges.{sheet_paths, sheets_of_book};
-ghost use Rattle.xlsx_core.specs.PivotList.{AllPivotsFail};
+ghost use Rattle.xlsx_pivot_cache.specs.CacheIter.{rows_by};
+ghost use Rattle.xlsx_pivot_cache.specs.PivotRows.{OpensRows};
+ghost use Rattle.xlsx_core.specs.PivotList.{AllPivotsFail, PivotDataFails, IsPivotDataError};
 ghost use Rattle.xlsx_core.specs.Worksheets.{KeepsWorkbook};
 
 use crate::xlsx::Xlsx;
@@ -13,6 +17,7 @@ use part_events::Package;
 use std::alloc::{AllocError, Global};
 use xlsx_error::XlsxError;
 use xlsx_open::Sheet;
+use xlsx_pivot_cache::PivotCacheIter;
 use xlsx_pivots::{PivotTables, find_pivot_tables};
 
 /// The names of these sheets, each with the path of its part.
@@ -66,5 +71,40 @@ impl<P: Package> Xlsx<P> {
     {
         let sheets = names_and_paths(self.alloc, &self.metadata.sheets, &self.paths)?;
         find_pivot_tables(self.alloc, &mut self.package, &sheets, self.folder.as_str())
+    }
+
+    /// The rows of the cache of the first of these pivot tables that has this name and is on a
+    /// sheet of this name, as `PivotCacheIter` of `xlsx_pivot_cache` gives them.
+    ///
+    /// Fails with `PivotTableNotFound` of the name where there is none, before anything is read,
+    /// and else as `PivotCacheIter::open`.
+    pub fn pivot_table_data(
+        &mut self,
+        pivot_tables: &PivotTables,
+        sheet_name: &str,
+        pivot_table_name: &str,
+    ) -> Result<PivotCacheIter<'_, P>, XlsxError>
+        ensures opens { let old = P.state self.old.package in
+            let kept = pivots_kept pivot_tables.now in
+            IfOk result (λ rows. IsSomeAnd (paths_of kept sheet_name.now pivot_table_name.now)
+            (λ paths. OpensRows paths.0 paths.1 old (rows_by P.state rows))) }
+        ensures err { let kept = pivots_kept pivot_tables.now in
+            let paths = paths_of kept sheet_name.now pivot_table_name.now in
+            IfErr result
+            (PivotDataFails pivot_table_name.now paths (P.state self.old.package)) }
+        ensures fault { IfErr result (LentFails Io P.state (P.state self.old.package)) }
+        ensures kind { let kept = pivots_kept pivot_tables.now in
+            let paths = paths_of kept sheet_name.now pivot_table_name.now in
+            IfErr result (IsPivotDataError pivot_table_name.now paths) }
+    {
+        match pivot_tables.cache_paths(sheet_name, pivot_table_name) {
+            Some((definitions, records)) => {
+                PivotCacheIter::open(self.alloc, &mut self.package, definitions, records)
+            }
+            None => {
+                let name = String::from_str(self.alloc, pivot_table_name)?;
+                Err(XlsxError::PivotTableNotFound(name))
+            }
+        }
     }
 }

@@ -20,7 +20,9 @@ Usage: xlsx_tool cells NAME < package.json
        xlsx_tool merges NAME < package.json
        xlsx_tool links NAME < package.json
        xlsx_tool csv NAME < package.json
+       xlsx_tool csv-table NAME < package.json
        xlsx_tool table NAME < package.json
+       xlsx_tool pivot SHEET NAME < package.json
        xlsx_tool sheets < package.json
        xlsx_tool names < package.json
        xlsx_tool tables < package.json
@@ -29,18 +31,20 @@ Usage: xlsx_tool cells NAME < package.json
 
 One line is printed, of the worksheet NAME or of the workbook, for each
 
-  cells   cell with a value, a formula or a style: position, value, formula, fill
-  merges  area of merged cells: its corners
-  links   link: its area, target, location, displayed text, tooltip
-  csv     row of the values: a record of CSV
-  table   value in the table NAME: position, value
-  sheets  sheet: its name, type, state
-  names   defined name: the name, its text
-  tables  table: its name, its sheet, the area of its data, its columns
-  pivots  pivot table: its sheet, its name
-  props   property of the workbook: its name, its text
+  cells      cell with a value, formula or style: position, value, formula, fill
+  merges     area of merged cells: its corners
+  links      link: its area, target, location, displayed text, tooltip
+  csv        row of the values: a record of CSV
+  csv-table  header or row of the table NAME: a record of CSV
+  table      value in the table NAME: position, value
+  pivot      row of the cache of the pivot table NAME on SHEET: its values
+  sheets     sheet: its name, type, state
+  names      defined name: the name, its text
+  tables     table: its name, its sheet, the area of its data, its columns
+  pivots     pivot table: its sheet, its name
+  props      property of the workbook: its name, its text
 
-The fields of a line have tabs between them, and those of csv commas.
+The fields of a line have tabs between them, and those of CSV commas.
 ";
 
 const VERSION: &str = "xlsx_tool 0.1.0\n";

@@ -9,6 +9,7 @@ use crate::tests::{NUTS, NUTS_LINES, package_of};
 use std::alloc::Global;
 use std::io::{self, Read, Write};
 use std::test::Fail;
+use test_tables::assert_text;
 use xlsx_commands::ToolError;
 
 /// Gives its bytes, at most `piece` a call; the call of this number, counted from 0, fails.
@@ -118,8 +119,8 @@ fn a_reader_is_read_whole_and_in_order(rt: HostRuntime) -> Result<(), Fail> {
     ] {
         let mut source = StdSource::new(reader_of(text.as_bytes(), piece, failing_read));
         let found = reads_of(rt.alloc(), &mut source)?;
-        assert_eq!(rt; found.as_str(), came, "of pieces of {piece}");
-        assert_eq!(rt; source.faults(), faults, "of pieces of {piece}");
+        assert_text(&rt, &found, came, text);
+        assert!(rt; source.faults() == faults, "of pieces of {piece}");
     }
     Ok(())
 }
@@ -129,18 +130,14 @@ fn a_writer_takes_all_of_a_piece_once(rt: HostRuntime) -> Result<(), Fail> {
     for piece in [1, 3, 7, 8, 100] {
         let mut writer = writer_of(rt.alloc(), piece);
         let mut sink = StdSink::new(&mut writer);
-        assert_eq!(rt;
-            send(&mut sink, b"nut cake"),
-            Ok(()),
+        let sent = send(&mut sink, b"nut cake");
+        assert!(rt;
+            sent == Ok(()) && sink.faults() == 0,
             "in pieces of {piece}"
         );
-        assert_eq!(rt; sink.faults(), 0);
-        assert_eq!(rt;
-            writer.written.as_slice(),
-            b"nut cake".as_slice(),
-            "in pieces of {piece}"
-        );
-        assert_eq!(rt; writer.flushes, writer.writes, "in pieces of {piece}");
+        let written = std::str::from_utf8(writer.written.as_slice())?;
+        assert_text(&rt, written, "nut cake", "in pieces");
+        assert!(rt; writer.flushes == writer.writes, "in pieces of {piece}");
     }
     Ok(())
 }
@@ -162,13 +159,11 @@ fn a_writer_that_fails_has_a_front(rt: HostRuntime) -> Result<(), Fail> {
             ..writer_of(rt.alloc(), piece)
         };
         let mut sink = StdSink::new(&mut writer);
-        assert_eq!(rt;
-            send(&mut sink, b"nut cake"),
-            Err(ToolError::WriteFault),
-            "at {front}"
-        );
-        assert_eq!(rt; sink.faults(), 1, "at {front}");
-        assert_eq!(rt; writer.written.as_slice(), front.as_bytes(), "at {front}");
+        let sent = send(&mut sink, b"nut cake");
+        let is_refused = sent == Err(ToolError::WriteFault);
+        assert!(rt; is_refused && sink.faults() == 1, "at {front}");
+        let written = std::str::from_utf8(writer.written.as_slice())?;
+        assert_text(&rt, written, front, "a front");
     }
     Ok(())
 }
@@ -176,8 +171,7 @@ fn a_writer_that_fails_has_a_front(rt: HostRuntime) -> Result<(), Fail> {
 #[test]
 fn an_empty_piece_is_written(rt: HostRuntime) {
     let mut sink = StdSink::new(writer_of(rt.alloc(), 3));
-    assert_eq!(rt; sink.write(b""), Ok(0));
-    assert_eq!(rt; sink.faults(), 0);
+    assert!(rt; sink.write(b"") == Ok(0) && sink.faults() == 0);
 }
 
 #[test]
@@ -207,8 +201,9 @@ fn a_run_is_the_same_over_readers_and_writers(rt: HostRuntime) -> Result<(), Fai
             ..writer_of(alloc, write_piece)
         };
         let found = answer(alloc, &words, &mut source, &mut StdSink::new(&mut writer));
-        assert_eq!(rt; found, answered);
-        assert_eq!(rt; writer.written.as_slice(), written.as_bytes());
+        assert!(rt; found == answered, "of {written}");
+        let came = std::str::from_utf8(writer.written.as_slice())?;
+        assert_text(&rt, came, written, "over readers and writers");
     }
     Ok(())
 }

@@ -8,6 +8,7 @@ use part_events::XmlFault;
 use std::alloc::Global;
 use std::process::ExitCode;
 use std::test::Fail;
+use test_tables::{assert_text, cases, cut};
 use xlsx_commands::ToolError;
 use xlsx_error::XlsxError;
 
@@ -57,13 +58,6 @@ fn package_with(alloc: Global, inside: &str, back: &str) -> Result<String, Fail>
     Ok(format!(in alloc; "{opening}{SHEET}{inside}{back}")?)
 }
 
-/// What a run answers, and what it has written.
-#[derive(Debug, Drop)]
-struct Answer {
-    result: Result<(), ToolError>,
-    written: String,
-}
-
 /// How the source and the sink of a run behave.
 #[derive(Clone, Copy)]
 struct Setting {
@@ -92,12 +86,25 @@ fn calls(alloc: Global, failing: Option<u64>) -> Result<Vec<u64>, Fail> {
     Ok(calls)
 }
 
-fn run_on(alloc: Global, words: &[&str], input: &[u8], setting: Setting) -> Result<Answer, Fail>
+/// What was written, the status of an ending and its text: status 0 and no text where nothing was
+/// refused.
+fn ended(alloc: Global, outcome: &Result<(), ToolError>, written: &[u8]) -> Result<String, Fail> {
+    let written = std::str::from_utf8(written)?;
+    Ok(match outcome {
+        Ok(()) => format!(in alloc; "{written}0")?,
+        Err(error) => format!(in alloc; "{written}{} {error}", error.status())?,
+    })
+}
+
+/// How a run ends by these words, which stand between blanks, on this input.
+fn run_on(alloc: Global, words: &str, input: &[u8], setting: Setting) -> Result<String, Fail>
     requires { 0 < setting.piece }
 {
     let mut texts = Vec::new(alloc);
-    for word in words {
-        texts.push(String::from_str(alloc, word)?)?;
+    for word in words.split(' ') {
+        if !words.is_empty() {
+            texts.push(String::from_str(alloc, word)?)?;
+        }
     }
     let mut bytes = Vec::new(alloc);
     bytes.extend_from_slice(input)?;
@@ -105,75 +112,117 @@ fn run_on(alloc: Global, words: &[&str], input: &[u8], setting: Setting) -> Resu
     let failing = calls(alloc, setting.failing_write)?;
     let mut sink = MemorySink::new(alloc, setting.room, setting.piece, failing)?;
     let result = answer(alloc, &texts, &mut source, &mut sink);
-    let written = String::from_str(alloc, std::str::from_utf8(sink.written())?)?;
-    Ok(Answer { result, written })
+    ended(alloc, &result, sink.written())
+}
+
+/// What stands in a sheet, the words of a run on it, and how it ends.
+const LISTED: &str = "
+nuts
+= cells S
+= A1\ts:nut\t-\t-
+B1\ts:NUT\t=UPPER(A1)\t-
+0
+
+nothing
+= cells S
+= 0
+
+nuts
+= csv S
+= nut,NUT
+0
+
+nothing
+= csv S
+= 0
+";
+
+/// What a word for it puts inside a sheet.
+fn inside_of(word: &str) -> &'static str {
+    if word == "nuts" { NUTS } else { "" }
 }
 
 #[test]
 fn a_sheet_is_listed(rt: HostRuntime) -> Result<(), Fail> {
-    for (word, inside, lines) in [
-        ("cells", NUTS, NUTS_LINES),
-        ("cells", "", ""),
-        ("csv", NUTS, "nut,NUT\n"),
-        ("csv", "", ""),
-    ] {
-        let input = package_of(rt.alloc(), inside)?;
+    let alloc = rt.alloc();
+    for case in cases(LISTED) {
+        let (inside, words) = cut(case);
+        let (words, wanted) = cut(words);
+        let input = package_of(alloc, inside_of(inside))?;
         for piece in [1, 2, 3, 1_000] {
             let setting = Setting { piece, ..EASY };
-            let told = run_on(rt.alloc(), &[word, "S"], input.as_bytes(), setting)?;
-            assert_eq!(rt; told.result, Ok(()));
-            assert_eq!(rt; told.written.as_str(), lines);
+            let told = run_on(alloc, words, input.as_bytes(), setting)?;
+            assert_text(&rt, &told, wanted, case);
         }
     }
     Ok(())
 }
 
-/// The refusal of a run by its status and text; status 0 and no text where it isn't refused.
-fn refusal_of(alloc: Global, told: &Answer) -> Result<(u8, String), Fail> {
-    match &told.result {
-        Ok(()) => Ok((0, String::new(alloc))),
-        Err(error) => Ok((error.status(), error.to_string(alloc)?)),
+/// The words of a run, its input, and how it ends.
+const REFUSED: &str = r#"
+cells S
+=
+= 5 not a package
+
+cells S
+= []
+= 5 not a package
+
+cells S
+= {"version":2,"parts":[]}
+= 5 not a package
+
+cells S
+= {"version":1,"parts":[]}
+= 6 File not found '_rels/.rels'
+
+cells
+= nuts
+= 2 usage
+
+cells S S
+= nuts
+= 2 usage
+
+cells X
+= nuts
+= 6 Worksheet 'X' not found
+
+csv X
+= wide
+= 6 Worksheet 'X' not found
+
+csv S
+= wide
+= 10 box too large
+
+cells S
+= styled
+= 6 Unexpected end of xml, expecting '</styleSheet>'
+"#;
+
+/// The input of a word for it, and any other text itself.
+fn input_of(alloc: Global, word: &str) -> Result<String, Fail> {
+    match word {
+        "nuts" => package_of(alloc, NUTS),
+        "styled" => package_with(alloc, NUTS, STYLES),
+        "wide" => package_of(alloc, WIDE),
+        _ => Ok(String::from_str(alloc, word)?),
     }
 }
 
 #[test]
 fn each_refusal_has_its_cause(rt: HostRuntime) -> Result<(), Fail> {
     let alloc = rt.alloc();
-    let nuts = package_of(alloc, NUTS)?;
-    let styled = package_with(alloc, NUTS, STYLES)?;
-    let wide = package_of(alloc, WIDE)?;
-    let cells: &[&str] = &["cells", "S"];
-    let table: [(&[&str], &str, u8, &str); 10] = [
-        (cells, "", 5, "not a package"),
-        (cells, "[]", 5, "not a package"),
-        (cells, "{\"version\":2,\"parts\":[]}", 5, "not a package"),
-        (
-            cells,
-            "{\"version\":1,\"parts\":[]}",
-            6,
-            "File not found '_rels/.rels'",
-        ),
-        (&["cells"], nuts.as_str(), 2, "usage"),
-        (&["cells", "S", "S"], nuts.as_str(), 2, "usage"),
-        (&["cells", "X"], nuts.as_str(), 6, "Worksheet 'X' not found"),
-        (&["csv", "X"], wide.as_str(), 6, "Worksheet 'X' not found"),
-        (&["csv", "S"], wide.as_str(), 10, "box too large"),
-        (
-            cells,
-            styled.as_str(),
-            6,
-            "Unexpected end of xml, expecting '</styleSheet>'",
-        ),
-    ];
-    for (words, input, status, text) in table {
+    for case in cases(REFUSED) {
+        let (words, input) = cut(case);
+        let (input, wanted) = cut(input);
+        let input = input_of(alloc, input)?;
         let told = run_on(alloc, words, input.as_bytes(), EASY)?;
-        let (told_status, told_text) = refusal_of(alloc, &told)?;
-        assert_eq!(rt; told_status, status);
-        assert_eq!(rt; told_text.as_str(), text, "of {input}");
-        assert_eq!(rt; told.written.as_str(), "");
+        assert_text(&rt, &told, wanted, case);
     }
-    let told = run_on(alloc, cells, b"\xff", EASY)?;
-    assert_eq!(rt; told.result, Err(ToolError::NotAPackage));
+    let told = run_on(alloc, "cells S", b"\xff", EASY)?;
+    assert_text(&rt, &told, "5 not a package", "no UTF-8");
     Ok(())
 }
 
@@ -181,19 +230,20 @@ fn each_refusal_has_its_cause(rt: HostRuntime) -> Result<(), Fail> {
 fn a_failing_source_is_told(rt: HostRuntime) -> Result<(), Fail> {
     let alloc = rt.alloc();
     let input = package_of(alloc, NUTS)?;
+    let listed = format!(in alloc; "{NUTS_LINES}0")?;
     for call in 0..4 {
         let setting = Setting {
             failing_read: Some(call),
             ..EASY
         };
-        let told = run_on(alloc, &["cells", "S"], input.as_bytes(), setting)?;
+        let told = run_on(alloc, "cells S", input.as_bytes(), setting)?;
         let fails = call <= input.len() as u64 / 1_000 + 1;
-        let want = if fails {
-            Err(ToolError::ReadFault)
+        let wanted = if fails {
+            "3 read fault"
         } else {
-            Ok(())
+            listed.as_str()
         };
-        assert_eq!(rt; told.result, want, "of call {call}");
+        assert!(rt; told.as_str() == wanted, "of call {call}: {told}");
     }
     Ok(())
 }
@@ -204,18 +254,26 @@ fn a_full_or_failing_sink_has_a_front_of_the_lines(rt: HostRuntime) -> Result<()
     let input = package_of(alloc, NUTS)?;
     for room in 0..NUTS_LINES.len() {
         let setting = Setting { room, ..EASY };
-        let told = run_on(alloc, &["cells", "S"], input.as_bytes(), setting)?;
-        assert_eq!(rt; told.result, Err(ToolError::WriteFault));
-        assert_eq!(rt; told.written.as_bytes(), &NUTS_LINES.as_bytes()[..room]);
+        let told = run_on(alloc, "cells S", input.as_bytes(), setting)?;
+        let wanted = ended(
+            alloc,
+            &Err(ToolError::WriteFault),
+            &NUTS_LINES.as_bytes()[..room],
+        )?;
+        assert_text(&rt, &told, &wanted, "a full sink");
     }
     let setting = Setting {
         piece: 10,
         failing_write: Some(2),
         ..EASY
     };
-    let told = run_on(alloc, &["cells", "S"], input.as_bytes(), setting)?;
-    assert_eq!(rt; told.result, Err(ToolError::WriteFault));
-    assert_eq!(rt; told.written.as_bytes(), &NUTS_LINES.as_bytes()[..20]);
+    let told = run_on(alloc, "cells S", input.as_bytes(), setting)?;
+    let wanted = ended(
+        alloc,
+        &Err(ToolError::WriteFault),
+        &NUTS_LINES.as_bytes()[..20],
+    )?;
+    assert_text(&rt, &told, &wanted, "a failing sink");
     Ok(())
 }
 
@@ -226,61 +284,60 @@ fn an_input_past_the_limit_is_too_large(rt: HostRuntime) -> Result<(), Fail> {
         piece: 65_536,
         ..EASY
     };
-    for (length, want) in [
-        (INPUT_LIMIT, ToolError::NotAPackage),
-        (INPUT_LIMIT + 1, ToolError::InputTooLarge),
+    for (length, wanted) in [
+        (INPUT_LIMIT, "5 not a package"),
+        (INPUT_LIMIT + 1, "4 input too large"),
     ] {
         let input = vec![in alloc; b' '; length]?;
-        let told = run_on(alloc, &["cells", "S"], &input, setting)?;
-        assert_eq!(rt; told.result, Err(want), "of {length} bytes");
+        let told = run_on(alloc, "cells S", &input, setting)?;
+        assert_text(&rt, &told, wanted, "as many blanks");
     }
     Ok(())
 }
 
+/// The status and the text of each refusal.
+const STATUSES: &str =
+    "2 usage; 3 read fault; 4 input too large; 5 not a package; 6 Relationship not found; 7 write fault; 8 out of memory; 10 box too large; ";
+
 #[test]
 fn refusals_have_statuses_and_texts(rt: HostRuntime) -> Result<(), Fail> {
-    for (error, status, text) in [
-        (ToolError::Usage, 2, "usage"),
-        (ToolError::ReadFault, 3, "read fault"),
-        (ToolError::InputTooLarge, 4, "input too large"),
-        (ToolError::NotAPackage, 5, "not a package"),
-        (
-            ToolError::Workbook(XlsxError::RelationshipNotFound),
-            6,
-            "Relationship not found",
-        ),
-        (ToolError::WriteFault, 7, "write fault"),
-        (ToolError::OutOfMemory, 8, "out of memory"),
-        (ToolError::BoxTooLarge, 10, "box too large"),
+    let mut told = String::new(rt.alloc());
+    for error in [
+        ToolError::Usage,
+        ToolError::ReadFault,
+        ToolError::InputTooLarge,
+        ToolError::NotAPackage,
+        ToolError::Workbook(XlsxError::RelationshipNotFound),
+        ToolError::WriteFault,
+        ToolError::OutOfMemory,
+        ToolError::BoxTooLarge,
     ] {
-        assert_eq!(rt; error.status(), status);
-        assert_eq!(rt; error.to_string(rt.alloc())?.as_str(), text);
+        write!(told, "{} {error}; ", error.status())?;
     }
+    assert_text(&rt, &told, STATUSES, "each refusal");
     Ok(())
 }
 
 #[test]
 fn pages_are_printed_where_their_words_stand_alone(rt: HostRuntime) -> Result<(), Fail> {
     let alloc = rt.alloc();
-    let pages: [(&[&str], &str, &str); 2] = [
+    for (words, front, end) in [
         (
-            &["--help"],
+            "--help",
             "Usage: xlsx_tool cells NAME < ",
-            "those of csv commas.\n",
+            "those of CSV commas.\n0",
         ),
-        (&["--version"], "xlsx_tool 0.1.0", "\n"),
-    ];
-    for (words, front, end) in pages {
+        ("--version", "xlsx_tool 0.1.0", "\n0"),
+    ] {
         let told = run_on(alloc, words, b"", EASY)?;
-        assert_eq!(rt; told.result, Ok(()));
-        assert!(rt; told.written.as_str().starts_with(front), "of {front}");
-        assert!(rt; told.written.as_str().ends_with(end), "of {front}");
+        assert!(rt;
+            told.starts_with(front) && told.ends_with(end),
+            "of {words}: {told}"
+        );
     }
-    let others: [&[&str]; 3] = [&["--help", "x"], &["--Help"], &[]];
-    for words in others {
+    for words in ["--help x", "--Help", ""] {
         let told = run_on(alloc, words, b"", EASY)?;
-        assert_eq!(rt; told.result, Err(ToolError::Usage));
-        assert_eq!(rt; told.written.as_str(), "");
+        assert_text(&rt, &told, "2 usage", words);
     }
     Ok(())
 }
@@ -326,8 +383,10 @@ fn an_answer_has_an_ending(rt: HostRuntime) -> Result<(), Fail> {
         (Err(ToolError::WriteFault), 0, ExitCode::from(7), ""),
     ] {
         let told = ending_of(alloc, &answer, room)?;
-        assert_eq!(rt; told.0, status, "of {written}");
-        assert_eq!(rt; told.1.as_str(), written);
+        assert!(rt;
+            told.0 == status && told.1.as_str() == written,
+            "of {written}"
+        );
     }
     Ok(())
 }

@@ -1,4 +1,4 @@
-use Rattle.std.proofs.Common.{◌≡◌, ◌+◌, ◌∷◌, ◌∙◌, ap, sym, map, drop, suc, arith, ℕ, List}
+use Rattle.std.proofs.Common.{◌≡◌, ◌∷◌, ◌∙◌, ap, sym, map, drop, arith, ℕ, List}
 use Rattle.std.proofs.Common.{add-one, append-nil, string_bytes, ◌++◌}
 use Rattle.xlsx_tables.specs.Tables.{SheetTable}
 use Rattle.xlsx_core.specs.TableList.{loaded_tables, names_left}

@@ -6,6 +6,7 @@ use part_events::{FailingPackage, MemoryPackage, Package};
 use std::alloc::Global;
 use std::test::Fail;
 use test_packages::{Part, RELATIONSHIPS, ROOT, SHEET_NAME, STRINGS_NAME, WORKBOOK, package_of};
+use test_tables::{assert_text, cases, cut};
 use xlsx_core::{OpenFailure, Xlsx};
 
 fn opened<P: Package + Drop>(alloc: Global, package: P) -> Result<Xlsx<P>, Fail> {
@@ -145,109 +146,108 @@ fn workbook_of<'a>(alloc: Global, sheet: &'a str, table: &'a str) -> Result<Memo
 }
 
 /// The part of a table, the tables, and the data of the first.
-const TABLES: [(&str, &str, &str); 6] = [
-    (
-        TABLE,
-        "T1 S(1,0)-(2,1) Name Qty;",
-        "T1 S(1,0)-(2,1) Name Qty; 1,0=nut 1,1=3",
-    ),
-    (
-        r#"<table displayName="T1" ref="A1:B4" totalsRowCount="1" headerRowCount="0"/>"#,
-        "T1 S(0,0)-(2,1);",
-        "T1 S(0,0)-(2,1); 1,0=nut 1,1=3",
-    ),
-    (
-        r#"<table displayName="T1" ref="A1:B1" totalsRowCount="1"/>"#,
-        "T1 S-;",
-        "T1 S-;",
-    ),
-    (
-        r#"<table displayName="T1" ref="A1:B4" totalsRowCount="+1"/>"#,
-        "ParseInt(\"+1\") not loaded",
-        "",
-    ),
-    (
-        r#"<table displayName="T2" ref="A1:B4"/>"#,
-        "T2 S(1,0)-(3,1);",
-        "TableNotFound(\"T1\")",
-    ),
-    (
-        r#"<table ref="B1:B4"/>"#,
-        " S(1,1)-(3,1);",
-        "TableNotFound(\"T1\")",
-    ),
-];
+const TABLES: &str = r#"
+<table displayName="T1" ref="A1:B4" totalsRowCount="1"><tableColumns><tableColumn name="Name"/><tableColumn name="Qty"/></tableColumns></table>
+= T1 S(1,0)-(2,1) Name Qty;
+= T1 S(1,0)-(2,1) Name Qty; 1,0=nut 1,1=3
+
+<table displayName="T1" ref="A1:B4" totalsRowCount="1" headerRowCount="0"/>
+= T1 S(0,0)-(2,1);
+= T1 S(0,0)-(2,1); 1,0=nut 1,1=3
+
+<table displayName="T1" ref="A1:B1" totalsRowCount="1"/>
+= T1 S-;
+= T1 S-;
+
+<table displayName="T1" ref="A1:B4" totalsRowCount="+1"/>
+= ParseInt("+1") not loaded
+=
+
+<table displayName="T2" ref="A1:B4"/>
+= T2 S(1,0)-(3,1);
+= TableNotFound("T1")
+
+<table ref="B1:B4"/>
+=  S(1,1)-(3,1);
+= TableNotFound("T1")
+"#;
 
 #[test]
 fn tables_are_loaded_and_their_data_read(rt: HostRuntime) -> Result<(), Fail> {
     let alloc = rt.alloc();
-    for (table, tables, cells) in TABLES {
+    for case in cases(TABLES) {
+        let (table, wanted) = cut(case);
+        let (tables, cells) = cut(wanted);
         let mut xlsx = opened(alloc, workbook_of(alloc, SHEET, table)?)?;
         let told = tables_told(alloc, &mut xlsx)?;
-        assert_eq!(rt; told.as_str(), tables, "of {table}");
+        assert_text(&rt, &told, tables, table);
         let told = data_told(alloc, &mut xlsx, "T1")?;
-        assert_eq!(rt; told.as_str(), cells, "the data of {table}");
+        assert_text(&rt, &told, cells, table);
     }
     Ok(())
 }
 
+/// The header row of this number, or the first.
+fn header_row(row: &str) -> HeaderRow {
+    match row {
+        "2" => HeaderRow::Row(2),
+        "7" => HeaderRow::Row(7),
+        _ => HeaderRow::FirstNonEmptyRow,
+    }
+}
+
 /// A sheet, the header row, and the data of its table, also with shared strings by their places.
-const SHEETS: [(&str, HeaderRow, &str, &str); 7] = [
-    (
-        r#"<worksheet><sheetData><c r="A2" t="s"><v>0</v></c><c r="A3"><v>1</v></c><c r="A2" t="s"><v>0</v></c><c r="A3"><v>2</v></c><c r="A4"><v>4</v></c><c r="C2"><v>5</v></c></sheetData></worksheet>"#,
-        HeaderRow::FirstNonEmptyRow,
-        "T1 S(1,0)-(2,1) Name Qty; 1,0=red 2,0=2",
-        " 1,0=#0 2,0=2",
-    ),
-    (
-        r#"<worksheet><sheetData><c r="A2"><v>1</v></c><c r="B3"><v>2</v></c></sheetData></worksheet>"#,
-        HeaderRow::Row(2),
-        "T1 S(1,0)-(2,1) Name Qty; 2,1=2",
-        " 2,1=2",
-    ),
-    (
-        r#"<worksheet><sheetData><c r="A2"><v>1</v></c><c r="B9"><v>2</v></c></sheetData></worksheet>"#,
-        HeaderRow::Row(7),
-        "T1 S(1,0)-(2,1) Name Qty;",
-        "",
-    ),
-    (
-        "<worksheet><sheetData/></worksheet>",
-        HeaderRow::FirstNonEmptyRow,
-        "T1 S(1,0)-(2,1) Name Qty;",
-        "",
-    ),
-    (
-        "<chartsheet/>",
-        HeaderRow::FirstNonEmptyRow,
-        "T1 S(1,0)-(2,1) Name Qty;",
-        "",
-    ),
-    (
-        r#"<worksheet><sheetData><c r="Z9" t="x"><v>1</v></c></sheetData></worksheet>"#,
-        HeaderRow::FirstNonEmptyRow,
-        "CellTAttribute(\"x\")",
-        "CellTAttribute(\"x\")",
-    ),
-    (
-        "<worksheet><sheetData>",
-        HeaderRow::FirstNonEmptyRow,
-        "XmlEof(\"sheetData\")",
-        "XmlEof(\"sheetData\")",
-    ),
-];
+const SHEETS: &str = r#"
+<worksheet><sheetData><c r="A2" t="s"><v>0</v></c><c r="A3"><v>1</v></c><c r="A2" t="s"><v>0</v></c><c r="A3"><v>2</v></c><c r="A4"><v>4</v></c><c r="C2"><v>5</v></c></sheetData></worksheet>
+= first
+= T1 S(1,0)-(2,1) Name Qty; 1,0=red 2,0=2
+=  1,0=#0 2,0=2
+
+<worksheet><sheetData><c r="A2"><v>1</v></c><c r="B3"><v>2</v></c></sheetData></worksheet>
+= 2
+= T1 S(1,0)-(2,1) Name Qty; 2,1=2
+=  2,1=2
+
+<worksheet><sheetData><c r="A2"><v>1</v></c><c r="B9"><v>2</v></c></sheetData></worksheet>
+= 7
+= T1 S(1,0)-(2,1) Name Qty;
+=
+
+<worksheet><sheetData/></worksheet>
+= first
+= T1 S(1,0)-(2,1) Name Qty;
+=
+
+<chartsheet/>
+= first
+= T1 S(1,0)-(2,1) Name Qty;
+=
+
+<worksheet><sheetData><c r="Z9" t="x"><v>1</v></c></sheetData></worksheet>
+= first
+= CellTAttribute("x")
+= CellTAttribute("x")
+
+<worksheet><sheetData>
+= first
+= XmlEof("sheetData")
+= XmlEof("sheetData")
+"#;
 
 #[test]
 fn data_of_tables_are_those_of_their_sheets(rt: HostRuntime) -> Result<(), Fail> {
     let alloc = rt.alloc();
-    for (sheet, header_row, cells, places) in SHEETS {
+    for case in cases(SHEETS) {
+        let (sheet, wanted) = cut(case);
+        let (row, wanted) = cut(wanted);
+        let (cells, places) = cut(wanted);
         let mut xlsx = opened(alloc, workbook_of(alloc, sheet, TABLE)?)?;
-        xlsx.with_header_row(header_row);
+        xlsx.with_header_row(header_row(row));
         tables_told(alloc, &mut xlsx)?;
         let told = data_told(alloc, &mut xlsx, "T1")?;
-        assert_eq!(rt; told.as_str(), cells, "of {sheet}");
+        assert_text(&rt, &told, cells, sheet);
         let told = places_told(alloc, &mut xlsx, "T1")?;
-        assert_eq!(rt; told.as_str(), places, "by places of {sheet}");
+        assert_text(&rt, &told, places, sheet);
     }
     Ok(())
 }
@@ -305,20 +305,18 @@ fn tables_go_by_the_names_of_sheets(rt: HostRuntime) -> Result<(), Fail> {
     let alloc = rt.alloc();
     let mut xlsx = opened(alloc, package_of(alloc, &NAMED)?)?;
     let told = tables_told(alloc, &mut xlsx)?;
-    assert_eq!(rt;
-        told.as_str(),
-        "One Two One S(0,0)-(0,0);S(0,0)-(0,0);T(0,0)-(0,0);"
-    );
+    let tables = "One Two One S(0,0)-(0,0);S(0,0)-(0,0);T(0,0)-(0,0);";
+    assert_text(&rt, &told, tables, "of all");
     for (name, names) in [("S", "One Two "), ("T", "One "), ("U", "")] {
         let told = names_told(alloc, &xlsx, name)?;
-        assert_eq!(rt; told.as_str(), names, "of {name}");
+        assert_text(&rt, &told, names, name);
     }
     for (name, cells) in [
         ("One", "One S(0,0)-(0,0); 0,0=1"),
         ("Two", "Two S(0,0)-(0,0); 0,0=1"),
     ] {
         let told = data_told(alloc, &mut xlsx, name)?;
-        assert_eq!(rt; told.as_str(), cells, "of {name}");
+        assert_text(&rt, &told, cells, name);
     }
     Ok(())
 }
@@ -346,11 +344,8 @@ const LOADING: u64 = 2 + 4 + 8;
 fn tables_stay_where_a_loading_fails(rt: HostRuntime) -> Result<(), Fail> {
     for call in OPENING + LOADING..OPENING + 2 * LOADING {
         let told = failing_told(rt.alloc(), call, TABLE)?;
-        assert_eq!(rt;
-            told.as_str(),
-            "1 Io T1 S(1,0)-(2,1) Name Qty; T1 S(1,0)-(2,1) Name Qty; 1,0=nut 1,1=3",
-            "at call {call}"
-        );
+        let wanted = "1 Io T1 S(1,0)-(2,1) Name Qty; T1 S(1,0)-(2,1) Name Qty; 1,0=nut 1,1=3";
+        assert!(rt; told.as_str() == wanted, "at call {call}");
     }
     Ok(())
 }
@@ -364,13 +359,10 @@ fn a_fault_in_the_data_of_a_table_is_told(rt: HostRuntime) -> Result<(), Fail> {
     let behind = OPENING + 2 * LOADING;
     for call in behind..behind + DATA {
         let told = failing_told(rt.alloc(), call, TABLE)?;
-        assert_eq!(rt;
-            told.as_str(),
-            "1 T1 S(1,0)-(2,1) Name Qty; Io",
-            "at call {call}"
-        );
+        let wanted = "1 T1 S(1,0)-(2,1) Name Qty; Io";
+        assert!(rt; told.as_str() == wanted, "at call {call}");
     }
     let told = failing_told(rt.alloc(), behind, empty)?;
-    assert_eq!(rt; told.as_str(), "0 T1 S-; T1 S-;");
+    assert_text(&rt, &told, "0 T1 S-; T1 S-;", empty);
     Ok(())
 }

@@ -1,0 +1,46 @@
+use Rattle.std.proofs.Common.{◌≡◌, ◌∷◌, ◌++◌, ◌∙◌, [], ap, sym, refl, List, ℕ, Some}
+use Rattle.std.proofs.lemmas.Result.{err_from_is_err_and}
+use Rattle.std.specs.Prelude.{option_map}
+use Rattle.cell_data.specs.CellValue.{CellValue}
+use Rattle.part_events.specs.Event.{Event}
+use Rattle.part_events.specs.Memory.{state_of}
+use Rattle.sheet_listing.specs.SheetListing.{row_line}
+use Rattle.xlsx_pivot_cache.specs.CacheRecords.{row_kept}
+use Rattle.xlsx_pivot_cache.specs.PivotRows.{pivot_rows, rows_left, TakesRow, KeepsPart}
+use Rattle.xlsx_commands.proofs.CachesRead.{opening_rows_fails, rows_moved, lines_behind}
+use Rattle.xlsx_commands.proofs.pivot_rows.lines_of_cache.Goals as goal
+
+pub returns-in_err-cursor-clause-err : goal.returns-in_err-cursor-clause-err
+returns-in_err-cursor-clause-err c =
+    let handed = err_from_is_err_and c.from_residual.result c.from_residual.ensures.1 in
+    rw (handed.1, handed.2)
+    (opening_rows_fails c.args.definitions.now c.args.records.now c.args.package
+    c.open.new.package c.in_err-cursor.field-0.0 c.in_err-cursor.ensures.kind
+    c.in_err-cursor.ensures.err)
+
+pub rows-smaller : goal.rows-smaller
+rows-smaller c = rw c.in_ok-row.was at c.in-Some.ensures.step
+
+pub rows-preserved : goal.rows-preserved
+rows-preserved c =
+    let old = pivot_rows (state_of c.rows.package) c.rows.cursor in
+    let new = pivot_rows (state_of c.next.new.package) c.next.new.self in
+    let now = c.rows.invariant in
+    let taken = now.rows.0 in
+    let row = row_kept c.in_ok-row.row.items in
+    let reads : KeepsPart old.reading new.reading = rw c.in_ok-row.was at c.in-Some.ensures.reads in
+    let takes : TakesRow row old new = rw c.in_ok-row.was at c.in-Some.ensures.row in
+    record {
+      at = c.next.ensures.at;
+      fields = rw c.next.ensures.fields now.fields;
+      part = now.part ∙ ap (λ (own : List Event). Some own) (sym (reads.part refl));
+      rows = (
+        taken ++ (row ∷ []),
+        (rw c.deref.ensures.value at c.in_ok-push_row_line.ensures)
+            ∙ ap (λ (text : List ℕ). text ++ row_line row) now.rows.1
+            ∙ sym (lines_behind taken row),
+        now.rows.2
+            ∙ ap (option_map (λ (rest : List (List CellValue)). taken ++ rest)) (takes refl)
+            ∙ rows_moved taken row (rows_left new),
+      );
+    }

@@ -1,0 +1,28 @@
+use Rattle.std.proofs.Common.{◌≡◌, ◌++◌, List, Some, string_bytes}
+use Rattle.std.specs.Prelude.{option_map}
+use Rattle.cell_data.specs.CellValue.{CellValue}
+use Rattle.part_events.specs.Memory.{state_of}
+use Rattle.part_events.specs.Package.{part_of}
+use Rattle.part_events.specs.Reading.{events_of}
+use Rattle.xlsx_pivot_cache.specs.CacheFields.{fields_at}
+use Rattle.xlsx_pivot_cache.specs.CacheRecords.{cache_rows}
+use Rattle.xlsx_pivot_cache.specs.PivotRows.{pivot_rows, IsAtRecords, rows_left}
+use Rattle.xlsx_commands.specs.CacheRows.{row_lines}
+use Rattle.xlsx_commands.proofs.pivot_rows.lines_of_cache.Given as goal
+
+abbrev pub invariant-rows : goal.invariant-rows
+invariant-rows l =
+    let now = pivot_rows (state_of l.package) l.cursor in
+    let parts = l.fn.package.parts in
+    record {
+      at : IsAtRecords now;
+      fields : fields_at parts l.definitions ≡ Some now.fields;
+      part : part_of parts l.records ≡ Some (events_of now.reading);
+      rows :
+          (taken : List (List CellValue)) × (string_bytes l.out ≡ row_lines taken)
+          × (cache_rows parts l.definitions l.records
+          ≡ option_map (λ (rest : List (List CellValue)). taken ++ rest) (rows_left now));
+    }
+
+abbrev pub decreases-rows : goal.decreases-rows
+decreases-rows l = (state_of l.package).left

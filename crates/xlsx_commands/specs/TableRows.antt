@@ -1,0 +1,51 @@
+-- What `csv-table` prints of a table, and when its area has too many cells for it.
+use Rattle.std.specs.Prelude.{◌≡◌, ◌≤◌, ◌<◌, ◌++◌, ℕ, List, [], map, length}
+use Rattle.std.specs.Prelude.{Option, Some, None, slice_get}
+use Rattle.std.specs.List.{range_with_len}
+use Rattle.std.specs.Option.{unwrap_or}
+use Rattle.cell_data.specs.CellValue.{CellValue}
+use Rattle.cell_data.specs.Range.{width_of}
+use Rattle.cell_data.specs.Table.{table_data}
+use Rattle.cell_data.specs.declared.table.Table.{Table}
+use Rattle.cell_data.specs.declared.value.Data.{Data}
+use Rattle.cell_refs.specs.declared.dimensions.Dimensions.{Dimensions}
+use Rattle.part_events.specs.Package.{Part}
+use Rattle.xlsx_core.specs.SheetReading.{value_pairs}
+use Rattle.xlsx_rows.specs.RowsText.{header_text}
+use Rattle.xlsx_commands.specs.SheetRows.{rows_placed, area_count}
+use Rattle.xlsx_commands.specs.TableLists.{HasTable}
+
+-- as many fields as an area is wide, or as there are names where it has no cell
+abbrev pub header_width : Option Dimensions → List (List ℕ) → ℕ
+header_width None names = length names
+header_width (Some area) names = width_of (Some area)
+
+-- the first names: one that is missing is empty, and further ones are left out
+abbrev pub fitted_names : ℕ → List (List ℕ) → List (List ℕ)
+fitted_names width names =
+    map (λ column. unwrap_or (slice_get names column) []) (range_with_len 0 width)
+
+-- the header of an area whose columns have these names
+abbrev pub header_over : Option Dimensions → List (List ℕ) → List (List ℕ)
+header_over area names = fitted_names (header_width area names) names
+
+-- its record, where it has a field, and one for each row of the area
+abbrev pub table_records :
+    Option Dimensions → List (List ℕ) → List ((ℕ × ℕ) × CellValue) → List ℕ
+table_records area names values =
+    header_text (Some (header_over area names)) ++ rows_placed values area
+
+-- these are the records of the first table of this name, in the area of its data
+pub record AreTableRows (parts : List Part) (name rows : List ℕ) : Type 0 where
+  pub table : Table Data
+  pub has : HasTable parts name table
+  pub fits : area_count has.own.table.area ≤ 16777216
+  pub listed :
+      rows
+      ≡ table_records has.own.table.area has.own.table.columns (value_pairs (table_data table))
+
+-- its data are had, and their area has more cells than are written
+pub record HasLargeTable (parts : List Part) (name : List ℕ) : Type 0 where
+  pub table : Table Data
+  pub has : HasTable parts name table
+  pub large : 16777216 < area_count has.own.table.area

@@ -1,0 +1,227 @@
+-- What a cursor has left goes on with its steps.
+use Rattle.std.proofs.Common.{◌≡◌, ◌∙◌, ℕ, List, [], ◌∷◌, length, Bool, true, false, Option, Some}
+use Rattle.std.proofs.Common.{None, Result, Ok, Err, refl, sym, ap, subst, arith}
+use Rattle.std.specs.Prelude.{option_map, option_and_then, if◌then◌else◌}
+use Rattle.part_events.specs.Event.{Tag, Event, start, end, leaf, IsStartAnd}
+use Rattle.part_events.specs.Nesting.{whole}
+use Rattle.part_events.specs.Reading.{Reading, IsReading, events_of}
+use Rattle.part_events.specs.Section.{content, is_closed, behind_start, is_named}
+use Rattle.part_events.specs.Walk.{section_ahead, is_closed_ahead}
+use Rattle.cell_data.specs.CellValue.{CellValue}
+use Rattle.part_events.specs.declared.fault.XmlFault.TheVariants.{EndMismatch, Unclosed}
+use Rattle.xlsx_error.specs.declared.error.XlsxError.{XlsxError}
+use Rattle.xlsx_error.specs.declared.error.XlsxError.TheVariants.{Xml, XmlEof}
+use Rattle.xlsx_sections.specs.Answers.{with_first, and_others}
+use Rattle.xlsx_sections.specs.Elements.{IsInsideRefused}
+use Rattle.xlsx_sections.specs.Failing.{FailsBy}
+use Rattle.xlsx_sections.specs.PartSection.{PartSection, section_in, section_from, section_left}
+use Rattle.xlsx_sections.specs.PartSection.{inside_of, has_end, last_of, if_closed, always}
+use Rattle.xlsx_sections.specs.PartSection.{SectionFails, SectionCause, StartCause}
+use Rattle.xlsx_sections.specs.Refusal.{Refusal}
+use Rattle.xlsx_sections.proofs.Failing.{fails_by_weaker, same_parts}
+use Rattle.xlsx_sections.proofs.Refused.{refused_weaker}
+use Rattle.xlsx_sections.proofs.SectionsRead.{start_there}
+use Rattle.xlsx_parts.specs.PartSaid.{ok_or_none, section_said}
+use Rattle.xlsx_parts.specs.FirstElement.{StartAhead, first_start, element_in, element_from}
+use Rattle.xlsx_parts.specs.FirstElement.{element_with}
+use Rattle.xlsx_parts.specs.WholePart.{FindSectionFails, IsBroken}
+use Rattle.xlsx_parts.proofs.ElementsFound.{section_of_element}
+use Rattle.xlsx_pivot_cache.specs.CacheFields.{FieldSaid}
+use Rattle.xlsx_pivot_cache.specs.CacheRecords.{records_name, rows_in, names_first}
+use Rattle.xlsx_pivot_cache.specs.CacheRecords.{RowsCause}
+use Rattle.xlsx_pivot_cache.specs.PivotRows.{IsLeftOf, IsInRecords, TakesRecord, EndsRecords}
+use Rattle.xlsx_pivot_cache.specs.PivotRows.{records_left}
+
+-- what a section says, where its end is there
+abbrev said_by_section : {A : Type 0} → (List Event → Result A Refusal) → PartSection → Option A
+said_by_section meaning s = if has_end s then ok_or_none (meaning (inside_of s)) else None
+
+-- what the first section of a name says is what it says by what is left of it
+said_from : {A : Type 0} (meaning : List Event → Result A Refusal) (events : List Event)
+    (found : Option (List Event)) (s : PartSection) → option_map (section_from events) found ≡ Some s
+    → option_and_then (λ (inside : List Event). ok_or_none (meaning inside))
+    (option_and_then if_closed found) ≡ said_by_section meaning s
+said_from meaning events None s is = absurd (cc)
+said_from meaning events (Some there) s is =
+    let same : section_from events there ≡ s = cc in
+    subst (λ (own : PartSection). option_and_then
+    (λ (inside : List Event). ok_or_none (meaning inside)) (if_closed there)
+    ≡ said_by_section meaning own) same
+    (elim (is_closed 0 there) as (λ b. option_and_then
+    (λ (inside : List Event). ok_or_none (meaning inside))
+    (if b then Some (content 0 there) else None)
+    ≡ (if b then ok_or_none (meaning (content 0 there)) else None)) [
+      | true ↦ refl
+      | false ↦ refl
+    ])
+
+-- the names were given, and the records are left
+pub names_taken : (fields : List FieldSaid) (old new : Reading)
+    → section_in records_name (events_of old) ≡ Some (section_left (length new.names) new)
+    → names_first fields (section_said records_name (rows_in fields) (events_of old))
+    ≡ names_first fields (records_left fields (length new.names) new)
+names_taken fields old new there =
+    ap (names_first fields)
+    (said_from (rows_in fields) (events_of old)
+    (behind_start (is_named (records_name ∷ [])) (whole (events_of old)))
+    (section_left (length new.names) new) there)
+
+-- the reader stands in the records, behind whose start nothing was taken
+pub in_records : (fields : List FieldSaid) (new : Reading) → IsReading new
+    → (new.source.is_told ≡ true
+    → section_in records_name (events_of new) ≡ Some (section_left (length new.names) new))
+    → IsInRecords fields (length new.names) new
+in_records fields new is there = record {
+  reading = is;
+  within = omega arith;
+  left = λ told. (
+    section_left (length new.names) new,
+    record {
+      there = there told;
+      closed = refl;
+      last = refl;
+      refused = λ refusal is. is;
+    },
+  );
+}
+
+first_of_all : (row : List CellValue) (closed : Bool)
+    (others : Result (List (List CellValue)) Refusal)
+    → (if closed then ok_or_none (and_others (Ok row) others) else None)
+    ≡ option_map (λ (rows : List (List CellValue)). row ∷ rows)
+    (if closed then ok_or_none others else None)
+first_of_all row true (Ok others) = refl
+first_of_all row true (Err refusal) = refl
+first_of_all row false others = refl
+
+-- a record was read
+pub rows_further : {base : ℕ} {row : List CellValue} {old new : Reading}
+    (fields : List FieldSaid) → TakesRecord fields base row old new → old.source.is_told ≡ true
+    → records_left fields base old
+    ≡ option_map (λ (rows : List (List CellValue)). row ∷ rows) (records_left fields base new)
+rows_further {base = base} {row = row} {old = old} {new = new} fields takes told =
+    ap (λ (closed : Bool). if closed then ok_or_none (rows_in fields (section_ahead base old))
+    else None) (sym (takes.keeps.section.closed told))
+    ∙ ap (λ (all : Result (List (List CellValue)) Refusal). if is_closed_ahead base new
+    then ok_or_none all else None) (takes.rows told)
+    ∙ first_of_all row (is_closed_ahead base new) (rows_in fields (section_ahead base new))
+
+-- and the reader still stands in the records
+pub still_in_records : {base : ℕ} {row : List CellValue} {old new : Reading}
+    (fields : List FieldSaid) → TakesRecord fields base row old new → IsInRecords fields base old
+    → IsInRecords fields base new
+still_in_records {base = base} {row = row} {old = old} {new = new} fields takes is = record {
+  reading = takes.keeps.section.reads.stays.reading;
+  within = takes.keeps.section.within;
+  left = λ told_new.
+      let told = sym takes.keeps.section.reads.moves.parts.is_told ∙ told_new in
+      let left = is.left told in (
+        left.0,
+        record {
+          there =
+              subst (λ (events : List Event). section_in records_name events ≡ Some left.0)
+              (sym (takes.keeps.section.reads.stays.part told)) left.1.there;
+          closed = left.1.closed ∙ sym (takes.keeps.section.closed told);
+          last = left.1.last ∙ sym (takes.keeps.section.last told);
+          refused = λ refusal refuses. left.1.refused refusal
+              (takes.rows told ∙ ap (with_first row) refuses);
+        },
+      );
+}
+
+-- no record is left
+pub rows_ended : {base : ℕ} {old new : Reading} (fields : List FieldSaid)
+    → EndsRecords fields base old new → records_left fields base old ≡ Some []
+rows_ended {base = base} {old = old} fields ends =
+    ap (λ (closed : Bool). if closed then ok_or_none (rows_in fields (section_ahead base old))
+    else None) ends.reaches.closed
+    ∙ ap ok_or_none ends.rows
+
+events_there : (events : List Event) (found : Option (List Event)) (s : PartSection)
+    → option_map (section_from events) found ≡ Some s → s.events ≡ events
+events_there events None s is = absurd (cc)
+events_there events (Some there) s is =
+    let same : section_from events there ≡ s = cc in sym (ap (λ (own : PartSection). own.events) same)
+
+-- why what is left of the records can't be taken is why they can't
+left_cause : {base : ℕ} {r : Reading} {s : PartSection} (fields : List FieldSaid)
+    (error : XlsxError) → s.events ≡ events_of r → IsLeftOf fields base r s
+    → SectionCause (always records_name) (IsInsideRefused (rows_in fields)) (section_left base r) error
+    → SectionCause (always records_name) (IsInsideRefused (rows_in fields)) s error
+left_cause fields (Xml (EndMismatch at)) same left cause =
+    rw same (cause.0, left.closed ∙ cause.1)
+left_cause fields (Xml (Unclosed at)) same left cause =
+    let never : Some records_name ≡ None = cause.1 in absurd (cc)
+left_cause fields (XmlEof element) same left cause =
+    rw same ((cause.0.0, left.closed ∙ cause.0.1), cause.1)
+left_cause {base = base} {r = r} {s = s} fields error same left cause =
+    refused_weaker (last_of (section_left base r)) (last_of s)
+    (IsInsideRefused (rows_in fields) s) (IsInsideRefused (rows_in fields) (section_left base r))
+    error (λ refusal is. left.refused refusal is) (sym left.last) cause
+
+-- the next record is refused, and so is the part
+pub record_fails : {base : ℕ} {old : Reading} (fields : List FieldSaid) (new : Reading)
+    (error : XlsxError) → IsInRecords fields base old
+    → SectionFails (always records_name) (IsInsideRefused (rows_in fields)) base old new error
+    → FailsBy (RowsCause fields (events_of old)) old.source new.source error
+record_fails {base = base} {old = old} fields new error is fails =
+    fails_by_weaker (RowsCause fields (events_of old))
+    (SectionCause (always records_name) (IsInsideRefused (rows_in fields)) (section_left base old))
+    new.source error (same_parts old.source)
+    (λ told cause.
+    let left = is.left told in
+    let same = events_there (events_of old)
+    (behind_start (is_named (records_name ∷ [])) (whole (events_of old))) left.0 left.1.there in
+    rw left.1.there (left_cause fields error same left.1 cause)) fails
+
+broken_start : (events : List Event) (error : XlsxError) → IsBroken events error
+    → StartCause records_name events error
+broken_start events (Xml (EndMismatch at)) is = is
+broken_start events _ is = absurd is
+
+-- the start of the records isn't found, since the nesting breaks before
+pub find_fails : (fields : List FieldSaid) (old new : Reading) (error : XlsxError)
+    → FindSectionFails records_name old new error
+    → FailsBy (RowsCause fields (events_of old)) old.source new.source error
+find_fails fields old new error fails =
+    fails_by_weaker (RowsCause fields (events_of old))
+    (λ own. (section_in records_name (events_of old) ≡ None) × IsBroken (events_of old) own)
+    new.source error (same_parts old.source)
+    (λ told both. rw both.0 (broken_start (events_of old) error both.1)) fails
+
+no_start_behind : (wanted : Tag → Bool) (events : List Event) → first_start wanted events ≡ None
+    → behind_start wanted events ≡ None
+no_start_behind wanted [] none = refl
+no_start_behind wanted (start tag ∷ events) none =
+    elim (wanted tag) as (λ b.
+    (if b then Some (record { tag = tag; ahead = events }) else first_start wanted events) ≡ None
+    → (if b then Some events else behind_start wanted events) ≡ None) [
+      | true ↦ λ never. absurd (cc)
+      | false ↦ λ next. no_start_behind wanted events next
+    ] none
+no_start_behind wanted (end name ∷ events) none = no_start_behind wanted events none
+no_start_behind wanted (leaf kind ∷ events) none = no_start_behind wanted events none
+
+no_first : (events : List Event) (found : Option StartAhead)
+    → option_map (element_from events) found ≡ None → found ≡ None
+no_first events None none = refl
+no_first events (Some first) none = absurd (cc)
+
+-- or since the part has none
+pub lacks_records : (events : List Event) → element_in records_name events ≡ None
+    → section_in records_name events ≡ None
+lacks_records events none =
+    let wanted = is_named (records_name ∷ []) in
+    ap (option_map (section_from events)) (no_start_behind wanted (whole events)
+    (no_first events (first_start wanted (whole events)) none))
+
+-- the section of the element that was found
+pub records_found : (old new : Reading) → IsStartAnd new.source.current
+    (λ (tag : Tag). element_in records_name (events_of old)
+    ≡ Some (element_with tag (section_left (length new.names) new)))
+    → section_in records_name (events_of old) ≡ Some (section_left (length new.names) new)
+records_found old new is =
+    let s = section_left (length new.names) new in
+    let found = start_there new.source.current
+    (λ (tag : Tag). element_in records_name (events_of old) ≡ Some (element_with tag s)) is in
+    section_of_element records_name (events_of old) (element_with found.0 s) found.2

@@ -1,0 +1,33 @@
+use Rattle.std.proofs.Common.{◌≡◌, length, map, true}
+use Rattle.std.specs.Prelude.{◌||◌}
+use Rattle.part_events.specs.Reading.{reading, open_elements}
+use Rattle.part_events.specs.Walk.{section_ahead, behind_section}
+use Rattle.cell_data.specs.CellValue.{value_of_data}
+use Rattle.xlsx_sections.specs.Answers.{prepended}
+use Rattle.xlsx_sections.specs.PartSection.{KeepsSection}
+use Rattle.xlsx_pivot_cache.specs.CacheFields.{items_in, groups_items}
+use Rattle.xlsx_pivot_cache.specs.FieldEvents.{items_from, IsWithin}
+use Rattle.xlsx_pivot_cache.proofs.contents.contents_in.Given as goal
+
+abbrev pub invariant-events : goal.invariant-events
+invariant-events g l =
+    let old = reading (g.P.Package.state l.fn.package) l.fn.cursor in
+    let now = reading (g.P.Package.state l.package) l.cursor in
+    record {
+      keeps : KeepsSection l.base old now;
+      within : IsWithin l.contents.place (length (open_elements l.cursor));
+      items :
+          old.source.is_told ≡ true →
+          prepended (map value_of_data l.contents.items.items)
+          (items_from l.contents.place (length (open_elements l.cursor))
+          (section_ahead l.base now))
+          ≡ items_in (section_ahead l.base old);
+      groups :
+          old.source.is_told ≡ true →
+          (l.contents.groups || groups_items (section_ahead l.base now))
+          ≡ groups_items (section_ahead l.base old);
+      behind : old.source.is_told ≡ true → behind_section l.base now ≡ behind_section l.base old;
+    }
+
+abbrev pub decreases-events : goal.decreases-events
+decreases-events g l = (g.P.Package.state l.package).left

@@ -1,0 +1,50 @@
+use Rattle.std.proofs.Common.{◌≡◌, ◌∙◌, List, Some, length, refl, sym, ap, subst}
+use Rattle.part_events.specs.Event.{Event}
+use Rattle.part_events.specs.Reading.{reading, events_of}
+use Rattle.xlsx_sections.specs.PartSection.{section_in, section_left}
+use Rattle.xlsx_sections.proofs.Failing.{given_back}
+use Rattle.xlsx_pivot_cache.specs.CacheFields.{fields_kept}
+use Rattle.xlsx_pivot_cache.specs.CacheRecords.{records_name, names_row, row_kept}
+use Rattle.xlsx_pivot_cache.specs.declared.field.CacheField.{CacheField}
+use Rattle.xlsx_pivot_cache.proofs.RowsLeft.{names_taken, in_records, find_fails, records_found}
+use Rattle.xlsx_pivot_cache.proofs.RowsLeft.{lacks_records}
+use Rattle.xlsx_pivot_cache.proofs.pivot_cursor.PivotCursor.take_names.Goals as goal
+
+pub returns-in_err-_at-clause-err : goal.returns-in_err-_at-clause-err
+returns-in_err-_at-clause-err g c =
+    let old = reading (g.P.Package.state c.args.package.now) c.args.self.now.cursor in
+    let new = reading (g.P.Package.state c.find_element.new.package) c.find_element.new.cursor in
+    given_back _ c.from_residual-in_err-_at.result c.from_residual-in_err-_at.ensures.1
+    (find_fails (fields_kept c.args.self.now.fields.items) old new c.in_err-_at.field-0.0
+    c.in_err-_at.ensures.err)
+
+pub returns-in_default-clause-err : goal.returns-in_default-clause-err
+returns-in_default-clause-err g c = λ told.
+    let old = reading (g.P.Package.state c.args.package.now) c.args.self.now.cursor in
+    let ends = rw c.in_default.is at (c.in_ok-_at.ensures.found told) in
+    rw (lacks_records (events_of old) ends.0) (refl, ends.1.0)
+
+pub returns-clause-at : goal.returns-clause-at
+returns-clause-at g c =
+    let old = reading (g.P.Package.state c.args.package.now) c.args.self.now.cursor in
+    let new = reading (g.P.Package.state c.find_element.new.package) c.find_element.new.cursor in
+    let reads = c.in_ok-_at.ensures.reads in
+    rw c.depth.ensures
+    (in_records (fields_kept c.args.self.now.fields.items) new reads.stays.reading
+    (λ told_new.
+    let told = sym reads.moves.parts.is_told ∙ told_new in
+    subst (λ (events : List Event). section_in records_name events
+    ≡ Some (section_left (length new.names) new)) (sym (reads.stays.part told))
+    (records_found old new (rw c.in-Some.is at (c.in_ok-_at.ensures.found told)))))
+
+pub returns-clause-row : goal.returns-clause-row
+returns-clause-row g c = λ told.
+    let old = reading (g.P.Package.state c.args.package.now) c.args.self.now.cursor in
+    let new = reading (g.P.Package.state c.find_element.new.package) c.find_element.new.cursor in
+    let fields = fields_kept c.args.self.now.fields.items in
+    let same : row_kept c.in_ok-names.names.items ≡ names_row fields =
+    c.in_ok-names.ensures
+    ∙ ap (λ (own : List CacheField). names_row (fields_kept own)) c.deref.ensures.value in
+    rw (c.requires.place, same, c.depth.ensures)
+    (names_taken fields old new
+    (records_found old new (rw c.in-Some.is at (c.in_ok-_at.ensures.found told))))

@@ -1,0 +1,48 @@
+-- Which refusals reading a pivot table's cache can have.
+use Rattle.std.specs.Prelude.{◌≡◌, ⊤, codes, IsSomeAnd}
+use Rattle.part_events.specs.declared.fault.XmlFault.TheVariants.{EndMismatch, Entity}
+use Rattle.xlsx_error.specs.declared.error.XlsxError.{XlsxError}
+use Rattle.xlsx_error.specs.declared.error.XlsxError.TheVariants.{OutOfMemory, Io, Xml, XmlAttr}
+use Rattle.xlsx_error.specs.declared.error.XlsxError.TheVariants.{XmlEof, FileNotFound}
+use Rattle.xlsx_error.specs.declared.error.XlsxError.TheVariants.{Unexpected}
+use Rattle.xlsx_sections.specs.Refusal.{told_by, unexpected}
+use Rattle.xlsx_pivot_cache.specs.CacheRecords.{IsRecordRefusal}
+
+-- those of an item
+abbrev pub IsItemError : XlsxError → Type 0
+IsItemError OutOfMemory = ⊤
+IsItemError (XmlAttr fault) = ⊤
+IsItemError _ = ⊥
+
+-- those of the fields in a part that is there, whatever the package tells
+abbrev pub IsFieldsError : XlsxError → Type 0
+IsFieldsError OutOfMemory = ⊤
+IsFieldsError Io = ⊤
+IsFieldsError (Xml (EndMismatch at)) = ⊤
+IsFieldsError (Xml (Entity at)) = ⊤
+IsFieldsError (XmlAttr fault) = ⊤
+IsFieldsError (XmlEof element) = element.now ≡ codes "cacheField"
+IsFieldsError _ = ⊥
+
+-- and those of the fields in a part that may be absent
+abbrev pub IsCacheFieldsError : XlsxError → Type 0
+IsCacheFieldsError (FileNotFound path) = ⊤
+IsCacheFieldsError error = IsFieldsError error
+
+-- those of a record that refers to no item
+abbrev pub IsFaultError : XlsxError → Type 0
+IsFaultError (Unexpected text) = IsSomeAnd (told_by text.now unexpected) IsRecordRefusal
+IsFaultError _ = ⊥
+
+-- those of a value of a record
+abbrev pub IsValueError : XlsxError → Type 0
+IsValueError OutOfMemory = ⊤
+IsValueError (XmlAttr fault) = ⊤
+IsValueError error = IsFaultError error
+
+-- those of a record, whatever the package tells
+abbrev pub IsRowError : XlsxError → Type 0
+IsRowError Io = ⊤
+IsRowError (Xml (EndMismatch at)) = ⊤
+IsRowError (XmlEof element) = element.now ≡ codes "pivotCacheRecords"
+IsRowError error = IsValueError error

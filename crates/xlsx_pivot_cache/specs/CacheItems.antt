@@ -1,0 +1,91 @@
+-- The items of a pivot table's cache (ECMA-376 part 1, section 18.10.1.90).
+use Rattle.std.specs.Prelude.{ℕ, ◌+◌, ◌^◌, ◌==◌, ℤ, pos, neg_ℤ, List, [], ◌∷◌, true, false}
+use Rattle.std.specs.Prelude.{if◌then◌else◌, codes, Option, Some, None, option_map, Result, Ok, Err}
+use Rattle.std.specs.List.{list_any}
+use Rattle.attr_text.specs.Attributes.{value_of, local_name_of}
+use Rattle.attr_text.specs.declared.fault.AttrFault.{AttrFault}
+use Rattle.part_events.specs.Event.{Tag}
+use Rattle.cell_data.specs.CellValue as value
+use Rattle.cell_data.specs.CellValue.{CellValue}
+use Rattle.cell_data.specs.declared.value.CellErrorType.TheVariants.{Ref, GettingData}
+use Rattle.decimals.specs.Decimals.{decimal_of}
+use Rattle.xlsx_sections.specs.Names.{named}
+use Rattle.xlsx_sections.specs.NumberText.{number_below}
+use Rattle.xlsx_sections.specs.Refusal.{Refusal, plain, lookup_fault}
+use Rattle.xlsx_pivot_cache.specs.declared.item.ItemKind.{ItemKind}
+use Rattle.xlsx_pivot_cache.specs.declared.item.ItemKind.TheVariants as kind
+
+-- what an element is an item of, by its local name
+abbrev pub kind_named : List ℕ → Option ItemKind
+kind_named name =
+    named (
+    (codes "s", Some kind.Text)
+    ∷ (codes "n", Some kind.Number)
+    ∷ (codes "m", Some kind.Missing)
+    ∷ (codes "e", Some kind.Failure)
+    ∷ (codes "b", Some kind.Truth)
+    ∷ (codes "d", Some kind.Date)
+    ∷ []
+    )
+    None name
+
+abbrev pub item_kind : Tag → Option ItemKind
+item_kind tag = kind_named (local_name_of tag.name)
+
+-- the value of a text that isn't of its kind
+abbrev pub unread : CellValue
+unread = value.failure GettingData
+
+-- a whole number of 64 bits: digits alone, before which a minus may stand
+abbrev pub whole_number : List ℕ → Option ℤ
+whole_number [] = None
+whole_number (byte ∷ bytes) =
+    if byte == 45 then option_map (λ n. neg_ℤ (pos n)) (number_below (2 ^ 63 + 1) bytes)
+    else option_map (λ n. pos n) (number_below (2 ^ 63) (byte ∷ bytes))
+
+abbrev pub whole_value : Option ℤ → CellValue
+whole_value None = unread
+whole_value (Some n) = value.integer n
+
+abbrev pub decimal_value : Option (ℤ × ℤ) → CellValue
+decimal_value None = unread
+decimal_value (Some decimal) = value.number decimal
+
+-- a number whose text has a point is a decimal, and one without is a whole number
+abbrev pub number_value : List ℕ → CellValue
+number_value text =
+    if list_any (λ byte. byte == 46) text then decimal_value (decimal_of text)
+    else whole_value (whole_number text)
+
+abbrev pub truth_value : List ℕ → CellValue
+truth_value text =
+    named (
+    (codes "0", value.truth false)
+    ∷ (codes "1", value.truth true)
+    ∷ (codes "false", value.truth false)
+    ∷ (codes "true", value.truth true)
+    ∷ []
+    )
+    unread text
+
+-- the value of a text in an item of a kind
+abbrev pub value_as : ItemKind → List ℕ → CellValue
+value_as kind.Text text = value.text text
+value_as kind.Number text = number_value text
+value_as kind.Missing text = value.nothing
+value_as kind.Failure text = value.failure Ref
+value_as kind.Truth text = truth_value text
+value_as kind.Date text = value.iso_time text
+
+-- without a text an item is empty
+abbrev pub item_with : ItemKind → Option (List ℕ) → CellValue
+item_with kind None = value.nothing
+item_with kind (Some text) = value_as kind text
+
+abbrev pub item_by : ItemKind → Result (Option (List ℕ)) AttrFault → Result CellValue Refusal
+item_by kind (Ok text) = Ok (item_with kind text)
+item_by kind (Err fault) = Err (plain (lookup_fault fault))
+
+-- the item of a start, by its text as it is written
+abbrev pub item_of : ItemKind → Tag → Result CellValue Refusal
+item_of kind tag = item_by kind (value_of (codes "v") tag.attributes)

@@ -1,0 +1,39 @@
+-- How the items of a field are taken event by event.
+use Rattle.std.specs.Prelude.{ℕ, suc, ◌-◌, ◌<◌, ◌≤◌, List, [], Result, Ok}
+use Rattle.part_events.specs.Event.{Event, start, end, leaf}
+use Rattle.part_events.specs.Section.{content, outermost_from, is_any}
+use Rattle.cell_data.specs.CellValue.{CellValue}
+use Rattle.xlsx_sections.specs.Answers.{some_answers}
+use Rattle.xlsx_sections.specs.Refusal.{Refusal}
+use Rattle.xlsx_pivot_cache.specs.CacheFields.{item_among, items_in}
+use Rattle.xlsx_pivot_cache.specs.declared.contents.ItemsPlace.{ItemsPlace}
+use Rattle.xlsx_pivot_cache.specs.declared.contents.ItemsPlace.TheVariants.{Before, Within, Behind}
+
+-- the items that are left where so many elements are open in `sharedItems`
+abbrev pub items_left : ℕ → List Event → Result (List CellValue) Refusal
+items_left within events =
+    some_answers item_among (outermost_from is_any within (content within events))
+
+-- the items that these events give from a place on, where so many elements are open
+abbrev pub items_from : ItemsPlace → ℕ → List Event → Result (List CellValue) Refusal
+items_from Before depth events = items_in events
+items_from (Within base) depth events = items_left (depth - base) events
+items_from Behind depth events = Ok []
+
+-- an element that the place stands in is open
+abbrev pub IsWithin : ItemsPlace → ℕ → Type 0
+IsWithin Before depth = Unit {0}
+IsWithin (Within base) depth = base ≤ depth
+IsWithin Behind depth = Unit {0}
+
+-- how many elements were open before an event, behind which so many are
+abbrev pub depth_before : Event → ℕ → ℕ
+depth_before (start tag) depth = depth - 1
+depth_before (end name) depth = suc depth
+depth_before (leaf kind) depth = depth
+
+-- the element of a start is open behind it
+abbrev pub IsOpened : Event → ℕ → Type 0
+IsOpened (start tag) depth = 0 < depth
+IsOpened (end name) depth = Unit {0}
+IsOpened (leaf kind) depth = Unit {0}

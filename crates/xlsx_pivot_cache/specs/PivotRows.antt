@@ -1,0 +1,142 @@
+-- What a cursor over the rows of a cache has left, and what its steps do.
+use Rattle.std.specs.Prelude.{◌≡◌, ℕ, ◌+◌, ◌<◌, ◌≤◌, List, [], ◌∷◌, length, true, Option, Some}
+use Rattle.std.specs.Prelude.{None, option_map, if◌then◌else◌, Result, Ok, Err, MatchResult}
+use Rattle.part_events.specs.Package.{PackageState, SameParts, CountsUp, part_of, event_count}
+use Rattle.part_events.specs.Reading.{Reading, reading, IsReading, MovesForward, SamePart}
+use Rattle.part_events.specs.Reading.{LeavesPart, events_of}
+use Rattle.part_events.specs.Walk.{section_ahead, is_closed_ahead}
+use Rattle.cell_data.specs.CellValue.{CellValue}
+use Rattle.xlsx_error.specs.declared.error.XlsxError.{XlsxError}
+use Rattle.xlsx_error.specs.declared.error.XlsxError.TheVariants.{Io}
+use Rattle.xlsx_sections.specs.Answers.{and_others}
+use Rattle.xlsx_sections.specs.Elements.{KeepsElements, ReachesEnd}
+use Rattle.xlsx_sections.specs.PartSection.{PartSection}
+use Rattle.xlsx_sections.specs.PartSection.{section_in, section_left, inside_of, has_end, last_of}
+use Rattle.xlsx_sections.specs.Refusal.{Refusal}
+use Rattle.xlsx_parts.specs.PartSaid.{ok_or_none, section_said}
+use Rattle.xlsx_pivot_cache.specs.CacheFields.{FieldSaid, fields_kept, fields_at}
+use Rattle.xlsx_pivot_cache.specs.CacheRecords.{rows_in, is_record, records_name}
+use Rattle.xlsx_pivot_cache.specs.CacheRecords.{names_first, cache_rows}
+use Rattle.xlsx_pivot_cache.specs.declared.pivot_cursor.PivotCursor.{PivotCursor}
+use Rattle.xlsx_pivot_cache.specs.declared.pivot_cursor.RecordsPlace.{RecordsPlace}
+use Rattle.xlsx_pivot_cache.specs.declared.pivot_cursor.RecordsPlace.TheVariants.{Before, Within}
+use Rattle.xlsx_pivot_cache.specs.declared.pivot_cursor.RecordsPlace.TheVariants.{Done}
+
+-- the fields, where reading stands in the records, and the reading
+pub record PivotRows : Type 0 where
+  pub fields : List FieldSaid
+  pub place : RecordsPlace
+  pub reading : Reading
+
+abbrev pub pivot_rows : PackageState → PivotCursor → PivotRows
+pivot_rows source rows = record {
+  fields = fields_kept rows.fields.items;
+  place = rows.place;
+  reading = reading source rows.cursor;
+}
+
+-- the rows of the records that are left, where their end is there before the nesting breaks
+abbrev pub records_left : List FieldSaid → ℕ → Reading → Option (List (List CellValue))
+records_left fields base r =
+    if is_closed_ahead base r then ok_or_none (rows_in fields (section_ahead base r)) else None
+
+abbrev pub left_from :
+    RecordsPlace → List FieldSaid → Reading → Option (List (List CellValue))
+left_from Before fields r =
+    names_first fields (section_said records_name (rows_in fields) (events_of r))
+left_from (Within base) fields r = records_left fields base r
+left_from Done fields r = Some []
+
+-- The rows that are left. Behind the end of the records and behind a refusal there are none; they
+-- can't be said where one of them is refused.
+abbrev pub rows_left : PivotRows → Option (List (List CellValue))
+rows_left rows = left_from rows.place rows.fields rows.reading
+
+-- What is left of a section of records, as this section is that of the part: a refusal there is one
+-- of the section.
+pub record IsLeftOf (fields : List FieldSaid) (base : ℕ) (r : Reading) (s : PartSection) : Type 0
+  where
+    pub there : section_in records_name (events_of r) ≡ Some s
+    pub closed : has_end s ≡ is_closed_ahead base r
+    pub last : last_of s ≡ last_of (section_left base r)
+    pub refused :
+        (refusal : Refusal) → rows_in fields (section_ahead base r) ≡ Err refusal →
+        rows_in fields (inside_of s) ≡ Err refusal
+
+-- reading stands in the records of its part, and may go on
+pub record IsInRecords (fields : List FieldSaid) (base : ℕ) (r : Reading) : Type 0 where
+  pub reading : IsReading r
+  pub within : base ≤ length r.names
+  pub left : r.source.is_told ≡ true → (s : PartSection) × IsLeftOf fields base r s
+
+abbrev pub StandsAt : RecordsPlace → List FieldSaid → Reading → Type 0
+StandsAt Before fields r = IsReading r × (r.at ≡ 0)
+StandsAt (Within base) fields r = IsInRecords fields base r
+StandsAt Done fields r = Unit {0}
+
+-- it may be asked for the next row
+abbrev pub IsAtRecords : PivotRows → Type 0
+IsAtRecords rows = StandsAt rows.place rows.fields rows.reading
+
+-- it is behind the end of the records, or behind a refusal
+abbrev pub IsDone : PivotRows → Type 0
+IsDone rows = rows.place ≡ Done
+
+-- the same part was read on, or nothing was read
+pub record KeepsPart (old new : Reading) : Type 0 where
+  pub moves : MovesForward old new
+  pub faults : new.source.faults ≡ old.source.faults
+  pub part : SamePart old new
+
+-- what a step keeps, by its answer
+abbrev pub ReadsRow : {A : Type 0} → Option (Result A XlsxError) → Reading → Reading → Type 0
+ReadsRow None old new = KeepsPart old new
+ReadsRow (Some result) old new =
+    MatchResult result (λ _. KeepsPart old new) (LeavesPart Io old new)
+
+-- the next row was taken of those that were left
+abbrev pub TakesRow : List CellValue → PivotRows → PivotRows → Type 0
+TakesRow row old new =
+    old.reading.source.is_told ≡ true →
+    rows_left old ≡ option_map (λ (rows : List (List CellValue)). row ∷ rows) (rows_left new)
+
+-- the package gives fewer events then
+abbrev pub IsFewer : Reading → Reading → Type 0
+IsFewer old new = new.source.left < old.source.left
+
+-- a record was read, and this is its row
+pub record TakesRecord
+    (fields : List FieldSaid) (base : ℕ) (row : List CellValue) (old new : Reading) : Type 0 where
+  pub keeps : KeepsElements is_record base old new
+  pub rows :
+      old.source.is_told ≡ true →
+      rows_in fields (section_ahead base old)
+      ≡ and_others (Ok row) (rows_in fields (section_ahead base new))
+
+-- none is left, and the end of the records was taken
+pub record EndsRecords (fields : List FieldSaid) (base : ℕ) (old new : Reading) : Type 0 where
+  pub rows : rows_in fields (section_ahead base old) ≡ Ok []
+  pub reaches : ReachesEnd base old new
+
+-- The fields of a cache are these, whose definitions are the part at the first path, and the part
+-- of its records, at the second one, is open.
+pub record IsOfCache (definitions records : List ℕ) (old : PackageState) (now : PivotRows) : Type 0
+  where
+    pub parts : SameParts old now.reading.source
+    pub faults : now.reading.source.faults ≡ old.faults
+    pub fields : old.is_told ≡ true → fields_at old.parts definitions ≡ Some now.fields
+    pub part : old.is_told ≡ true → part_of old.parts records ≡ Some (events_of now.reading)
+
+-- the fields of a cache were read, and the part of its records opened, of which nothing was taken
+pub record OpensRows (definitions records : List ℕ) (old : PackageState) (new : PivotRows) : Type 0
+  where
+    pub at : IsAtRecords new
+    pub cache : IsOfCache definitions records old new
+    pub begins :
+        old.is_told ≡ true →
+        CountsUp (event_count old.parts definitions) old.taken new.reading.source.taken
+    pub taken :
+        old.is_told ≡ true →
+        new.reading.source.taken + length new.reading.source.rest
+        ≤ old.taken + event_count old.parts definitions + event_count old.parts records
+    pub rows : old.is_told ≡ true → rows_left new ≡ cache_rows old.parts definitions records

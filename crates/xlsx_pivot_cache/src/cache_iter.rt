@@ -1,0 +1,77 @@
+ghost use Rattle.std.specs.Prelude.{◌≡◌};
+
+use crate::pivot_cursor::PivotCursor;
+use cell_data::Data;
+use part_events::Package;
+use std::alloc::Global;
+use xlsx_error::XlsxError;
+
+/// The rows of a pivot table's cache, one at a time (ECMA-376 part 1, section 18.10.1.69): the names
+/// of its fields first, and then a row for each record. After a refusal it gives None.
+///
+/// What it keeps beside the package is a type parameter, so that a caller knows what became of the
+/// package once the iterator is gone. A caller who has to know what became of the package where a
+/// cache can't be opened calls `PivotCursor::open`.
+pub struct PivotCacheIter<'a, P: Package, C: Drop = PivotCursor> {
+    package: &'a mut P,
+    rows: C,
+}
+
+impl<P: Package, C: Drop> Drop for PivotCacheIter<'_, P, C> {
+    fn drop(self)
+        ensures { self.exit.0.now ≡ self.entry.package.now }
+    {
+        let PivotCacheIter {
+            package: _,
+            rows: _,
+        } = self;
+    }
+}
+
+impl<'a, P: Package> PivotCacheIter<'a, P> {
+    ghost use Rattle.std.specs.Prelude.{IfOk, IfErr};
+    ghost use Rattle.part_events.specs.Lending.{LentFails};
+    ghost use Rattle.xlsx_error.specs.declared.error.XlsxError.TheVariants.{Io};
+    ghost use Rattle.xlsx_pivot_cache.specs.CacheErrors.{IsCacheFieldsError};
+    ghost use Rattle.xlsx_pivot_cache.specs.CacheIter.{rows_by, reference_of, OpenCacheFails};
+    ghost use Rattle.xlsx_pivot_cache.specs.PivotRows.{OpensRows};
+
+    /// Reads the fields of a cache, whose definitions are the part at the first path, and opens the
+    /// part of its records at the second one, as `PivotCursor::open` does, and fails as that does.
+    pub fn open(
+        alloc: Global,
+        package: &'a mut P,
+        definitions: &str,
+        records: &str,
+    ) -> Result<PivotCacheIter<'a, P>, XlsxError>
+        ensures same_reference { IfOk result (λ rows.
+            reference_of rows ≡ «package».entry.ghost_name) }
+        ensures opens { IfOk result (λ rows. OpensRows definitions.now records.now
+            (P.state «package».old) (rows_by P.state rows)) }
+        ensures err { IfErr result
+            (OpenCacheFails definitions.now records.now (P.state «package».old)) }
+        ensures fault { IfErr result (LentFails Io P.state (P.state «package».old)) }
+        ensures kind { IfErr result IsCacheFieldsError }
+    {
+        let rows = PivotCursor::open(alloc, package, definitions, records)?;
+        Ok(PivotCacheIter { package, rows })
+    }
+}
+
+impl<'a, P: Package> Iterator for PivotCacheIter<'a, P> {
+    ghost use Rattle.xlsx_pivot_cache.specs.CacheIter.{rows_by, reference_of, rows_count, GivesRow};
+    ghost use Rattle.xlsx_pivot_cache.specs.PivotRows.{IsAtRecords};
+
+    type Item = Result<Vec<Data>, XlsxError>;
+
+    ghost can_next = { λ s. IsAtRecords (rows_by P.state s) };
+
+    ghost next_gives = { λ s result t. (reference_of t ≡ reference_of s)
+        × GivesRow result (rows_by P.state s) (rows_by P.state t) };
+
+    ghost remaining = { λ s. rows_count (rows_by P.state s) };
+
+    fn next(&mut self) -> Option<Result<Vec<Data>, XlsxError>> {
+        self.rows.next(self.package)
+    }
+}

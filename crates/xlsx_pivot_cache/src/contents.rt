@@ -1,0 +1,211 @@
+ghost use Rattle.std.specs.Prelude.{◌≡◌, ◌||◌, ◌≤◌, ◌<◌, ◌-◌, ℕ, suc, List, [], ◌∷◌, length};
+ghost use Rattle.std.specs.Prelude.{map, true, false, Ok, Result, codes, IfOk, OnOk, IfErr};
+ghost use Rattle.part_events.specs.Event.{Event, start, end, tag_of, event_of};
+ghost use Rattle.part_events.specs.Reading.{reading, open_elements, IsReading, ReadsPart};
+ghost use Rattle.part_events.specs.Walk.{section_ahead};
+ghost use Rattle.cell_data.specs.CellValue.{CellValue, value_of_data};
+ghost use Rattle.xlsx_error.specs.declared.error.XlsxError.TheVariants.{Io};
+ghost use Rattle.xlsx_sections.specs.Answers.{prepended, and_others_if};
+ghost use Rattle.xlsx_sections.specs.Elements.{IsInsideRefused, ReachesEnd};
+ghost use Rattle.xlsx_sections.specs.PartSection.{always, SectionFails};
+ghost use Rattle.xlsx_sections.specs.Refusal.{Refusal, ElementFails};
+ghost use Rattle.xlsx_pivot_cache.specs.CacheErrors.{IsItemError, IsFieldsError};
+ghost use Rattle.xlsx_pivot_cache.specs.CacheFields.{item_said, is_shared, is_group, items_in};
+ghost use Rattle.xlsx_pivot_cache.specs.CacheFields.{groups_items};
+ghost use Rattle.xlsx_pivot_cache.specs.FieldEvents.{items_from, IsWithin, depth_before, IsOpened};
+ghost use Rattle.xlsx_pivot_cache.specs.declared.contents.ItemsPlace.TheVariants.{Before};
+
+use crate::item::{item_kind, item_of};
+use cell_data::Data;
+use part_events::{Cursor, Package, PartEvent, StartTag};
+use std::alloc::Global;
+use xlsx_error::XlsxError;
+use xlsx_sections::next_event_in;
+
+/// Where reading stands in a field.
+#[derive(Clone, Copy, Debug)]
+pub enum ItemsPlace {
+    /// Before its first `sharedItems`.
+    Before,
+    /// In it: the element is number this of the open ones, counted from 1.
+    Within(usize),
+    Behind,
+}
+
+/// What was read of a field.
+#[derive(Debug, Drop)]
+pub struct FieldContents {
+    /// The items of the first `sharedItems`, in order.
+    pub items: Vec<Data>,
+    /// Whether there was a `groupItems`.
+    pub groups: bool,
+    place: ItemsPlace,
+}
+
+/// Appends the item of a start, if the element is one.
+fn push_item(alloc: Global, items: &mut Vec<Data>, tag: StartTag<'_>) -> Result<(), XlsxError>
+    ensures ok { OnOk result ((others : Result (List CellValue) Refusal) →
+        prepended (map value_of_data items.new.items) others
+        ≡ prepended (map value_of_data items.old.items)
+        (and_others_if (item_said (tag_of tag.entry)) others)) }
+    ensures err { IfErr result (λ error. (at behind : ℕ) →
+        ElementFails (item_said (tag_of tag.entry)) at behind error) }
+    ensures kind { IfErr result IsItemError }
+{
+    if let Some(kind) = item_kind(tag) {
+        items.push(item_of(alloc, kind, tag)?)?;
+    }
+    Ok(())
+}
+
+fn is_shared(tag: StartTag<'_>) -> bool
+    ensures { result ≡ is_shared (tag_of tag.entry) }
+{
+    tag.local_name() == "sharedItems"
+}
+
+fn is_group(tag: StartTag<'_>) -> bool
+    ensures { result ≡ is_group (tag_of tag.entry) }
+{
+    tag.local_name() == "groupItems"
+}
+
+impl ItemsPlace {
+    /// The place behind an end, where so many elements are open.
+    fn behind_end(self, depth: usize) -> ItemsPlace
+        requires { IsWithin self (suc depth) }
+        ensures within { IsWithin result depth }
+        ensures items { (name : List ℕ) (events : List Event) → items_from result depth events
+            ≡ items_from self (suc depth) (end name ∷ events) }
+    {
+        match self {
+            ItemsPlace::Within(base) if depth < base => ItemsPlace::Behind,
+            place => place,
+        }
+    }
+}
+
+impl FieldContents {
+    /// Nothing was read of a field.
+    fn new(alloc: Global) -> FieldContents
+        ensures items { result.items.items ≡ [] }
+        ensures groups { result.groups ≡ false }
+        ensures place { result.place ≡ Before }
+    {
+        FieldContents {
+            items: Vec::new(alloc),
+            groups: false,
+            place: ItemsPlace::Before,
+        }
+    }
+
+    /// Takes a start for its item, behind which so many elements are open.
+    fn take_start(
+        &mut self,
+        alloc: Global,
+        tag: StartTag<'_>,
+        depth: usize,
+    ) -> Result<(), XlsxError>
+        requires opened { 0 < depth }
+        requires within { IsWithin self.old.place (depth - 1) }
+        ensures within { OnOk result (IsWithin self.new.place depth) }
+        ensures items { OnOk result ((events : List Event) →
+            prepended (map value_of_data self.new.items.items)
+            (items_from self.new.place depth events)
+            ≡ prepended (map value_of_data self.old.items.items)
+            (items_from self.old.place (depth - 1) (start (tag_of tag.entry) ∷ events))) }
+        ensures groups { self.new.groups ≡ self.old.groups }
+        ensures err { IfErr result (λ error. (at behind : ℕ) (events : List Event) →
+            ElementFails
+            (items_from self.old.place (depth - 1) (start (tag_of tag.entry) ∷ events))
+            at behind error) }
+        ensures kind { IfErr result IsItemError }
+    {
+        match self.place {
+            ItemsPlace::Before if is_shared(tag) => {
+                self.place = ItemsPlace::Within(depth);
+                Ok(())
+            }
+            ItemsPlace::Within(base) if depth - base == 1 => push_item(alloc, &mut self.items, tag),
+            _ => Ok(()),
+        }
+    }
+
+    /// Takes an event of the field, behind which so many elements are open.
+    fn take_event(
+        &mut self,
+        alloc: Global,
+        event: PartEvent<'_>,
+        depth: usize,
+    ) -> Result<(), XlsxError>
+        requires opened { IsOpened (event_of event) depth }
+        requires within { IsWithin self.old.place (depth_before (event_of event) depth) }
+        ensures within { OnOk result (IsWithin self.new.place depth) }
+        ensures items { let event = event_of event.entry in
+            OnOk result ((events : List Event) →
+            prepended (map value_of_data self.new.items.items)
+            (items_from self.new.place depth events)
+            ≡ prepended (map value_of_data self.old.items.items)
+            (items_from self.old.place (depth_before event depth) (event ∷ events))) }
+        ensures groups { let event = event_of event.entry in
+            OnOk result ((events : List Event) → (self.new.groups || groups_items events)
+            ≡ (self.old.groups || groups_items (event ∷ events))) }
+        ensures err { let event = event_of event.entry in
+            IfErr result (λ error. (at behind : ℕ) (events : List Event) → ElementFails
+            (items_from self.old.place (depth_before event depth) (event ∷ events))
+            at behind error) }
+        ensures kind { IfErr result IsItemError }
+    {
+        match event {
+            PartEvent::Start(tag) => {
+                self.groups = self.groups || is_group(tag);
+                self.take_start(alloc, tag, depth)
+            }
+            PartEvent::End(_) => {
+                self.place = self.place.behind_end(depth);
+                Ok(())
+            }
+            PartEvent::Text(_)
+            | PartEvent::CharData(_)
+            | PartEvent::EntityRef(_)
+            | PartEvent::Other => Ok(()),
+        }
+    }
+}
+
+/// What is in a field, whose element is number `base` of the open ones, counted from 1, behind
+/// whose start reading stands.
+#[tactic(auto, using(crate::proofs::CacheErrors::fields_step, crate::proofs::CacheErrors::item_error))]
+pub(crate) fn contents_in<P: Package>(
+    alloc: Global,
+    package: &mut P,
+    cursor: &mut Cursor,
+    base: usize,
+) -> Result<FieldContents, XlsxError>
+    requires reading { IsReading (reading (P.state «package».old) cursor.old) }
+    requires within { base ≤ length (open_elements cursor.old) }
+    ensures reads { let old = reading (P.state «package».old) cursor.old in
+        let new = reading (P.state «package».new) cursor.new in
+        ReadsPart Io result old new }
+    ensures depth { OnOk result (suc (length (open_elements cursor.new)) ≡ base) }
+    ensures reaches { let old = reading (P.state «package».old) cursor.old in
+        let new = reading (P.state «package».new) cursor.new in
+        old.source.is_told ≡ true → OnOk result (ReachesEnd base old new) }
+    ensures items { let old = reading (P.state «package».old) cursor.old in
+        old.source.is_told ≡ true → IfOk result (λ contents.
+        items_in (section_ahead base old) ≡ Ok (map value_of_data contents.items.items)) }
+    ensures groups { let old = reading (P.state «package».old) cursor.old in
+        old.source.is_told ≡ true →
+        IfOk result (λ contents. groups_items (section_ahead base old) ≡ contents.groups) }
+    ensures err { let old = reading (P.state «package».old) cursor.old in
+        let new = reading (P.state «package».new) cursor.new in
+        IfErr result (SectionFails (always (codes "cacheField")) (IsInsideRefused items_in) base
+        old new) }
+    ensures kind { IfErr result IsFieldsError }
+{
+    let mut contents = FieldContents::new(alloc);
+    'events: while let Some(_at) = next_event_in(package, cursor, base, "cacheField")? {
+        contents.take_event(alloc, package.event(), cursor.depth())?;
+    }
+    Ok(contents)
+}

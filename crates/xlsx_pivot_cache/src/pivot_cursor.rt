@@ -1,0 +1,194 @@
+ghost use Rattle.std.specs.Prelude.{◌≡◌, ◌<◌, [], true, Some, None, IfOk, IfErr, OnOk, OnErr};
+ghost use Rattle.std.specs.Prelude.{IfSome, IfNone};
+ghost use Rattle.part_events.specs.Package.{LeavesPackage, event_count};
+ghost use Rattle.part_events.specs.Reading.{ReadsPart, events_of};
+ghost use Rattle.xlsx_error.specs.declared.error.XlsxError.TheVariants.{Io};
+ghost use Rattle.xlsx_sections.specs.Failing.{FailsBy};
+ghost use Rattle.xlsx_pivot_cache.specs.CacheErrors.{IsRowError, IsCacheFieldsError};
+ghost use Rattle.xlsx_pivot_cache.specs.CacheRecords.{row_kept, RowsCause, OpenRowsCause};
+ghost use Rattle.xlsx_pivot_cache.specs.PivotRows.{pivot_rows, rows_left, IsAtRecords, IsDone};
+ghost use Rattle.xlsx_pivot_cache.specs.PivotRows.{ReadsRow, TakesRow, OpensRows, IsFewer};
+ghost use Rattle.xlsx_pivot_cache.specs.declared.pivot_cursor.RecordsPlace.TheVariants.{Before};
+ghost use Rattle.xlsx_pivot_cache.specs.declared.pivot_cursor.RecordsPlace.TheVariants.{Within};
+
+use crate::field::CacheField;
+use crate::fields::read_fields;
+use crate::rows::{names_row, next_record};
+use cell_data::Data;
+use part_events::{Cursor, Package};
+use std::alloc::Global;
+use xlsx_error::XlsxError;
+use xlsx_parts::{find_element, open_part};
+
+/// Where reading stands in the records of a cache.
+#[derive(Clone, Copy, Debug)]
+pub enum RecordsPlace {
+    /// Before their start: nothing was taken of their part.
+    Before,
+    /// In them: their element is number this of the open ones, counted from 1.
+    Within(usize),
+    /// Behind their end, or behind a refusal.
+    Done,
+}
+
+/// The rows of a pivot table's cache, and where reading stands in its records (ECMA-376 part 1,
+/// section 18.10.1.69): the names of the fields first, and then a row for each record.
+#[derive(Debug, Drop)]
+pub struct PivotCursor {
+    fields: Vec<CacheField>,
+    place: RecordsPlace,
+    cursor: Cursor,
+}
+
+impl PivotCursor {
+    /// Reads the fields of a cache, whose definitions are the part at the first path, and opens the
+    /// part of its records at the second one, of which nothing is taken.
+    ///
+    /// The fields are refused as by `read_fields`. A part of records that is absent is
+    /// `FileNotFound` of its path.
+    pub fn open<P: Package>(
+        alloc: Global,
+        package: &mut P,
+        definitions: &str,
+        records: &str,
+    ) -> Result<PivotCursor, XlsxError>
+        ensures opens { let old = P.state «package».old in
+            IfOk result (λ rows.
+            OpensRows definitions.now records.now old (pivot_rows (P.state «package».new) rows)) }
+        ensures leaves { let old = P.state «package».old in
+            let new = P.state «package».new in
+            IfErr result (LeavesPackage (event_count old.parts definitions.now) Io old new) }
+        ensures err { let old = P.state «package».old in
+            let cause = OpenRowsCause old.parts definitions.now records.now in
+            IfErr result (FailsBy cause old (P.state «package».new)) }
+        ensures kind { IfErr result IsCacheFieldsError }
+    {
+        let fields = read_fields(alloc, package, definitions)?;
+        let Some(cursor) = open_part(alloc, package, records)? else {
+            return Err(XlsxError::FileNotFound(String::from_str(alloc, records)?));
+        };
+        Ok(PivotCursor {
+            fields,
+            place: RecordsPlace::Before,
+            cursor,
+        })
+    }
+
+    /// Reads on behind the start of the records, and gives the row of the names.
+    fn take_names<P: Package>(&mut self, package: &mut P) -> Result<Vec<Data>, XlsxError>
+        requires at { IsAtRecords (pivot_rows (P.state «package».old) self.old) }
+        requires place { self.old.place ≡ Before }
+        ensures at { IsAtRecords (pivot_rows (P.state «package».new) self.new) }
+        ensures fields { self.new.fields ≡ self.old.fields }
+        ensures reads { let old = pivot_rows (P.state «package».old) self.old in
+            let new = pivot_rows (P.state «package».new) self.new in
+            ReadsPart Io result old.reading new.reading }
+        ensures row { let old = pivot_rows (P.state «package».old) self.old in
+            let new = pivot_rows (P.state «package».new) self.new in
+            IfOk result (λ row. TakesRow (row_kept row.items) old new) }
+        ensures step { let old = pivot_rows (P.state «package».old) self.old in
+            let new = pivot_rows (P.state «package».new) self.new in
+            OnOk result (IsFewer old.reading new.reading) }
+        ensures done { OnErr result (IsDone (pivot_rows (P.state «package».new) self.new)) }
+        ensures err { let old = pivot_rows (P.state «package».old) self.old in
+            IfErr result (FailsBy (RowsCause old.fields (events_of old.reading))
+            old.reading.source (P.state «package».new)) }
+        ensures kind { IfErr result IsRowError }
+    {
+        // Each refusal leaves it so.
+        self.place = RecordsPlace::Done;
+        let names = names_row(self.cursor.alloc(), &self.fields)?;
+        let Some(_at) = find_element(package, &mut self.cursor, "pivotCacheRecords")? else {
+            return Err(XlsxError::XmlEof("pivotCacheRecords"));
+        };
+        self.place = RecordsPlace::Within(self.cursor.depth());
+        Ok(names)
+    }
+
+    /// Gives the row of the next record, whose section is number `base` of the open elements. None
+    /// at the section's end.
+    fn take_record<P: Package>(
+        &mut self,
+        package: &mut P,
+        base: usize,
+    ) -> Result<Option<Vec<Data>>, XlsxError>
+        requires at { IsAtRecords (pivot_rows (P.state «package».old) self.old) }
+        requires place { self.old.place ≡ Within base }
+        ensures at { IsAtRecords (pivot_rows (P.state «package».new) self.new) }
+        ensures fields { self.new.fields ≡ self.old.fields }
+        ensures reads { let old = pivot_rows (P.state «package».old) self.old in
+            let new = pivot_rows (P.state «package».new) self.new in
+            ReadsPart Io result old.reading new.reading }
+        ensures row { let old = pivot_rows (P.state «package».old) self.old in
+            let new = pivot_rows (P.state «package».new) self.new in
+            IfOk result (λ found. IfSome found (λ row. TakesRow (row_kept row.items) old new)) }
+        ensures step { let old = pivot_rows (P.state «package».old) self.old in
+            let new = pivot_rows (P.state «package».new) self.new in
+            IfOk result (λ found. IfSome found (λ row. IsFewer old.reading new.reading)) }
+        ensures none { let old = pivot_rows (P.state «package».old) self.old in
+            old.reading.source.is_told ≡ true →
+            IfOk result (λ found. IfNone found (rows_left old ≡ Some [])) }
+        ensures ended { IfOk result (λ found.
+            IfNone found (IsDone (pivot_rows (P.state «package».new) self.new))) }
+        ensures done { OnErr result (IsDone (pivot_rows (P.state «package».new) self.new)) }
+        ensures err { let old = pivot_rows (P.state «package».old) self.old in
+            IfErr result (FailsBy (RowsCause old.fields (events_of old.reading))
+            old.reading.source (P.state «package».new)) }
+        ensures kind { IfErr result IsRowError }
+    {
+        self.place = RecordsPlace::Done;
+        let alloc = self.cursor.alloc();
+        let row = next_record(alloc, package, &mut self.cursor, base, &self.fields)?;
+        if row.is_some() {
+            self.place = RecordsPlace::Within(base);
+        }
+        Ok(row)
+    }
+
+    /// Gives the next row: that of the names of the fields, as texts, and then a row for each
+    /// outermost `r` of the first `pivotCacheRecords`, made from its children. An `x` with `v` is
+    /// the item of this number, counted from 0, of the field at its place, and without `v` it is
+    /// empty. The elements `s`, `n`, `m`, `e`, `b` and `d` are items themselves, and others take no
+    /// place. None behind the end of the records, and behind a refusal, where nothing is read.
+    ///
+    /// A part without that section, and one that ends in it, is `XmlEof("pivotCacheRecords")`. An
+    /// end that breaks the nesting is `Xml(EndMismatch)` with its number in the part, counted from
+    /// 0. Attributes that end in a fault and have no `v` are `XmlAttr`. A `v` of an `x` that is no
+    /// number of 64 bits, one where no field stands, and one past the items of its field is
+    /// `Unexpected` of the text that says so.
+    pub fn next<P: Package>(&mut self, package: &mut P) -> Option<Result<Vec<Data>, XlsxError>>
+        requires { IsAtRecords (pivot_rows (P.state «package».old) self.old) }
+        ensures at { IsAtRecords (pivot_rows (P.state «package».new) self.new) }
+        ensures fields { self.new.fields ≡ self.old.fields }
+        ensures reads { let old = pivot_rows (P.state «package».old) self.old in
+            let new = pivot_rows (P.state «package».new) self.new in
+            ReadsRow result old.reading new.reading }
+        ensures row { let old = pivot_rows (P.state «package».old) self.old in
+            let new = pivot_rows (P.state «package».new) self.new in
+            IfSome result (λ next. IfOk next (λ row. TakesRow (row_kept row.items) old new)) }
+        ensures step { IfSome result (λ next.
+            OnOk next ((P.state «package».new).left < (P.state «package».old).left)) }
+        ensures none { let old = pivot_rows (P.state «package».old) self.old in
+            old.reading.source.is_told ≡ true → IfNone result (rows_left old ≡ Some []) }
+        ensures ended { IfNone result (IsDone (pivot_rows (P.state «package».new) self.new)) }
+        ensures done { IfSome result (λ next.
+            OnErr next (IsDone (pivot_rows (P.state «package».new) self.new))) }
+        ensures rests { let old = pivot_rows (P.state «package».old) self.old in
+            IsDone old → (result ≡ None) × (pivot_rows (P.state «package».new) self.new ≡ old) }
+        ensures err { let old = pivot_rows (P.state «package».old) self.old in
+            IfSome result (λ next. IfErr next
+            (FailsBy (RowsCause old.fields (events_of old.reading)) old.reading.source
+            (P.state «package».new))) }
+        ensures kind { IfSome result (λ next. IfErr next IsRowError) }
+    {
+        match self.place {
+            RecordsPlace::Before => Some(self.take_names(package)),
+            RecordsPlace::Within(base) => match self.take_record(package, base) {
+                Ok(Some(row)) => Some(Ok(row)),
+                Ok(None) => None,
+                Err(error) => Some(Err(error)),
+            },
+            RecordsPlace::Done => None,
+        }
+    }
+}

@@ -1,0 +1,68 @@
+ghost use Rattle.std.specs.Prelude.{◌≡◌, ◌≤◌, length, true, IfOk, IfErr, IfSome};
+ghost use Rattle.std.specs.Prelude.{MatchOption};
+ghost use Rattle.part_events.specs.Reading.{reading, open_elements, IsReading, ReadsPart};
+ghost use Rattle.xlsx_error.specs.declared.error.XlsxError.TheVariants.{Io};
+ghost use Rattle.xlsx_sections.specs.Elements.{IsInsideRefused};
+ghost use Rattle.xlsx_sections.specs.PartSection.{always, SectionFails};
+ghost use Rattle.xlsx_pivot_cache.specs.CacheErrors.{IsRowError};
+ghost use Rattle.xlsx_pivot_cache.specs.CacheFields.{fields_kept};
+ghost use Rattle.xlsx_pivot_cache.specs.CacheRecords.{names_row, row_kept, rows_in, records_name};
+ghost use Rattle.xlsx_pivot_cache.specs.PivotRows.{TakesRecord, EndsRecords, IsFewer};
+
+use crate::field::CacheField;
+use crate::record::read_record;
+use cell_data::Data;
+use part_events::{Cursor, Package};
+use std::alloc::{AllocError, Global};
+use xlsx_error::XlsxError;
+use xlsx_sections::next_element_in;
+
+/// The row of the names of fields.
+pub(crate) fn names_row(alloc: Global, fields: &[CacheField]) -> Result<Vec<Data>, AllocError>
+    ensures { IfOk result (λ row. row_kept row.items ≡ names_row (fields_kept fields.now)) }
+{
+    let mut row = Vec::new(alloc);
+    for field in fields {
+        row.push(Data::String(String::from_str(alloc, &field.name)?))?;
+    }
+    Ok(row)
+}
+
+/// Reads the next record of a section of records, whose element is number `base` of the open ones,
+/// counted from 1, to its end. None at the section's end.
+#[tactic(auto, using(crate::proofs::CacheErrors::row_step))]
+pub(crate) fn next_record<P: Package>(
+    alloc: Global,
+    package: &mut P,
+    cursor: &mut Cursor,
+    base: usize,
+    fields: &[CacheField],
+) -> Result<Option<Vec<Data>>, XlsxError>
+    requires reading { IsReading (reading (P.state «package».old) cursor.old) }
+    requires within { base ≤ length (open_elements cursor.old) }
+    ensures reads { let old = reading (P.state «package».old) cursor.old in
+        let new = reading (P.state «package».new) cursor.new in
+        ReadsPart Io result old new }
+    ensures within { IfOk result (λ found.
+        MatchOption found (Unit {0}) (λ row. base ≤ length (open_elements cursor.new))) }
+    ensures row { let old = reading (P.state «package».old) cursor.old in
+        let new = reading (P.state «package».new) cursor.new in
+        let said = fields_kept fields.now in
+        IfOk result (λ found. MatchOption found
+        (old.source.is_told ≡ true → EndsRecords said base old new)
+        (λ row. TakesRecord said base (row_kept row.items) old new)) }
+    ensures step { let old = reading (P.state «package».old) cursor.old in
+        let new = reading (P.state «package».new) cursor.new in
+        IfOk result (λ found. IfSome found (λ row. IsFewer old new)) }
+    ensures err { let old = reading (P.state «package».old) cursor.old in
+        let new = reading (P.state «package».new) cursor.new in
+        let refused = IsInsideRefused (rows_in (fields_kept fields.now)) in
+        IfErr result (SectionFails (always records_name) refused base old new) }
+    ensures kind { IfErr result IsRowError }
+{
+    let Some(_at) = next_element_in(package, cursor, base, &["r"], "pivotCacheRecords")? else {
+        return Ok(None);
+    };
+    let row = read_record(alloc, package, cursor, fields)?;
+    Ok(Some(row))
+}
