@@ -6,8 +6,8 @@
 //! is an empty first field, and `=` alone any other that is empty.
 #![tactic(auto)]
 
-use std::process::Abort;
 use std::str::Split;
+use std::test::Fail;
 
 /// The cases of a table. The line end at the start of the table and that at its end belong to none.
 pub fn cases(table: &str) -> Split<'_, &'static str> {
@@ -25,6 +25,9 @@ pub fn cut(case: &str) -> (&str, &str) {
 }
 
 /// What was found is what a case wants. Otherwise the test fails and tells the case.
-pub fn assert_text(rt: &impl Abort, found: &str, wanted: &str, case: &str) {
-    assert!(rt; found == wanted, "{case}: {found} in place of {wanted}");
+pub fn assert_text(found: &str, wanted: &str, case: &str) -> Result<(), Fail> {
+    if found == wanted {
+        return Ok(());
+    }
+    Err(Fail::new(format_args!("{case}: {found} in place of {wanted}")))
 }

@@ -3,7 +3,6 @@
 use crate::opening::opened;
 use part_events::{FailingPackage, MemoryPackage, Package};
 use std::alloc::Global;
-use std::process::Abort;
 use std::test::Fail;
 use test_packages::{Part, RELATIONSHIPS, ROOT, SHEET_NAME, WORKBOOK, WORKBOOK_NAME, package_of};
 use test_tables::{assert_text, cases, cut};
@@ -222,12 +221,12 @@ const ESCAPES: (&str, &str) = (
 );
 
 /// The links of a sheet are those that are wanted, by its name and by its index.
-fn assert_links(rt: &impl Abort, alloc: Global, sheet: &str, links: &str) -> Result<(), Fail> {
+fn assert_links(alloc: Global, sheet: &str, links: &str) -> Result<(), Fail> {
     let mut xlsx = opened(alloc, linked(alloc, sheet, ONE_TARGET)?)?;
     let told = links_told(alloc, &mut xlsx, "S")?;
-    assert_text(rt, &told, links, sheet);
+    assert_text(&told, links, sheet)?;
     let told = numbered_told(alloc, &mut xlsx, 0)?;
-    assert_text(rt, &told, links, sheet);
+    assert_text(&told, links, sheet)?;
     Ok(())
 }
 
@@ -236,9 +235,9 @@ fn links_are_read_and_refused(rt: HostRuntime) -> Result<(), Fail> {
     let alloc = rt.alloc();
     for case in cases(SHEET_CASES) {
         let (sheet, links) = cut(case);
-        assert_links(&rt, alloc, sheet, links)?;
+        assert_links(alloc, sheet, links)?;
     }
-    assert_links(&rt, alloc, ESCAPES.0, ESCAPES.1)
+    assert_links(alloc, ESCAPES.0, ESCAPES.1)
 }
 
 /// A link whose Id is `a`, and one whose Id is empty.
@@ -339,12 +338,12 @@ fn targets_are_read_and_refused(rt: HostRuntime) -> Result<(), Fail> {
         let (beside, links) = cut(case);
         let mut xlsx = opened(alloc, linked(alloc, TWO_LINKS, beside)?)?;
         let told = links_told(alloc, &mut xlsx, "S")?;
-        assert_text(&rt, &told, links, beside);
+        assert_text(&told, links, beside)?;
     }
     let parts = [ROOT, RELATIONSHIPS, WORKBOOK, (SHEET_NAME, TWO_LINKS)];
     let mut xlsx = opened(alloc, package_of(alloc, &parts)?)?;
     let told = links_told(alloc, &mut xlsx, "S")?;
-    assert_text(&rt, &told, NOWHERE, "without relationships");
+    assert_text(&told, NOWHERE, "without relationships")?;
     Ok(())
 }
 
@@ -389,7 +388,7 @@ fn targets_are_looked_for_beside_the_part(rt: HostRuntime) -> Result<(), Fail> {
         let package = package_by(alloc, related, (path, TWO_LINKS), (beside, ONE_TARGET))?;
         let mut xlsx = opened(alloc, package)?;
         let told = links_told(alloc, &mut xlsx, "S")?;
-        assert_text(&rt, &told, TO_T, target);
+        assert_text(&told, TO_T, target)?;
     }
     Ok(())
 }
@@ -433,7 +432,7 @@ fn links_go_by_the_names_of_sheets(rt: HostRuntime) -> Result<(), Fail> {
         ("Z", "WorksheetNotFound(\"Z\")"),
     ] {
         let told = links_told(alloc, &mut xlsx, name)?;
-        assert_text(&rt, &told, links, name);
+        assert_text(&told, links, name)?;
     }
     Ok(())
 }
@@ -460,7 +459,7 @@ fn links_have_areas_and_copies(rt: HostRuntime) -> Result<(), Fail> {
     let parts = [ROOT, RELATIONSHIPS, WORKBOOK, LINKS, LINKS_BESIDE];
     let mut xlsx = opened(alloc, package_of(alloc, &parts)?)?;
     let told = numbered_told(alloc, &mut xlsx, 0)?;
-    assert_text(&rt, &told, BOTH, "by index");
+    assert_text(&told, BOTH, "by index")?;
     let links = xlsx.hyperlinks_by_sheet_name("S")?;
     let [outside, inside] = links.as_slice() else {
         return Err(Fail::new("there are two links"));

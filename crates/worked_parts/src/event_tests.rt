@@ -269,7 +269,7 @@ fn each_refusal_has_its_text(rt: HostRuntime) -> Result<(), Fail> {
     for error in [StreamError::Io, StreamError::OutOfMemory] {
         write!(told, "{error};")?;
     }
-    assert_text(&rt, &told, TEXTS, "each refusal");
+    assert_text(&told, TEXTS, "each refusal")?;
     Ok(())
 }
 

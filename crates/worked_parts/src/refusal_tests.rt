@@ -52,7 +52,7 @@ fn each_refusal_has_its_text(rt: HostRuntime) -> Result<(), Fail> {
     ] {
         write!(told, "{refusal}\n")?;
     }
-    assert_text(&rt, &told, TEXTS, "each refusal");
+    assert_text(&told, TEXTS, "each refusal")?;
     Ok(())
 }
 
@@ -96,6 +96,6 @@ fn refusals_tell_the_text_that_they_have(rt: HostRuntime) -> Result<(), Fail> {
         let refusal = refusal_with(rt.alloc(), number)?;
         write!(told, "{refusal}\n")?;
     }
-    assert_text(&rt, &told, TOLD_TEXTS, "each refusal");
+    assert_text(&told, TOLD_TEXTS, "each refusal")?;
     Ok(())
 }

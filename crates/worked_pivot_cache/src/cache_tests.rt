@@ -236,7 +236,7 @@ fn fields_are_read_with_their_items(rt: HostRuntime) -> Result<(), Fail> {
     for case in cases(FIELD_CASES) {
         let (markup, fields) = cut(case);
         let told = fields_told(rt.alloc(), markup)?;
-        assert_text(&rt, &told, fields, markup);
+        assert_text(&told, fields, markup)?;
     }
     Ok(())
 }
@@ -252,7 +252,7 @@ fn records_are_read_by_fields(rt: HostRuntime) -> Result<(), Fail> {
     for case in cases(RECORD_CASES) {
         let (markup, rows) = cut(case);
         let told = records_told(rt.alloc(), markup)?;
-        assert_text(&rt, &told, rows, markup);
+        assert_text(&told, rows, markup)?;
     }
     Ok(())
 }
@@ -277,7 +277,7 @@ fn records_that_are_cut_are_refused(rt: HostRuntime) -> Result<(), Fail> {
         );
     }
     let told = front_told(rt.alloc(), ROW_EVENTS)?;
-    assert_text(&rt, &told, TOLD, "all events");
+    assert_text(&told, TOLD, "all events")?;
     Ok(())
 }
 
@@ -299,7 +299,7 @@ fn a_fault_of_each_call_is_told(rt: HostRuntime) -> Result<(), Fail> {
         assert!(rt; told.ends_with("Io"), "at call {call}: {told}");
     }
     let told = failing_told(rt.alloc(), CALLS)?;
-    assert_text(&rt, &told, TOLD, "behind the last call");
+    assert_text(&told, TOLD, "behind the last call")?;
     Ok(())
 }
 
@@ -311,9 +311,9 @@ fn alone_told(alloc: Global, path: &str, markup: &str) -> Result<String, Fail> {
 #[test]
 fn parts_of_a_cache_that_are_absent_are_told(rt: HostRuntime) -> Result<(), Fail> {
     let told = alone_told(rt.alloc(), RECORDS, ROWS)?;
-    assert_text(&rt, &told, r#"FileNotFound("d.xml")"#, "definitions");
+    assert_text(&told, r#"FileNotFound("d.xml")"#, "definitions")?;
     let told = alone_told(rt.alloc(), DEFINITIONS, FIELDS)?;
-    assert_text(&rt, &told, r#"FileNotFound("r.xml")"#, "records");
+    assert_text(&told, r#"FileNotFound("r.xml")"#, "records")?;
     Ok(())
 }
 

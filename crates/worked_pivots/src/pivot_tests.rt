@@ -2,7 +2,6 @@
 
 use part_events::MemoryPackage;
 use std::alloc::Global;
-use std::process::Abort;
 use std::test::Fail;
 use test_packages::{Part, SHEET_NAME, add_front};
 use test_tables::{assert_text, cases, cut};
@@ -300,7 +299,7 @@ fn parts_of_pivots_may_be_absent(rt: HostRuntime) -> Result<(), Fail> {
     for case in cases(LEFT_OUT) {
         let (name, pivots) = cut(case);
         let told = told_without(alloc, name)?;
-        assert_text(&rt, &told, pivots, name);
+        assert_text(&told, pivots, name)?;
     }
     Ok(())
 }
@@ -313,33 +312,33 @@ fn told_with(alloc: Global, name: &str, markup: &str) -> Result<String, Fail> {
 }
 
 /// Each case of a table is the markup of this part in front of the others, and what is told then.
-fn assert_pivots(rt: &impl Abort, alloc: Global, name: &str, table: &str) -> Result<(), Fail> {
+fn assert_pivots(alloc: Global, name: &str, table: &str) -> Result<(), Fail> {
     for case in cases(table) {
         let (markup, pivots) = cut(case);
         let told = told_with(alloc, name, markup)?;
-        assert_text(rt, &told, pivots, markup);
+        assert_text(&told, pivots, markup)?;
     }
     Ok(())
 }
 
 #[test]
 fn pivots_are_found_by_relationships(rt: HostRuntime) -> Result<(), Fail> {
-    assert_pivots(&rt, rt.alloc(), SHEET_RELATED, SHEETS)
+    assert_pivots(rt.alloc(), SHEET_RELATED, SHEETS)
 }
 
 #[test]
 fn parts_of_pivots_are_read_and_refused(rt: HostRuntime) -> Result<(), Fail> {
-    assert_pivots(&rt, rt.alloc(), PIVOT, PIVOTS)
+    assert_pivots(rt.alloc(), PIVOT, PIVOTS)
 }
 
 #[test]
 fn definitions_are_found_by_relationships(rt: HostRuntime) -> Result<(), Fail> {
-    assert_pivots(&rt, rt.alloc(), PIVOT_RELATED, DEFINITIONS)
+    assert_pivots(rt.alloc(), PIVOT_RELATED, DEFINITIONS)
 }
 
 #[test]
 fn records_are_found_by_relationships(rt: HostRuntime) -> Result<(), Fail> {
-    assert_pivots(&rt, rt.alloc(), DEFINITIONS_RELATED, RECORDS)
+    assert_pivots(rt.alloc(), DEFINITIONS_RELATED, RECORDS)
 }
 
 #[test]
@@ -365,12 +364,12 @@ fn pivots_are_asked_by_names(rt: HostRuntime) -> Result<(), Fail> {
         write!(told, "{sheet} {name};")?;
     }
     let wanted = "S P1;S P1;S P1;T P1;T P1;T P1;S P1;S P1;S P1;";
-    assert_text(&rt, &told, wanted, "all");
+    assert_text(&told, wanted, "all")?;
     let mut names = String::new(alloc);
     for name in pivots.pivot_tables_by_sheet("T") {
         write!(names, "{name};")?;
     }
-    assert_text(&rt, &names, "P1;P1;P1;", "of T");
+    assert_text(&names, "P1;P1;P1;", "of T")?;
     assert!(rt; pivots.pivot_tables_by_sheet("U").next().is_none());
     let first = (
         "xl/pivotCache/pivotCacheDefinition1.xml",

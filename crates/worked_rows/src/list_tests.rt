@@ -90,12 +90,12 @@ fn sheets_are_listed_by_their_names_or_left_out(rt: HostRuntime) -> Result<(), F
         let mut xlsx = opened(alloc, three_sheets(alloc, &[(SHEET_NAME, sheet)])?)?;
         let want = format!(in alloc; "{own}{T}{own}")?;
         let told = listed(alloc, &mut xlsx)?;
-        assert_text(&rt, &told, &want, sheet);
+        assert_text(&told, &want, sheet)?;
         assert!(rt; xlsx.faults() == 0, "of {sheet}");
     }
     let mut xlsx = opened(alloc, three_sheets(alloc, &[])?)?;
     let told = listed(alloc, &mut xlsx)?;
-    assert_text(&rt, &told, T, "no first sheet");
+    assert_text(&told, T, "no first sheet")?;
     Ok(())
 }
 
@@ -104,7 +104,7 @@ fn listed_sheets_begin_with_the_header_row(rt: HostRuntime) -> Result<(), Fail> 
     let alloc = rt.alloc();
     let mut xlsx = opened(alloc, package_with(alloc, (SHEET_NAME, TWO_CELLS))?)?;
     let told = listed(alloc, xlsx.with_header_row(HeaderRow::Row(2)))?;
-    assert_text(&rt, &told, "S (2,1)-(3,1):(3,1 n:2);", "from row 2");
+    assert_text(&told, "S (2,1)-(3,1):(3,1 n:2);", "from row 2")?;
     Ok(())
 }
 
@@ -199,10 +199,10 @@ fn shared_strings_are_read_by_their_places(rt: HostRuntime) -> Result<(), Fail> 
         let front = [STRINGS, (SHEET_NAME, sheet)];
         let mut xlsx = opened(alloc, three_sheets(alloc, &front)?)?;
         let told = places_told(alloc, xlsx.with_header_row(header_row(row)))?;
-        assert_text(&rt, &told, wanted, sheet);
+        assert_text(&told, wanted, sheet)?;
     }
     let mut xlsx = opened(alloc, three_sheets(alloc, &[])?)?;
     let told = places_told(alloc, &mut xlsx)?;
-    assert_text(&rt, &told, "WorksheetNotFound(\"S\")", "no first sheet");
+    assert_text(&told, "WorksheetNotFound(\"S\")", "no first sheet")?;
     Ok(())
 }

@@ -324,7 +324,7 @@ fn cells_are_asked_for_one_by_one(rt: HostRuntime) -> Result<(), Fail> {
         let sheet = sheet_part(alloc, data)?;
         let mut package = package_of(alloc, &[(SHEET_NAME, sheet.as_str())])?;
         let found = told(alloc, &mut package, calls)?;
-        assert_text(&rt, &found, wanted, shown);
+        assert_text(&found, wanted, shown)?;
     }
     Ok(())
 }
@@ -610,7 +610,7 @@ fn the_end_of_a_part_is_told_by_what_is_asked_for(rt: HostRuntime) -> Result<(),
         let (calls, wanted) = cut(calls);
         let mut package = package_of(alloc, &[(SHEET_NAME, front)])?;
         let found = told(alloc, &mut package, calls)?;
-        assert_text(&rt, &found, wanted, front);
+        assert_text(&found, wanted, front)?;
     }
     Ok(())
 }

@@ -101,7 +101,7 @@ fn the_first_id_of_a_position_gives_its_style(rt: HostRuntime) -> Result<(), Fai
         let mut xlsx = workbook_of(alloc, sheet, count)?;
         assert!(rt; xlsx.styles().len() == count, "of {sheet}");
         let told = styles_told(alloc, &mut xlsx, name)?;
-        assert_text(&rt, &told, wanted, sheet);
+        assert_text(&told, wanted, sheet)?;
     }
     Ok(())
 }

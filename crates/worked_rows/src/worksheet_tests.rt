@@ -108,7 +108,7 @@ fn ranges_begin_with_the_header_row(rt: HostRuntime) -> Result<(), Fail> {
     let alloc = rt.alloc();
     let mut xlsx = workbook_of(alloc, TWO_CELLS)?;
     let told = values_told(alloc, &mut xlsx, "S")?;
-    assert_text(&rt, &told, "(1,0)-(3,1):(1,0 n:1)(3,1 n:2)", "no row");
+    assert_text(&told, "(1,0)-(3,1):(1,0 n:1)(3,1 n:2)", "no row")?;
     for (header_row, want) in HEADER_ROWS {
         let told = values_told(alloc, xlsx.with_header_row(header_row), "S")?;
         assert!(rt; told.as_str() == want, "of {header_row:?}: {told}");
@@ -155,15 +155,15 @@ fn values_and_formulas_are_read_apart(rt: HostRuntime) -> Result<(), Fail> {
         let (values, formulas) = cut(wanted);
         let mut xlsx = workbook_of(alloc, sheet)?;
         let told = values_told(alloc, &mut xlsx, "S")?;
-        assert_text(&rt, &told, values, sheet);
+        assert_text(&told, values, sheet)?;
         let told = formulas_told(alloc, &mut xlsx, "S")?;
-        assert_text(&rt, &told, formulas, sheet);
+        assert_text(&told, formulas, sheet)?;
         let told = values_told(
             alloc,
             xlsx.with_header_row(HeaderRow::FirstNonEmptyRow),
             "S",
         )?;
-        assert_text(&rt, &told, values, sheet);
+        assert_text(&told, values, sheet)?;
         assert!(rt; xlsx.metadata().sheets.len() == 1 && xlsx.faults() == 0);
     }
     Ok(())
@@ -180,9 +180,9 @@ fn readers_are_opened_or_refused(rt: HostRuntime) -> Result<(), Fail> {
     ] {
         let mut xlsx = workbook_of(alloc, sheet)?;
         let told = cells_taken(alloc, &mut xlsx, name)?;
-        assert_text(&rt, &told, want, sheet);
+        assert_text(&told, want, sheet)?;
         let again = cells_taken(alloc, &mut xlsx, name)?;
-        assert_text(&rt, &again, want, sheet);
+        assert_text(&again, want, sheet)?;
     }
     Ok(())
 }
@@ -193,11 +193,11 @@ fn absent_sheets_are_told(rt: HostRuntime) -> Result<(), Fail> {
     let want = "WorksheetNotFound(\"S\")";
     let mut xlsx = opened(alloc, package_of(alloc, &[ROOT, RELATIONSHIPS, WORKBOOK])?)?;
     let told = values_told(alloc, &mut xlsx, "S")?;
-    assert_text(&rt, &told, want, "values");
+    assert_text(&told, want, "values")?;
     let told = formulas_told(alloc, &mut xlsx, "S")?;
-    assert_text(&rt, &told, want, "formulas");
+    assert_text(&told, want, "formulas")?;
     let told = cells_taken(alloc, &mut xlsx, "S")?;
-    assert_text(&rt, &told, want, "cells");
+    assert_text(&told, want, "cells")?;
     Ok(())
 }
 
@@ -211,9 +211,9 @@ fn faults_are_told_by_each_call(rt: HostRuntime) -> Result<(), Fail> {
     let calls = vec![in alloc; OPENING_CALLS]?;
     let mut xlsx = opened(alloc, FailingPackage::new(package, calls))?;
     let told = values_told(alloc, &mut xlsx, "S")?;
-    assert_text(&rt, &told, "Io", "first");
+    assert_text(&told, "Io", "first")?;
     assert!(rt; xlsx.faults() == 1);
     let told = values_told(alloc, &mut xlsx, "S")?;
-    assert_text(&rt, &told, "(0,0)-(0,0):(0,0 s:nut)", "again");
+    assert_text(&told, "(0,0)-(0,0):(0,0 s:nut)", "again")?;
     Ok(())
 }

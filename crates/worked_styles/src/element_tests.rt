@@ -155,7 +155,7 @@ fn fills_are_read(rt: HostRuntime) -> Result<(), Fail> {
     let Err(XlsxError::XmlEof(name)) = fill_in(alloc, "<fill><patternFill>") else {
         return Err("not refused")?;
     };
-    assert_text(&rt, name, "fill", "the end");
+    assert_text(name, "fill", "the end")?;
     Ok(())
 }
 
@@ -188,7 +188,7 @@ fn fonts_are_read(rt: HostRuntime) -> Result<(), Fail> {
     let Some(name) = font.name else {
         return Err("no name")?;
     };
-    assert_text(&rt, &name, "A&B", "told");
+    assert_text(&name, "A&B", "told")?;
     let faulty = r#"<font><name val="A&B"/></font>"#;
     let Err(XlsxError::Xml(XmlFault::Entity { at })) = font_in(alloc, faulty) else {
         return Err("not refused")?;
@@ -222,7 +222,7 @@ fn elements_without_a_value_hold(rt: HostRuntime) -> Result<(), Fail> {
     let Some(name) = font.name else {
         return Err("no name")?;
     };
-    assert_text(&rt, &name, "Arial", "told");
+    assert_text(&name, "Arial", "told")?;
     Ok(())
 }
 
@@ -273,7 +273,7 @@ fn a_part_that_ends_in_borders_tells_where(rt: HostRuntime) -> Result<(), Fail> 
         let Err(XlsxError::XmlEof(name)) = borders_in(alloc, markup, true, true) else {
             return Err("not refused")?;
         };
-        assert_text(&rt, name, wanted, "the end");
+        assert_text(name, wanted, "the end")?;
     }
     Ok(())
 }

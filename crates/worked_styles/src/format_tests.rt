@@ -80,7 +80,7 @@ fn faults_of_number_formats_are_told(rt: HostRuntime) -> Result<(), Fail> {
     let Err(XlsxError::XmlEof(name)) = keep_codes(alloc, "<numFmts><numFmt>", &mut kept) else {
         return Err("not refused")?;
     };
-    assert_text(&rt, name, "numFmts", "the end");
+    assert_text(name, "numFmts", "the end")?;
     let faulty = r#"<numFmts><numFmt numFmtId="1" formatCode="&a">"#;
     let Err(XlsxError::Xml(XmlFault::Entity { at })) = keep_codes(alloc, faulty, &mut kept) else {
         return Err("not refused")?;
@@ -134,7 +134,7 @@ fn number_formats_go_by_their_ids(rt: HostRuntime) -> Result<(), Fail> {
             (None, None) => {}
             (Some(named), Some((id, code))) => {
                 assert!(rt; named.format_id == Some(id), "at {attributes}");
-                assert_text(&rt, &named.format_code, code, attributes);
+                assert_text(&named.format_code, code, attributes)?;
             }
             _ => return Err("another number format")?,
         }
@@ -220,6 +220,6 @@ fn the_last_alignment_and_protection_count(rt: HostRuntime) -> Result<(), Fail> 
     let Err(XlsxError::XmlEof(name)) = formatting_in(alloc, OPEN_SETTINGS, &lists) else {
         return Err("not refused")?;
     };
-    assert_text(&rt, name, "xf", "the end");
+    assert_text(name, "xf", "the end")?;
     Ok(())
 }

@@ -73,7 +73,7 @@ const DEFAULT: &str = "#FFFFFF #000000 #EEECE1 #1F497D #4F81BD #C0504D #9BBB59 #
 fn light_colors_are_numbered_before_dark_ones(rt: HostRuntime) -> Result<(), Fail> {
     let alloc = rt.alloc();
     let found = scheme_told(alloc, FOUR_SLOTS, 20)?;
-    assert_text(&rt, &found, "#FFFFFE #000001 #EEECE1 #1F497D ", "told");
+    assert_text(&found, "#FFFFFE #000001 #EEECE1 #1F497D ", "told")?;
     Ok(())
 }
 
@@ -126,12 +126,7 @@ fn slots_are_read(rt: HostRuntime) -> Result<(), Fail> {
     assert!(rt; events_of(alloc, SLOTS)?.len() == 31);
     let theme = scheme_in(alloc, SLOTS, 31)?;
     let found = told(alloc, &theme)?;
-    assert_text(
-        &rt,
-        &found,
-        "#000000 #112233 #000005 #000003 #000006 ",
-        "told",
-    );
+    assert_text(&found, "#000000 #112233 #000005 #000003 #000006 ", "told")?;
     assert!(rt; theme.colors.get(1).map(|color| color.alpha) == Some(0x80));
     Ok(())
 }
@@ -146,11 +141,11 @@ fn parts_without_colors_leave_the_default_theme(rt: HostRuntime) -> Result<(), F
         ("<theme><dk1/>", 3),
     ] {
         let found = scheme_told(alloc, markup, count)?;
-        assert_text(&rt, &found, DEFAULT, markup);
+        assert_text(&found, DEFAULT, markup)?;
     }
     for path in [PATH, "xl/theme1.xml"] {
         let found = theme_told(alloc, FAULTY_SLOT, path)?;
-        assert_text(&rt, &found, DEFAULT, path);
+        assert_text(&found, DEFAULT, path)?;
     }
     Ok(())
 }

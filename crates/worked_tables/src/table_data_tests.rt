@@ -180,9 +180,9 @@ fn tables_are_loaded_and_their_data_read(rt: HostRuntime) -> Result<(), Fail> {
         let (tables, cells) = cut(wanted);
         let mut xlsx = opened(alloc, workbook_of(alloc, SHEET, table)?)?;
         let told = tables_told(alloc, &mut xlsx)?;
-        assert_text(&rt, &told, tables, table);
+        assert_text(&told, tables, table)?;
         let told = data_told(alloc, &mut xlsx, "T1")?;
-        assert_text(&rt, &told, cells, table);
+        assert_text(&told, cells, table)?;
     }
     Ok(())
 }
@@ -245,9 +245,9 @@ fn data_of_tables_are_those_of_their_sheets(rt: HostRuntime) -> Result<(), Fail>
         xlsx.with_header_row(header_row(row));
         tables_told(alloc, &mut xlsx)?;
         let told = data_told(alloc, &mut xlsx, "T1")?;
-        assert_text(&rt, &told, cells, sheet);
+        assert_text(&told, cells, sheet)?;
         let told = places_told(alloc, &mut xlsx, "T1")?;
-        assert_text(&rt, &told, places, sheet);
+        assert_text(&told, places, sheet)?;
     }
     Ok(())
 }
@@ -306,17 +306,17 @@ fn tables_go_by_the_names_of_sheets(rt: HostRuntime) -> Result<(), Fail> {
     let mut xlsx = opened(alloc, package_of(alloc, &NAMED)?)?;
     let told = tables_told(alloc, &mut xlsx)?;
     let tables = "One Two One S(0,0)-(0,0);S(0,0)-(0,0);T(0,0)-(0,0);";
-    assert_text(&rt, &told, tables, "of all");
+    assert_text(&told, tables, "of all")?;
     for (name, names) in [("S", "One Two "), ("T", "One "), ("U", "")] {
         let told = names_told(alloc, &xlsx, name)?;
-        assert_text(&rt, &told, names, name);
+        assert_text(&told, names, name)?;
     }
     for (name, cells) in [
         ("One", "One S(0,0)-(0,0); 0,0=1"),
         ("Two", "Two S(0,0)-(0,0); 0,0=1"),
     ] {
         let told = data_told(alloc, &mut xlsx, name)?;
-        assert_text(&rt, &told, cells, name);
+        assert_text(&told, cells, name)?;
     }
     Ok(())
 }
@@ -363,6 +363,6 @@ fn a_fault_in_the_data_of_a_table_is_told(rt: HostRuntime) -> Result<(), Fail> {
         assert!(rt; told.as_str() == wanted, "at call {call}");
     }
     let told = failing_told(rt.alloc(), behind, empty)?;
-    assert_text(&rt, &told, "0 T1 S-; T1 S-;", empty);
+    assert_text(&told, "0 T1 S-; T1 S-;", empty)?;
     Ok(())
 }

@@ -278,7 +278,7 @@ fn tables_are_found_by_relationships(rt: HostRuntime) -> Result<(), Fail> {
         let (related, tables) = cut(case);
         let parts = [(RELATED_NAME, related), TABLE, SECOND, THIRD, FOURTH];
         let told = tables_told(alloc, package_of(alloc, &parts)?)?;
-        assert_text(&rt, &told, tables, related);
+        assert_text(&told, tables, related)?;
     }
     Ok(())
 }
@@ -290,7 +290,7 @@ fn table_parts_are_read_and_refused(rt: HostRuntime) -> Result<(), Fail> {
         let (table, tables) = cut(case);
         let parts = [ONE_TABLE, (TABLE_NAME, table)];
         let told = tables_told(alloc, package_of(alloc, &parts)?)?;
-        assert_text(&rt, &told, tables, table);
+        assert_text(&told, tables, table)?;
     }
     Ok(())
 }

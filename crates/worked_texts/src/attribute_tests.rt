@@ -121,17 +121,17 @@ fn lookups_take_the_first_pair_of_each_key(rt: HostRuntime) -> Result<(), Fail> 
         let tag = Tag { text };
         assert!(rt; tag.attributes_raw() == text && tag.iter_raw_attrs().count() > 1);
         let told = lookups_told(rt.alloc(), text, key)?;
-        assert_text(&rt, &told, wanted, case);
+        assert_text(&told, wanted, case)?;
     }
     for case in cases(MATCHES) {
         let (key, local) = cut(case);
         let (local, wanted) = cut(local);
         let matches = local_name_matches(key, local);
-        assert_text(&rt, if matches { "true" } else { "false" }, wanted, case);
+        assert_text(if matches { "true" } else { "false" }, wanted, case)?;
     }
     for case in cases(LOCAL_NAMES) {
         let (name, wanted) = cut(case);
-        assert_text(&rt, local_name(name), wanted, case);
+        assert_text(local_name(name), wanted, case)?;
     }
     Ok(())
 }

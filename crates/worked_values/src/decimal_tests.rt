@@ -78,7 +78,7 @@ fn numbers_are_printed_in_one_form(rt: HostRuntime) -> Result<(), Fail> {
     for case in cases(NUMBERS) {
         let (text, wanted) = cut(case);
         let printed = reprinted(alloc, text)?;
-        assert_text(&rt, &printed, wanted, text);
+        assert_text(&printed, wanted, text)?;
     }
     Ok(())
 }

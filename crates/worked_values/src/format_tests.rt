@@ -52,7 +52,7 @@ fn formats_tell_dates_from_numbers(rt: HostRuntime) -> Result<(), Fail> {
     for case in cases(FORMATS) {
         let (format, wanted) = cut(case);
         let kind = format!(in alloc; "{:?}", detect_custom_number_format(format))?;
-        assert_text(&rt, &kind, wanted, format);
+        assert_text(&kind, wanted, format)?;
     }
     Ok(())
 }
@@ -81,7 +81,7 @@ fn built_in_formats_have_ids(rt: HostRuntime) -> Result<(), Fail> {
     for case in cases(BUILT_IN) {
         let (id, wanted) = cut(case);
         let kind = format!(in alloc; "{:?}", builtin_format_by_id(id))?;
-        assert_text(&rt, &kind, wanted, id);
+        assert_text(&kind, wanted, id)?;
     }
     assert!(rt; builtin_format_code_by_id(22) == Some("m/d/yy h:mm"));
     assert!(rt; builtin_format_code_by_id(5) == None);

@@ -125,7 +125,7 @@ fn each_kind_of_value_has_its_mark(rt: HostRuntime) -> Result<(), Fail> {
     for value in values {
         lines.push_str(&lines_of_value(alloc, value)?)?;
     }
-    assert_text(&rt, &lines, VALUE_LINES, "values");
+    assert_text(&lines, VALUE_LINES, "values")?;
     Ok(())
 }
 
@@ -160,7 +160,7 @@ fn formulas_stand_beside_their_values(rt: HostRuntime) -> Result<(), Fail> {
     let wanted = "A1\ts:Date\t-\t-\nB1\ts:Amount\t-\t-\nC1\ts: Total\t-\t-\n\
         A2\tt:45292 date 1900\t-\t-\nB2\tn:10.5\t-\t-\nC2\tn:10.5\t=SUM(B$2:B2)\t-\n\
         A3\tt:45293 date 1900\t-\t-\nB3\tn:4\t-\t-\nC3\tn:14.5\t=SUM(B$2:B3)\t-\n";
-    assert_text(&rt, &out, wanted, "lines");
+    assert_text(&out, wanted, "lines")?;
     Ok(())
 }
 
@@ -189,7 +189,7 @@ fn positions_of_both_lists_are_listed_row_by_row(rt: HostRuntime) -> Result<(), 
     push_unstyled(&mut out, &numbers, &texts)?;
     let wanted = "lines:\nC1\t-\t=A1\t-\nC2\t-\t=B2\t-\nD2\tn:2\t-\t-\n\
         C5\tn:1\t=1\\t1\t-\nA1048576\tn:1\t-\t-\n";
-    assert_text(&rt, &out, wanted, "lines");
+    assert_text(&out, wanted, "lines")?;
     Ok(())
 }
 
@@ -240,7 +240,7 @@ fn fills_are_told(rt: HostRuntime) -> Result<(), Fail> {
     let wanted = "A1\tn:1\t-\t-\nA2\t-\t-\t-\nB2\tn:2\t-\t#DDD9C3\nC2\t-\t=A1\t#000001\n\
         A3\t-\t-\t#000001\nB3\tn:3\t-\t#000001\nC3\t-\t=A1\t#000001\nD3\t-\t-\t-\n\
         D4\t-\t-\t-\n";
-    assert_text(&rt, &out, wanted, "lines");
+    assert_text(&out, wanted, "lines")?;
     Ok(())
 }
 
@@ -256,18 +256,23 @@ fn values_have_lines_of_their_own(rt: HostRuntime) -> Result<(), Fail> {
     let cells = values(alloc, Vec::from_array(alloc, cells)?)?;
     let lines = value_lines_of(alloc, &cells)?;
     let wanted = "B1\tt:45292 date 1900\nD1\tn:-10.5\nC3\t-\nC5\ts:tab\\there\n";
-    assert_text(&rt, &lines, wanted, "lines");
+    assert_text(&lines, wanted, "lines")?;
     Ok(())
 }
 
 #[test]
 fn a_row_of_values_has_one_line(rt: HostRuntime) -> Result<(), Fail> {
     let alloc = rt.alloc();
-    let row = [text(alloc, "bolt")?, Data::Int(-3), Data::Empty, number("2.50")];
+    let row = [
+        text(alloc, "bolt")?,
+        Data::Int(-3),
+        Data::Empty,
+        number("2.50"),
+    ];
     let mut out = String::new(alloc);
     push_row_line(&mut out, &row)?;
     push_row_line(&mut out, &row[..1])?;
     push_row_line(&mut out, &row[..0])?;
-    assert_text(&rt, &out, "s:bolt\tn:-3\t-\tn:2.5\ns:bolt\n\n", "lines");
+    assert_text(&out, "s:bolt\tn:-3\t-\tn:2.5\ns:bolt\n\n", "lines")?;
     Ok(())
 }

@@ -38,7 +38,7 @@ fn an_area_has_all_cells(rt: HostRuntime) -> Result<(), Fail> {
     for turned in [false, true] {
         let range = two_cells(alloc, turned)?;
         let told = shown(alloc, &range)?;
-        assert_text(&rt, &told, "1 0 3 1: 1 0; 0 0; 0 2;", "two cells");
+        assert_text(&told, "1 0 3 1: 1 0; 0 0; 0 2;", "two cells")?;
         assert!(rt; range.get_size() == (3, 2));
         assert!(rt; range.get_value((3, 1)) == Some(&2));
         assert!(rt; range.get_value((0, 0)) == None);
@@ -53,10 +53,10 @@ fn a_range_begins_at_a_row(rt: HostRuntime) -> Result<(), Fail> {
     let alloc = rt.alloc();
     let whole = two_cells(alloc, false)?.range((0, 0), (3, 1));
     let told = shown(alloc, &whole)?;
-    assert_text(&rt, &told, "0 0 3 1: 0 0; 1 0; 0 0; 0 2;", "from row 0");
+    assert_text(&told, "0 0 3 1: 0 0; 1 0; 0 0; 0 2;", "from row 0")?;
     let below = two_cells(alloc, false)?.range((2, 1), (3, 1));
     let told = shown(alloc, &below)?;
-    assert_text(&rt, &told, "2 1 3 1: 0; 2;", "from row 2");
+    assert_text(&told, "2 1 3 1: 0; 2;", "from row 2")?;
     Ok(())
 }
 
@@ -74,7 +74,7 @@ fn the_last_cell_of_a_position_stands(rt: HostRuntime) -> Result<(), Fail> {
     for (row, column, value) in range.used_cells() {
         write!(out, "{row} {column} {value};")?;
     }
-    assert_text(&rt, &out, "0 4 4;5 0 3;", "used cells");
+    assert_text(&out, "0 4 4;5 0 3;", "used cells")?;
     assert!(rt; range.cells().count() == 30);
     Ok(())
 }

@@ -56,7 +56,7 @@ fn each_kind_of_value_has_its_field(rt: HostRuntime) -> Result<(), Fail> {
         push_field(&mut fields, &value)?;
         fields.push_str("|")?;
     }
-    assert_text(&rt, &fields, FIELDS, "values");
+    assert_text(&fields, FIELDS, "values")?;
     Ok(())
 }
 
@@ -94,7 +94,7 @@ fn rows_have_a_field_for_each_column(rt: HostRuntime) -> Result<(), Fail> {
     ] {
         let range = two_texts(alloc, first, second, place)?;
         let rows = rows_csv(alloc, None, &range)?;
-        assert_text(&rt, std::str::from_utf8(&rows)?, wanted, "rows");
+        assert_text(std::str::from_utf8(&rows)?, wanted, "rows")?;
     }
     Ok(())
 }
@@ -110,7 +110,7 @@ fn a_reader_gives_the_rows_back(rt: HostRuntime) -> Result<(), Fail> {
     let range = Range::from_sparse(alloc, Vec::from_array(alloc, cells)?, Data::Empty)?;
     let text = rows_csv(alloc, None, &range)?;
     let wanted = "\"a,b\",\"say \"\"x\"\"\"\n,1\n";
-    assert_text(&rt, std::str::from_utf8(&text)?, wanted, "rows");
+    assert_text(std::str::from_utf8(&text)?, wanted, "rows")?;
     let mut reader = ReaderBuilder::new()
         .has_headers(false)
         .from_reader(alloc, text.as_slice());
@@ -137,15 +137,10 @@ fn a_header_stands_before_the_rows(rt: HostRuntime) -> Result<(), Fail> {
     let used = Range::from_sparse(alloc, Vec::from_array(alloc, cells)?, Data::Empty)?;
     let table = used.range((1, 0), (2, 1));
     let rows = rows_csv(alloc, Some(&header), &table)?;
-    assert_text(
-        &rt,
-        std::str::from_utf8(&rows)?,
-        "Name,Qty\nnut,3\n,\n",
-        "rows",
-    );
+    assert_text(std::str::from_utf8(&rows)?, "Name,Qty\nnut,3\n,\n", "rows")?;
     let none = Range::from_sparse(alloc, Vec::new(alloc), Data::Empty)?;
     let names = rows_csv(alloc, Some(&header), &none)?;
-    assert_text(&rt, std::str::from_utf8(&names)?, "Name,Qty\n", "rows");
+    assert_text(std::str::from_utf8(&names)?, "Name,Qty\n", "rows")?;
     assert!(rt; rows_csv(alloc, Some(&[]), &none)?.is_empty());
     assert!(rt; rows_csv(alloc, None, &none)?.is_empty());
     Ok(())
@@ -160,12 +155,7 @@ fn a_blank_fills_places_without_a_cell(rt: HostRuntime) -> Result<(), Fail> {
     ];
     let range = Range::from_sparse(alloc, Vec::from_array(alloc, cells)?, Data::Bool(false))?;
     let rows = rows_csv(alloc, None, &range)?;
-    assert_text(
-        &rt,
-        std::str::from_utf8(&rows)?,
-        "1,false\nfalse,\n",
-        "rows",
-    );
+    assert_text(std::str::from_utf8(&rows)?, "1,false\nfalse,\n", "rows")?;
     Ok(())
 }
 
@@ -223,6 +213,6 @@ fn refusals_of_rows_have_texts(rt: HostRuntime) -> Result<(), Fail> {
     for error in [CsvError::BoxTooLarge, CsvError::OutOfMemory] {
         write!(told, "{error};")?;
     }
-    assert_text(&rt, &told, "box too large;out of memory;", "refusals");
+    assert_text(&told, "box too large;out of memory;", "refusals")?;
     Ok(())
 }

@@ -51,7 +51,7 @@ fn texts_name_errors(rt: HostRuntime) -> Result<(), Fail> {
     for case in cases(ERRORS) {
         let (text, wanted) = cut(case);
         let told = error_told(alloc, text)?;
-        assert_text(&rt, &told, wanted, text);
+        assert_text(&told, wanted, text)?;
     }
     Ok(())
 }
@@ -60,7 +60,7 @@ fn texts_name_errors(rt: HostRuntime) -> Result<(), Fail> {
 fn a_text_of_no_error_is_unknown(rt: HostRuntime) -> Result<(), Fail> {
     assert!(rt; "#value!".parse::<CellErrorType>() == Err(UnknownCellError));
     let shown = UnknownCellError.to_string(rt.alloc())?;
-    assert_text(&rt, &shown, "unknown cell error", "#value!");
+    assert_text(&shown, "unknown cell error", "#value!")?;
     Ok(())
 }
 

@@ -119,7 +119,7 @@ fn a_reader_is_read_whole_and_in_order(rt: HostRuntime) -> Result<(), Fail> {
     ] {
         let mut source = StdSource::new(reader_of(text.as_bytes(), piece, failing_read));
         let found = reads_of(rt.alloc(), &mut source)?;
-        assert_text(&rt, &found, came, text);
+        assert_text(&found, came, text)?;
         assert!(rt; source.faults() == faults, "of pieces of {piece}");
     }
     Ok(())
@@ -136,7 +136,7 @@ fn a_writer_takes_all_of_a_piece_once(rt: HostRuntime) -> Result<(), Fail> {
             "in pieces of {piece}"
         );
         let written = std::str::from_utf8(writer.written.as_slice())?;
-        assert_text(&rt, written, "nut cake", "in pieces");
+        assert_text(written, "nut cake", "in pieces")?;
         assert!(rt; writer.flushes == writer.writes, "in pieces of {piece}");
     }
     Ok(())
@@ -163,7 +163,7 @@ fn a_writer_that_fails_has_a_front(rt: HostRuntime) -> Result<(), Fail> {
         let is_refused = sent == Err(ToolError::WriteFault);
         assert!(rt; is_refused && sink.faults() == 1, "at {front}");
         let written = std::str::from_utf8(writer.written.as_slice())?;
-        assert_text(&rt, written, front, "a front");
+        assert_text(written, front, "a front")?;
     }
     Ok(())
 }
@@ -203,7 +203,7 @@ fn a_run_is_the_same_over_readers_and_writers(rt: HostRuntime) -> Result<(), Fai
         let found = answer(alloc, &words, &mut source, &mut StdSink::new(&mut writer));
         assert!(rt; found == answered, "of {written}");
         let came = std::str::from_utf8(writer.written.as_slice())?;
-        assert_text(&rt, came, written, "over readers and writers");
+        assert_text(came, written, "over readers and writers")?;
     }
     Ok(())
 }

@@ -152,7 +152,7 @@ fn a_sheet_is_listed(rt: HostRuntime) -> Result<(), Fail> {
         for piece in [1, 2, 3, 1_000] {
             let setting = Setting { piece, ..EASY };
             let told = run_on(alloc, words, input.as_bytes(), setting)?;
-            assert_text(&rt, &told, wanted, case);
+            assert_text(&told, wanted, case)?;
         }
     }
     Ok(())
@@ -219,10 +219,10 @@ fn each_refusal_has_its_cause(rt: HostRuntime) -> Result<(), Fail> {
         let (input, wanted) = cut(input);
         let input = input_of(alloc, input)?;
         let told = run_on(alloc, words, input.as_bytes(), EASY)?;
-        assert_text(&rt, &told, wanted, case);
+        assert_text(&told, wanted, case)?;
     }
     let told = run_on(alloc, "cells S", b"\xff", EASY)?;
-    assert_text(&rt, &told, "5 not a package", "no UTF-8");
+    assert_text(&told, "5 not a package", "no UTF-8")?;
     Ok(())
 }
 
@@ -260,7 +260,7 @@ fn a_full_or_failing_sink_has_a_front_of_the_lines(rt: HostRuntime) -> Result<()
             &Err(ToolError::WriteFault),
             &NUTS_LINES.as_bytes()[..room],
         )?;
-        assert_text(&rt, &told, &wanted, "a full sink");
+        assert_text(&told, &wanted, "a full sink")?;
     }
     let setting = Setting {
         piece: 10,
@@ -273,7 +273,7 @@ fn a_full_or_failing_sink_has_a_front_of_the_lines(rt: HostRuntime) -> Result<()
         &Err(ToolError::WriteFault),
         &NUTS_LINES.as_bytes()[..20],
     )?;
-    assert_text(&rt, &told, &wanted, "a failing sink");
+    assert_text(&told, &wanted, "a failing sink")?;
     Ok(())
 }
 
@@ -290,7 +290,7 @@ fn an_input_past_the_limit_is_too_large(rt: HostRuntime) -> Result<(), Fail> {
     ] {
         let input = vec![in alloc; b' '; length]?;
         let told = run_on(alloc, "cells S", &input, setting)?;
-        assert_text(&rt, &told, wanted, "as many blanks");
+        assert_text(&told, wanted, "as many blanks")?;
     }
     Ok(())
 }
@@ -314,7 +314,7 @@ fn refusals_have_statuses_and_texts(rt: HostRuntime) -> Result<(), Fail> {
     ] {
         write!(told, "{} {error}; ", error.status())?;
     }
-    assert_text(&rt, &told, STATUSES, "each refusal");
+    assert_text(&told, STATUSES, "each refusal")?;
     Ok(())
 }
 
@@ -337,7 +337,7 @@ fn pages_are_printed_where_their_words_stand_alone(rt: HostRuntime) -> Result<()
     }
     for words in ["--help x", "--Help", ""] {
         let told = run_on(alloc, words, b"", EASY)?;
-        assert_text(&rt, &told, "2 usage", words);
+        assert_text(&told, "2 usage", words)?;
     }
     Ok(())
 }
