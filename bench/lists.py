@@ -1,6 +1,7 @@
 #!/usr/bin/env python3
-"""Measures `merges S`, `links S`, `props`, `tables`, `table T1` and `pivots` of xlsx_tool beside
-json.load of the same text, and prints a table for each list (docs/PERFORMANCE.md)."""
+"""Measures `merges S`, `links S`, `props`, `tables`, `table T1`, `pivots` and `pivot S P1` of
+xlsx_tool beside json.load of the same text, and prints a table for each list
+(docs/PERFORMANCE.md)."""
 
 import argparse
 import os
@@ -165,6 +166,17 @@ def part_of_table(number):
     return f"xl/tables/table{number}.xml"
 
 
+def pivot_parts(number):
+    """The part of a pivot table, its relationships, and those of its definitions."""
+    path = f"pivotTable{number}.xml"
+    yield f"xl/pivotTables/{path}", element("pivotTableDefinition", f' name="P{number}"')
+    cache = f"pivotCacheDefinition{number}.xml"
+    related = [("pivotCacheDefinition", f"../pivotCache/{cache}")]
+    yield f"xl/pivotTables/_rels/{path}.rels", relationships(related)
+    related = [("pivotCacheRecords", f"pivotCacheRecords{number}.xml")]
+    yield f"xl/pivotCache/_rels/{cache}.rels", relationships(related)
+
+
 class TableData:
     """The values of a table of so many rows, in a sheet of twice as many."""
 
@@ -201,6 +213,51 @@ class Tables:
             yield f"T{number}\tS\tA2:T{number + 1}{names}\n"
 
 
+class PivotRecords:
+    """The records of a cache over ten fields, of which five have shared items."""
+
+    words, count, items = ["pivot", "S", "P1"], 60_000, 20
+
+    def fields(self):
+        yield start("pivotCacheDefinition")
+        yield start("cacheFields", ' count="10"')
+        for place in range(10):
+            yield start("cacheField", f' name="Field {place}"')
+            yield start("sharedItems")
+            for number in range(self.items if place < 5 else 0):
+                yield from element("s", f' v="item {number} of {place}"')
+            yield end("sharedItems")
+            yield end("cacheField")
+        yield end("cacheFields")
+        yield end("pivotCacheDefinition")
+
+    def records(self, count):
+        yield start("pivotCacheRecords", f' count="{count}"')
+        for row in range(count):
+            yield start("r")
+            for place in range(5):
+                yield from element("x", f' v="{(row + place) % self.items}"')
+            for place in range(4):
+                yield from element("n", f' v="{row * 10 + place}.25"')
+            yield from element("s", f' v="text {row}"')
+            yield end("r")
+        yield end("pivotCacheRecords")
+
+    def parts(self, count):
+        related = relationships([("pivotTable", "../pivotTables/pivotTable1.xml")])
+        yield "xl/worksheets/_rels/sheet1.xml.rels", related
+        yield from pivot_parts(1)
+        yield "xl/pivotCache/pivotCacheDefinition1.xml", self.fields()
+        yield "xl/pivotCache/pivotCacheRecords1.xml", self.records(count)
+
+    def lines(self, count):
+        yield "\t".join(f"s:Field {place}" for place in range(10)) + "\n"
+        for row in range(count):
+            values = [f"s:item {(row + place) % self.items} of {place}" for place in range(5)]
+            values += [f"n:{row * 10 + place}.25" for place in range(4)]
+            yield "\t".join([*values, f"s:text {row}"]) + "\n"
+
+
 class TablesOfSheets:
     """Sheets with a table and a pivot table each: the tables."""
 
@@ -231,16 +288,7 @@ class TablesOfSheets:
             yield f"xl/worksheets/_rels/sheet{number}.xml.rels", relationships(related)
             yield f"xl/worksheets/sheet{number}.xml", sheet_part(rows_of(1))
             yield part_of_table(number), table_part(number, "A1:C9", ("One", "Two", "Three"))
-            yield from self.pivot_parts(number)
-
-    def pivot_parts(self, number):
-        path = f"pivotTable{number}.xml"
-        yield f"xl/pivotTables/{path}", element("pivotTableDefinition", f' name="P{number}"')
-        cache = f"pivotCacheDefinition{number}.xml"
-        related = [("pivotCacheDefinition", f"../pivotCache/{cache}")]
-        yield f"xl/pivotTables/_rels/{path}.rels", relationships(related)
-        related = [("pivotCacheRecords", f"pivotCacheRecords{number}.xml")]
-        yield f"xl/pivotCache/_rels/{cache}.rels", relationships(related)
+            yield from pivot_parts(number)
 
     def lines(self, count):
         for number in range(1, count + 1):
@@ -266,6 +314,7 @@ LISTS = {
     "tables": Tables,
     "tables_of_sheets": TablesOfSheets,
     "pivots_of_sheets": PivotsOfSheets,
+    "pivot": PivotRecords,
 }
 
 
