@@ -1,6 +1,7 @@
 #!/usr/bin/env python3
 """Measures `./xlsx FILE.xlsx cells S`, from the file to the lines, beside openpyxl, and prints one
-table (docs/PERFORMANCE.md)."""
+table; with `--csv` it measures `csv S` beside openpyxl and the writer of Python's `csv`
+(docs/PERFORMANCE.md)."""
 
 import argparse
 import os
@@ -33,6 +34,14 @@ import sys
 from openpyxl import load_workbook
 book = load_workbook(sys.argv[1], read_only=sys.argv[2] == "True")
 print(sum(cell.value is not None for row in book["S"].iter_rows() for cell in row))
+"""
+
+# Writes the rows of the values as CSV.
+ROWS = """\
+import csv, sys
+from openpyxl import load_workbook
+book = load_workbook(sys.argv[1], read_only=True, data_only=True)
+csv.writer(sys.stdout, lineterminator="\\n").writerows(book["S"].iter_rows(values_only=True))
 """
 
 
@@ -115,6 +124,32 @@ class Size:
         ]
 
 
+class Rows(Size):
+    """The rows of a workbook's values, written by both."""
+
+    def run(self):
+        other = os.path.join(os.path.dirname(self.lines), "rows.csv")
+        words = [str(TOP / "xlsx"), self.book, "csv", "S"]
+        self.ours.append(measured(words, os.devnull, self.lines))
+        words = [self.python, "-c", ROWS, self.book]
+        self.read_only.append(measured(words, os.devnull, other))
+        with open(self.lines, "rb") as found, open(other, "rb") as wanted:
+            assert found.read() == wanted.read()
+
+    def row(self):
+        ours, read_only = (each(min, runs) for runs in (self.ours, self.read_only))
+        return [
+            f"{4 * self.rows:,}",
+            f"{ours.processor:.2f}",
+            f"{read_only.processor:.2f}",
+            f"{ours.processor / read_only.processor:.2f}",
+            mib(ours.peak),
+            mib(read_only.peak),
+        ]
+
+
+ROWS_HEAD = ["cells", "seconds", "openpyxl", "ratio", "peak MiB", "openpyxl"]
+
 HEAD = [
     "cells",
     "bytes",
@@ -140,6 +175,7 @@ def main():
     parser.add_argument(
         "--python", default=sys.executable, help="an interpreter that has openpyxl (default: this)"
     )
+    parser.add_argument("--csv", action="store_true", help="measure the rows as CSV")
     add_repeats(parser, 5)
     asked = parser.parse_args()
     if asked.rows < 1 or asked.repeats < 1:
@@ -150,11 +186,12 @@ def main():
         sys.exit(f"file.py: {asked.python} has no openpyxl: name one that has with --python")
     build()
     with tempfile.TemporaryDirectory() as folder:
-        sizes = [Size(folder, asked.python, rows) for rows in (asked.rows, 2 * asked.rows)]
+        kind, head = (Rows, ROWS_HEAD) if asked.csv else (Size, HEAD)
+        sizes = [kind(folder, asked.python, rows) for rows in (asked.rows, 2 * asked.rows)]
         for _ in range(asked.repeats):
             for size in sizes:
                 size.run()
-        table(HEAD, [size.row() for size in sizes])
+        table(head, [size.row() for size in sizes])
 
 
 if __name__ == "__main__":

@@ -1,7 +1,8 @@
 #!/usr/bin/env python3
-"""Runs `cells Sales` over the shipped package with its first allocation refused, then with its
-second, and so on, until none is left to refuse. Each of these runs must end with the status and the
-text of want of memory and print nothing, and the last one must print the stored lines."""
+"""Runs `cells Sales` over the shipped package, and each other command over a sample workbook, with
+its first allocation refused, then with its second, and so on, until none is left to refuse. Each of
+these runs must end with the status and the text of want of memory and print nothing, and the last
+one must print the stored lines."""
 
 import argparse
 import os
@@ -12,6 +13,20 @@ import tempfile
 from measure import TOP, add_program, program_of
 
 TOOL = TOP / "crates" / "xlsx_tool"
+SAMPLES = TOP / "samples"
+
+# The words of each command, the workbook that it is run on, and the file of its lines.
+COMMANDS = [
+    (["csv", "libreoffice"], "libreoffice", "libreoffice.csv"),
+    (["merges", "S"], "tables_links_and_merges", "tables_links_and_merges.merges"),
+    (["links", "S"], "tables_links_and_merges", "tables_links_and_merges.links"),
+    (["props"], "tables_links_and_merges", "tables_links_and_merges.props"),
+    (["tables"], "tables", "tables.tables"),
+    (["table", "Sales"], "tables", "tables.table"),
+    (["csv-table", "Sales"], "tables", "tables.csv_table"),
+    (["pivots"], "pivot_table", "pivot_table.pivots"),
+    (["pivot", "Report", "Sold & paid"], "pivot_table", "pivot_table.pivot"),
+]
 
 # Loaded before the C library, this stands in for the calls by which the program asks for memory. It
 # refuses the one with the number REFUSED and then writes a byte to the descriptor TOLD. All others
@@ -51,10 +66,10 @@ def compiled(folder):
     return library
 
 
-def run(words, library, number):
+def run(words, text, library, number):
     """Whether an allocation with this number was refused; and the status, standard output and
     standard error."""
-    with open(TOOL / "stdin", "rb") as package, tempfile.TemporaryFile() as told:
+    with open(text, "rb") as package, tempfile.TemporaryFile() as told:
         given = {"LD_PRELOAD": library, "REFUSED": str(number), "TOLD": str(told.fileno())}
         ended = subprocess.run(
             words,
@@ -73,22 +88,38 @@ def demand(wanted, found, number):
         sys.exit(f"refused_memory.py: run {number} gave {found} in place of {wanted}")
 
 
+def refuse_each(words, text, lines, library):
+    number = 1
+    refused, found = run(words, text, library, number)
+    while refused:
+        demand(OUT_OF_MEMORY, found, number)
+        number += 1
+        refused, found = run(words, text, library, number)
+    demand((0, lines, b""), found, number)
+    print(f"{' '.join(words[1:])}: {number - 1} allocations", flush=True)
+
+
+def text_of(book, folder):
+    """The package text of a sample workbook, in a file."""
+    text = os.path.join(folder, f"{book}.json")
+    words = [sys.executable, TOP / "tools" / "package_text.py", SAMPLES / f"{book}.xlsx"]
+    with open(text, "wb") as out:
+        subprocess.run(words, stdout=out, check=True)
+    return text
+
+
 def main():
     parser = argparse.ArgumentParser(description=__doc__)
     add_program(parser)
     program = program_of(parser.parse_args())
-    words = [program, *(TOOL / "args").read_text().split()]
-    number = 1
     with tempfile.TemporaryDirectory() as folder:
         library = compiled(folder)
-        refused, found = run(words, library, number)
-        while refused:
-            demand(OUT_OF_MEMORY, found, number)
-            number += 1
-            refused, found = run(words, library, number)
-    demand((0, (TOOL / "stdout").read_bytes(), b""), found, number)
-    told = "each refused in a run of its own, and each told as want of memory"
-    print(f"{number - 1} allocations, {told}")
+        words = [program, *(TOOL / "args").read_text().split()]
+        refuse_each(words, TOOL / "stdin", (TOOL / "stdout").read_bytes(), library)
+        for words, book, name in COMMANDS:
+            lines = (SAMPLES / f"{name}.lines").read_bytes()
+            refuse_each([program, *words], text_of(book, folder), lines, library)
+    print("each refused in a run of its own, and each told as want of memory")
 
 
 if __name__ == "__main__":
