@@ -9,6 +9,7 @@ pub mod OpenNames
 pub mod Nesting
 pub mod Package
 pub mod PartNames
+pub mod Quiet
 pub mod Reader
 pub mod Reading
 pub mod Section

@@ -11,6 +11,7 @@ mod memory;
 mod open_names;
 mod package;
 mod part_names;
+mod quiet;
 mod reader;
 mod stored;
 mod text;
@@ -26,6 +27,7 @@ pub use laws::{
 };
 pub use memory::MemoryPackage;
 pub use package::{Package, PackageFailed};
+pub use quiet::QuietPackage;
 pub use reader::XlReader;
 pub use text::push_text;
 pub use walk::Step;

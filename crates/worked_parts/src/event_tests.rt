@@ -1,8 +1,8 @@
 ghost use Rattle.std.specs.Prelude.{◌<◌};
 
 use part_events::{
-    FailingPackage, MemoryPackage, Package, PartEvent, StartTag, Step, StreamError, XlReader,
-    XmlFault, children_are_at_depth_one, content_is_by_match, innermost_open_is_by_depth,
+    FailingPackage, MemoryPackage, Package, PartEvent, QuietPackage, StartTag, Step, StreamError,
+    XlReader, XmlFault, children_are_at_depth_one, content_is_by_match, innermost_open_is_by_depth,
     outermost_is_in_order, whole_is_longest,
 };
 use std::alloc::{AllocError, Global};
@@ -369,5 +369,38 @@ fn elements_are_found_and_planned_calls_fail(rt: HostRuntime) -> Result<(), Fail
     outermost_is_in_order();
     children_are_at_depth_one();
     whole_is_longest();
+    Ok(())
+}
+
+#[test]
+fn a_quiet_package_passes_each_call_on(rt: HostRuntime) -> Result<(), Fail> {
+    let alloc = rt.alloc();
+    let events = [start("a"), PartEvent::Text("nut"), PartEvent::End("a")];
+    for number in 0..6u64 {
+        let inner = held_package(&rt, alloc, "part", &events, 3)?;
+        let failing = FailingPackage::new(inner, vec![in alloc; number]?);
+        let mut package = QuietPackage::new(failing);
+        let (want, faults) = if number < 5 {
+            (Err(StreamError::Io), 1)
+        } else {
+            (Ok(Some(3)), 0)
+        };
+        assert!(rt;
+            count_events(alloc, &mut package, "part") == want,
+            "call {number}"
+        );
+        assert!(rt; package.faults() == faults, "call {number}");
+        assert!(rt; package.left() == 0, "call {number}");
+        assert!(rt;
+            package.taken() == number.saturating_sub(1).min(3),
+            "call {number}"
+        );
+        let mut package = QuietPackage::new(package.into_inner().into_inner());
+        let mut text = String::new(alloc);
+        assert!(rt; first_text(alloc, &mut package, &mut text, false) == Ok(true));
+        assert_text(&text, "nut", "the text of a quiet package")?;
+        assert!(rt; count_events(alloc, &mut package, "none") == Ok(None));
+        assert!(rt; count_events(alloc, &mut package.into_inner(), "part") == Ok(Some(3)));
+    }
     Ok(())
 }
