@@ -143,6 +143,15 @@ const RECORD_CASES: &str = r#"
 <pivotCacheRecords><r/><r><x v="2"/></r></pivotCacheRecords>
 = s:Kind s:Qty ;;Unexpected("pivot cache item index out of range")
 
+<pivotCacheRecords><r><n v="1"/></r><r><x v="9"/></r><r/></pivotCacheRecords>
+= s:Kind s:Qty ;i:1 ;Unexpected("pivot cache item index out of range")
+
+<pivotCacheRecords><r><n v="1"/></r><r/>
+= s:Kind s:Qty ;i:1 ;;XmlEof("pivotCacheRecords")
+
+<pivotCacheRecords><r/><r><n v="1"/></r></x>
+= s:Kind s:Qty ;;i:1 ;Xml(EndMismatch { at: 7 })
+
 <pivotCacheRecords><r><n v="1"/><x v="0"/></r></pivotCacheRecords>
 = s:Kind s:Qty ;Unexpected("pivot cache item index out of range")
 

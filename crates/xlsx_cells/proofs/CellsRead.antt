@@ -20,6 +20,7 @@ use Rattle.xlsx_sections.specs.Elements.{end_outside}
 use Rattle.xlsx_sections.specs.PartSection.{SectionFails, inside_of, section_left}
 use Rattle.xlsx_sections.specs.PartSection.{has_end}
 use Rattle.xlsx_sections.specs.Refusal.{Refusal, in_element, further, events_behind}
+use Rattle.xlsx_sections.proofs.CutOff.{cut_weaker, cut_open}
 use Rattle.xlsx_sections.proofs.ElementsRead.{IsElementFound, IsElementPassed, own_inside}
 use Rattle.xlsx_sections.proofs.ElementsRead.{own_end}
 use Rattle.xlsx_sections.proofs.Refused.{refused_by}
@@ -45,7 +46,7 @@ use Rattle.xlsx_cells.specs.declared.children.Wants.{Wants}
 use Rattle.xlsx_cells.specs.declared.counters.Counters.{Counters}
 use Rattle.xlsx_cells.proofs.Fronts.{front_same, refused_behind_front}
 use Rattle.xlsx_cells.proofs.MarksAhead.{content_parts}
-use Rattle.xlsx_cells.proofs.Refusing.{start_refused, is_refused_weaker, cut_weaker, cut_open}
+use Rattle.xlsx_cells.proofs.Refusing.{start_refused, is_refused_weaker}
 
 -- the style id of a cell whose three keys were looked up together
 pub id_among : (tag : Tag) (position style typ : Option (List ℕ))

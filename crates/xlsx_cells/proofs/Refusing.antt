@@ -9,12 +9,11 @@ use Rattle.xlsx_error.specs.declared.error.XlsxError.{XlsxError}
 use Rattle.xlsx_error.specs.declared.error.XlsxError.TheVariants.{OutOfMemory, Io, Xml, XmlEof}
 use Rattle.xlsx_error.specs.declared.error.XlsxError.TheVariants.{Failed}
 use Rattle.xlsx_sections.specs.PartSection.{PartSection, SectionFails, section_left, last_of}
-use Rattle.xlsx_sections.specs.PartSection.{has_end}
 use Rattle.xlsx_sections.specs.Refusal.{Refusal}
 use Rattle.xlsx_sections.proofs.Refused.{refused_weaker}
 use Rattle.xlsx_cells.specs.Counting.{IsRefused, IsStartRefused, IsRowRefused}
 use Rattle.xlsx_cells.specs.Ends.{end_in_data}
-use Rattle.xlsx_cells.specs.Finding.{IsMarkRefused, IsStepRefused, IfCutOff, IsCutOff}
+use Rattle.xlsx_cells.specs.Finding.{IsMarkRefused, IsStepRefused, IsCutOff}
 use Rattle.xlsx_cells.specs.Marks.{Mark, row_start, is_row, marks_of}
 use Rattle.xlsx_cells.specs.Position.{row_named, NoCell}
 use Rattle.xlsx_cells.specs.Stream.{Stream, IsGoing, StepFails}
@@ -47,23 +46,6 @@ pub or_memory : (own : Refusal → Type 0) (error : XlsxError) → IsRefused own
     → IsStartRefused own error
 or_memory own OutOfMemory is = tt
 or_memory own error is = is
-
-pub cut_weaker : (after before : Type 0) (error : XlsxError) → (after → before)
-    → IfCutOff after error → IfCutOff before error
-cut_weaker after before (Xml (EndMismatch at)) weaker is = weaker is
-cut_weaker after before (Xml (Unclosed at)) weaker is = weaker is
-cut_weaker after before (XmlEof element) weaker is = weaker is
-cut_weaker after before error weaker is = tt
-
--- where a section is cut off, no end closes it
-pub cut_open : (base : ℕ) (old new : Reading) (ending : List Event → Option (List ℕ))
-    (refused : PartSection → Refusal → Type 0) (error : XlsxError)
-    → SectionFails ending refused base old new error
-    → IfCutOff (old.source.is_told ≡ true → has_end (section_left base old) ≡ false) error
-cut_open base old new ending refused (Xml (EndMismatch at)) fails = λ told. (fails told).1
-cut_open base old new ending refused (Xml (Unclosed at)) fails = λ told. (fails told).0.1
-cut_open base old new ending refused (XmlEof element) fails = λ told. (fails told).0.1
-cut_open base old new ending refused error fails = tt
 
 row_refused_if : (refused : List Mark → Element → Refusal → Type 0) (b : Bool) (tag : Tag)
     (before others : List Mark) (refusal : Refusal) → b ≡ true → row_named tag ≡ Err refusal

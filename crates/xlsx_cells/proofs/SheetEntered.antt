@@ -32,6 +32,7 @@ data_entered {area = area} opened new enters base kept groups done failed fresh 
       fresh = record { counters = kept; masters = groups };
       parts = enters.parts;
       faults = enters.faults;
+      begins = enters.begins;
       taken = enters.taken;
       part = enters.part;
       section = λ told. subst (λ (n : ℕ).

@@ -14,6 +14,7 @@ use Rattle.xlsx_sections.proofs.Refused.{refused_later}
 use Rattle.xlsx_values.specs.Value.{Grounds}
 use Rattle.xlsx_formulas.specs.Formula.{FormulaText, behind_formulas}
 use Rattle.xlsx_formulas.proofs.Groups.{formulas_kept}
+use Rattle.xlsx_sections.proofs.CutOff.{cut_weaker}
 use Rattle.xlsx_cells.specs.CellsReader.{styles_alone}
 use Rattle.xlsx_cells.specs.Counting.{AreKept}
 use Rattle.xlsx_cells.specs.Ends.{end_in_cell, end_in_data}
@@ -29,7 +30,6 @@ use Rattle.xlsx_cells.specs.declared.cell_read.CellRead.{CellRead}
 use Rattle.xlsx_cells.proofs.Fronts.{behind_append, passes_weaker, mark_weaker, front_none}
 use Rattle.xlsx_cells.proofs.Fronts.{front_joined, front_over, taken_behind, taken_weaker}
 use Rattle.xlsx_cells.proofs.Fronts.{refused_behind_front, passes_all, lacks_behind, lacks_weaker}
-use Rattle.xlsx_cells.proofs.Refusing.{cut_weaker}
 
 -- cells without a style id that counts were passed
 pub record HasSkipped

@@ -8,10 +8,8 @@ use Rattle.part_events.specs.Reading.{Reading, ahead}
 use Rattle.part_events.specs.Section.{Element, unclosed}
 use Rattle.part_events.specs.Walk.{element_at, section_ahead, section_behind, is_closed_ahead}
 use Rattle.part_events.specs.Walk.{behind_section}
-use Rattle.part_events.specs.declared.fault.XmlFault.TheVariants.{EndMismatch, Unclosed}
 use Rattle.xlsx_error.specs.declared.error.XlsxError.{XlsxError}
-use Rattle.xlsx_error.specs.declared.error.XlsxError.TheVariants.{Xml, XmlEof}
-use Rattle.xlsx_sections.specs.Elements.{FindsElementIn, end_among}
+use Rattle.xlsx_sections.specs.Elements.{FindsElementIn, IfCutOff, end_among}
 use Rattle.xlsx_sections.specs.PartSection.{PartSection, SectionFails, StandsAtStart, inside_of}
 use Rattle.xlsx_sections.specs.Refusal.{Refusal}
 use Rattle.xlsx_cells.specs.Counting.{AreKept}
@@ -129,13 +127,6 @@ pub record LacksCell
   pub passed : List Mark
   pub fact : PassesMarks passes before passed
   pub marks : marks inside ≡ passed ++ open_mark (unclosed is_cell inside)
-
--- where an error tells of the part's end, or of an end that breaks the nesting
-abbrev pub IfCutOff : Type 0 → XlsxError → Type 0
-IfCutOff lacks (Xml (EndMismatch at)) = lacks
-IfCutOff lacks (Xml (Unclosed at)) = lacks
-IfCutOff lacks (XmlEof element) = lacks
-IfCutOff lacks _ = ⊤
 
 -- a step tells of these only where no whole cell is left for it to take
 abbrev pub IsCutOff :

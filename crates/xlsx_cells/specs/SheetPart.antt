@@ -5,7 +5,7 @@ use Rattle.std.specs.declared.alloc.Global.{Global}
 use Rattle.cell_refs.specs.declared.dimensions.Dimensions.{Dimensions}
 use Rattle.part_events.specs.Event.{Event}
 use Rattle.part_events.specs.Nesting.{whole}
-use Rattle.part_events.specs.Package.{PackageState, SameParts, part_of, event_count}
+use Rattle.part_events.specs.Package.{PackageState, SameParts, CountsUp, part_of, event_count}
 use Rattle.part_events.specs.Reading.{events_of}
 use Rattle.cell_data.specs.CellValue.{CellValue, value_of_data_ref}
 use Rattle.cell_data.specs.Cells.{IsInSheet}
@@ -73,6 +73,7 @@ pub record EntersData (path : List ℕ) (area : Dimensions) (old : PackageState)
   pub fresh : StandsBehind [] [] new
   pub parts : SameParts old new.reading.source
   pub faults : new.reading.source.faults ≡ old.faults
+  pub begins : CountsUp new.reading.at old.taken new.reading.source.taken
   pub taken :
       old.is_told ≡ true →
       new.reading.source.taken + length new.reading.source.rest

@@ -1,32 +1,37 @@
 -- How the records of a cache are read.
-use Rattle.std.proofs.Common.{◌≡◌, ◌∙◌, ◌≤◌, ℕ, suc, List, [], ◌∷◌, ◌++◌, length, Bool, true, Option}
-use Rattle.std.proofs.Common.{Some, None, Result, Ok, Err, refl, sym, ap, append-nil, arith}
+use Rattle.std.proofs.Common.{◌≡◌, ◌∙◌, ◌-◌, ◌≤◌, ℕ, suc, List, [], ◌∷◌, ◌++◌, length, Bool, true}
+use Rattle.std.proofs.Common.{false, Option, Some, None, Result, Ok, Err, refl, sym, ap}
+use Rattle.std.proofs.Common.{append-nil, arith}
 use Rattle.std.proofs.Common.{option_to_list}
 use Rattle.std.proofs.lemmas.List.{length-append}
-use Rattle.std.specs.Prelude.{slice_get}
-use Rattle.part_events.specs.Event.{Tag}
+use Rattle.std.specs.Prelude.{slice_get, if◌then◌else◌}
+use Rattle.part_events.specs.Event.{Tag, Event}
 use Rattle.part_events.specs.Reading.{Reading, IsReading, PassesElement, ahead}
-use Rattle.part_events.specs.Section.{Element, content, is_any, outermost, unclosed}
-use Rattle.part_events.specs.Walk.{section_ahead, section_behind, element_at}
+use Rattle.part_events.specs.Section.{Element, content, is_closed, is_any, outermost, unclosed}
+use Rattle.part_events.specs.Walk.{inside, section_ahead, section_behind, element_at}
+use Rattle.part_events.proofs.Matches.{open_still}
 use Rattle.part_events.proofs.Onward.{reads_nothing}
 use Rattle.cell_data.specs.CellValue.{CellValue}
 use Rattle.xlsx_error.specs.declared.error.XlsxError.{XlsxError}
 use Rattle.xlsx_sections.specs.Answers.{prepended, all_answers, and_others}
 use Rattle.xlsx_sections.specs.ElementLists.{element_said}
 use Rattle.xlsx_sections.specs.Elements.{KeepsElements, IsInsideRefused, end_among, end_outside}
-use Rattle.xlsx_sections.specs.Elements.{named_end}
-use Rattle.xlsx_sections.specs.PartSection.{Refusing, Never, SectionFails, always, inside_of}
-use Rattle.xlsx_sections.specs.PartSection.{section_left}
+use Rattle.xlsx_sections.specs.Elements.{named_end, IfCutOff}
+use Rattle.xlsx_sections.specs.Failing.{FailsBy}
+use Rattle.xlsx_sections.specs.PartSection.{PartSection, Refusing, Never, SectionFails, always}
+use Rattle.xlsx_sections.specs.PartSection.{SectionCause, section_left, inside_of, has_end}
 use Rattle.xlsx_sections.specs.Refusal.{Refusal, ElementFails, in_element}
+use Rattle.xlsx_sections.proofs.CutOff.{cut_weaker, cut_open, fails_cut_off, none_open}
 use Rattle.xlsx_sections.proofs.ElementsRead.{IsElementFound, element_passed, element_refused}
-use Rattle.xlsx_sections.proofs.ElementsSaid.{KeepsElementsSaid, StepsFrom, elements_further}
+use Rattle.xlsx_sections.proofs.ElementsRead.{own_inside, own_end}
+use Rattle.xlsx_sections.proofs.ElementsSaid.{KeepsElementsSaid, elements_further}
 use Rattle.xlsx_sections.proofs.Kept.{prepended-and_others}
-use Rattle.xlsx_sections.proofs.ListsRead.{list_refused}
 use Rattle.xlsx_sections.proofs.Refused.{event_refused, refused_by}
 use Rattle.xlsx_pivot_cache.specs.CacheFields.{FieldSaid}
 use Rattle.xlsx_pivot_cache.specs.CacheRecords.{records_name, value_said, with_value, values_from}
 use Rattle.xlsx_pivot_cache.specs.CacheRecords.{row_in, row_said, rows_in, is_record}
-use Rattle.xlsx_pivot_cache.specs.PivotRows.{TakesRecord}
+use Rattle.xlsx_pivot_cache.specs.PivotRows.{TakesRecord, IsFirstTaken, IsNextRefused}
+use Rattle.xlsx_pivot_cache.specs.PivotRows.{NextRecordCause, LacksRecord, records_ahead}
 
 -- the values of elements, behind those of the elements before them
 abbrev pub values_behind : List FieldSaid → List CellValue → List Element
@@ -145,27 +150,91 @@ pub record_taken : {base place : ℕ} {tag : Tag} {old new after : Reading}
     → IsElementFound is_record base tag place old old new → PassesElement new after
     → (new.source.is_told ≡ true → row_in fields (content 0 (ahead new)) ≡ Ok row)
     → TakesRecord fields base row old after
-record_taken {base = base} {tag = tag} {new = new} {after = after} fields row found passes says =
+record_taken {base = base} {tag = tag} {new = new} fields row found passes says =
     let passed = element_passed found passes in
-    let here = element_at base tag new in
     record {
       keeps = passed.keeps;
-      rows = λ told.
-          ap (all_answers (element_said (row_said fields))) (passed.elements told)
-          ∙ ap (λ (own : Result (List CellValue) Refusal). and_others own
-          (rows_in fields (section_ahead base after)))
-          (ap (in_element here) (says (found.read.reads.moves.parts.is_told ∙ told)));
+      first = λ told. record {
+        here = element_at base tag new;
+        next = passed.elements told;
+        says = says (found.read.reads.moves.parts.is_told ∙ told);
+        ends = passed.keeps.unclosed told;
+      };
     }
 
--- a record is refused, and so are the records
-pub record_refused : {base place : ℕ} {step : Option ℕ} {old : Reading} (new : Reading)
-    (fields : List FieldSaid) (last : Reading) (error : XlsxError) → step ≡ Some place
-    → KeepsElements is_record base old old → StepsFrom is_record base step old new
+-- the rows of what was left are that of the first record, and those of what is left
+pub rows_taken : {base : ℕ} {row : List CellValue} {old new : Reading} (fields : List FieldSaid)
+    → IsFirstTaken fields base row old new
+    → rows_in fields (section_ahead base old)
+    ≡ and_others (Ok row) (rows_in fields (section_ahead base new))
+rows_taken {base = base} {new = new} fields first =
+    ap (all_answers (element_said (row_said fields))) first.next
+    ∙ ap (λ (own : Result (List CellValue) Refusal). and_others own
+    (rows_in fields (section_ahead base new))) (ap (in_element first.here) first.says)
+
+-- where the first record is refused, so are the rows
+pub rows_refused : (fields : List FieldSaid) (s : PartSection) (refusal : Refusal)
+    → IsNextRefused fields s refusal → rows_in fields (inside_of s) ≡ Err refusal
+rows_refused fields s refusal is =
+    ap (all_answers (element_said (row_said fields))) is.next
+    ∙ ap (λ (own : Result (List CellValue) Refusal). and_others own
+    (all_answers (element_said (row_said fields)) is.others)) is.refuses
+
+-- the step to the next record is refused
+pub next_stopped : (fields : List FieldSaid) (base : ℕ) (old new : Reading) (error : XlsxError)
+    → SectionFails (end_among is_record records_name (λ (element : Element). Some records_name))
+    Never base old new error
+    → IfCutOff (old.source.is_told ≡ true → records_ahead base old ≡ []) error
+    → FailsBy (NextRecordCause fields base old) old.source new.source error
+next_stopped fields base old new error fails cut =
+    fails_cut_off
+    (SectionCause (always records_name) (IsNextRefused fields) (section_left base old))
+    (LacksRecord base old) old.source new.source error
+    (step_refused is_record base old (IsNextRefused fields) new error fails)
+    (cut_weaker (old.source.is_told ≡ true → records_ahead base old ≡ [])
+    (old.source.is_told ≡ true → LacksRecord base old) error
+    (λ none told.
+    none told
+    ∙ sym (ap option_to_list (none_open is_record (section_ahead base old) (none told)))) cut)
+
+-- the record that was found is left open, and no other one is left
+found_open : {base place : ℕ} {tag : Tag} {old new : Reading}
+    → IsElementFound is_record base tag place old old new → old.source.is_told ≡ true
+    → has_end (section_left (length new.names) new) ≡ false → LacksRecord base old
+found_open {base = base} {tag = tag} {old = old} {new = new} found told ends =
+    let here = element_at base tag new in
+    let is_open : is_closed 0 (ahead new) ≡ false = sym (own_end new) ∙ ends in
+    (found.next told).elements
+    ∙ ap (λ (events : List Event). here ∷ outermost is_record
+    (content (inside base new - 1) events)) (open_still (ahead new) is_open).1
+    ∙ sym (ap option_to_list
+    ((found.next told).unclosed
+    ∙ ap (λ (b : Bool). if b then unclosed is_record (section_behind base new) else Some here)
+    is_open))
+
+-- the record that was found is refused
+pub record_refused : {base place : ℕ} {tag : Tag} {old new : Reading} (fields : List FieldSaid)
+    (last : Reading) (error : XlsxError) → IsElementFound is_record base tag place old old new
     → SectionFails (always records_name) (IsInsideRefused (row_in fields)) (length new.names) new
     last error
-    → SectionFails (always records_name) (IsInsideRefused (rows_in fields)) base old last error
-record_refused {base = base} {old = old} new fields last error is keeps steps fails =
-    ends_by_name is_record base old (IsInsideRefused (rows_in fields)) last error
-    (list_refused {meaning = row_said fields} {before = []} {kept = []} records_name
-    (always records_name) new last.source error is
-    (record { keeps = keeps; said = λ told. refl }) steps (λ tag current. fails))
+    → FailsBy (NextRecordCause fields base old) old.source last.source error
+record_refused {base = base} {tag = tag} {old = old} {new = new} fields last error found fails =
+    let here = element_at base tag new in
+    fails_cut_off
+    (SectionCause (always records_name) (IsNextRefused fields) (section_left base old))
+    (LacksRecord base old) old.source last.source error
+    (ends_by_name is_record base old (IsNextRefused fields) last error
+    (element_refused records_name (λ (element : Element). Some records_name)
+    (always records_name) (IsInsideRefused (row_in fields)) (IsNextRefused fields) last error found
+    (λ told. refl)
+    (λ told refusal is. record {
+      here = here;
+      others = outermost is_record (section_behind base new);
+      next = (found.next told).elements;
+      refuses = ap (in_element here) (sym (ap (row_in fields) (own_inside new)) ∙ is);
+    }) fails))
+    (cut_weaker (new.source.is_told ≡ true → has_end (section_left (length new.names) new) ≡ false)
+    (old.source.is_told ≡ true → LacksRecord base old) error
+    (λ ends told. found_open found told (ends (found.read.reads.moves.parts.is_told ∙ told)))
+    (cut_open (length new.names) new last (always records_name) (IsInsideRefused (row_in fields))
+    error fails))

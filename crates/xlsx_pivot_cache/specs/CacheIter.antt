@@ -14,7 +14,8 @@ use Rattle.xlsx_sections.specs.Failing.{FailsBy}
 use Rattle.xlsx_pivot_cache.specs.CacheErrors.{IsRowError}
 use Rattle.xlsx_pivot_cache.specs.CacheRecords.{row_kept, RowsCause, OpenRowsCause}
 use Rattle.xlsx_pivot_cache.specs.PivotRows.{PivotRows, pivot_rows, rows_left, IsDone}
-use Rattle.xlsx_pivot_cache.specs.PivotRows.{ReadsRow, TakesRow}
+use Rattle.xlsx_pivot_cache.specs.PivotRows.{ReadsRow, TakesRow, GivesRowOf, GivesNone}
+use Rattle.xlsx_pivot_cache.specs.PivotRows.{NextRowFails}
 use Rattle.xlsx_pivot_cache.specs.declared.cache_iter.PivotCacheIter.{PivotCacheIter}
 use Rattle.xlsx_pivot_cache.specs.declared.pivot_cursor.PivotCursor.{PivotCursor}
 use Rattle.xlsx_pivot_cache.specs.declared.pivot_cursor.RecordsPlace.{RecordsPlace}
@@ -43,7 +44,9 @@ pub record GivesRow (result : Option (Result (Vec Data Global) XlsxError)) (old 
   pub fields : new.fields ≡ old.fields
   pub reads : ReadsRow result old.reading new.reading
   pub row : IfSome result (λ next. IfOk next (λ row. TakesRow (row_kept row.items) old new))
+  pub given : IfSome result (λ next. IfOk next (λ row. GivesRowOf (row_kept row.items) old new))
   pub none : old.reading.source.is_told ≡ true → IfNone result (rows_left old ≡ Some [])
+  pub none_left : IfNone result (GivesNone old new)
   pub ended : IfNone result (IsDone new)
   pub done : IfSome result (λ next. OnErr next (IsDone new))
   pub rests : IsDone old → (result ≡ None) × (new ≡ old)
@@ -51,6 +54,7 @@ pub record GivesRow (result : Option (Result (Vec Data Global) XlsxError)) (old 
       IfSome result (λ next. IfErr next
       (FailsBy (RowsCause old.fields (events_of old.reading)) old.reading.source
       new.reading.source))
+  pub refused : IfSome result (λ next. IfErr next (NextRowFails old new.reading.source))
   pub kind : IfSome result (λ next. IfErr next IsRowError)
 
 -- when a cache can't be opened that is lent its package: nothing is said of the package then, which

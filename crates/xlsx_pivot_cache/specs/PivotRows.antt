@@ -1,22 +1,25 @@
 -- What a cursor over the rows of a cache has left, and what its steps do.
 use Rattle.std.specs.Prelude.{◌≡◌, ℕ, ◌+◌, ◌<◌, ◌≤◌, List, [], ◌∷◌, length, true, Option, Some}
-use Rattle.std.specs.Prelude.{None, option_map, if◌then◌else◌, Result, Ok, Err, MatchResult}
+use Rattle.std.specs.Prelude.{None, option_map, option_to_list, if◌then◌else◌, Result, Ok, Err}
+use Rattle.std.specs.Prelude.{MatchResult}
 use Rattle.part_events.specs.Package.{PackageState, SameParts, CountsUp, part_of, event_count}
 use Rattle.part_events.specs.Reading.{Reading, reading, IsReading, MovesForward, SamePart}
 use Rattle.part_events.specs.Reading.{LeavesPart, events_of}
+use Rattle.part_events.specs.Section.{Element, outermost, unclosed}
 use Rattle.part_events.specs.Walk.{section_ahead, is_closed_ahead}
 use Rattle.cell_data.specs.CellValue.{CellValue}
 use Rattle.xlsx_error.specs.declared.error.XlsxError.{XlsxError}
 use Rattle.xlsx_error.specs.declared.error.XlsxError.TheVariants.{Io}
-use Rattle.xlsx_sections.specs.Answers.{and_others}
-use Rattle.xlsx_sections.specs.Elements.{KeepsElements, ReachesEnd}
-use Rattle.xlsx_sections.specs.PartSection.{PartSection}
+use Rattle.xlsx_sections.specs.ElementLists.{element_said}
+use Rattle.xlsx_sections.specs.Elements.{KeepsElements, ReachesEnd, IfCutOff}
+use Rattle.xlsx_sections.specs.Failing.{FailsBy}
+use Rattle.xlsx_sections.specs.PartSection.{PartSection, SectionCause, StartCause, always}
 use Rattle.xlsx_sections.specs.PartSection.{section_in, section_left, inside_of, has_end, last_of}
 use Rattle.xlsx_sections.specs.Refusal.{Refusal}
 use Rattle.xlsx_parts.specs.PartSaid.{ok_or_none, section_said}
 use Rattle.xlsx_pivot_cache.specs.CacheFields.{FieldSaid, fields_kept, fields_at}
-use Rattle.xlsx_pivot_cache.specs.CacheRecords.{rows_in, is_record, records_name}
-use Rattle.xlsx_pivot_cache.specs.CacheRecords.{names_first, cache_rows}
+use Rattle.xlsx_pivot_cache.specs.CacheRecords.{row_in, row_said, rows_in, is_record}
+use Rattle.xlsx_pivot_cache.specs.CacheRecords.{records_name, names_row, names_first, cache_rows}
 use Rattle.xlsx_pivot_cache.specs.declared.pivot_cursor.PivotCursor.{PivotCursor}
 use Rattle.xlsx_pivot_cache.specs.declared.pivot_cursor.RecordsPlace.{RecordsPlace}
 use Rattle.xlsx_pivot_cache.specs.declared.pivot_cursor.RecordsPlace.TheVariants.{Before, Within}
@@ -78,6 +81,11 @@ StandsAt Done fields r = Unit {0}
 abbrev pub IsAtRecords : PivotRows → Type 0
 IsAtRecords rows = StandsAt rows.place rows.fields rows.reading
 
+-- it is in the records, at a depth of which this holds
+abbrev pub IsWithin : (ℕ → Type 0) → RecordsPlace → Type 0
+IsWithin holds (Within base) = holds base
+IsWithin holds _ = ⊥
+
 -- it is behind the end of the records, or behind a refusal
 abbrev pub IsDone : PivotRows → Type 0
 IsDone rows = rows.place ≡ Done
@@ -104,19 +112,96 @@ TakesRow row old new =
 abbrev pub IsFewer : Reading → Reading → Type 0
 IsFewer old new = new.source.left < old.source.left
 
+-- the outermost records of what is left of their section
+abbrev pub records_ahead : ℕ → Reading → List Element
+records_ahead base r = outermost is_record (section_ahead base r)
+
+-- the one in which what is left ends
+abbrev pub open_record : ℕ → Reading → Option Element
+open_record base r = unclosed is_record (section_ahead base r)
+
+-- the first of the records that are left was taken, whatever stands behind it
+pub record IsFirstTaken
+    (fields : List FieldSaid) (base : ℕ) (row : List CellValue) (old new : Reading) : Type 0 where
+  pub here : Element
+  pub next : records_ahead base old ≡ here ∷ records_ahead base new
+  pub says : row_in fields here.inside ≡ Ok row
+  pub ends : open_record base new ≡ open_record base old
+
 -- a record was read, and this is its row
 pub record TakesRecord
     (fields : List FieldSaid) (base : ℕ) (row : List CellValue) (old new : Reading) : Type 0 where
   pub keeps : KeepsElements is_record base old new
-  pub rows :
-      old.source.is_told ≡ true →
-      rows_in fields (section_ahead base old)
-      ≡ and_others (Ok row) (rows_in fields (section_ahead base new))
+  pub first : old.source.is_told ≡ true → IsFirstTaken fields base row old new
 
 -- none is left, and the end of the records was taken
-pub record EndsRecords (fields : List FieldSaid) (base : ℕ) (old new : Reading) : Type 0 where
-  pub rows : rows_in fields (section_ahead base old) ≡ Ok []
+pub record EndsRecords (base : ℕ) (old new : Reading) : Type 0 where
+  pub none : records_ahead base old ≡ []
   pub reaches : ReachesEnd base old new
+
+-- the start of the records was taken, whose element is number `base` of the open ones
+pub record EntersRecords (base : ℕ) (old new : Reading) : Type 0 where
+  pub depth : base ≡ length new.names
+  pub there :
+      old.source.is_told ≡ true →
+      section_in records_name (events_of old) ≡ Some (section_left base new)
+
+-- where a row leaves the reader: the names behind the start of the records, and each other row
+-- behind its record
+abbrev pub TakesRowAt : RecordsPlace → List CellValue → PivotRows → PivotRows → Type 0
+TakesRowAt Before row old new =
+    (row ≡ names_row old.fields)
+    × IsWithin (λ base. EntersRecords base old.reading new.reading) new.place
+TakesRowAt (Within base) row old new =
+    (new.place ≡ Within base)
+    × (old.reading.source.is_told ≡ true →
+    IsFirstTaken old.fields base row old.reading new.reading)
+TakesRowAt Done row old new = ⊥
+
+-- the next row was given, whatever stands behind it
+abbrev pub GivesRowOf : List CellValue → PivotRows → PivotRows → Type 0
+GivesRowOf row old new = TakesRowAt old.place row old new
+
+-- no row was given: the end of the records was taken, or nothing is read any more
+abbrev pub EndsAt : RecordsPlace → PivotRows → PivotRows → Type 0
+EndsAt Before old new = ⊥
+EndsAt (Within base) old new =
+    old.reading.source.is_told ≡ true → EndsRecords base old.reading new.reading
+EndsAt Done old new = Unit {0}
+
+abbrev pub GivesNone : PivotRows → PivotRows → Type 0
+GivesNone old new = EndsAt old.place old new
+
+-- the first record of a section is refused
+pub record IsNextRefused (fields : List FieldSaid) (s : PartSection) (refusal : Refusal) : Type 0
+  where
+    pub here : Element
+    pub others : List Element
+    pub next : outermost is_record (inside_of s) ≡ here ∷ others
+    pub refuses : element_said (row_said fields) here ≡ Err refusal
+
+-- no record is left, but perhaps one that no end closes
+abbrev pub LacksRecord : ℕ → Reading → Type 0
+LacksRecord base r = records_ahead base r ≡ option_to_list (open_record base r)
+
+-- why the next record can't be taken; that the part ends, or its nesting breaks, is told only where
+-- no whole one is left
+abbrev pub NextRecordCause : List FieldSaid → ℕ → Reading → XlsxError → Type 0
+NextRecordCause fields base r error =
+    SectionCause (always records_name) (IsNextRefused fields) (section_left base r) error
+    × IfCutOff (LacksRecord base r) error
+
+-- why the next row can't be given
+abbrev pub RowCauseAt : RecordsPlace → List FieldSaid → Reading → XlsxError → Type 0
+RowCauseAt Before fields r error =
+    (section_in records_name (events_of r) ≡ None) × StartCause records_name (events_of r) error
+RowCauseAt (Within base) fields r error = NextRecordCause fields base r error
+RowCauseAt Done fields r error = ⊥
+
+-- when it isn't
+abbrev pub NextRowFails : PivotRows → PackageState → XlsxError → Type 0
+NextRowFails old new error =
+    FailsBy (RowCauseAt old.place old.fields old.reading) old.reading.source new error
 
 -- The fields of a cache are these, whose definitions are the part at the first path, and the part
 -- of its records, at the second one, is open.

@@ -8,6 +8,7 @@ ghost use Rattle.xlsx_pivot_cache.specs.CacheErrors.{IsRowError, IsCacheFieldsEr
 ghost use Rattle.xlsx_pivot_cache.specs.CacheRecords.{row_kept, RowsCause, OpenRowsCause};
 ghost use Rattle.xlsx_pivot_cache.specs.PivotRows.{pivot_rows, rows_left, IsAtRecords, IsDone};
 ghost use Rattle.xlsx_pivot_cache.specs.PivotRows.{ReadsRow, TakesRow, OpensRows, IsFewer};
+ghost use Rattle.xlsx_pivot_cache.specs.PivotRows.{GivesRowOf, GivesNone, NextRowFails};
 ghost use Rattle.xlsx_pivot_cache.specs.declared.pivot_cursor.RecordsPlace.TheVariants.{Before};
 ghost use Rattle.xlsx_pivot_cache.specs.declared.pivot_cursor.RecordsPlace.TheVariants.{Within};
 
@@ -86,6 +87,9 @@ impl PivotCursor {
         ensures row { let old = pivot_rows (P.state «package».old) self.old in
             let new = pivot_rows (P.state «package».new) self.new in
             IfOk result (λ row. TakesRow (row_kept row.items) old new) }
+        ensures given { let old = pivot_rows (P.state «package».old) self.old in
+            let new = pivot_rows (P.state «package».new) self.new in
+            IfOk result (λ row. GivesRowOf (row_kept row.items) old new) }
         ensures step { let old = pivot_rows (P.state «package».old) self.old in
             let new = pivot_rows (P.state «package».new) self.new in
             OnOk result (IsFewer old.reading new.reading) }
@@ -93,6 +97,8 @@ impl PivotCursor {
         ensures err { let old = pivot_rows (P.state «package».old) self.old in
             IfErr result (FailsBy (RowsCause old.fields (events_of old.reading))
             old.reading.source (P.state «package».new)) }
+        ensures refused { let old = pivot_rows (P.state «package».old) self.old in
+            IfErr result (NextRowFails old (P.state «package».new)) }
         ensures kind { IfErr result IsRowError }
     {
         // Each refusal leaves it so.
@@ -122,18 +128,27 @@ impl PivotCursor {
         ensures row { let old = pivot_rows (P.state «package».old) self.old in
             let new = pivot_rows (P.state «package».new) self.new in
             IfOk result (λ found. IfSome found (λ row. TakesRow (row_kept row.items) old new)) }
+        ensures given { let old = pivot_rows (P.state «package».old) self.old in
+            let new = pivot_rows (P.state «package».new) self.new in
+            IfOk result (λ found. IfSome found (λ row.
+            GivesRowOf (row_kept row.items) old new)) }
         ensures step { let old = pivot_rows (P.state «package».old) self.old in
             let new = pivot_rows (P.state «package».new) self.new in
             IfOk result (λ found. IfSome found (λ row. IsFewer old.reading new.reading)) }
         ensures none { let old = pivot_rows (P.state «package».old) self.old in
             old.reading.source.is_told ≡ true →
             IfOk result (λ found. IfNone found (rows_left old ≡ Some [])) }
+        ensures none_left { let old = pivot_rows (P.state «package».old) self.old in
+            let new = pivot_rows (P.state «package».new) self.new in
+            IfOk result (λ found. IfNone found (GivesNone old new)) }
         ensures ended { IfOk result (λ found.
             IfNone found (IsDone (pivot_rows (P.state «package».new) self.new))) }
         ensures done { OnErr result (IsDone (pivot_rows (P.state «package».new) self.new)) }
         ensures err { let old = pivot_rows (P.state «package».old) self.old in
             IfErr result (FailsBy (RowsCause old.fields (events_of old.reading))
             old.reading.source (P.state «package».new)) }
+        ensures refused { let old = pivot_rows (P.state «package».old) self.old in
+            IfErr result (NextRowFails old (P.state «package».new)) }
         ensures kind { IfErr result IsRowError }
     {
         self.place = RecordsPlace::Done;
@@ -166,10 +181,17 @@ impl PivotCursor {
         ensures row { let old = pivot_rows (P.state «package».old) self.old in
             let new = pivot_rows (P.state «package».new) self.new in
             IfSome result (λ next. IfOk next (λ row. TakesRow (row_kept row.items) old new)) }
+        ensures given { let old = pivot_rows (P.state «package».old) self.old in
+            let new = pivot_rows (P.state «package».new) self.new in
+            IfSome result (λ next. IfOk next (λ row.
+            GivesRowOf (row_kept row.items) old new)) }
         ensures step { IfSome result (λ next.
             OnOk next ((P.state «package».new).left < (P.state «package».old).left)) }
         ensures none { let old = pivot_rows (P.state «package».old) self.old in
             old.reading.source.is_told ≡ true → IfNone result (rows_left old ≡ Some []) }
+        ensures none_left { let old = pivot_rows (P.state «package».old) self.old in
+            let new = pivot_rows (P.state «package».new) self.new in
+            IfNone result (GivesNone old new) }
         ensures ended { IfNone result (IsDone (pivot_rows (P.state «package».new) self.new)) }
         ensures done { IfSome result (λ next.
             OnErr next (IsDone (pivot_rows (P.state «package».new) self.new))) }
@@ -179,6 +201,8 @@ impl PivotCursor {
             IfSome result (λ next. IfErr next
             (FailsBy (RowsCause old.fields (events_of old.reading)) old.reading.source
             (P.state «package».new))) }
+        ensures refused { let old = pivot_rows (P.state «package».old) self.old in
+            IfSome result (λ next. IfErr next (NextRowFails old (P.state «package».new))) }
         ensures kind { IfSome result (λ next. IfErr next IsRowError) }
     {
         match self.place {

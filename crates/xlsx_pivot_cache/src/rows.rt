@@ -2,12 +2,12 @@ ghost use Rattle.std.specs.Prelude.{◌≡◌, ◌≤◌, length, true, IfOk, If
 ghost use Rattle.std.specs.Prelude.{MatchOption};
 ghost use Rattle.part_events.specs.Reading.{reading, open_elements, IsReading, ReadsPart};
 ghost use Rattle.xlsx_error.specs.declared.error.XlsxError.TheVariants.{Io};
-ghost use Rattle.xlsx_sections.specs.Elements.{IsInsideRefused};
-ghost use Rattle.xlsx_sections.specs.PartSection.{always, SectionFails};
+ghost use Rattle.xlsx_sections.specs.Failing.{FailsBy};
 ghost use Rattle.xlsx_pivot_cache.specs.CacheErrors.{IsRowError};
 ghost use Rattle.xlsx_pivot_cache.specs.CacheFields.{fields_kept};
-ghost use Rattle.xlsx_pivot_cache.specs.CacheRecords.{names_row, row_kept, rows_in, records_name};
+ghost use Rattle.xlsx_pivot_cache.specs.CacheRecords.{names_row, row_kept};
 ghost use Rattle.xlsx_pivot_cache.specs.PivotRows.{TakesRecord, EndsRecords, IsFewer};
+ghost use Rattle.xlsx_pivot_cache.specs.PivotRows.{NextRecordCause};
 
 use crate::field::CacheField;
 use crate::record::read_record;
@@ -49,15 +49,15 @@ pub(crate) fn next_record<P: Package>(
         let new = reading (P.state «package».new) cursor.new in
         let said = fields_kept fields.now in
         IfOk result (λ found. MatchOption found
-        (old.source.is_told ≡ true → EndsRecords said base old new)
+        (old.source.is_told ≡ true → EndsRecords base old new)
         (λ row. TakesRecord said base (row_kept row.items) old new)) }
     ensures step { let old = reading (P.state «package».old) cursor.old in
         let new = reading (P.state «package».new) cursor.new in
         IfOk result (λ found. IfSome found (λ row. IsFewer old new)) }
     ensures err { let old = reading (P.state «package».old) cursor.old in
         let new = reading (P.state «package».new) cursor.new in
-        let refused = IsInsideRefused (rows_in (fields_kept fields.now)) in
-        IfErr result (SectionFails (always records_name) refused base old new) }
+        IfErr result (FailsBy (NextRecordCause (fields_kept fields.now) base old) old.source
+        new.source) }
     ensures kind { IfErr result IsRowError }
 {
     let Some(_at) = next_element_in(package, cursor, base, &["r"], "pivotCacheRecords")? else {

@@ -1,3 +1,4 @@
+pub mod CutOff
 pub mod ElementsRead
 pub mod ElementsSaid
 pub mod Failing

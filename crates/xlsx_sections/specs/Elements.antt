@@ -83,3 +83,10 @@ pub record ReachesEnd (base : ℕ) (old new : Reading) : Type 0 where
   pub closed : is_closed_ahead base old ≡ true
   pub behind : behind_section base old ≡ ahead new
   pub ends : new.at ≡ suc (section_end base old)
+
+-- where an error tells of the part's end, or of an end that breaks the nesting
+abbrev pub IfCutOff : Type 0 → XlsxError → Type 0
+IfCutOff lacks (Xml (EndMismatch at)) = lacks
+IfCutOff lacks (Xml (Unclosed at)) = lacks
+IfCutOff lacks (XmlEof element) = lacks
+IfCutOff lacks _ = ⊤

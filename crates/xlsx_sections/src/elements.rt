@@ -1,16 +1,17 @@
-ghost use Rattle.std.specs.Prelude.{◌≡◌, ◌≤◌, ◌++◌, List, ℕ, suc, length, map, true, Ok, Option};
-ghost use Rattle.std.specs.Prelude.{option_map, string_bytes, IfOk, OnOk, IfErr, OnErr};
+ghost use Rattle.std.specs.Prelude.{◌≡◌, ◌≤◌, ◌++◌, List, [], ℕ, suc, length, map, true, Ok};
+ghost use Rattle.std.specs.Prelude.{Option, option_map, string_bytes, IfOk, OnOk, IfErr, OnErr};
 ghost use Rattle.part_events.specs.JoinedText.{joined_text, IsFrontOf, PutsFront};
 ghost use Rattle.part_events.specs.Reading.{Reading, reading, open_elements, IsReading};
 ghost use Rattle.part_events.specs.Reading.{IsReadingElement, ReadsElement, ReadsPart, ahead};
-ghost use Rattle.part_events.specs.Section.{Element, content, is_any, is_named};
+ghost use Rattle.part_events.specs.Section.{Element, content, outermost, is_any, is_named};
+ghost use Rattle.part_events.specs.Walk.{section_ahead};
 ghost use Rattle.xlsx_error.specs.declared.error.XlsxError.TheVariants.{Io};
 ghost use Rattle.xlsx_sections.specs.Elements.{end_among, named_end, ElementReadFails};
 ghost use Rattle.xlsx_sections.specs.Elements.{FindsElementIn, IsTextError, IsEndError, ReachesEnd};
 ghost use Rattle.xlsx_sections.specs.ElementText.{element_text};
 ghost use Rattle.xlsx_sections.specs.PartSection.{always, Never, IsStepError, SectionFails};
 ghost use Rattle.xlsx_sections.specs.PartSection.{StandsAtStart};
-ghost use Rattle.xlsx_sections.specs.Elements.{KeepsElements};
+ghost use Rattle.xlsx_sections.specs.Elements.{KeepsElements, IfCutOff};
 ghost use Rattle.xlsx_sections.specs.Steps.{StepsToElement};
 
 use part_events::{Cursor, Package, Step, XmlFault};
@@ -23,7 +24,8 @@ use xlsx_error::XlsxError;
 /// An element that is found has to be read to its end before the next one is asked for.
 ///
 /// A part that ends in the section is `XmlEof(section)`, and an end that breaks the nesting is
-/// `Xml(EndMismatch)` with its number in the part, counted from 0.
+/// `Xml(EndMismatch)` with its number in the part, counted from 0. Neither comes while such an
+/// element is left.
 pub fn next_element_in<P: Package>(
     package: &mut P,
     cursor: &mut Cursor,
@@ -61,6 +63,10 @@ pub fn next_element_in<P: Package>(
         IfErr result (λ error. (first : Reading) (inner : Element → Option (List ℕ)) →
         KeepsElements wanted base first old →
         SectionFails (end_among wanted section.now inner) Never base first new error) }
+    ensures cut { let old = reading (P.state «package».old) cursor.old in
+        let wanted = is_named (map (λ name. name.now) names.now) in
+        IfErr result (IfCutOff
+        (old.source.is_told ≡ true → outermost wanted (section_ahead base old) ≡ [])) }
     ensures kind { IfErr result (IsStepError section.now) }
 {
     match cursor.next_element(package, base, names)? {

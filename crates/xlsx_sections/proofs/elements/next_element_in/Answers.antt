@@ -1,9 +1,12 @@
 use Rattle.std.proofs.Common.{◌≡◌, List, map, arith, ap, sym, ◌∙◌, subst}
+use Rattle.std.proofs.lemmas.Result.{err_from_is_err_and}
 use Rattle.part_events.specs.Event.{Event}
 use Rattle.part_events.specs.Nesting.{whole}
+use Rattle.part_events.specs.Reading.{reading}
 use Rattle.part_events.specs.Section.{is_named}
 use Rattle.part_events.proofs.Onward.{whole_at_end}
 use Rattle.xlsx_sections.specs.Elements.{end_outside}
+use Rattle.xlsx_sections.proofs.CutOff.{walk_cut}
 use Rattle.xlsx_sections.proofs.ElementsRead.{element_step_found}
 use Rattle.xlsx_sections.proofs.elements.next_element_in.Goals as goal
 
@@ -33,3 +36,12 @@ returns-in-Ended-clause-refused g c = λ first inner keeps told.
       ),
       ap (end_outside c.args.section.now inner) (sym (keeps.unclosed told) ∙ ends.unclosed),
     )
+
+pub returns-in_err-next_element-clause-cut : goal.returns-in_err-next_element-clause-cut
+returns-in_err-next_element-clause-cut g c =
+    let old = reading (g.P.Package.state c.args.package.now) c.args.cursor.now in
+    let new = reading (g.P.Package.state c.next_element.new.package) c.next_element.new.self in
+    let p = err_from_is_err_and c.from_residual.result c.from_residual.ensures.1 in
+    rw (p.1, p.2)
+    (walk_cut (is_named (map (λ name. name.now) c.args.names.now)) c.args.base old new
+    c.in_err-next_element.field-0.0 c.in_err-next_element.ensures.err)

@@ -6,23 +6,39 @@ use Rattle.xlsx_sections.proofs.Failing.{given_back}
 use Rattle.xlsx_pivot_cache.specs.CacheFields.{fields_kept}
 use Rattle.xlsx_pivot_cache.specs.CacheRecords.{records_name, names_row, row_kept}
 use Rattle.xlsx_pivot_cache.specs.declared.field.CacheField.{CacheField}
-use Rattle.xlsx_pivot_cache.proofs.RowsLeft.{names_taken, in_records, find_fails, records_found}
-use Rattle.xlsx_pivot_cache.proofs.RowsLeft.{lacks_records}
+use Rattle.xlsx_pivot_cache.proofs.RowsLeft.{names_taken, in_records, find_fails, start_fails}
+use Rattle.xlsx_pivot_cache.proofs.RowsLeft.{records_found, lacks_records}
 use Rattle.xlsx_pivot_cache.proofs.pivot_cursor.PivotCursor.take_names.Goals as goal
 
 pub returns-in_err-_at-clause-err : goal.returns-in_err-_at-clause-err
 returns-in_err-_at-clause-err g c =
+    let fields = fields_kept c.args.self.now.fields.items in
     let old = reading (g.P.Package.state c.args.package.now) c.args.self.now.cursor in
     let new = reading (g.P.Package.state c.find_element.new.package) c.find_element.new.cursor in
     given_back _ c.from_residual-in_err-_at.result c.from_residual-in_err-_at.ensures.1
+    (start_fails fields old new c.in_err-_at.field-0.0
+    (find_fails fields old new c.in_err-_at.field-0.0 c.in_err-_at.ensures.err))
+
+pub returns-in_err-_at-clause-refused : goal.returns-in_err-_at-clause-refused
+returns-in_err-_at-clause-refused g c =
+    let old = reading (g.P.Package.state c.args.package.now) c.args.self.now.cursor in
+    let new = reading (g.P.Package.state c.find_element.new.package) c.find_element.new.cursor in
+    rw c.requires.place
+    (given_back _ c.from_residual-in_err-_at.result c.from_residual-in_err-_at.ensures.1
     (find_fails (fields_kept c.args.self.now.fields.items) old new c.in_err-_at.field-0.0
-    c.in_err-_at.ensures.err)
+    c.in_err-_at.ensures.err))
 
 pub returns-in_default-clause-err : goal.returns-in_default-clause-err
 returns-in_default-clause-err g c = λ told.
     let old = reading (g.P.Package.state c.args.package.now) c.args.self.now.cursor in
     let ends = rw c.in_default.is at (c.in_ok-_at.ensures.found told) in
     rw (lacks_records (events_of old) ends.0) (refl, ends.1.0)
+
+pub returns-in_default-clause-refused : goal.returns-in_default-clause-refused
+returns-in_default-clause-refused g c = λ told.
+    let old = reading (g.P.Package.state c.args.package.now) c.args.self.now.cursor in
+    let ends = rw c.in_default.is at (c.in_ok-_at.ensures.found told) in
+    rw c.requires.place (lacks_records (events_of old) ends.0, (refl, ends.1.0))
 
 pub returns-clause-at : goal.returns-clause-at
 returns-clause-at g c =
@@ -48,3 +64,18 @@ returns-clause-row g c = λ told.
     rw (c.requires.place, same, c.depth.ensures)
     (names_taken fields old new
     (records_found old new (rw c.in-Some.is at (c.in_ok-_at.ensures.found told))))
+
+pub returns-clause-given : goal.returns-clause-given
+returns-clause-given g c =
+    let old = reading (g.P.Package.state c.args.package.now) c.args.self.now.cursor in
+    let new = reading (g.P.Package.state c.find_element.new.package) c.find_element.new.cursor in
+    rw c.requires.place (
+      c.in_ok-names.ensures
+          ∙ ap (λ (own : List CacheField). names_row (fields_kept own)) c.deref.ensures.value,
+      record {
+        depth = c.depth.ensures;
+        there = λ told.
+            rw c.depth.ensures
+            (records_found old new (rw c.in-Some.is at (c.in_ok-_at.ensures.found told)));
+      },
+    )
