@@ -1,4 +1,5 @@
 pub mod Cutting
+pub mod PieceEnds
 pub mod Steps
 pub mod Recutting
 pub mod Spellings

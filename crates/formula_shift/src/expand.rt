@@ -65,7 +65,7 @@ pub fn expanded_len(formula: &str, start: (u32, u32), end: (u32, u32)) -> u128
 }
 
 /// The rows and the columns from one position to another.
-fn offset_between(start: (u32, u32), end: (u32, u32)) -> (i64, i64)
+pub(crate) fn offset_between(start: (u32, u32), end: (u32, u32)) -> (i64, i64)
     ensures { result ≡ offset_between start end }
 {
     (
@@ -92,7 +92,7 @@ fn push_moved(out: &mut String, formula: &str, offset: (i64, i64)) -> Result<(),
 
 /// Appends a piece, moved where it is a reference that does not leave the worksheet. `rest` is what
 /// stands behind it.
-fn push_piece(
+pub(crate) fn push_piece(
     out: &mut String,
     piece: Piece<'_>,
     rest: &str,

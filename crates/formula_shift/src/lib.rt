@@ -2,6 +2,7 @@
 #![tactic(auto)]
 
 mod corner;
+mod cut_formula;
 mod equality;
 mod expand;
 mod laws;
@@ -10,6 +11,7 @@ mod reference;
 mod spelling;
 
 pub use corner::Corner;
+pub use cut_formula::CutFormula;
 pub use expand::{expand_shared_formula, expand_shared_formula_into, expanded_len};
 pub use laws::{
     apostrophe_takes_a_character, corners_are_positions,

@@ -1,8 +1,8 @@
-ghost use Rattle.std.specs.Prelude.{◌≡◌, ◌≤◌, length};
+ghost use Rattle.std.specs.Prelude.{◌≡◌, ◌≤◌, ◌∷◌, length, Some};
 ghost use Rattle.std.specs.List.{prefix_len};
 ghost use Rattle.formula_shift.specs.Pieces.{piece_text, piece_kind, string_length, quoted_length};
 ghost use Rattle.formula_shift.specs.Pieces.{group_length, length_behind, is_word_byte};
-ghost use Rattle.formula_shift.specs.Pieces.{is_other_byte, joined_pieces, pieces};
+ghost use Rattle.formula_shift.specs.Pieces.{is_other_byte, joined_pieces, pieces, first_size};
 
 /// A piece of a formula. Its first byte decides which.
 #[derive(Clone, Copy, Debug, PartialEq, Eq)]
@@ -79,6 +79,15 @@ impl<'a> Iterator for Pieces<'a> {
         self.rest = rest;
         Some(piece_of(first, text))
     }
+}
+
+/// The piece that the text begins with, which has so many bytes, and what stands behind it.
+pub(crate) fn cut_first(text: &str, size: usize) -> (Piece<'_>, &str)
+    requires { first_size (pieces text.now) ≡ Some size }
+    ensures { pieces text.now ≡ piece_text result.0 ∷ pieces result.1.now }
+{
+    let (front, behind) = text.split_at(size);
+    (piece_of(front.as_bytes()[0], front), behind)
 }
 
 /// The piece of this text, whose first byte is given.

@@ -1,6 +1,6 @@
 use formula_shift::{
-    Corner, Piece, Pieces, Reference, expand_shared_formula, expand_shared_formula_into,
-    expanded_len,
+    Corner, CutFormula, Piece, Pieces, Reference, expand_shared_formula,
+    expand_shared_formula_into, expanded_len,
 };
 use std::test::Fail;
 use test_tables::{assert_text, cases, cut};
@@ -122,6 +122,7 @@ NO1..VARIABLE+A1
 fn references_move_and_all_else_stays(rt: HostRuntime) -> Result<(), Fail> {
     let alloc = rt.alloc();
     let mut out = String::new(alloc);
+    let mut out_of_cut = String::from_str(alloc, "what the buffer holds")?;
     for case in cases(MOVED) {
         let (formula, place) = cut(case);
         let (place, expanded) = cut(place);
@@ -130,6 +131,8 @@ fn references_move_and_all_else_stays(rt: HostRuntime) -> Result<(), Fail> {
         assert_text(&text, expanded, formula)?;
         expand_shared_formula_into(formula, (0, 0), end, &mut out)?;
         assert_text(&out, expanded, formula)?;
+        CutFormula::new(alloc, formula)?.expand_into((0, 0), end, &mut out_of_cut)?;
+        assert_text(&out_of_cut, expanded, formula)?;
         let length = expanded_len(formula, (0, 0), end);
         assert!(rt; length == expanded.len() as u128, "{formula}");
     }
@@ -238,5 +241,24 @@ fn a_formula_is_cut_by_the_first_byte_of_the_rest(rt: HostRuntime) -> Result<(),
     assert_text(Pieces::new("A1").as_str(), "A1", "pieces")?;
     assert_text(Piece::Group("[x]").as_str(), "[x]", "a group")?;
     assert!(rt; Pieces::new("A1+B2").count() == 3);
+    Ok(())
+}
+
+#[test]
+fn a_cut_formula_keeps_the_places_behind_its_pieces(rt: HostRuntime) -> Result<(), Fail> {
+    let alloc = rt.alloc();
+    let formulas = [
+        ("A1+\"x\"", "[2, 3, 6]"),
+        ("", "[]"),
+        ("é", "[2]"),
+        ("\"", "[1]"),
+        ("[x'", "[3]"),
+        ("'It''s'!A1", "[7, 8, 10]"),
+    ];
+    for (formula, ends) in formulas {
+        let cut = CutFormula::new(alloc, formula)?;
+        assert_text(cut.text(), formula, "a text")?;
+        assert_text(&format!(in alloc; "{:?}", cut.ends())?, ends, formula)?;
+    }
     Ok(())
 }

@@ -1,7 +1,6 @@
 -- What is kept of groups is kept of some formulas.
 use Rattle.std.proofs.Common.{◌≡◌, ℕ, List, [], ◌∷◌, Bool, true, false, refl, ◌∙◌, arith}
 use Rattle.std.specs.Prelude.{map, cond, ◌==◌, if◌then◌else◌, Option, Some, None, option_map}
-use Rattle.std.specs.Prelude.{string_bytes}
 use Rattle.std.specs.BTreeMap.{is_at}
 use Rattle.std.specs.Map.{lookup}
 use Rattle.std.specs.Ordering.{nat_cmp}
@@ -14,7 +13,7 @@ use Rattle.xlsx_formulas.specs.declared.masters.Master as kept
 group_formula : ℕ × kept.Master → FormulaText
 group_formula entry = record {
   sharing = master entry.0 (record { start = entry.1.corner; end = entry.1.corner });
-  text = string_bytes entry.1.text;
+  text = entry.1.formula;
 }
 
 same_test : (index own : ℕ) → is_at (nat_cmp index) own ≡ (own == index)

@@ -26,7 +26,7 @@ abbrev pub last_seen : Option Formula → Option FormulaText
 last_seen last = option_map formula_seen last
 
 abbrev pub group_seen : kept.Master → GroupFormula
-group_seen found = record { text = string_bytes found.text; corner = found.corner }
+group_seen found = record { text = found.formula; corner = found.corner }
 
 -- the formula that is kept of the group of an index
 abbrev pub masters_in : Masters → ℕ → Option GroupFormula

@@ -3,14 +3,14 @@ ghost use Rattle.xlsx_formulas.specs.Formula.{FormulaText, formula_of_last};
 ghost use Rattle.xlsx_formulas.specs.Kept.{formula_seen, last_seen, AreMasters};
 
 use crate::formula::{Formula, Share};
-use formula_shift::expand_shared_formula;
+use formula_shift::CutFormula;
 use std::alloc::{AllocError, Global};
 use std::collections::BTreeMap;
 
 /// The formula of a group, and the first written corner of the group's area.
 #[derive(Debug, Drop)]
 struct Master {
-    text: String,
+    formula: CutFormula,
     corner: (u32, u32),
 }
 
@@ -45,9 +45,9 @@ impl Masters {
         let Share::Master { index, area } = formula.share else {
             return Ok(());
         };
-        let text = formula.text.clone()?;
+        let formula = CutFormula::new(*formula.text.allocator(), &formula.text)?;
         let corner = area.start;
-        self.groups.insert(index, Master { text, corner })?;
+        self.groups.insert(index, Master { formula, corner })?;
         Ok(())
     }
 
@@ -71,11 +71,12 @@ impl Masters {
         let Share::Derived { index } = formula.share else {
             return Ok(formula.text);
         };
-        match self.groups.get(&index) {
-            Some(master) => {
-                expand_shared_formula(alloc, master.text.as_str(), master.corner, position)
-            }
-            None => Ok(String::new(alloc)),
+        let mut text = String::new(alloc);
+        if let Some(master) = self.groups.get(&index) {
+            master
+                .formula
+                .expand_into(master.corner, position, &mut text)?;
         }
+        Ok(text)
     }
 }
