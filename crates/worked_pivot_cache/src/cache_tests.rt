@@ -1,7 +1,7 @@
 //! The fields and the records of a cache.
 
 use cell_data::Data;
-use part_events::{FailingPackage, Package};
+use part_events::Package;
 use std::alloc::Global;
 use std::process::Abort;
 use std::test::Fail;
@@ -278,28 +278,6 @@ fn records_that_are_cut_are_refused(rt: HostRuntime) -> Result<(), Fail> {
     }
     let told = front_told(rt.alloc(), ROW_EVENTS)?;
     assert_text(&told, TOLD, "all events")?;
-    Ok(())
-}
-
-/// The calls of a reading of the cache: two parts are looked for, 16 events of the definitions are
-/// taken and their end, and 14 events of the records.
-const CALLS: u64 = 33;
-
-/// The rows where this call of the package fails.
-fn failing_told(alloc: Global, call: u64) -> Result<String, Fail> {
-    let package = package_of(alloc, &[(DEFINITIONS, FIELDS), (RECORDS, ROWS)])?;
-    let calls = vec![in alloc; call]?;
-    rows_told(alloc, &mut FailingPackage::new(package, calls))
-}
-
-#[test]
-fn a_fault_of_each_call_is_told(rt: HostRuntime) -> Result<(), Fail> {
-    for call in 0..CALLS {
-        let told = failing_told(rt.alloc(), call)?;
-        assert!(rt; told.ends_with("Io"), "at call {call}: {told}");
-    }
-    let told = failing_told(rt.alloc(), CALLS)?;
-    assert_text(&told, TOLD, "behind the last call")?;
     Ok(())
 }
 

@@ -5,15 +5,11 @@
 #[cfg(test)]
 mod answers;
 #[cfg(test)]
-mod fault_tests;
-#[cfg(test)]
 mod list_tests;
 #[cfg(test)]
 mod opening_tests;
 #[cfg(test)]
 mod reader_tests;
-#[cfg(test)]
-mod sales_tests;
 #[cfg(test)]
 mod style_tests;
 #[cfg(test)]
