@@ -15,6 +15,8 @@ mod reader_tests;
 #[cfg(test)]
 mod sales_tests;
 #[cfg(test)]
+mod sample_tests;
+#[cfg(test)]
 mod style_tests;
 #[cfg(test)]
 mod worksheet_tests;
