@@ -146,14 +146,32 @@ class Edge:
             self.assertEqual(self.run_on(PACKAGE, words), refusal(2), words)
         for words in (["csv-table"], ["csv-table", "S", "S"], ["csv_table", "S"], ["csv-", "S"]):
             self.assertEqual(self.run_on(PACKAGE, words), refusal(2), words)
+        for rows in ("0", "20001", "18446744073709551621", "+5", "-5", "5.0", " 5", "5 ", "", "x"):
+            self.assertEqual(self.run_on(PACKAGE, ["sample", rows]), refusal(2), rows)
+        for words in (["sample"], ["sample", "5", "5"], ["Sample", "5"], ["samples", "5"]):
+            self.assertEqual(self.run_on(PACKAGE, words), refusal(2), words)
         for words in (["--help", "--version"], ["--help", "S"], ["cells", b"\xff"]):
             self.assertEqual(self.run_on(PACKAGE, words), refusal(2), words)
 
-    def test_pages_and_words_that_are_no_command_read_nothing(self):
-        for words in (["--help"], ["--version"], ["cells"]):
+    def test_pages_samples_and_words_that_are_no_command_read_nothing(self):
+        for words in (["--help"], ["--version"], ["cells"], ["sample", "5"], ["sample", "0"]):
             file = self.file_of(PACKAGE)
             self.run_on(None, words, stdin=file)
             self.assertEqual(os.lseek(file.fileno(), 0, os.SEEK_CUR), 0, words)
+
+    def test_samples(self):
+        for rows, lines in (
+            ("1", b"cells 3\nformulas 1\nstyled 1\nruns 1\nlast B1 =A1*2\n"),
+            ("5", b"cells 15\nformulas 5\nstyled 3\nruns 5\nlast B5 =A5*2\n"),
+            (
+                "20000",
+                b"cells 60000\nformulas 20000\nstyled 10000\nruns 19999\nlast B20000 =A20000*2\n",
+            ),
+        ):
+            for data in (b"", PACKAGE, b"{}"):
+                self.assertEqual(self.run_on(data, ["sample", rows]), (0, lines, b""), rows)
+        # Leading zeros count nothing.
+        self.assertEqual(self.run_on(b"", ["sample", "007"]), self.run_on(b"", ["sample", "7"]))
 
     def test_no_package(self):
         for data in (

@@ -56,13 +56,14 @@ echo "rt $* speaks of $(basename "$PWD")"
 [ ! -e "$FAILING" ] || [ "$1" != run ] || exit 1
 [ "$1" != run ] || cp "$STAND_IN" out/xlsx_tool
 """
-NAMED = ("cells", "merges", "links", "csv", "csv-table", "table")
+NAMED = ("cells", "merges", "links", "csv", "csv-table", "table", "sample")
 COMMANDS = (*NAMED, "sheets", "names", "tables", "pivots", "props")
 USAGE = """\
 usage: ./xlsx FILE.xlsx cells NAME       (or merges, links, csv, csv-table or table NAME,
                                           pivot SHEET NAME, or sheets, names, tables,
                                           pivots or props)
        ./xlsx cells NAME < package.json
+       ./xlsx sample N
        ./xlsx --help
 """
 UNPROVED = (
@@ -252,7 +253,14 @@ class Wrapper(unittest.TestCase):
 
     def test_words_behind_a_file_that_are_no_command(self):
         self.build()
-        for words in (["book.xlsx"], ["book.xlsx", "cells"], ["none.xlsx", "cell", "0"], ["none"]):
+        for words in (
+            ["book.xlsx"],
+            ["book.xlsx", "cells"],
+            ["none.xlsx", "cell", "0"],
+            ["none"],
+            # It reads no package.
+            ["book.xlsx", "sample", "5"],
+        ):
             self.assertEqual(self.run_on(*words), (2, b"", USAGE))
 
     def test_a_file_that_is_refused(self):

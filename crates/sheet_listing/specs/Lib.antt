@@ -1,1 +1,2 @@
+pub mod SampleLines
 pub mod SheetListing

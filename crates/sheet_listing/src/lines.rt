@@ -381,7 +381,7 @@ fn push_lines(
 }
 
 /// The positions that have a style id above 0, with that id, row by row.
-fn styled_cells(alloc: Global, styles: &StyleRange) -> Result<Vec<Cell<usize>>, AllocError>
+pub fn styled_cells(alloc: Global, styles: &StyleRange) -> Result<Vec<Cell<usize>>, AllocError>
     ensures cells { IfOk result (λ cells. placed_cells cells.items ≡ placed_ids styles.now) }
     ensures order { IfOk result (λ cells. AreInOrder cells.items) }
 {

@@ -1,7 +1,7 @@
 //! The hyperlinks of sheets, by both calls that read them.
 
 use crate::opening::opened;
-use part_events::{FailingPackage, MemoryPackage, Package};
+use part_events::{MemoryPackage, Package};
 use std::alloc::Global;
 use std::test::Fail;
 use test_packages::{Part, RELATIONSHIPS, ROOT, SHEET_NAME, WORKBOOK, WORKBOOK_NAME, package_of};
@@ -468,41 +468,5 @@ fn links_have_areas_and_copies(rt: HostRuntime) -> Result<(), Fail> {
     assert!(rt; inside.contains(1, 1) && inside.contains(2, 1) && !inside.contains(3, 1));
     let copy = outside.clone_in(alloc)?;
     assert!(rt; copy == *outside && copy != *inside);
-    Ok(())
-}
-
-/// The calls of the opening: six parts are looked for, and the events taken are 4 of the package's
-/// relationships, 4 of the workbook's and 6 of the workbook.
-const OPENING: u64 = 6 + 4 + 4 + 6;
-
-/// The calls for the links: three parts are looked for, and the events taken are 8 of the sheet's
-/// relationships and 29 of its part.
-const CALLS: u64 = 3 + 8 + 29;
-
-/// What the calls answer where this call of the package fails, and the next time, with the count of
-/// faults.
-fn failing_told(alloc: Global, call: u64, by_name: bool) -> Result<String, Fail> {
-    let package = package_of(alloc, &[ROOT, RELATIONSHIPS, WORKBOOK, LINKS, LINKS_BESIDE])?;
-    let calls = vec![in alloc; call]?;
-    let mut xlsx = opened(alloc, FailingPackage::new(package, calls))?;
-    let first = if by_name {
-        links_told(alloc, &mut xlsx, "S")?
-    } else {
-        numbered_told(alloc, &mut xlsx, 0)?
-    };
-    let again = links_told(alloc, &mut xlsx, "S")?;
-    Ok(format!(in alloc; "{first} {again} {}", xlsx.faults())?)
-}
-
-#[test]
-fn a_fault_in_links_is_told(rt: HostRuntime) -> Result<(), Fail> {
-    let alloc = rt.alloc();
-    let expected = format!(in alloc; "Io {BOTH} 1")?;
-    for call in OPENING..OPENING + CALLS {
-        for by_name in [false, true] {
-            let told = failing_told(alloc, call, by_name)?;
-            assert!(rt; told == expected, "at call {call}");
-        }
-    }
     Ok(())
 }

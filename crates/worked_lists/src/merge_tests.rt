@@ -305,33 +305,6 @@ const MERGED: Part<'static> = (
 /// relationships, 4 of the workbook's and 6 of the workbook.
 const OPENING: u64 = 6 + 4 + 4 + 6;
 
-/// What the calls answer where this call of the package fails, and the next time, with the count of
-/// faults.
-fn failing_told(alloc: Global, call: u64, lenient: bool) -> Result<String, Fail> {
-    let package = package_of(alloc, &[ROOT, RELATIONSHIPS, WORKBOOK, MERGED])?;
-    let calls = vec![in alloc; call]?;
-    let mut xlsx = opened(alloc, FailingPackage::new(package, calls))?;
-    let first = if lenient {
-        lenient_told(alloc, &mut xlsx, "S")?
-    } else {
-        merges_told(alloc, &mut xlsx, "S")?
-    };
-    let again = merges_told(alloc, &mut xlsx, "S")?;
-    Ok(format!(in alloc; "{first} {again} {}", xlsx.faults())?)
-}
-
-#[test]
-fn a_fault_in_merged_cells_is_told(rt: HostRuntime) -> Result<(), Fail> {
-    for call in OPENING..OPENING + 1 + 7 {
-        for lenient in [false, true] {
-            let told = failing_told(rt.alloc(), call, lenient)?;
-            let wanted = "Io (0,0)-(0,0)(0,1)-(0,1) 1";
-            assert!(rt; told.as_str() == wanted, "at call {call}");
-        }
-    }
-    Ok(())
-}
-
 /// How many regions are there where this call of the package fails in a second loading, and what it
 /// answers.
 fn failing_regions(alloc: Global, call: u64) -> Result<String, Fail> {

@@ -8,3 +8,5 @@ mod event_tests;
 mod package_text_tests;
 #[cfg(test)]
 mod refusal_tests;
+#[cfg(test)]
+mod sample_tests;

@@ -1,11 +1,11 @@
 //! The fields and the records of a cache.
 
 use cell_data::Data;
-use part_events::{FailingPackage, Package};
+use part_events::Package;
 use std::alloc::Global;
 use std::process::Abort;
 use std::test::Fail;
-use test_packages::{add_front, package_of};
+use test_packages::package_of;
 use test_tables::{assert_text, cases, cut};
 use xlsx_error::XlsxError;
 use xlsx_pivot_cache::{CacheField, PivotCacheIter, read_fields};
@@ -263,52 +263,6 @@ fn records_are_read_by_fields(rt: HostRuntime) -> Result<(), Fail> {
         let told = records_told(rt.alloc(), markup)?;
         assert_text(&told, rows, markup)?;
     }
-    Ok(())
-}
-
-/// The rows where the records have only so many events.
-fn front_told(alloc: Global, count: usize) -> Result<String, Fail> {
-    let mut package = package_of(alloc, &[(DEFINITIONS, FIELDS)])?;
-    add_front(&mut package, alloc, (RECORDS, ROWS), count)?;
-    rows_told(alloc, &mut package)
-}
-
-/// How many events the records have.
-const ROW_EVENTS: usize = 14;
-
-#[test]
-fn records_that_are_cut_are_refused(rt: HostRuntime) -> Result<(), Fail> {
-    for count in 0..ROW_EVENTS {
-        let told = front_told(rt.alloc(), count)?;
-        assert!(rt;
-            told.ends_with(r#"XmlEof("pivotCacheRecords")"#),
-            "at {count}: {told}"
-        );
-    }
-    let told = front_told(rt.alloc(), ROW_EVENTS)?;
-    assert_text(&told, TOLD, "all events")?;
-    Ok(())
-}
-
-/// The calls of a reading of the cache: two parts are looked for, 16 events of the definitions are
-/// taken and their end, and 14 events of the records.
-const CALLS: u64 = 33;
-
-/// The rows where this call of the package fails.
-fn failing_told(alloc: Global, call: u64) -> Result<String, Fail> {
-    let package = package_of(alloc, &[(DEFINITIONS, FIELDS), (RECORDS, ROWS)])?;
-    let calls = vec![in alloc; call]?;
-    rows_told(alloc, &mut FailingPackage::new(package, calls))
-}
-
-#[test]
-fn a_fault_of_each_call_is_told(rt: HostRuntime) -> Result<(), Fail> {
-    for call in 0..CALLS {
-        let told = failing_told(rt.alloc(), call)?;
-        assert!(rt; told.ends_with("Io"), "at call {call}: {told}");
-    }
-    let told = failing_told(rt.alloc(), CALLS)?;
-    assert_text(&told, TOLD, "behind the last call")?;
     Ok(())
 }
 

@@ -1,12 +1,8 @@
 //! What is read, as texts that tests compare.
 
 use cell_data::{Data, ExcelDateTimeType, Range};
-use part_events::Package;
-use std::alloc::Global;
 use std::process::Abort;
 use std::test::Fail;
-use xlsx_core::{SheetAnswer, SheetReading, read_sheet};
-use xlsx_error::XlsxError;
 
 /// A number, a duration or a date, behind a letter for which it is.
 fn push_time(out: &mut String, kind: ExcelDateTimeType) -> Result<(), Fail> {
@@ -53,25 +49,6 @@ pub fn push_formulas(out: &mut String, range: &Range<String>) -> Result<(), Fail
         write!(out, "({},{} ={})", cell.pos.0, cell.pos.1, cell.val)?;
     }
     Ok(())
-}
-
-/// What was read of a sheet, its values before its formulas, or why it was refused.
-fn told_of(alloc: Global, found: Result<SheetReading, XlsxError>) -> Result<String, Fail> {
-    let mut out = String::new(alloc);
-    match found {
-        Ok(reading) => {
-            push_values(&mut out, &reading.values)?;
-            push_formulas(&mut out, &reading.formulas)?;
-        }
-        Err(error) => write!(out, "{error:?}")?,
-    }
-    Ok(out)
-}
-
-/// What is read of the sheet of this name.
-pub fn answer<P: Package + Drop>(alloc: Global, package: P, name: &str) -> Result<String, Fail> {
-    let SheetAnswer { result, package: _ } = read_sheet(alloc, package, name);
-    told_of(alloc, result)
 }
 
 /// The answer is one of those that are wanted, which stand between marks `|`.

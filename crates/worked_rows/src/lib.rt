@@ -5,15 +5,13 @@
 #[cfg(test)]
 mod answers;
 #[cfg(test)]
-mod fault_tests;
-#[cfg(test)]
 mod list_tests;
 #[cfg(test)]
 mod opening_tests;
 #[cfg(test)]
 mod reader_tests;
 #[cfg(test)]
-mod sales_tests;
+mod sample_tests;
 #[cfg(test)]
 mod style_tests;
 #[cfg(test)]

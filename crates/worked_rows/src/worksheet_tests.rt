@@ -3,10 +3,10 @@
 use crate::answers::{push_formulas, push_values};
 use crate::opening_tests::opened;
 use cell_data::{HeaderRow, Range};
-use part_events::{FailingPackage, MemoryPackage, Package};
+use part_events::{MemoryPackage, Package};
 use std::alloc::Global;
 use std::test::Fail;
-use test_packages::{RELATIONSHIPS, ROOT, SHEET, SHEET_NAME, WORKBOOK, package_of, package_with};
+use test_packages::{RELATIONSHIPS, ROOT, SHEET_NAME, WORKBOOK, package_of, package_with};
 use test_tables::{assert_text, cases, cut};
 use xlsx_core::Xlsx;
 
@@ -198,22 +198,5 @@ fn absent_sheets_are_told(rt: HostRuntime) -> Result<(), Fail> {
     assert_text(&told, want, "formulas")?;
     let told = cells_taken(alloc, &mut xlsx, "S")?;
     assert_text(&told, want, "cells")?;
-    Ok(())
-}
-
-/// The calls of opening the minimal package: five parts are looked for, and 15 events taken.
-const OPENING_CALLS: u64 = 20;
-
-#[test]
-fn faults_are_told_by_each_call(rt: HostRuntime) -> Result<(), Fail> {
-    let alloc = rt.alloc();
-    let package = package_of(alloc, &[ROOT, RELATIONSHIPS, WORKBOOK, SHEET])?;
-    let calls = vec![in alloc; OPENING_CALLS]?;
-    let mut xlsx = opened(alloc, FailingPackage::new(package, calls))?;
-    let told = values_told(alloc, &mut xlsx, "S")?;
-    assert_text(&told, "Io", "first")?;
-    assert!(rt; xlsx.faults() == 1);
-    let told = values_told(alloc, &mut xlsx, "S")?;
-    assert_text(&told, "(0,0)-(0,0):(0,0 s:nut)", "again")?;
     Ok(())
 }

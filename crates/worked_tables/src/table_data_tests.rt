@@ -350,19 +350,10 @@ fn tables_stay_where_a_loading_fails(rt: HostRuntime) -> Result<(), Fail> {
     Ok(())
 }
 
-/// Those of the data: the sheet's part is looked for, and 12 of its events are taken.
-const DATA: u64 = 1 + 12;
-
 #[test]
-fn a_fault_in_the_data_of_a_table_is_told(rt: HostRuntime) -> Result<(), Fail> {
+fn nothing_is_read_of_an_empty_table(rt: HostRuntime) -> Result<(), Fail> {
     let empty = r#"<table displayName="T1" ref="A1:B1"></table>"#;
-    let behind = OPENING + 2 * LOADING;
-    for call in behind..behind + DATA {
-        let told = failing_told(rt.alloc(), call, TABLE)?;
-        let wanted = "1 T1 S(1,0)-(2,1) Name Qty; Io";
-        assert!(rt; told.as_str() == wanted, "at call {call}");
-    }
-    let told = failing_told(rt.alloc(), behind, empty)?;
+    let told = failing_told(rt.alloc(), OPENING + 2 * LOADING, empty)?;
     assert_text(&told, "0 T1 S-; T1 S-;", empty)?;
     Ok(())
 }

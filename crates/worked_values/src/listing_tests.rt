@@ -3,7 +3,7 @@ ghost use Rattle.cell_data.specs.Cells.{IsInSheet};
 
 use cell_data::{Cell, CellErrorType, Data, Decimal, ExcelDateTime, ExcelDateTimeType, Range};
 use cell_styles::{Color, Fill, FillPattern, Style, StyleRange};
-use sheet_listing::{push_listing, push_row_line, value_lines_of};
+use sheet_listing::{push_listing, push_row_line, sample_lines_of, value_lines_of};
 use std::alloc::{AllocError, Global};
 use std::test::Fail;
 use test_tables::assert_text;
@@ -256,6 +256,28 @@ fn values_have_lines_of_their_own(rt: HostRuntime) -> Result<(), Fail> {
     let cells = values(alloc, Vec::from_array(alloc, cells)?)?;
     let lines = value_lines_of(alloc, &cells)?;
     let wanted = "B1\tt:45292 date 1900\nD1\tn:-10.5\nC3\t-\nC5\ts:tab\\there\n";
+    assert_text(&lines, wanted, "lines")?;
+    Ok(())
+}
+
+#[test]
+fn a_sample_has_five_lines(rt: HostRuntime) -> Result<(), Fail> {
+    let alloc = rt.alloc();
+    let numbers = [
+        Cell::new((0, 0), number("1")),
+        Cell::new((1, 0), number("2")),
+        Cell::new((1, 1), number("4")),
+    ];
+    let texts = [
+        Cell::new((0, 1), String::from_str(alloc, "A1*2")?),
+        Cell::new((1, 1), String::from_str(alloc, "\"a\tb\"")?),
+    ];
+    let numbers = values(alloc, Vec::from_array(alloc, numbers)?)?;
+    let texts = formulas(alloc, Vec::from_array(alloc, texts)?)?;
+    let ids = Vec::from_array(alloc, [(0, 2, 1), (2, 2, 1)])?;
+    let styles = StyleRange::from_style_ids(alloc, ids, styles(alloc)?)?;
+    let lines = sample_lines_of(alloc, 2, &numbers, &texts, &styles)?;
+    let wanted = "cells 3\nformulas 2\nstyled 2\nruns 3\nlast B2 =\"a\\tb\"\n";
     assert_text(&lines, wanted, "lines")?;
     Ok(())
 }

@@ -1,9 +1,12 @@
 -- The commands that words ask for.
 use Rattle.std.specs.Prelude.{ℕ, List, [], ◌∷◌, Option, Some, None, codes, map, if◌then◌else◌}
-use Rattle.std.specs.Prelude.{String, string_bytes}
+use Rattle.std.specs.Prelude.{String, string_bytes, nat_lt, nat_le, ◌&&◌, option_and_then}
+use Rattle.std.specs.Prelude.{option_map}
 use Rattle.std.specs.Str.{bytes_eq}
 use Rattle.std.specs.declared.alloc.Global.{Global}
 use Rattle.part_events.specs.Package.{Part}
+use Rattle.xlsx_sample.specs.Sample.{sample_parts}
+use Rattle.xlsx_sections.specs.NumberText.{number_text}
 use Rattle.xlsx_commands.specs.declared.command.Command.{Command as Asked}
 use Rattle.xlsx_commands.specs.declared.command.Command.TheVariants as asked
 
@@ -25,6 +28,7 @@ pub data Command : Type 0 where
   table : List ℕ → Command
   pivots : Command
   pivot : List ℕ → List ℕ → Command
+  sample : ℕ → Command
 
 abbrev pub command_meant : Asked → Command
 command_meant (asked.Cells name) = cells name.now
@@ -39,6 +43,15 @@ command_meant asked.Tables = tables
 command_meant (asked.Table name) = table name.now
 command_meant asked.Pivots = pivots
 command_meant (asked.Pivot sheet name) = pivot sheet.now name.now
+command_meant (asked.Sample rows) = sample rows
+
+-- so many rows are those of a sample
+abbrev pub if_rows : ℕ → Option ℕ
+if_rows rows = if nat_lt 0 rows && nat_le rows 20000 then Some rows else None
+
+-- the number of rows that a word of digits asks for
+abbrev pub rows_asked : List ℕ → Option ℕ
+rows_asked word = option_and_then if_rows (number_text word)
 
 -- a command of one word
 abbrev pub bare_command : List ℕ → Option Command
@@ -57,7 +70,9 @@ named_command word name =
     else (if bytes_eq word (codes "links") then Some (links name)
     else (if bytes_eq word (codes "csv") then Some (csv name)
     else (if bytes_eq word (codes "csv-table") then Some (csv_table name)
-    else (if bytes_eq word (codes "table") then Some (table name) else None)))))
+    else (if bytes_eq word (codes "table") then Some (table name)
+    else (if bytes_eq word (codes "sample") then option_map sample (rows_asked name)
+    else None))))))
 
 -- a command of three
 abbrev pub placed_command : List ℕ → List ℕ → List ℕ → Option Command
@@ -86,3 +101,4 @@ own_parts tables = None
 own_parts (table name) = None
 own_parts pivots = None
 own_parts (pivot sheet name) = None
+own_parts (sample rows) = Some (sample_parts rows)

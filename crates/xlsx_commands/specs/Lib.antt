@@ -4,6 +4,7 @@ pub mod Command
 pub mod Outputs
 pub mod PivotLists
 pub mod PropertyLists
+pub mod SampleLines
 pub mod SheetLists
 pub mod SheetRows
 pub mod SheetsOpened

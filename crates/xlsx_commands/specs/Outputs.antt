@@ -10,9 +10,10 @@ use Rattle.xlsx_core.specs.SheetReading.{ReadsAs, SheetCause}
 use Rattle.xlsx_commands.specs.BookLists.{AreSheetLines, AreNameLines}
 use Rattle.xlsx_commands.specs.Command.{Command, cells, sheets, names, merges, links, props, csv}
 use Rattle.xlsx_commands.specs.CacheRows.{ArePivotRows, NamedPivotCause}
-use Rattle.xlsx_commands.specs.Command.{csv_table, tables, table, pivots, pivot}
+use Rattle.xlsx_commands.specs.Command.{csv_table, tables, table, pivots, pivot, sample}
 use Rattle.xlsx_commands.specs.PivotLists.{ArePivotLines, ListedPivotsCause}
 use Rattle.xlsx_commands.specs.PropertyLists.{ArePropertyLines, ListedPropertiesCause}
+use Rattle.xlsx_commands.specs.SampleLines.{AreSampleLines, sample_name}
 use Rattle.xlsx_commands.specs.SheetLists.{AreMergeLines, NamedMergesCause, AreLinkLines}
 use Rattle.xlsx_commands.specs.SheetLists.{NamedLinksCause}
 use Rattle.xlsx_commands.specs.SheetRows.{AreRowsOf, HasLargeArea}
@@ -47,6 +48,7 @@ IsOutput tables parts output = AreTableLines parts output
 IsOutput (table name) parts output = AreTableValueLines parts name output
 IsOutput pivots parts output = ArePivotLines parts output
 IsOutput (pivot sheet name) parts output = ArePivotRows parts sheet name output
+IsOutput (sample rows) parts output = AreSampleLines rows parts output
 
 -- why its workbook refuses it
 unfoldable pub RefusedWorkbookCause : Command → List Part → XlsxError → Type 0
@@ -62,6 +64,7 @@ RefusedWorkbookCause tables parts error = ListedTablesCause parts error
 RefusedWorkbookCause (table name) parts error = NamedTableCause parts name error
 RefusedWorkbookCause pivots parts error = ListedPivotsCause parts error
 RefusedWorkbookCause (pivot sheet name) parts error = NamedPivotCause parts sheet name error
+RefusedWorkbookCause (sample rows) parts error = SheetCause parts sample_name error
 
 -- why it is refused because an area has too many cells
 unfoldable pub IsTooLarge : Command → List Part → Type 0
@@ -77,6 +80,7 @@ IsTooLarge tables parts = ⊥
 IsTooLarge (table name) parts = ⊥
 IsTooLarge pivots parts = ⊥
 IsTooLarge (pivot sheet name) parts = ⊥
+IsTooLarge (sample rows) parts = ⊥
 
 -- ---- what the rows make
 

@@ -1,6 +1,11 @@
 ghost use Rattle.std.specs.Prelude.{◌≡◌, option_map};
 ghost use Rattle.xlsx_commands.specs.Command.{texts, command_meant, bare_command, named_command};
-ghost use Rattle.xlsx_commands.specs.Command.{placed_command, command_of};
+ghost use Rattle.xlsx_commands.specs.Command.{rows_asked, sample, placed_command, command_of};
+
+use xlsx_sections::number_text;
+
+/// The most rows of a sample.
+const MOST_ROWS: u64 = 20_000;
 
 /// What the words ask for.
 #[derive(Clone, Copy)]
@@ -29,6 +34,19 @@ pub enum Command<'a> {
     Pivots,
     /// The rows of the cache of the pivot table of the second name, on the worksheet of the first.
     Pivot(&'a str, &'a str),
+    /// What is read of a workbook with so many rows.
+    Sample(u32),
+}
+
+/// The number of rows that a word asks for.
+fn rows_asked(word: &str) -> Option<u32>
+    ensures { result ≡ rows_asked word.now }
+{
+    let rows = number_text(word)?;
+    if 0 < rows && rows <= MOST_ROWS {
+        return Some(rows as u32);
+    }
+    None
 }
 
 fn bare_command(word: &str) -> Option<Command<'_>>
@@ -44,6 +62,14 @@ fn bare_command(word: &str) -> Option<Command<'_>>
     }
 }
 
+fn sample_command<'a>(word: &str) -> Option<Command<'a>>
+    ensures { option_map (λ command. command_meant command) result
+        ≡ option_map sample (rows_asked word.now) }
+{
+    let rows = rows_asked(word)?;
+    Some(Command::Sample(rows))
+}
+
 fn named_command<'a>(word: &str, name: &'a str) -> Option<Command<'a>>
     ensures { option_map (λ command. command_meant command) result
         ≡ named_command word.now name.now }
@@ -55,6 +81,7 @@ fn named_command<'a>(word: &str, name: &'a str) -> Option<Command<'a>>
         "csv" => Some(Command::Csv(name)),
         "csv-table" => Some(Command::CsvTable(name)),
         "table" => Some(Command::Table(name)),
+        "sample" => sample_command(name),
         _ => None,
     }
 }

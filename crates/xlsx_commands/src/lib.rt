@@ -13,6 +13,7 @@ mod output;
 mod pivot_lines;
 mod pivot_rows;
 mod property_lines;
+mod sample_lines;
 mod sheet_rows;
 mod table_lines;
 mod table_rows;

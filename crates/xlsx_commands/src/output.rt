@@ -11,18 +11,21 @@ use crate::merge_lines::merge_lines;
 use crate::pivot_lines::pivot_lines;
 use crate::pivot_rows::pivot_rows;
 use crate::property_lines::property_lines;
+use crate::sample_lines::sample_lines;
 use crate::sheet_rows::sheet_rows;
 use crate::table_lines::{table_lines, table_value_lines};
 use crate::table_rows::table_rows;
 use part_events::MemoryPackage;
-use std::alloc::Global;
+use std::alloc::{AllocError, Global};
+use xlsx_sample::sample_package;
 
 /// The package that a command works on where it reads no input.
 #[tactic(auto, unfolding(crate::specs::Command::own_parts))]
-pub fn own_package(alloc: Global, command: Command<'_>) -> Option<MemoryPackage>
-    ensures { option_map (λ held. held.parts) result ≡ own_parts (command_meant command.entry) }
+pub fn own_package(alloc: Global, command: Command<'_>) -> Result<Option<MemoryPackage>, AllocError>
+    ensures { IfOk result (λ found.
+        option_map (λ held. held.parts) found ≡ own_parts (command_meant command.entry)) }
 {
-    match command {
+    let package = match command {
         Command::Cells(_) => None,
         Command::Sheets => None,
         Command::Names => None,
@@ -35,7 +38,9 @@ pub fn own_package(alloc: Global, command: Command<'_>) -> Option<MemoryPackage>
         Command::Table(_) => None,
         Command::Pivots => None,
         Command::Pivot(_, _) => None,
-    }
+        Command::Sample(rows) => Some(sample_package(alloc, rows)?),
+    };
+    Ok(package)
 }
 
 /// The output of a command on a package, whole.
@@ -62,5 +67,6 @@ pub fn output_of(
         Command::Table(name) => table_value_lines(alloc, package, name),
         Command::Pivots => pivot_lines(alloc, package),
         Command::Pivot(sheet, name) => pivot_rows(alloc, package, sheet, name),
+        Command::Sample(rows) => sample_lines(alloc, package, rows),
     }
 }

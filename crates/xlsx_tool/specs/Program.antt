@@ -22,7 +22,8 @@ help_text =
     ++ (codes "       xlsx_tool names < package.json\n"
     ++ (codes "       xlsx_tool tables < package.json\n"
     ++ (codes "       xlsx_tool pivots < package.json\n"
-    ++ (codes "       xlsx_tool props < package.json\n\n"
+    ++ (codes "       xlsx_tool props < package.json\n"
+    ++ (codes "       xlsx_tool sample N\n\n"
     ++ (codes "One line is printed, of the worksheet NAME or of the workbook, for each\n\n"
     ++ (codes "  cells      cell with a value, formula or style: position, value, formula, fill\n"
     ++ (codes "  merges     area of merged cells: its corners\n"
@@ -36,8 +37,9 @@ help_text =
     ++ (codes "  tables     table: its name, its sheet, the area of its data, its columns\n"
     ++ (codes "  pivots     pivot table: its sheet, its name\n"
     ++ (codes "  props      property of the workbook: its name, its text\n\n"
-    ++ codes "The fields of a line have tabs between them, and those of CSV commas.\n"
-    ))))))))))))))))))))))))
+    ++ (codes "The fields of a line have tabs between them, and those of CSV commas.\n\n"
+    ++ codes "sample makes a package of 1 to 20,000 rows and prints how much is read of it.\n"
+    ))))))))))))))))))))))))))
 
 abbrev pub version_text : List ℕ
 version_text = codes "xlsx_tool 0.1.0\n"

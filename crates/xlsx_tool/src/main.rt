@@ -4,6 +4,8 @@
 mod input;
 mod program;
 mod run;
+#[cfg(test)]
+mod sales_tests;
 mod sink;
 mod source;
 #[cfg(test)]

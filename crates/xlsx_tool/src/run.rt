@@ -71,7 +71,7 @@ fn package_for<S: Source>(
     ensures unread { is_some (own_parts (command_meant command.entry)) ≡ true
         → S.state source.new ≡ S.state source.old }
 {
-    if let Some(package) = own_package(alloc, command) {
+    if let Some(package) = own_package(alloc, command)? {
         return Ok(package);
     }
     let bytes = read_input(alloc, source)?;

@@ -60,18 +60,18 @@ fn package_with(alloc: Global, inside: &str, back: &str) -> Result<String, Fail>
 
 /// How the source and the sink of a run behave.
 #[derive(Clone, Copy)]
-struct Setting {
+pub struct Setting {
     /// The most bytes that a call of the source gives and one of the sink takes.
-    piece: usize,
+    pub piece: usize,
     /// The most bytes that the sink takes in all.
-    room: usize,
+    pub room: usize,
     /// The call of the source, counted from 0, that fails.
-    failing_read: Option<u64>,
+    pub failing_read: Option<u64>,
     /// The call of the sink, counted from 0, that fails.
-    failing_write: Option<u64>,
+    pub failing_write: Option<u64>,
 }
 
-const EASY: Setting = Setting {
+pub const EASY: Setting = Setting {
     piece: 1_000,
     room: 2_000,
     failing_read: None,
@@ -97,7 +97,7 @@ fn ended(alloc: Global, outcome: &Result<(), ToolError>, written: &[u8]) -> Resu
 }
 
 /// How a run ends by these words, which stand between blanks, on this input.
-fn run_on(alloc: Global, words: &str, input: &[u8], setting: Setting) -> Result<String, Fail>
+pub fn run_on(alloc: Global, words: &str, input: &[u8], setting: Setting) -> Result<String, Fail>
     requires { 0 < setting.piece }
 {
     let mut texts = Vec::new(alloc);
@@ -325,7 +325,7 @@ fn pages_are_printed_where_their_words_stand_alone(rt: HostRuntime) -> Result<()
         (
             "--help",
             "Usage: xlsx_tool cells NAME < ",
-            "those of CSV commas.\n0",
+            "how much is read of it.\n0",
         ),
         ("--version", "xlsx_tool 0.1.0", "\n0"),
     ] {

@@ -1,0 +1,20 @@
+use Rattle.std.proofs.Common.{◌∙◌, [], ◌∷◌, ◌++◌, ap}
+use Rattle.std.proofs.lemmas.Result.{on_ok_weaker}
+use Rattle.part_events.specs.Event.{Event, start}
+use Rattle.part_events.specs.Memory.{Contents, closed}
+use Rattle.xlsx_sample.specs.Markup.{with_events, opened_part}
+use Rattle.xlsx_sample.proofs.Drafted.{part_step}
+use Rattle.xlsx_sample.proofs.draft.Draft.begin_part.Goals as goal
+
+pub returns : goal.returns
+returns c =
+    let held = c.self.inside.held in
+    let added = c.add_part.new.self in
+    let root = start (record { name = c.args.root.now; attributes = [] }) in
+    let part = opened_part c.args.name.now c.args.root.now in
+    on_ok_weaker c.push.result
+    (λ pushed. part_step held added c.push.new.self c.args.name.now [] (root ∷ [])
+    c.in_ok-add_part.ensures.ok
+    (pushed ∙ ap (λ (event : Event). with_events added (event ∷ [])) c.start.ensures)
+    ∙ ap (λ (own : Contents). closed (own.parts ++ part ∷ []) own.taken) c.self.view_is)
+    c.push.ensures

@@ -1,0 +1,18 @@
+use Rattle.std.proofs.lemmas.Result.{on_ok_weaker}
+use Rattle.std.specs.Prelude.{codes, []}
+use Rattle.std.proofs.Common.{refl, ◌++◌}
+use Rattle.xlsx_sample.specs.Sample.{pattern, plain_fill, yellow_fill}
+use Rattle.xlsx_sample.proofs.Drafted.{element_written, three_steps}
+use Rattle.xlsx_sample.proofs.fixed_parts.push_fills.Goals as goal
+
+pub returns : goal.returns
+returns c =
+    let none = plain_fill (pattern (codes "none")) in
+    let gray = plain_fill (pattern (codes "gray125")) in
+    on_ok_weaker c.close.result
+    (element_written c.args.draft.now c.open.new.self c.push_yellow_fill.new.draft
+    c.close.new.self (codes "fills") [] [] (none ++ (gray ++ yellow_fill)) c.in_ok-open.ensures refl
+    (three_steps c.open.new.self c.push_plain_fill.new.draft c.push_plain_fill-2.new.draft
+    c.push_yellow_fill.new.draft none gray yellow_fill c.in_ok-push_plain_fill.ensures
+    c.in_ok-push_plain_fill-2.ensures c.in_ok-push_yellow_fill.ensures))
+    c.close.ensures

@@ -1,0 +1,14 @@
+use Rattle.std.proofs.lemmas.Result.{on_ok_weaker}
+use Rattle.std.specs.Prelude.{codes, []}
+use Rattle.std.proofs.Common.{refl}
+use Rattle.xlsx_sample.specs.Sample.{sheet_element}
+use Rattle.xlsx_sample.proofs.Drafted.{element_written}
+use Rattle.xlsx_sample.proofs.fixed_parts.push_sheets.Goals as goal
+
+pub returns : goal.returns
+returns c =
+    on_ok_weaker c.close.result
+    (element_written c.args.draft.now c.open.new.self c.push_empty.new.self c.close.new.self
+    (codes "sheets") [] [] sheet_element c.in_ok-open.ensures
+    refl c.in_ok-push_empty.ensures)
+    c.close.ensures

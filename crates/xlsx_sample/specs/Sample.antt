@@ -1,0 +1,173 @@
+-- A workbook of one sheet with any number of rows, three cells in each: a number, its double by a
+-- shared formula, and a shared string, which is styled in every other row.
+use Rattle.std.specs.Prelude.{ℕ, zero, suc, ◌+◌, ◌*◌, ◌%◌, ◌==◌, List, [], ◌∷◌, ◌++◌, codes}
+use Rattle.std.specs.Prelude.{if◌then◌else◌}
+use Rattle.std.specs.Fmt.{decimal}
+use Rattle.part_events.specs.Event.{Event}
+use Rattle.part_events.specs.Package.{Part}
+use Rattle.xlsx_sample.specs.Markup.{element, attribute, words}
+
+-- ---- the rows
+
+-- `<v>7</v>`
+abbrev pub value_element : ℕ → List Event
+value_element number = element (codes "v") [] (words (decimal number))
+
+-- `<c r="A7"><v>7</v></c>`
+abbrev pub number_cell : ℕ → List Event
+number_cell row =
+    element (codes "c") (attribute (codes "r") (codes "A" ++ decimal row)) (value_element row)
+
+abbrev pub master_attributes : ℕ → List ℕ
+master_attributes rows =
+    attribute (codes "t") (codes "shared")
+    ++ (attribute (codes "ref") (codes "B1:B" ++ decimal rows)
+    ++ attribute (codes "si") (codes "0"))
+
+-- the formula of the first row of so many: the master, `<f t="shared" ref="B1:B9" si="0">A1*2</f>`
+abbrev pub master_formula : ℕ → List Event
+master_formula rows = element (codes "f") (master_attributes rows) (words (codes "A1*2"))
+
+-- that of each other row, `<f t="shared" si="0"/>`
+abbrev pub derived_formula : List Event
+derived_formula =
+    element (codes "f")
+    (attribute (codes "t") (codes "shared") ++ attribute (codes "si") (codes "0")) []
+
+abbrev pub formula_element : ℕ → ℕ → List Event
+formula_element rows row = if row == 1 then master_formula rows else derived_formula
+
+-- `<c r="B7"><f t="shared" si="0"/><v>14</v></c>`
+abbrev pub doubled_cell : ℕ → ℕ → List Event
+doubled_cell rows row =
+    element (codes "c") (attribute (codes "r") (codes "B" ++ decimal row))
+    (formula_element rows row ++ value_element (2 * row))
+
+-- where the row is odd, ` s="1"`
+abbrev pub style_attribute : ℕ → List ℕ
+style_attribute row = if row % 2 == 1 then attribute (codes "s") (codes "1") else []
+
+-- `<c r="C7" s="1" t="s"><v>1</v></c>`
+abbrev pub string_cell : ℕ → List Event
+string_cell row =
+    element (codes "c")
+    (attribute (codes "r") (codes "C" ++ decimal row)
+    ++ (style_attribute row ++ attribute (codes "t") (codes "s")))
+    (value_element (row % 3))
+
+abbrev pub row_element : ℕ → ℕ → List Event
+row_element rows row =
+    element (codes "row") (attribute (codes "r") (decimal row))
+    (number_cell row ++ (doubled_cell rows row ++ string_cell row))
+
+-- the first rows of so many
+abbrev pub first_rows : ℕ → ℕ → List Event
+first_rows rows zero = []
+first_rows rows (suc count) = first_rows rows count ++ row_element rows (suc count)
+
+-- ---- the parts
+
+-- the type of a relationship
+abbrev pub relationship_type : List ℕ → List ℕ
+relationship_type kind =
+    codes "http://schemas.openxmlformats.org/officeDocument/2006/relationships/" ++ kind
+
+-- a relationship, whose Id is `rId1`
+abbrev pub related : List ℕ → List ℕ → List Event
+related kind target =
+    element (codes "Relationship")
+    (attribute (codes "Id") (codes "rId1")
+    ++ (attribute (codes "Type") (relationship_type kind) ++ attribute (codes "Target") target)) []
+
+abbrev pub root_part : Part
+root_part = record {
+  name = codes "_rels/.rels";
+  events = element (codes "Relationships") []
+      (related (codes "officeDocument") (codes "xl/workbook.xml"));
+}
+
+abbrev pub relationships_part : Part
+relationships_part = record {
+  name = codes "xl/_rels/workbook.xml.rels";
+  events = element (codes "Relationships") []
+      (related (codes "worksheet") (codes "worksheets/sheet1.xml"));
+}
+
+abbrev pub sheet_element : List Event
+sheet_element =
+    element (codes "sheet")
+    (attribute (codes "name") (codes "Sample")
+    ++ (attribute (codes "sheetId") (codes "1") ++ attribute (codes "r:id") (codes "rId1"))) []
+
+abbrev pub sheets_element : List Event
+sheets_element = element (codes "sheets") [] sheet_element
+
+abbrev pub workbook_part : Part
+workbook_part = record {
+  name = codes "xl/workbook.xml";
+  events = element (codes "workbook") [] sheets_element;
+}
+
+abbrev pub data_element : ℕ → List Event
+data_element rows = element (codes "sheetData") [] (first_rows rows rows)
+
+abbrev pub sheet_part : ℕ → Part
+sheet_part rows = record {
+  name = codes "xl/worksheets/sheet1.xml";
+  events = element (codes "worksheet") [] (data_element rows);
+}
+
+abbrev pub string_element : List ℕ → List Event
+string_element content = element (codes "si") [] (element (codes "t") [] (words content))
+
+abbrev pub strings_part : Part
+strings_part = record {
+  name = codes "xl/sharedStrings.xml";
+  events = element (codes "sst") []
+      (string_element (codes "red")
+      ++ (string_element (codes "green") ++ string_element (codes "blue")));
+}
+
+-- the attribute of a pattern
+abbrev pub pattern : List ℕ → List ℕ
+pattern name = attribute (codes "patternType") name
+
+-- a fill without a color, by the attributes of its pattern
+abbrev pub plain_fill : List ℕ → List Event
+plain_fill attributes =
+    element (codes "fill") [] (element (codes "patternFill") attributes [])
+
+abbrev pub yellow_pattern : List Event
+yellow_pattern =
+    element (codes "patternFill") (pattern (codes "solid"))
+    (element (codes "fgColor") (attribute (codes "rgb") (codes "FFFFFF00")) [])
+
+abbrev pub yellow_fill : List Event
+yellow_fill = element (codes "fill") [] yellow_pattern
+
+-- the fills that every workbook has, and a yellow one
+abbrev pub fills_element : List Event
+fills_element =
+    element (codes "fills") []
+    (plain_fill (pattern (codes "none"))
+    ++ (plain_fill (pattern (codes "gray125")) ++ yellow_fill))
+
+-- the format of a cell with this fill
+abbrev pub format_element : List ℕ → List Event
+format_element fill = element (codes "xf") (attribute (codes "fillId") fill) []
+
+abbrev pub formats_element : List Event
+formats_element =
+    element (codes "cellXfs") [] (format_element (codes "0") ++ format_element (codes "2"))
+
+abbrev pub styles_part : Part
+styles_part = record {
+  name = codes "xl/styles.xml";
+  events = element (codes "styleSheet") [] (fills_element ++ formats_element);
+}
+
+-- the parts of the workbook with so many rows
+unfoldable pub sample_parts : ℕ → List Part
+sample_parts rows =
+    root_part ∷ relationships_part ∷ workbook_part ∷ sheet_part rows ∷ strings_part
+    ∷ styles_part ∷ []
