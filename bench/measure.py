@@ -95,8 +95,9 @@ class Run(NamedTuple):
     peak: int
 
 
-def measured(words, stdin, stdout=os.devnull, stderr=None, statuses=(0,)):
-    """Runs the words, which are to end with one of the statuses."""
+def ran(words, stdin, stdout=os.devnull, stderr=None):
+    """Runs the words, and answers how they ended and what was measured: a status, or the number of
+    a signal below 0."""
     written = os.O_WRONLY | os.O_CREAT | os.O_TRUNC
     files = [
         (os.POSIX_SPAWN_OPEN, 0, stdin, os.O_RDONLY, 0),
@@ -108,11 +109,16 @@ def measured(words, stdin, stdout=os.devnull, stderr=None, statuses=(0,)):
     child = os.posix_spawn(words[0], words, os.environ, file_actions=files)
     _, status, used = os.wait4(child, 0)
     seconds = time.perf_counter() - began
-    ended = os.waitstatus_to_exitcode(status)
+    peak = used.ru_maxrss * (1 if sys.platform == "darwin" else 1024)
+    return os.waitstatus_to_exitcode(status), Run(seconds, used.ru_utime + used.ru_stime, peak)
+
+
+def measured(words, stdin, stdout=os.devnull, stderr=None, statuses=(0,)):
+    """Runs the words, which are to end with one of the statuses."""
+    ended, run = ran(words, stdin, stdout, stderr)
     if ended not in statuses:
         sys.exit(f"{' '.join(words)} ended with {ended}")
-    peak = used.ru_maxrss * (1 if sys.platform == "darwin" else 1024)
-    return Run(seconds, used.ru_utime + used.ru_stime, peak)
+    return run
 
 
 def each(choose, runs):
