@@ -29,7 +29,8 @@ impl Model for CutFormula {
 }
 
 impl CutFormula {
-    /// The formula of this text, with a copy of it. Beside the text it takes eight bytes a piece.
+    /// The formula of this text, with a copy of it. Beside the text it takes eight bytes a piece,
+    /// and up to twice that, as the list of places grows by doubling.
     pub fn new(alloc: Global, formula: &str) -> Result<CutFormula, AllocError>
         ensures { IfOk result (λ cut. cut ≡ formula.now) }
     {

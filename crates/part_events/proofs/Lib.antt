@@ -8,8 +8,8 @@ pub mod Outermost
 pub mod PartNames
 pub mod Parts
 pub mod Sections
-pub mod Spans
 pub mod Steps
+pub mod StoredTexts
 pub mod Texts
 pub mod Uses
 pub mod Walking

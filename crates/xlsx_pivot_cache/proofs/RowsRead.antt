@@ -10,12 +10,11 @@ use Rattle.part_events.specs.Reading.{Reading, IsReading, PassesElement, ahead}
 use Rattle.part_events.specs.Section.{Element, content, is_closed, is_any, outermost, unclosed}
 use Rattle.part_events.specs.Walk.{inside, section_ahead, section_behind, element_at}
 use Rattle.part_events.proofs.Matches.{open_still}
-use Rattle.part_events.proofs.Onward.{reads_nothing}
 use Rattle.cell_data.specs.CellValue.{CellValue}
 use Rattle.xlsx_error.specs.declared.error.XlsxError.{XlsxError}
 use Rattle.xlsx_sections.specs.Answers.{prepended, all_answers, and_others}
 use Rattle.xlsx_sections.specs.ElementLists.{element_said}
-use Rattle.xlsx_sections.specs.Elements.{KeepsElements, IsInsideRefused, end_among, end_outside}
+use Rattle.xlsx_sections.specs.Elements.{IsInsideRefused, end_among, end_outside}
 use Rattle.xlsx_sections.specs.Elements.{named_end, IfCutOff}
 use Rattle.xlsx_sections.specs.Failing.{FailsBy}
 use Rattle.xlsx_sections.specs.PartSection.{PartSection, Refusing, Never, SectionFails, always}
@@ -129,20 +128,6 @@ value_unended {base = base} {first = first} fields last error found fails =
     (element_refused records_name (λ (element : Element). Some records_name)
     (named_end (Some records_name)) Never Never last error found (λ told. refl)
     (λ told refusal never. absurd never) fails)
-
--- a section is kept where nothing was taken of it
-pub keeps_here : {wanted : Tag → Bool} {base : ℕ} (r : Reading) → IsReading r
-    → base ≤ length r.names → KeepsElements wanted base r r
-keeps_here r is within = record {
-  section = record {
-    reads = reads_nothing r is;
-    within = within;
-    closed = λ told. refl;
-    last = λ told. refl;
-  };
-  unclosed = λ told. refl;
-  behind = λ told. refl;
-}
 
 -- a record was read to its end
 pub record_taken : {base place : ℕ} {tag : Tag} {old new after : Reading}

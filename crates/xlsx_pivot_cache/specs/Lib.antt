@@ -4,6 +4,5 @@ pub mod CacheItems
 pub mod CacheIter
 pub mod CacheRecords
 pub mod FieldEvents
-pub mod PartElements
 pub mod PivotRows
 pub mod ReferenceFaults

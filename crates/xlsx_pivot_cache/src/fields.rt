@@ -9,11 +9,10 @@ ghost use Rattle.xlsx_pivot_cache.specs.CacheFields.{field_kept, fields_kept, fi
 ghost use Rattle.xlsx_pivot_cache.specs.CacheFields.{FieldsCause, fields_at, FieldsAtCause};
 
 use crate::field::{CacheField, read_field};
-use crate::part_elements::next_element_of_part;
 use part_events::{Cursor, Package};
 use std::alloc::{AllocError, Global};
 use xlsx_error::XlsxError;
-use xlsx_parts::open_part;
+use xlsx_parts::{next_element_of_part, open_part};
 
 /// Appends a field, where there is one.
 fn push_field(fields: &mut Vec<CacheField>, field: Option<CacheField>) -> Result<(), AllocError>

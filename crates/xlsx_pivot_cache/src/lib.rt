@@ -8,7 +8,6 @@ mod field;
 mod fields;
 mod item;
 mod laws;
-mod part_elements;
 mod pivot_cursor;
 mod record;
 mod rows;

@@ -1,36 +1,32 @@
-use Rattle.part_events.proofs.Spans.{All_kept, map_kept, pushed, same_pushed, on_err}
+use Rattle.std.proofs.Common.{◌≡◌, ◌∙◌, length, string_bytes, sym}
+use Rattle.part_events.specs.Stored.{end_behind}
+use Rattle.part_events.proofs.StoredTexts.{pushed, same_pushed, end_push}
 use Rattle.part_events.proofs.stored.StoredPart.push.Goals as goal
-
-pub invariant_of-self : goal.invariant_of-self
-invariant_of-self c = All_kept _ _ _ c.push_texts.ensures.extends c.self.invariant
-
-pub returns-in_err-stored-clause-err : goal.returns-in_err-stored-clause-err
-returns-in_err-stored-clause-err c =
-    on_err c.from_residual.result
-    (rw (map_kept _ _ _ c.push_texts.ensures.extends c.self.invariant) c.self.view_is)
-
-pub invariant_of-self-in_err-push : goal.invariant_of-self-in_err-push
-invariant_of-self-in_err-push c =
-    rw c.in_err-push.ensures.items (All_kept _ _ _ c.push_texts.ensures.extends c.self.invariant)
-
-pub returns-in_err-push-clause-err : goal.returns-in_err-push-clause-err
-returns-in_err-push-clause-err c =
-    on_err c.from_residual-in_err-push.result
-    (rw (
-      c.in_err-push.ensures.items,
-      map_kept _ _ _ c.push_texts.ensures.extends c.self.invariant,
-    ) c.self.view_is)
 
 pub invariant_of-self-2 : goal.invariant_of-self-2
 invariant_of-self-2 c =
-    rw c.in_ok-push.ensures.items
-    (pushed _ _ _ _ c.push_texts.ensures.extends c.self.invariant c.in_ok-stored.ensures.ok)
+    let old = string_bytes c.self.inside.text in
+    let new = string_bytes c.push_texts.new.text in
+    let events = c.self.inside.events.items in
+    let last = rw (c.reserve.ensures.bytes, ← c.self.invariant.1) at c.in_ok-stored.ensures.ok in
+    let extends = rw c.reserve.ensures.bytes at c.in_ok-stored.ensures.extends in
+    rw (c.in_ok-push.ensures.items, c.reserve-2.ensures.items) (
+      pushed old new events c.in_ok-stored.stored extends c.self.invariant.0 last,
+      end_push 0 events c.in_ok-stored.stored ∙ c.in_ok-stored.ensures.end,
+    )
 
 pub returns-clause-ok : goal.returns-clause-ok
 returns-clause-ok c =
+    let old = string_bytes c.self.inside.text in
+    let new = string_bytes c.push_texts.new.text in
+    let events = c.self.inside.events.items in
+    let value = rw (c.reserve.ensures.bytes, ← c.self.invariant.1) at
+    c.in_ok-stored.ensures.value in
+    let extends = rw c.reserve.ensures.bytes at c.in_ok-stored.ensures.extends in
     rw (
       c.in_ok-push.ensures.items,
-      same_pushed _ _ _ _ c.push_texts.ensures.extends c.self.invariant,
-      c.in_ok-stored.ensures.value,
+      c.reserve-2.ensures.items,
+      same_pushed old new events c.in_ok-stored.stored extends c.self.invariant.0,
+      value,
       ← c.self.view_is,
     )

@@ -2,7 +2,7 @@ use Rattle.std.proofs.Common.{◌∷◌, [], ◌∙◌, arith}
 use Rattle.part_events.specs.Section.{is_named}
 use Rattle.xlsx_sections.proofs.ElementsRead.{element_step_found}
 use Rattle.xlsx_parts.proofs.WholeRead.{part_ended}
-use Rattle.xlsx_pivot_cache.proofs.part_elements.next_element_of_part.Goals as goal
+use Rattle.xlsx_parts.proofs.part_elements.next_element_of_part.Goals as goal
 
 pub returns-in-Found-clause-step : goal.returns-in-Found-clause-step
 returns-in-Found-clause-step g c = λ first keeps.

@@ -4,7 +4,7 @@ ghost use Rattle.part_events.specs.Section.{is_named};
 ghost use Rattle.xlsx_error.specs.declared.error.XlsxError.TheVariants.{Io};
 ghost use Rattle.xlsx_sections.specs.Elements.{KeepsElements};
 ghost use Rattle.xlsx_parts.specs.WholePart.{StandsInPart, StepFails, IsBreakError};
-ghost use Rattle.xlsx_pivot_cache.specs.PartElements.{StepsToPartElement};
+ghost use Rattle.xlsx_parts.specs.PartElements.{StepsToPartElement};
 
 use part_events::{Cursor, Package, Step};
 use xlsx_error::XlsxError;
@@ -15,7 +15,7 @@ use xlsx_error::XlsxError;
 ///
 /// An end that breaks the nesting is `Xml(EndMismatch)` with its number in the part, counted from
 /// 0.
-pub(crate) fn next_element_of_part<P: Package>(
+pub fn next_element_of_part<P: Package>(
     package: &mut P,
     cursor: &mut Cursor,
     name: &str,
