@@ -2,13 +2,12 @@ use Rattle.std.proofs.Common.{◌≡◌, ◌∷◌, ◌+◌, ℕ, List, [], drop
 use Rattle.std.proofs.Common.{string_bytes, arith, Option}
 use Rattle.std.specs.Prelude.{MatchOption}
 use Rattle.std.proofs.lemmas.List.{drop_all}
-use Rattle.std.specs.Option.{option_copied}
 use Rattle.part_events.specs.Package.{Part}
 use Rattle.xlsx_error.specs.declared.error.XlsxError.{XlsxError}
 use Rattle.xlsx_values.specs.Book.{grounds_of}
 use Rattle.xlsx_cells.specs.CellsReader.{values_alone}
 use Rattle.xlsx_core.specs.Listing.{AreListed, IsPutBehind}
-use Rattle.xlsx_core.specs.Opened.{path_listed}
+use Rattle.xlsx_core.specs.Opened.{path_listed, path_lent}
 use Rattle.xlsx_core.specs.Worksheets.{ReadsValues, RangeCause}
 use Rattle.xlsx_core.proofs.SheetsListed.{listed_further, drop_from}
 use Rattle.xlsx_core.proofs.worksheet_list.ranges_listed.Goals as goal
@@ -38,7 +37,7 @@ sheets-preserved g c =
       faults = own.faults ∙ now.faults;
       listed = λ told.
           let named : name ≡ string_bytes sheet.name = c.as_str-name.ensures.value in
-          let path : option_copied c.kept_path-path.result ≡ place name =
+          let path : path_lent c.kept_path-path.result ≡ place name =
           c.kept_path-path.ensures ∙ c.in_ok-firsts.ensures name in
           let read : reads_at name (place name) old.parts =
           subst (reads_at name (place name)) now.keeps.parts
