@@ -24,6 +24,7 @@ from fixtures import (
     SALES,
     SALES_LINES,
     package_text,
+    relationships,
     with_rows,
     with_sheets,
 )
@@ -77,6 +78,16 @@ def long_sheet():
         rows.append(f'<row r="{row}"><c r="A{row}" t="str"><v>{text}</v></c></row>')
         lines.append(f"A{row}\ts:{text}\t-\t-\n")
     return package_text(with_rows("".join(rows))), "".join(lines).encode()
+
+
+def sheets_of_one_target(folder, target, count):
+    """The parts of a workbook in this folder, all of whose sheets have the one target."""
+    sheets = "".join(f'<sheet name="S{n}" r:id="rId1"/>' for n in range(count))
+    return {
+        "_rels/.rels": relationships(("officeDocument", f"{folder}workbook.xml")),
+        f"{folder}_rels/workbook.xml.rels": relationships(("worksheet", target)),
+        f"{folder}workbook.xml": f"<workbook><sheets>{sheets}</sheets></workbook>",
+    }
 
 
 def filled(size):
@@ -331,6 +342,18 @@ class Edge:
             package = package_text({**MINIMAL, "xl/styles.xml": styles})
             text = b"Unexpected end of xml, expecting '</" + name + b">'"
             self.assertEqual(self.run_on(package), no_workbook(text), styles)
+
+    def test_targets_and_folders_that_many_sheets_name_are_kept_once(self):
+        def bound():
+            resource.setrlimit(resource.RLIMIT_AS, (200_000_000, 200_000_000))
+
+        long, count = 500_000, 1_000
+        lines = "".join(f"S{n}\tworksheet\tvisible\n" for n in range(count)).encode()
+        for folder, target in (("xl/", "t" * long), ("f" * long + "/", "t")):
+            package = package_text(sheets_of_one_target(folder, target, count))
+            for words, wanted in ((["sheets"], lines), (["tables"], b""), (["pivots"], b"")):
+                answer = self.run_on(package, words, preexec_fn=bound)
+                self.assertEqual(answer, (0, wanted, b""), (folder[:3], words))
 
     def test_want_of_memory(self):
         def bound():

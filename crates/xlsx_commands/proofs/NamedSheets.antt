@@ -1,6 +1,6 @@
 -- What is had of the first sheet of a name, and why it isn't.
 use Rattle.std.proofs.Common.{◌≡◌, ◌⊎◌, inl, inr, ◌∙◌, ap, sym, subst, ℕ, List, Option}
-use Rattle.std.proofs.Common.{Bool, Some, None, String, Global}
+use Rattle.std.proofs.Common.{Bool, Some, None}
 use Rattle.std.specs.Prelude.{IsSomeAnd, option_and_then}
 use Rattle.cell_refs.specs.declared.dimensions.Dimensions.{Dimensions}
 use Rattle.part_events.specs.Event.{Event}
@@ -11,6 +11,7 @@ use Rattle.xlsx_error.specs.declared.error.XlsxError.TheVariants.{WorksheetNotFo
 use Rattle.xlsx_sections.specs.Failing.{FailsBy}
 use Rattle.xlsx_areas.specs.MergeErrors.{MergesCause}
 use Rattle.xlsx_areas.specs.MergedCells.{merges_of}
+use Rattle.xlsx_workbook.specs.declared.paths.KeptPath.{KeptPath}
 use Rattle.xlsx_workbook.specs.declared.sheet.Metadata.{Metadata}
 use Rattle.xlsx_open.specs.Opening.{Opening, OpensAs, HoldsOpening, OpeningCause}
 use Rattle.xlsx_open.specs.Opening.{OpeningFails}
@@ -28,7 +29,7 @@ use Rattle.xlsx_commands.specs.Status.{of_workbook}
 use Rattle.xlsx_commands.proofs.MemoryCalls.{memory_fails}
 
 -- a workbook that opened, by its lists
-pub opens_at : {metadata : Metadata} {paths : List (String Global)} {shared : SharedParts}
+pub opens_at : {metadata : Metadata} {paths : List KeptPath} {shared : SharedParts}
     {is_1904 : Bool} {parts : List Part} (name : List ℕ) (opening : Opening)
     → HoldsOpening metadata paths shared is_1904 opening → OpensAs parts opening
     → OpensAt parts name (path_listed name metadata.sheets.items paths)

@@ -1,5 +1,6 @@
 -- The pivot tables of a workbook that opened, and why they aren't had.
-use Rattle.std.proofs.Common.{◌≡◌, ◌∙◌, ap, sym, ℕ, List, Some, string_bytes}
+use Rattle.std.proofs.Common.{◌≡◌, ◌∙◌, ap, sym, ℕ, List, Some}
+use Rattle.std.specs.Arc.{arc_str_bytes}
 use Rattle.part_events.specs.Memory.{Contents}
 use Rattle.part_events.specs.Package.{Part}
 use Rattle.xlsx_error.specs.declared.error.XlsxError.{XlsxError}
@@ -22,11 +23,11 @@ use Rattle.xlsx_commands.proofs.SheetsOpened.{sheets_listed, sheets_never, IsNot
 pub has_pivots : (parts : List Part) (opening : Opening) (xlsx : Xlsx Contents)
     (pivots : List PivotSaid) → OpensAs parts opening
     → HoldsOpening xlsx.metadata xlsx.paths.items xlsx.shared xlsx.is_1904 opening
-    → LiesIn parts (string_bytes xlsx.folder) → xlsx.package.parts ≡ parts
-    → pivots_of xlsx.package.parts (string_bytes xlsx.folder) (sheets_of_book xlsx) ≡ Some pivots
+    → LiesIn parts (arc_str_bytes xlsx.folder) → xlsx.package.parts ≡ parts
+    → pivots_of xlsx.package.parts (arc_str_bytes xlsx.folder) (sheets_of_book xlsx) ≡ Some pivots
     → HasPivots parts pivots
 has_pivots parts opening xlsx pivots opens holds lies same found =
-    let folder : string_bytes xlsx.folder ≡ folder_of opens.path =
+    let folder : arc_str_bytes xlsx.folder ≡ folder_of opens.path =
     lies.2 ∙ ap folder_of (same_path parts lies.0 opens.path lies.1 opens.found) in
     let sheets : sheets_of_book xlsx ≡ sheets_opened opening.sheets =
     sheets_listed xlsx.metadata.sheets.items xlsx.paths.items opening.sheets holds.sheets
@@ -36,7 +37,7 @@ has_pivots parts opening xlsx pivots opens holds lies same found =
       opens = opens;
       found = ap (pivots_of parts (folder_of opens.path)) (sym sheets)
           ∙ ap (λ (own : List ℕ). pivots_of parts own (sheets_of_book xlsx)) (sym folder)
-          ∙ ap (λ (own : List Part). pivots_of own (string_bytes xlsx.folder)
+          ∙ ap (λ (own : List Part). pivots_of own (arc_str_bytes xlsx.folder)
           (sheets_of_book xlsx)) (sym same)
           ∙ found;
     }

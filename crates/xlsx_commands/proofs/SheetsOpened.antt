@@ -1,13 +1,15 @@
 -- The sheets of a workbook that opened, and why what is asked of all isn't had.
 use Rattle.std.proofs.Common.{◌≡◌, ◌∙◌, inl, inr, ap, subst, refl, ℕ, List, [], ◌∷◌, map}
-use Rattle.std.proofs.Common.{Bool, String, Global, string_bytes}
+use Rattle.std.proofs.Common.{Bool, string_bytes}
 use Rattle.part_events.specs.Memory.{Contents, state_of}
 use Rattle.part_events.specs.Package.{Part}
 use Rattle.xlsx_error.specs.declared.error.XlsxError.{XlsxError}
 use Rattle.xlsx_error.specs.declared.error.XlsxError.TheVariants as workbook
 use Rattle.xlsx_sections.specs.Failing.{FailsBy}
 use Rattle.xlsx_parts.specs.SheetPaths.{SheetPath, sheet_at}
+use Rattle.xlsx_workbook.specs.KeptContents.{path_kept}
 use Rattle.xlsx_workbook.specs.Sheets.{PlacedSheet}
+use Rattle.xlsx_workbook.specs.declared.paths.KeptPath.{KeptPath}
 use Rattle.xlsx_workbook.specs.declared.sheet.Metadata.{Metadata}
 use Rattle.xlsx_workbook.specs.declared.sheet.Sheet.{Sheet}
 use Rattle.xlsx_open.specs.Opening.{Opening, OpensAs, HoldsOpening, OpeningCause, ListedSheet}
@@ -25,9 +27,9 @@ use Rattle.xlsx_commands.proofs.MemoryCalls.{memory_fails}
 use Rattle.xlsx_commands.proofs.NamedSheets.{OpeningsNever}
 
 -- the lists of a workbook that opened are the sheets of the opening
-pub sheets_listed : (sheets : List Sheet) (paths : List (String Global)) (placed : List PlacedSheet)
+pub sheets_listed : (sheets : List Sheet) (paths : List KeptPath) (placed : List PlacedSheet)
     → map listed_sheet sheets ≡ map without_path placed
-    → map string_bytes paths ≡ map (λ (sheet : PlacedSheet). sheet.path) placed
+    → map path_kept paths ≡ map (λ (sheet : PlacedSheet). sheet.path) placed
     → sheet_paths sheets paths ≡ sheets_opened placed
 sheets_listed [] paths [] listed there = refl
 sheets_listed [] paths (own ∷ placed) listed there = absurd (cc)
@@ -37,9 +39,9 @@ sheets_listed (sheet ∷ sheets) (path ∷ paths) (own ∷ placed) listed there 
     let head : listed_sheet sheet ≡ without_path own = cc in
     let named : string_bytes sheet.name ≡ own.name = ap (λ (one : ListedSheet). one.name) head in
     let others : map listed_sheet sheets ≡ map without_path placed = cc in
-    let here : string_bytes path ≡ own.path = cc in
-    let further : map string_bytes paths ≡ map (λ (one : PlacedSheet). one.path) placed = cc in
-    ap (λ (one : List ℕ). sheet_at one (string_bytes path) ∷ sheet_paths sheets paths) named
+    let here : path_kept path ≡ own.path = cc in
+    let further : map path_kept paths ≡ map (λ (one : PlacedSheet). one.path) placed = cc in
+    ap (λ (one : List ℕ). sheet_at one (path_kept path) ∷ sheet_paths sheets paths) named
     ∙ ap (λ (one : List ℕ). sheet_at own.name one ∷ sheet_paths sheets paths) here
     ∙ ap (λ (rest : List SheetPath). sheet_at own.name own.path ∷ rest)
     (sheets_listed sheets paths placed others further)
@@ -82,7 +84,7 @@ opening_unlisted cause_of old new error is fails =
     (λ cause. inl cause) fails)
 
 -- what is asked of all sheets is refused
-pub sheets_unlisted : {metadata : Metadata} {paths : List (String Global)}
+pub sheets_unlisted : {metadata : Metadata} {paths : List KeptPath}
     {shared : SharedParts} {is_1904 : Bool}
     (cause_of : List Part → List SheetPath → XlsxError → Type 0) (opening : Opening)
     (old mid new : Contents) (error : XlsxError)

@@ -1,6 +1,6 @@
 -- The tables of a workbook that opened, and why they aren't had.
 use Rattle.std.proofs.Common.{◌≡◌, ◌∙◌, inl, inr, ap, sym, refl, ℕ, List, [], ◌∷◌, map}
-use Rattle.std.proofs.Common.{true, Option, Some, None, String, Global, string_bytes}
+use Rattle.std.proofs.Common.{true, Option, Some, None, Global}
 use Rattle.std.proofs.Common.{zero, suc, ◌<◌, ◌++◌, ◌&&◌, length, drop, append_assoc, arith}
 use Rattle.std.specs.Prelude.{Vec, slice_get, option_map, IfSome, nat_le, nat_lt}
 use Rattle.std.proofs.lemmas.Bool.Decides.{nat_tests}
@@ -17,7 +17,8 @@ use Rattle.xlsx_error.specs.declared.error.XlsxError.TheVariants.{TableNotFound}
 use Rattle.xlsx_error.specs.declared.error.XlsxError.TheVariants.{PivotTableNotFound}
 use Rattle.xlsx_parts.specs.SheetPaths.{SheetPath}
 use Rattle.xlsx_tables.specs.Tables.{SheetTable, tables_of, TablesCause, IsTablesError}
-use Rattle.xlsx_workbook.specs.KeptContents.{pair_of}
+use Rattle.xlsx_workbook.specs.KeptContents.{pair_of, path_kept}
+use Rattle.xlsx_workbook.specs.declared.paths.KeptPath.{KeptPath}
 use Rattle.xlsx_workbook.specs.declared.sheet.Metadata.{Metadata}
 use Rattle.xlsx_open.specs.Opening.{Opening, OpensAs, HoldsOpening, listed_sheet}
 use Rattle.xlsx_open.specs.SharedParts.{shared_said}
@@ -39,7 +40,7 @@ holds_kept : (opening : Opening) (old new : Xlsx Contents) → KeepsBook old new
 holds_kept opening old new keeps holds = record {
   sheets = ap (λ (own : Metadata). map listed_sheet own.sheets.items) keeps.metadata
       ∙ holds.sheets;
-  paths = ap (λ (own : Vec (String Global) Global). map string_bytes own.items) keeps.paths
+  paths = ap (λ (own : Vec KeptPath Global). map path_kept own.items) keeps.paths
       ∙ holds.paths;
   names = ap (λ (own : Metadata). map pair_of own.names.items) keeps.metadata ∙ holds.names;
   shared = ap shared_said keeps.shared ∙ holds.shared;

@@ -1,5 +1,5 @@
 -- A part is read in one way, and what is read isn't refused.
-use Rattle.std.proofs.Common.{◌≡◌, ℕ, List, [], length, refl, sym, ◌∙◌, ap, map, inl, inr, subst}
+use Rattle.std.proofs.Common.{◌≡◌, ℕ, List, [], length, sym, ◌∙◌, ap, map, inl, inr, subst}
 use Rattle.std.proofs.Common.{Option, Some, None, Ok, Err, codes, true, false, arith, String}
 use Rattle.std.proofs.Common.{Global}
 use Rattle.std.specs.Prelude.{⊤, option_map, IsSomeAnd, is_some}

@@ -1,5 +1,5 @@
 -- The worksheets of an open workbook, as they are listed.
-use Rattle.std.proofs.Common.{◌≡◌, ◌≤◌, ◌<◌, ◌⊎◌, ℕ, List, [], ◌∷◌, ◌++◌, drop, length, refl, sym}
+use Rattle.std.proofs.Common.{◌≡◌, ◌≤◌, ◌<◌, ℕ, List, [], ◌∷◌, ◌++◌, drop, length, refl, sym}
 use Rattle.std.proofs.Common.{◌∙◌, ap, subst, inl, inr, Option, Some, None, String, Global, Bool}
 use Rattle.std.proofs.Common.{true, false, arith, append_assoc, ◌+◌}
 use Rattle.std.specs.Prelude.{string_bytes, if◌then◌else◌, nat_lt, MatchOption}
@@ -18,6 +18,8 @@ use Rattle.xlsx_error.specs.declared.error.XlsxError.TheVariants.{WorksheetNotFo
 use Rattle.xlsx_sections.specs.Failing.{SoundFails}
 use Rattle.xlsx_values.specs.Value.{Grounds}
 use Rattle.xlsx_cells.specs.declared.children.Wants.{Wants}
+use Rattle.xlsx_workbook.specs.KeptContents.{path_kept}
+use Rattle.xlsx_workbook.specs.declared.paths.KeptPath.{KeptPath}
 use Rattle.xlsx_workbook.specs.declared.sheet.Sheet.{Sheet}
 use Rattle.xlsx_core.specs.Listing.{IsListedAs, IsLeftOut, AreListed, ends_listing, IsPutBehind}
 use Rattle.xlsx_core.specs.Opened.{path_listed}
@@ -32,7 +34,7 @@ no_paths name (sheet ∷ sheets) = refl
 
 -- none stands behind the shorter one of both lists
 pub none_behind : (name : List ℕ) (place : ℕ) (sheets : List Sheet)
-    (paths : List (String Global)) → (place < length sheets → length paths ≤ place)
+    (paths : List KeptPath) → (place < length sheets → length paths ≤ place)
     → path_listed name (drop place sheets) (drop place paths) ≡ None
 none_behind name place sheets paths few =
     by_test (nat_lt place (length sheets)) refl
@@ -55,10 +57,10 @@ drop_from {X} xs place next own is below same =
     ∙ ap (λ (n : ℕ). own ∷ drop n xs) same
 
 -- one sheet before those behind
-pub first_further : (name : List ℕ) (sheet : Sheet) (sheets : List Sheet) (path : String Global)
-    (paths : List (String Global)) (kept found : Option (List ℕ)) (own there : List ℕ)
+pub first_further : (name : List ℕ) (sheet : Sheet) (sheets : List Sheet) (path : KeptPath)
+    (paths : List KeptPath) (kept found : Option (List ℕ)) (own there : List ℕ)
     → kept ≡ path_listed name sheets paths → own ≡ string_bytes sheet.name
-    → there ≡ string_bytes path
+    → there ≡ path_kept path
     → found ≡ (if bytes_eq name own then Some there else kept)
     → found ≡ path_listed name (sheet ∷ sheets) (path ∷ paths)
 first_further name sheet sheets path paths kept found own there is named placed put =

@@ -1,6 +1,6 @@
 -- The sheet of a workbook that opens, and refusals that are handed on.
 use Rattle.std.proofs.Common.{◌≡◌, ℕ, List, [], ◌∷◌, Bool, true, map, refl, sym, ◌∙◌, ap, subst}
-use Rattle.std.proofs.Common.{inl, inr, Option, Some, None, String, Global, string_bytes}
+use Rattle.std.proofs.Common.{inl, inr, Option, Some, None, string_bytes}
 use Rattle.std.specs.Prelude.{if◌then◌else◌, IsSomeAnd, length, filter}
 use Rattle.std.specs.Str.{bytes_eq}
 use Rattle.part_events.specs.Event.{Event}
@@ -17,6 +17,8 @@ use Rattle.xlsx_cells.specs.Sheet.{with_texts}
 use Rattle.xlsx_cells.specs.SheetPart.{SheetPartCause}
 use Rattle.xlsx_workbook.specs.Sheets.{PlacedSheet}
 use Rattle.xlsx_workbook.specs.declared.sheet.Metadata.{Metadata}
+use Rattle.xlsx_workbook.specs.KeptContents.{path_kept}
+use Rattle.xlsx_workbook.specs.declared.paths.KeptPath.{KeptPath}
 use Rattle.xlsx_workbook.specs.declared.sheet.Sheet.{Sheet}
 use Rattle.xlsx_open.specs.Opening.{Opening, ListedSheet, listed_sheet, without_path}
 use Rattle.xlsx_open.specs.Opening.{HoldsOpening, OpensAs, OpeningCause, OpeningFails}
@@ -39,9 +41,9 @@ some_of None fact is = absurd is
 some_of (Some x) fact is = (x, refl, is)
 
 -- the path that stands in the list of paths is that of the opening
-listed_is_named : (name : List ℕ) (sheets : List Sheet) (paths : List (String Global))
+listed_is_named : (name : List ℕ) (sheets : List Sheet) (paths : List KeptPath)
     (placed : List PlacedSheet) → map listed_sheet sheets ≡ map without_path placed
-    → map string_bytes paths ≡ map (λ (sheet : PlacedSheet). sheet.path) placed
+    → map path_kept paths ≡ map (λ (sheet : PlacedSheet). sheet.path) placed
     → path_listed name sheets paths ≡ path_named name placed
 listed_is_named name [] paths [] listed there = refl
 listed_is_named name [] paths (own ∷ placed) listed there = absurd (cc)
@@ -51,9 +53,9 @@ listed_is_named name (sheet ∷ sheets) (path ∷ paths) (own ∷ placed) listed
     let head : listed_sheet sheet ≡ without_path own = cc in
     let named : string_bytes sheet.name ≡ own.name = ap (λ (one : ListedSheet). one.name) head in
     let others : map listed_sheet sheets ≡ map without_path placed = cc in
-    let here : string_bytes path ≡ own.path = cc in
-    let further : map string_bytes paths ≡ map (λ (one : PlacedSheet). one.path) placed = cc in
-    ap (λ (one : List ℕ). if bytes_eq one name then Some (string_bytes path) else path_listed name
+    let here : path_kept path ≡ own.path = cc in
+    let further : map path_kept paths ≡ map (λ (one : PlacedSheet). one.path) placed = cc in
+    ap (λ (one : List ℕ). if bytes_eq one name then Some (path_kept path) else path_listed name
     sheets paths) named
     ∙ ap (λ (one : List ℕ). if bytes_eq own.name name then Some one else path_listed name sheets
     paths) here
@@ -71,7 +73,7 @@ pub record OpensPlaced
   pub rests : grounds ≡ opened_grounds opening
   pub styled : IsPaletteOf opening palette
 
-pub opens_placed : {metadata : Metadata} {paths : List (String Global)} {shared : SharedParts}
+pub opens_placed : {metadata : Metadata} {paths : List KeptPath} {shared : SharedParts}
     {is_1904 : Bool} {parts : List Part} (name : List ℕ) (opening : Opening)
     → HoldsOpening metadata paths shared is_1904 opening → OpensAs parts opening
     → OpensPlaced name (path_listed name metadata.sheets.items paths)

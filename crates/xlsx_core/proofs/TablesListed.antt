@@ -1,6 +1,6 @@
 -- The tables of a workbook, as they are loaded and listed.
 use Rattle.std.proofs.Common.{◌≡◌, ℕ, zero, suc, List, [], ◌∷◌, ◌++◌, drop, map, refl, sym, ◌∙◌, ap}
-use Rattle.std.proofs.Common.{Option, Some, None, String, Global, string_bytes}
+use Rattle.std.proofs.Common.{Option, Some, None, string_bytes}
 use Rattle.std.specs.Prelude.{option_map}
 use Rattle.std.proofs.lemmas.List.{map-append}
 use Rattle.part_events.specs.Package.{Part}
@@ -11,6 +11,8 @@ use Rattle.xlsx_tables.specs.TableParts.{TableSaid}
 use Rattle.xlsx_tables.specs.Tables.{SheetTable, tables_at, table_of_sheet, tables_on, tables_of}
 use Rattle.xlsx_tables.specs.Tables.{on_sheet, loaded_of}
 use Rattle.xlsx_tables.specs.declared.loaded.LoadedTable.{LoadedTable}
+use Rattle.xlsx_workbook.specs.KeptContents.{path_kept}
+use Rattle.xlsx_workbook.specs.declared.paths.KeptPath.{KeptPath}
 use Rattle.xlsx_workbook.specs.declared.sheet.Sheet.{Sheet}
 use Rattle.xlsx_core.specs.Merges.{sheet_paths}
 use Rattle.xlsx_core.specs.TableList.{sheet_name, with_sheet, table_held, tables_held, names_of}
@@ -65,9 +67,9 @@ held_further sheets number name kept now found named is =
 
 -- the tables so far with what the sheets behind say: one sheet more
 pub tables_further : (parts : List Part) (sheets others : List Sheet) (sheet : Sheet)
-    (path : String Global) (more : List (String Global)) (number : ℕ)
+    (path : KeptPath) (more : List KeptPath) (number : ℕ)
     (kept now : List LoadedTable) (found : List TableSaid) (all : Option (List SheetTable))
-    → drop number sheets ≡ sheet ∷ others → tables_at parts (string_bytes path) ≡ Some found
+    → drop number sheets ≡ sheet ∷ others → tables_at parts (path_kept path) ≡ Some found
     → map loaded_of now ≡ map loaded_of kept ++ map (on_sheet number) found
     → put_together (Some (tables_held sheets kept))
     (tables_of parts (sheet_paths (sheet ∷ others) (path ∷ more))) ≡ all
@@ -75,7 +77,7 @@ pub tables_further : (parts : List Part) (sheets others : List Sheet) (sheet : S
     ≡ all
 tables_further parts sheets others sheet path more number kept now found all front there is whole =
     let name = string_bytes sheet.name in
-    let own = sheet_at name (string_bytes path) in
+    let own = sheet_at name (path_kept path) in
     let said : tables_on parts own ≡ Some (map (table_of_sheet name) found) =
     ap (option_map (map (table_of_sheet name))) there in
     ap (λ (held : List SheetTable). put_together (Some held)

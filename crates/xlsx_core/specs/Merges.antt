@@ -1,7 +1,7 @@
 -- What the calls on merged cells of an open workbook answer.
-use Rattle.std.specs.Prelude.{◌≡◌, ⊤, ℕ, List, [], ◌∷◌, ◌++◌, map, Option, Some, None, option_map}
-use Rattle.std.specs.Prelude.{option_and_then, slice_get, codes, decimal, string_bytes, String}
-use Rattle.std.specs.Prelude.{MatchOption, IsSomeAnd, IfSome, Vec}
+use Rattle.std.specs.Prelude.{◌≡◌, ⊤, ℕ, List, [], ◌∷◌, ◌++◌, map, Option, Some, option_map}
+use Rattle.std.specs.Prelude.{option_and_then, slice_get, codes, decimal, string_bytes}
+use Rattle.std.specs.Prelude.{MatchOption, IsSomeAnd, Vec}
 use Rattle.std.specs.declared.alloc.Global.{Global}
 use Rattle.cell_refs.specs.declared.dimensions.Dimensions.{Dimensions}
 use Rattle.part_events.specs.Package.{Part, PackageState}
@@ -13,17 +13,19 @@ use Rattle.xlsx_areas.specs.MergedCells.{merges_of, merges_or_none_of}
 use Rattle.xlsx_parts.specs.SheetPaths.{SheetPath, sheet_at}
 use Rattle.xlsx_areas.specs.Regions.{all_regions, region_of, AllRegionsCause}
 use Rattle.xlsx_areas.specs.declared.regions.MergedRegion.{MergedRegion}
+use Rattle.xlsx_workbook.specs.KeptContents.{path_kept}
+use Rattle.xlsx_workbook.specs.declared.paths.KeptPath.{KeptPath}
 use Rattle.xlsx_workbook.specs.declared.sheet.Sheet.{Sheet}
 use Rattle.xlsx_core.specs.SheetReading.{PlacedCause, events_at}
 use Rattle.xlsx_core.specs.Worksheets.{path_of}
 use Rattle.xlsx_core.specs.declared.xlsx.Xlsx.{Xlsx}
 
 -- the sheets of a workbook with the paths of their parts
-abbrev pub sheet_paths : List Sheet → List (String Global) → List SheetPath
+abbrev pub sheet_paths : List Sheet → List KeptPath → List SheetPath
 sheet_paths [] paths = []
 sheet_paths (sheet ∷ sheets) [] = []
 sheet_paths (sheet ∷ sheets) (path ∷ paths) =
-    sheet_at (string_bytes sheet.name) (string_bytes path) ∷ sheet_paths sheets paths
+    sheet_at (string_bytes sheet.name) (path_kept path) ∷ sheet_paths sheets paths
 
 abbrev pub sheets_of_book : {P : Type 0} → Xlsx P → List SheetPath
 sheets_of_book xlsx = sheet_paths xlsx.metadata.sheets.items xlsx.paths.items

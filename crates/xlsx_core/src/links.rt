@@ -1,11 +1,11 @@
 ghost use Rattle.std.specs.Prelude.{◌≡◌, true, map, IfOk, OnOk, IfErr, IfSome, MatchOption, Some};
-ghost use Rattle.std.specs.Option.{option_copied};
 ghost use Rattle.part_events.specs.Package.{Uses, CountsUp};
 ghost use Rattle.xlsx_error.specs.declared.error.XlsxError.TheVariants.{Io};
 ghost use Rattle.xlsx_areas.specs.Hyperlinks.{link_said, link_sections};
 ghost use Rattle.xlsx_core.specs.Links.{links_placed, PlacedLinksFail, IsPlacedLinksError};
 ghost use Rattle.xlsx_core.specs.Links.{NumberedLinksFail, placed_link_events};
 ghost use Rattle.xlsx_core.specs.Merges.{name_at, path_at, IsIndexError};
+ghost use Rattle.xlsx_core.specs.Opened.{path_lent};
 ghost use Rattle.xlsx_core.specs.Worksheets.{path_of, KeepsWorkbook};
 
 use crate::placed_sheet::{numbered_sheet, path_named};
@@ -14,30 +14,32 @@ use part_events::Package;
 use std::alloc::Global;
 use xlsx_areas::{Hyperlink, read_sheet_links};
 use xlsx_error::XlsxError;
+use xlsx_open::KeptPath;
 
 /// The hyperlinks of the sheet of this name, whose part is at this path.
 fn placed_links<P: Package>(
     alloc: Global,
     package: &mut P,
-    path: Option<&str>,
+    path: Option<&KeptPath>,
     name: &str,
 ) -> Result<Vec<Hyperlink>, XlsxError>
     ensures uses { let old = P.state «package».old in
         let new = P.state «package».new in
-        Uses (placed_link_events (option_copied path.entry) old.parts) Io result old new }
+        Uses (placed_link_events (path_lent path.entry) old.parts) Io result old new }
     ensures to_end { let old = P.state «package».old in
         let new = P.state «package».new in
-        old.is_told ≡ true → IfSome (option_copied path.entry) (λ there.
+        old.is_told ≡ true → IfSome (path_lent path.entry) (λ there.
         OnOk result (CountsUp (link_sections old.parts there) old.taken new.taken)) }
     ensures links { let old = P.state «package».old in
         old.is_told ≡ true → IfOk result (λ links.
-        links_placed (option_copied path.entry) old.parts ≡ Some (map link_said links.items)) }
-    ensures err { IfErr result (PlacedLinksFail name.now (option_copied path.entry)
+        links_placed (path_lent path.entry) old.parts ≡ Some (map link_said links.items)) }
+    ensures err { IfErr result (PlacedLinksFail name.now (path_lent path.entry)
         (P.state «package».old) (P.state «package».new)) }
     ensures kind { IfErr result (IsPlacedLinksError name.now) }
 {
     if let Some(path) = path {
-        if let Some(links) = read_sheet_links(alloc, package, path)? {
+        let path = path.joined(alloc)?;
+        if let Some(links) = read_sheet_links(alloc, package, path.as_str())? {
             return Ok(links);
         }
     }

@@ -1,7 +1,6 @@
 ghost use Rattle.std.specs.Prelude.{◌≡◌, true, map, IfOk, OnOk, OnErr, IfErr, IfSome, IfNone};
 ghost use Rattle.std.specs.Prelude.{codes, IsSome, IsSomeAnd, MatchOption, None, Some, is_some};
 ghost use Rattle.std.specs.List.{filter};
-ghost use Rattle.std.specs.Option.{option_copied};
 ghost use Rattle.part_events.specs.Package.{Uses, UsesPackage, CountsUp};
 ghost use Rattle.xlsx_error.specs.declared.error.XlsxError.TheVariants.{Io};
 ghost use Rattle.xlsx_sections.specs.SectionEvents.{ReadsToEnd};
@@ -13,6 +12,7 @@ ghost use Rattle.xlsx_core.specs.Merges.{sheet_paths, sheets_of_book, name_at, p
 ghost use Rattle.xlsx_core.specs.Merges.{merges_placed, merges_or_none_placed, PlacedMergesFail};
 ghost use Rattle.xlsx_core.specs.Merges.{IsPlacedMergesError, IsIndexError, NumberedMergesFail};
 ghost use Rattle.xlsx_core.specs.Merges.{PlacedBreaks, HoldsRegions, AllRegionsFail};
+ghost use Rattle.xlsx_core.specs.Opened.{path_lent};
 ghost use Rattle.xlsx_core.specs.SheetReading.{events_at, placed_events};
 ghost use Rattle.xlsx_core.specs.Worksheets.{path_of, KeepsBook, KeepsWorkbook};
 
@@ -25,31 +25,32 @@ use xlsx_areas::{
     MergedRegion, MergedRegions, read_merges, read_merges_or_none, read_sheet_regions,
 };
 use xlsx_error::XlsxError;
-use xlsx_open::Sheet;
+use xlsx_open::{KeptPath, Sheet};
 
 /// The merged cells of the sheet of this name, whose part is at this path.
 fn placed_merges<P: Package>(
     alloc: Global,
     package: &mut P,
-    path: Option<&str>,
+    path: Option<&KeptPath>,
     name: &str,
 ) -> Result<Vec<Dimensions>, XlsxError>
     ensures uses { let old = P.state «package».old in
         let new = P.state «package».new in
-        Uses (placed_events (option_copied path.entry) old.parts) Io result old new }
+        Uses (placed_events (path_lent path.entry) old.parts) Io result old new }
     ensures to_end { let old = P.state «package».old in
         let new = P.state «package».new in
-        IfSome (option_copied path.entry) (λ there.
+        IfSome (path_lent path.entry) (λ there.
         ReadsToEnd (codes "mergeCells") there result old new) }
     ensures merges { let old = P.state «package».old in
         old.is_told ≡ true → IfOk result (λ areas.
-        merges_placed (option_copied path.entry) old.parts ≡ Some areas.items) }
-    ensures err { IfErr result (PlacedMergesFail name.now (option_copied path.entry)
+        merges_placed (path_lent path.entry) old.parts ≡ Some areas.items) }
+    ensures err { IfErr result (PlacedMergesFail name.now (path_lent path.entry)
         (P.state «package».old) (P.state «package».new)) }
     ensures kind { IfErr result (IsPlacedMergesError name.now) }
 {
     if let Some(path) = path {
-        if let Some(areas) = read_merges(alloc, package, path)? {
+        let path = path.joined(alloc)?;
+        if let Some(areas) = read_merges(alloc, package, path.as_str())? {
             return Ok(areas);
         }
     }
@@ -61,28 +62,32 @@ fn placed_merges<P: Package>(
 fn placed_merges_or_none<P: Package>(
     alloc: Global,
     package: &mut P,
-    path: Option<&str>,
+    path: Option<&KeptPath>,
 ) -> Option<Result<Vec<Dimensions>, XlsxError>>
     ensures uses { let old = P.state «package».old in
         let new = P.state «package».new in
         MatchOption result (UsesPackage 0 old new) (λ answer.
-        Uses (placed_events (option_copied path.entry) old.parts) Io answer old new) }
+        Uses (placed_events (path_lent path.entry) old.parts) Io answer old new) }
     ensures to_end { let old = P.state «package».old in
         let new = P.state «package».new in
-        IfSome (option_copied path.entry) (λ there. IfSome result (λ answer.
+        IfSome (path_lent path.entry) (λ there. IfSome result (λ answer.
         IsSome (merges_at old.parts there) →
         ReadsToEnd (codes "mergeCells") there answer old new)) }
     ensures absent { let old = P.state «package».old in
         IfNone result (old.is_told ≡ true →
-        events_at (option_copied path.entry) old.parts ≡ None) }
+        events_at (path_lent path.entry) old.parts ≡ None) }
     ensures merges { let old = P.state «package».old in
         old.is_told ≡ true → IfSome result (λ answer. IfOk answer (λ areas.
-        merges_or_none_placed (option_copied path.entry) old.parts ≡ Some areas.items)) }
-    ensures err { IfSome result (λ answer. IfErr answer (PlacedBreaks (option_copied path.entry)
+        merges_or_none_placed (path_lent path.entry) old.parts ≡ Some areas.items)) }
+    ensures err { IfSome result (λ answer. IfErr answer (PlacedBreaks (path_lent path.entry)
         (P.state «package».old) (P.state «package».new))) }
     ensures kind { IfSome result (λ answer. IfErr answer IsBreakError) }
 {
-    match read_merges_or_none(alloc, package, path?) {
+    let path = match path?.joined(alloc) {
+        Ok(path) => path,
+        Err(error) => return Some(Err(XlsxError::from(error))),
+    };
+    match read_merges_or_none(alloc, package, path.as_str()) {
         Ok(Some(areas)) => Some(Ok(areas)),
         Ok(None) => None,
         Err(error) => Some(Err(error)),
@@ -94,7 +99,7 @@ fn all_regions<P: Package>(
     alloc: Global,
     package: &mut P,
     sheets: &[Sheet],
-    paths: &[String],
+    paths: &[KeptPath],
 ) -> Result<Vec<MergedRegion>, XlsxError>
     ensures uses { let old = P.state «package».old in
         let new = P.state «package».new in
@@ -117,13 +122,9 @@ fn all_regions<P: Package>(
         let Some((path, more)) = rest.split_first() else {
             return Ok(regions);
         };
-        read_sheet_regions(
-            alloc,
-            package,
-            &mut regions,
-            sheet.name.as_str(),
-            path.as_str(),
-        )?;
+        let path = path.joined(alloc)?;
+        let name = sheet.name.as_str();
+        read_sheet_regions(alloc, package, &mut regions, name, path.as_str())?;
         left = others;
         rest = more;
     }

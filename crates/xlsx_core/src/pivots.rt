@@ -1,10 +1,10 @@
-ghost use Rattle.std.specs.Prelude.{◌≡◌, true, map, Some, string_bytes, IfOk, OnOk, IfErr};
-ghost use Rattle.std.specs.Prelude.{IsSomeAnd};
+ghost use Rattle.std.specs.Prelude.{◌≡◌, true, Some, IfOk, OnOk, IfErr, IsSomeAnd};
+ghost use Rattle.std.specs.Arc.{arc_str_bytes};
 ghost use Rattle.part_events.specs.Lending.{LentFails};
 ghost use Rattle.part_events.specs.Package.{Uses, CountsUp};
 ghost use Rattle.xlsx_error.specs.declared.error.XlsxError.TheVariants.{Io};
 ghost use Rattle.xlsx_pivots.specs.PivotErrors.{IsPivotsError};
-ghost use Rattle.xlsx_pivots.specs.PivotTables.{sheet_given, pivots_kept, paths_of};
+ghost use Rattle.xlsx_pivots.specs.PivotTables.{pivots_kept, paths_of};
 ghost use Rattle.xlsx_pivots.specs.Pivots.{pivots_of, all_pivot_events, all_pivot_sections};
 ghost use Rattle.xlsx_core.specs.Merges.{sheet_paths, sheets_of_book};
 ghost use Rattle.xlsx_pivot_cache.specs.CacheIter.{rows_by};
@@ -14,34 +14,50 @@ ghost use Rattle.xlsx_core.specs.Worksheets.{KeepsWorkbook};
 
 use crate::xlsx::Xlsx;
 use part_events::Package;
-use std::alloc::{AllocError, Global};
+use std::alloc::Global;
 use xlsx_error::XlsxError;
-use xlsx_open::Sheet;
+use xlsx_open::{KeptPath, Sheet};
 use xlsx_pivot_cache::PivotCacheIter;
-use xlsx_pivots::{PivotTables, find_pivot_tables};
+use xlsx_pivots::{PivotTables, read_sheet_pivots};
 
-/// The names of these sheets, each with the path of its part.
-fn names_and_paths(
+/// The pivot tables of all these sheets, whose parts are at these paths, in the workbook's folder.
+fn all_pivots<P: Package>(
     alloc: Global,
+    package: &mut P,
     sheets: &[Sheet],
-    paths: &[String],
-) -> Result<Vec<(String, String)>, AllocError>
-    ensures { IfOk result (λ pairs.
-        map sheet_given pairs.items ≡ sheet_paths sheets.now paths.now) }
+    paths: &[KeptPath],
+    folder: &str,
+) -> Result<PivotTables, XlsxError>
+    ensures uses { let old = P.state «package».old in
+        let new = P.state «package».new in
+        let most = all_pivot_events old.parts (sheet_paths sheets.now paths.now) in
+        Uses most Io result old new }
+    ensures to_end { let old = P.state «package».old in
+        let new = P.state «package».new in
+        let count = all_pivot_sections old.parts (sheet_paths sheets.now paths.now) in
+        old.is_told ≡ true → OnOk result (CountsUp count old.taken new.taken) }
+    ensures pivots { let old = P.state «package».old in
+        old.is_told ≡ true → IfOk result (λ found.
+        pivots_of old.parts folder.now (sheet_paths sheets.now paths.now)
+        ≡ Some (pivots_kept found)) }
+    ensures err { IfErr result (AllPivotsFail (sheet_paths sheets.now paths.now)
+        (P.state «package».old) (P.state «package».new)) }
+    ensures kind { IfErr result IsPivotsError }
 {
-    let mut pairs = Vec::new(alloc);
+    let mut found = PivotTables::new(alloc);
     let mut left = sheets;
     let mut rest = paths;
     'sheets: while let Some((sheet, others)) = left.split_first() {
         let Some((path, more)) = rest.split_first() else {
-            return Ok(pairs);
+            return Ok(found);
         };
-        let name = String::from_str(alloc, sheet.name.as_str())?;
-        pairs.push((name, String::from_str(alloc, path.as_str())?))?;
+        let path = path.joined(alloc)?;
+        let name = sheet.name.as_str();
+        read_sheet_pivots(alloc, package, &mut found, name, path.as_str(), folder)?;
         left = others;
         rest = more;
     }
-    Ok(pairs)
+    Ok(found)
 }
 
 /// The pivot tables of an open workbook.
@@ -62,15 +78,16 @@ impl<P: Package> Xlsx<P> {
             OnOk result (CountsUp count old.taken (P.state self.new.package).taken) }
         ensures workbook { KeepsWorkbook self.old self.new }
         ensures pivots { let old = P.state self.old.package in
-            let folder = string_bytes self.old.folder in
+            let folder = arc_str_bytes self.old.folder in
             old.is_told ≡ true → IfOk result (λ found.
             pivots_of old.parts folder (sheets_of_book self.old) ≡ Some (pivots_kept found)) }
         ensures err { IfErr result (AllPivotsFail (sheets_of_book self.old)
             (P.state self.old.package) (P.state self.new.package)) }
         ensures kind { IfErr result IsPivotsError }
     {
-        let sheets = names_and_paths(self.alloc, &self.metadata.sheets, &self.paths)?;
-        find_pivot_tables(self.alloc, &mut self.package, &sheets, self.folder.as_str())
+        let sheets = &self.metadata.sheets;
+        let folder = self.folder.as_str();
+        all_pivots(self.alloc, &mut self.package, sheets, &self.paths, folder)
     }
 
     /// The rows of the cache of the first of these pivot tables that has this name and is on a

@@ -1,6 +1,5 @@
 ghost use Rattle.std.specs.Prelude.{◌≡◌, true, false, option_map, IfOk, IfErr, IsSomeAnd};
 ghost use Rattle.std.specs.Prelude.{length, map, string_bytes, slice_get, Some, None};
-ghost use Rattle.std.specs.Option.{option_copied};
 ghost use Rattle.part_events.specs.Package.{Uses};
 ghost use Rattle.xlsx_error.specs.declared.error.XlsxError.TheVariants.{Io};
 ghost use Rattle.xlsx_values.specs.Book.{grounds_of};
@@ -10,7 +9,7 @@ ghost use Rattle.xlsx_cells.specs.CellsReader.{values_alone};
 ghost use Rattle.xlsx_cells.specs.Ends.{reads_children};
 ghost use Rattle.xlsx_cells.specs.Stream.{stream};
 ghost use Rattle.xlsx_core.specs.Merges.{IsIndexError};
-ghost use Rattle.xlsx_core.specs.Opened.{path_listed};
+ghost use Rattle.xlsx_core.specs.Opened.{path_listed, path_lent};
 ghost use Rattle.xlsx_core.specs.SheetReading.{events_at, placed_events, grounds_with};
 ghost use Rattle.xlsx_core.specs.SheetReading.{PlacedHeadFails, PlacedSheetFails};
 ghost use Rattle.xlsx_core.specs.SheetReading.{IsPlacedHeadError, IsPlacedError};
@@ -24,18 +23,18 @@ use part_events::Package;
 use std::alloc::Global;
 use xlsx_cells::{Asked, SheetCells, SheetCursor, Wants, collect, open_data};
 use xlsx_error::XlsxError;
-use xlsx_open::{SharedParts, Sheet};
+use xlsx_open::{KeptPath, SharedParts, Sheet};
 use xlsx_values::Book;
 
 /// The path of the part of the first sheet of this name.
-pub fn path_named<'a>(sheets: &[Sheet], paths: &'a [String], name: &str) -> Option<&'a str>
-    ensures { option_copied result ≡ path_listed name.now sheets.now paths.now }
+pub fn path_named<'a>(sheets: &[Sheet], paths: &'a [KeptPath], name: &str) -> Option<&'a KeptPath>
+    ensures { path_lent result ≡ path_listed name.now sheets.now paths.now }
 {
     let mut rest = paths;
     for sheet in sheets {
         let (path, others) = rest.split_first()?;
         if sheet.name.as_str() == name {
-            return Some(path.as_str());
+            return Some(path);
         }
         rest = others;
     }
@@ -66,21 +65,22 @@ pub fn numbered_sheet(alloc: Global, sheets: &[Sheet], index: usize) -> Result<&
 pub fn open_placed<P: Package>(
     alloc: Global,
     package: &mut P,
-    path: Option<&str>,
+    path: Option<&KeptPath>,
     name: &str,
 ) -> Result<(SheetCursor, Dimensions), XlsxError>
     ensures uses { let old = P.state «package».old in
         let new = P.state «package».new in
-        Uses (placed_events (option_copied path.entry) old.parts) Io result old new }
+        Uses (placed_events (path_lent path.entry) old.parts) Io result old new }
     ensures enters { let old = P.state «package».old in
-        IfOk result (λ entered. IsSomeAnd (option_copied path.entry) (λ there.
+        IfOk result (λ entered. IsSomeAnd (path_lent path.entry) (λ there.
         EntersData there entered.1 old (stream (P.state «package».new) entered.0))) }
-    ensures err { IfErr result (PlacedHeadFails name.now (option_copied path.entry)
+    ensures err { IfErr result (PlacedHeadFails name.now (path_lent path.entry)
         (P.state «package».old) (P.state «package».new)) }
     ensures kind { IfErr result (IsPlacedHeadError name.now) }
 {
     if let Some(path) = path {
-        if let Some(entered) = open_data(alloc, package, path)? {
+        let path = path.joined(alloc)?;
+        if let Some(entered) = open_data(alloc, package, path.as_str())? {
             return Ok(entered);
         }
     }
@@ -91,25 +91,25 @@ pub fn open_placed<P: Package>(
 pub fn read_placed<P: Package>(
     alloc: Global,
     package: &mut P,
-    path: Option<&str>,
+    path: Option<&KeptPath>,
     name: &str,
     asked: Asked<'_>,
 ) -> Result<SheetCells, XlsxError>
     ensures uses { let old = P.state «package».old in
         let new = P.state «package».new in
-        Uses (placed_events (option_copied path.entry) old.parts) Io result old new }
+        Uses (placed_events (path_lent path.entry) old.parts) Io result old new }
     ensures inside { IfOk result (λ cells.
         LieInSheet cells.values.items cells.formulas.items cells.style_ids.items) }
     ensures reads { let old = P.state «package».old in
         let wants = asked.entry.wants in
         let grounds = grounds_of asked.entry.book in
-        let path = option_copied path.entry in
+        let path = path_lent path.entry in
         let count = asked.entry.style_count in
         old.is_told ≡ true → IfOk result (λ cells. IsSomeAnd (events_at path old.parts)
         (λ events. HoldsWanted wants grounds count events (value_entries cells.values.items)
         (formula_entries cells.formulas.items) cells.style_ids.items)) }
     ensures err { IfErr result (PlacedSheetFails name.now asked.entry.wants
-        (grounds_of asked.entry.book) (option_copied path.entry) (P.state «package».old)
+        (grounds_of asked.entry.book) (path_lent path.entry) (P.state «package».old)
         (P.state «package».new)) }
     ensures kind { IfErr result (IsPlacedError name.now) }
     ensures plain { reads_children asked.entry.wants ≡ false →
@@ -145,25 +145,25 @@ pub fn asked_of(shared: &SharedParts, is_1904: bool, wants: Wants) -> Asked<'_>
 pub fn read_range<P: Package>(
     alloc: Global,
     package: &mut P,
-    path: Option<&str>,
+    path: Option<&KeptPath>,
     name: &str,
     asked: Asked<'_>,
 ) -> Result<SheetCells, XlsxError>
     ensures uses { let old = P.state «package».old in
         let new = P.state «package».new in
-        Uses (placed_events (option_copied path.entry) old.parts) Io result old new }
+        Uses (placed_events (path_lent path.entry) old.parts) Io result old new }
     ensures inside { IfOk result (λ cells.
         LieInSheet cells.values.items cells.formulas.items cells.style_ids.items) }
     ensures reads { let old = P.state «package».old in
         let wants = asked.entry.wants in
         let grounds = grounds_of asked.entry.book in
-        let path = option_copied path.entry in
+        let path = path_lent path.entry in
         let count = asked.entry.style_count in
         old.is_told ≡ true → IfOk result (λ cells. IsSomeAnd (events_at path old.parts)
         (AnswersCells wants grounds count (value_entries cells.values.items)
         (formula_entries cells.formulas.items) cells.style_ids.items)) }
     ensures err { IfErr result (RangeFails name.now asked.entry.wants
-        (grounds_of asked.entry.book) (option_copied path.entry) (P.state «package».old)
+        (grounds_of asked.entry.book) (path_lent path.entry) (P.state «package».old)
         (P.state «package».new)) }
     ensures kind { IfErr result (IsRangeError name.now) }
 {
@@ -182,7 +182,7 @@ pub fn read_range<P: Package>(
 pub fn read_values<P: Package>(
     alloc: Global,
     package: &mut P,
-    path: Option<&str>,
+    path: Option<&KeptPath>,
     name: &str,
     asked: Asked<'_>,
     header_row: HeaderRow,
@@ -190,13 +190,13 @@ pub fn read_values<P: Package>(
     requires { asked.wants ≡ values_alone }
     ensures uses { let old = P.state «package».old in
         let new = P.state «package».new in
-        Uses (placed_events (option_copied path.entry) old.parts) Io result old new }
+        Uses (placed_events (path_lent path.entry) old.parts) Io result old new }
     ensures reads { let old = P.state «package».old in
-        let path = option_copied path.entry in
+        let path = path_lent path.entry in
         old.is_told ≡ true → IfOk result
         (ReadsValues (grounds_of asked.entry.book) header_row path old.parts) }
     ensures err { IfErr result (RangeFails name.now values_alone (grounds_of asked.entry.book)
-        (option_copied path.entry) (P.state «package».old) (P.state «package».new)) }
+        (path_lent path.entry) (P.state «package».old) (P.state «package».new)) }
     ensures kind { IfErr result (IsRangeError name.now) }
 {
     let cells = read_range(alloc, package, path, name, asked)?;

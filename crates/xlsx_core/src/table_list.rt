@@ -16,7 +16,7 @@ use cell_refs::Dimensions;
 use part_events::Package;
 use std::alloc::Global;
 use xlsx_error::XlsxError;
-use xlsx_open::Sheet;
+use xlsx_open::{KeptPath, Sheet};
 use xlsx_tables::{LoadedTable, read_sheet_tables};
 
 /// The name of the sheet of this number, counted from 0, and no text where there is no such sheet.
@@ -44,7 +44,7 @@ fn all_tables<P: Package>(
     alloc: Global,
     package: &mut P,
     sheets: &[Sheet],
-    paths: &[String],
+    paths: &[KeptPath],
 ) -> Result<Vec<LoadedTable>, XlsxError>
     ensures uses { let old = P.state «package».old in
         let new = P.state «package».new in
@@ -70,6 +70,7 @@ fn all_tables<P: Package>(
         let Some((path, more)) = rest.split_first() else {
             return Ok(tables);
         };
+        let path = path.joined(alloc)?;
         read_sheet_tables(alloc, package, &mut tables, number, path.as_str())?;
         number += 1;
         left = others;

@@ -1,14 +1,14 @@
 ghost use Rattle.std.specs.Prelude.{◌≡◌, ℕ, List, true, IfOk, OnOk, IfErr, MatchOption};
 ghost use Rattle.std.specs.Prelude.{if◌then◌else◌, Some};
 ghost use Rattle.std.specs.BTreeMap.{get_by_text};
-ghost use Rattle.std.specs.Option.{option_copied};
 ghost use Rattle.std.specs.Str.{bytes_eq};
 ghost use Rattle.part_events.specs.Package.{Uses};
 ghost use Rattle.xlsx_error.specs.declared.error.XlsxError.TheVariants.{Io};
 ghost use Rattle.xlsx_sections.specs.Failing.{SoundFails};
+ghost use Rattle.xlsx_workbook.specs.KeptContents.{path_kept};
 ghost use Rattle.xlsx_values.specs.Book.{grounds_of};
 ghost use Rattle.xlsx_cells.specs.CellsReader.{values_alone};
-ghost use Rattle.xlsx_core.specs.Opened.{path_listed};
+ghost use Rattle.xlsx_core.specs.Opened.{path_listed, path_lent};
 ghost use Rattle.xlsx_core.specs.Listing.{AreListed, IsPutBehind, ends_listing, listed_events};
 ghost use Rattle.xlsx_core.specs.SheetReading.{placed_events};
 ghost use Rattle.xlsx_core.specs.Worksheets.{ReadsValues, RangeCause, KeepsWorkbook};
@@ -22,19 +22,19 @@ use std::alloc::{AllocError, Global};
 use std::collections::BTreeMap;
 use xlsx_cells::{Asked, Wants};
 use xlsx_error::XlsxError;
-use xlsx_open::Sheet;
+use xlsx_open::{KeptPath, Sheet};
 
 /// Keeps a path for a name, in place of an earlier one.
 #[tactic(auto, using(std::proofs::lemmas::Map::Text::text_keys))]
 fn put<'a>(
     alloc: Global,
-    paths: &mut BTreeMap<String, &'a str>,
+    paths: &mut BTreeMap<String, &'a KeptPath>,
     name: &str,
-    path: &'a str,
+    path: &'a KeptPath,
 ) -> Result<(), AllocError>
-    ensures { OnOk result ((other : List ℕ) → option_copied (get_by_text paths.new other)
-        ≡ (if bytes_eq other name.now then Some path.now
-        else option_copied (get_by_text paths.old other))) }
+    ensures { OnOk result ((other : List ℕ) → path_lent (get_by_text paths.new other)
+        ≡ (if bytes_eq other name.now then Some (path_kept path.now)
+        else path_lent (get_by_text paths.old other))) }
 {
     paths.insert(String::from_str(alloc, name)?, path)?;
     Ok(())
@@ -44,28 +44,24 @@ fn put<'a>(
 fn first_paths<'a>(
     alloc: Global,
     sheets: &[Sheet],
-    paths: &'a [String],
-) -> Result<BTreeMap<String, &'a str>, AllocError>
-    ensures { IfOk result (λ firsts. (name : List ℕ) → option_copied (get_by_text firsts name)
+    paths: &'a [KeptPath],
+) -> Result<BTreeMap<String, &'a KeptPath>, AllocError>
+    ensures { IfOk result (λ firsts. (name : List ℕ) → path_lent (get_by_text firsts name)
         ≡ path_listed name sheets.now paths.now) }
 {
     let mut firsts = BTreeMap::new(alloc);
     let mut place = sheets.len().min(paths.len());
     'places: while place > 0 {
         place -= 1;
-        put(
-            alloc,
-            &mut firsts,
-            sheets[place].name.as_str(),
-            paths[place].as_str(),
-        )?;
+        let name = sheets[place].name.as_str();
+        put(alloc, &mut firsts, name, &paths[place])?;
     }
     Ok(firsts)
 }
 
 /// The path that is kept for a name.
-fn kept_path<'a>(paths: &BTreeMap<String, &'a str>, name: &str) -> Option<&'a str>
-    ensures { option_copied result ≡ option_copied (get_by_text paths.now name.now) }
+fn kept_path<'a>(paths: &BTreeMap<String, &'a KeptPath>, name: &str) -> Option<&'a KeptPath>
+    ensures { path_lent result ≡ path_lent (get_by_text paths.now name.now) }
 {
     paths.get(name).copied()
 }
@@ -82,7 +78,7 @@ fn ends_listing(error: &XlsxError) -> bool
 fn range_or_none<P: Package>(
     alloc: Global,
     package: &mut P,
-    path: Option<&str>,
+    path: Option<&KeptPath>,
     name: &str,
     asked: Asked<'_>,
     header_row: HeaderRow,
@@ -90,10 +86,10 @@ fn range_or_none<P: Package>(
     requires { asked.wants ≡ values_alone }
     ensures uses { let old = P.state «package».old in
         let new = P.state «package».new in
-        Uses (placed_events (option_copied path.entry) old.parts) Io result old new }
+        Uses (placed_events (path_lent path.entry) old.parts) Io result old new }
     ensures reads { let old = P.state «package».old in
         let grounds = grounds_of asked.entry.book in
-        let path = option_copied path.entry in
+        let path = path_lent path.entry in
         old.is_told ≡ true → IfOk result (λ found. MatchOption found
         ((error : XlsxError) × RangeCause name.now values_alone grounds path old.parts error)
         (ReadsValues grounds header_row path old.parts)) }
@@ -131,7 +127,7 @@ fn ranges_listed<P: Package>(
     alloc: Global,
     package: &mut P,
     sheets: &[Sheet],
-    paths: &[String],
+    paths: &[KeptPath],
     asked: Asked<'_>,
     header_row: HeaderRow,
 ) -> Result<Vec<(String, Range<Data>)>, XlsxError>

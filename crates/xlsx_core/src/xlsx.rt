@@ -1,5 +1,6 @@
 ghost use Rattle.std.specs.Prelude.{◌≡◌, true, None, map, option_map, slice_get, string_bytes};
 ghost use Rattle.std.specs.Prelude.{MatchResult, IfOk, IfErr};
+ghost use Rattle.std.specs.Arc.{arc_str_bytes};
 ghost use Rattle.xlsx_error.specs.declared.error.XlsxError.TheVariants.{Io};
 ghost use Rattle.xlsx_open.specs.Opening.{Opening, HoldsOpening, OpensAs, OpensSoundly};
 ghost use Rattle.xlsx_open.specs.Opening.{IsOpeningError, OpensFrom, FailsToOpen, OpeningFails};
@@ -11,16 +12,17 @@ use cell_data::HeaderRow;
 use cell_styles::Style;
 use part_events::Package;
 use std::alloc::Global;
+use std::sync::ArcStr;
 use xlsx_error::XlsxError;
-use xlsx_open::{Metadata, SharedParts, open};
+use xlsx_open::{KeptPath, Metadata, SharedParts, open};
 
 /// An open workbook, and the package that it is read from.
 #[derive(Drop)]
 pub struct Xlsx<P: Package> {
     pub(crate) package: P,
     pub(crate) metadata: Metadata,
-    pub(crate) paths: Vec<String>,
-    pub(crate) folder: String,
+    pub(crate) paths: Vec<KeptPath>,
+    pub(crate) folder: ArcStr,
     pub(crate) shared: SharedParts,
     pub(crate) is_1904: bool,
     pub(crate) header_row: HeaderRow,
@@ -64,7 +66,7 @@ impl<P: Package> Xlsx<P> {
             × OpensAs old.parts opening) }
         ensures folder { let old = P.state «package» in
             old.is_told ≡ true → IfOk result (λ xlsx.
-            LiesIn old.parts (string_bytes xlsx.folder)) }
+            LiesIn old.parts (arc_str_bytes xlsx.folder)) }
         ensures header_row { IfOk result (λ xlsx. xlsx.header_row ≡ FirstNonEmptyRow) }
         ensures regions { IfOk result (λ xlsx. xlsx.lists.regions ≡ None) }
         ensures properties { IfOk result (λ xlsx. xlsx.lists.properties ≡ None) }

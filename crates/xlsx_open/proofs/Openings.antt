@@ -1,7 +1,7 @@
 -- How the readings of a package's parts make an opening.
 use Rattle.std.proofs.Common.{◌≡◌, ◌+◌, ◌≤◌, ℕ, List, [], ◌∷◌, Bool, true, false, Option, Some}
 use Rattle.std.proofs.Common.{None, Result, Ok, Err, map, refl, ◌∙◌, ap, subst, inl, inr}
-use Rattle.std.proofs.Common.{arith, codes, string_bytes, String, Global}
+use Rattle.std.proofs.Common.{arith, codes}
 use Rattle.std.specs.Prelude.{option_and_then, unwrap_or, IsSomeAnd, MatchOption, OnOk}
 use Rattle.part_events.specs.Package.{Part, PackageState, SameParts, UsesPackage, LeavesPackage}
 use Rattle.part_events.specs.Package.{Uses, CountsUp, part_of, event_count}
@@ -17,13 +17,14 @@ use Rattle.xlsx_sections.specs.PartSection.{closed_section_of}
 use Rattle.xlsx_sections.specs.SectionEvents.{section_events_of}
 use Rattle.xlsx_theme.specs.ThemePart.{theme_colors}
 use Rattle.xlsx_stylesheet.specs.StyleSheet.{cell_formats_in, end_in_styles}
-use Rattle.xlsx_workbook.specs.KeptContents.{pair_of, sheet_of_entry}
+use Rattle.xlsx_workbook.specs.KeptContents.{pair_of, path_kept, sheet_of_entry}
 use Rattle.xlsx_relationships.specs.Paths.{folder_of}
 use Rattle.xlsx_workbook.specs.Paths.{workbook_part, theme_part}
 use Rattle.xlsx_workbook.specs.Paths.{styles_part}
 use Rattle.xlsx_relationships.specs.Relationships.{Related, IsPathRefused}
 use Rattle.xlsx_workbook.specs.Sheets.{PlacedSheet}
 use Rattle.xlsx_workbook.specs.Workbook.{IsContents, AreContentsRefused}
+use Rattle.xlsx_workbook.specs.declared.paths.KeptPath.{KeptPath}
 use Rattle.xlsx_workbook.specs.declared.sheet.Metadata.{Metadata}
 use Rattle.xlsx_workbook.specs.declared.sheet.SheetEntry.{SheetEntry}
 use Rattle.xlsx_workbook.specs.declared.workbook.WorkbookContents.{WorkbookContents}
@@ -47,11 +48,11 @@ sheets_listed (entry ∷ entries) =
     ap (λ (others : List ListedSheet). listed_sheet entry.sheet ∷ others) (sheets_listed entries)
 
 pub paths_listed : (entries : List SheetEntry)
-    → map string_bytes (map (λ (entry : SheetEntry). entry.path) entries)
+    → map path_kept (map (λ (entry : SheetEntry). entry.path) entries)
     ≡ map (λ (sheet : PlacedSheet). sheet.path) (map sheet_of_entry entries)
 paths_listed [] = refl
 paths_listed (entry ∷ entries) =
-    ap (λ (others : List (List ℕ)). string_bytes entry.path ∷ others) (paths_listed entries)
+    ap (λ (others : List (List ℕ)). path_kept entry.path ∷ others) (paths_listed entries)
 
 some_weaker : {A : Type 0} (o : Option A) (P Q : A → Type 0) → ((x : A) → P x → Q x) → IsSomeAnd o P
     → IsSomeAnd o Q
@@ -73,7 +74,7 @@ opening_of found shared = record {
 }
 
 pub holds_contents : (found : WorkbookContents) (metadata : Metadata)
-    (paths : List (String Global)) (shared own : SharedParts) (is_1904 : Bool)
+    (paths : List KeptPath) (shared own : SharedParts) (is_1904 : Bool)
     → metadata.sheets.items
     ≡ map (λ (entry : SheetEntry). entry.sheet) found.entries.items → paths
     ≡ map (λ (entry : SheetEntry). entry.path) found.entries.items → metadata.names.items
@@ -81,7 +82,7 @@ pub holds_contents : (found : WorkbookContents) (metadata : Metadata)
     → HoldsOpening metadata paths own is_1904 (opening_of found (shared_said shared))
 holds_contents found metadata paths shared own is_1904 sheets places names same epoch = record {
   sheets = ap (map listed_sheet) sheets ∙ sheets_listed found.entries.items;
-  paths = ap (map string_bytes) places ∙ paths_listed found.entries.items;
+  paths = ap (map path_kept) places ∙ paths_listed found.entries.items;
   names = ap (map pair_of) names;
   shared = ap shared_said same;
   epoch = epoch;

@@ -1,8 +1,7 @@
 -- What opening a workbook finds in the parts of a package, and why it is refused.
 use Rattle.std.specs.Prelude.{◌≡◌, ◌⊎◌, ⊤, ℕ, ◌+◌, ◌≤◌, List, [], Bool, true, false, codes, Option}
 use Rattle.std.specs.Prelude.{Some, map, unwrap_or, Result, Ok, Err, IsSomeAnd}
-use Rattle.std.specs.Prelude.{MatchOption, MatchResult, string_bytes, String}
-use Rattle.std.specs.declared.alloc.Global.{Global}
+use Rattle.std.specs.Prelude.{MatchOption, MatchResult, string_bytes}
 use Rattle.part_events.specs.Event.{Event}
 use Rattle.part_events.specs.Package.{Part, PackageState, KeepsFaults, SameParts, part_of}
 use Rattle.part_events.specs.Package.{NeverFalls, CountsUp, event_count}
@@ -20,7 +19,7 @@ use Rattle.xlsx_theme.specs.ThemePart.{TakesTheme}
 use Rattle.xlsx_stylesheet.specs.StylesErrors.{IsStylesEnd}
 use Rattle.xlsx_strings.specs.Strings.{IsStringsEnd}
 use Rattle.xlsx_workbook.specs.DefinedNames.{names_in}
-use Rattle.xlsx_workbook.specs.KeptContents.{pair_of}
+use Rattle.xlsx_workbook.specs.KeptContents.{pair_of, path_kept}
 use Rattle.xlsx_relationships.specs.Paths.{folder_of}
 use Rattle.xlsx_workbook.specs.Paths.{workbook_part, relationships_part}
 use Rattle.xlsx_workbook.specs.Paths.{theme_part}
@@ -28,6 +27,7 @@ use Rattle.xlsx_relationships.specs.Relationships.{Related, path_in, related_in,
 use Rattle.xlsx_relationships.specs.Relationships.{AreRelationshipsRefused}
 use Rattle.xlsx_workbook.specs.Sheets.{PlacedSheet, sheets_in, epoch_in}
 use Rattle.xlsx_workbook.specs.Workbook.{AreContentsRefused}
+use Rattle.xlsx_workbook.specs.declared.paths.KeptPath.{KeptPath}
 use Rattle.xlsx_workbook.specs.declared.sheet.Sheet.{Sheet}
 use Rattle.xlsx_workbook.specs.declared.sheet.Metadata.{Metadata}
 use Rattle.xlsx_workbook.specs.declared.sheet.SheetType.{SheetType}
@@ -62,10 +62,10 @@ listed_sheet sheet = record {
 
 -- these lists and the first year are those of an opening
 pub record HoldsOpening
-    (metadata : Metadata) (part_paths : List (String Global)) (parts : SharedParts)
+    (metadata : Metadata) (part_paths : List KeptPath) (parts : SharedParts)
     (is_1904 : Bool) (opening : Opening) : Type 0 where
   pub sheets : map listed_sheet metadata.sheets.items ≡ map without_path opening.sheets
-  pub paths : map string_bytes part_paths ≡ map (λ (sheet : PlacedSheet). sheet.path) opening.sheets
+  pub paths : map path_kept part_paths ≡ map (λ (sheet : PlacedSheet). sheet.path) opening.sheets
   pub names : map pair_of metadata.names.items ≡ opening.names
   pub shared : shared_said parts ≡ opening.shared
   pub epoch : is_1904 ≡ opening.is_1904

@@ -1,5 +1,6 @@
 ghost use Rattle.std.specs.Prelude.{◌≡◌, [], map, true, false, unwrap_or, string_bytes, IfOk, OnOk};
 ghost use Rattle.std.specs.Prelude.{IfErr};
+ghost use Rattle.std.specs.Arc.{arc_str_bytes};
 ghost use Rattle.part_events.specs.Package.{Uses, CountsUp};
 ghost use Rattle.xlsx_error.specs.declared.error.XlsxError.TheVariants.{Io};
 ghost use Rattle.xlsx_workbook.specs.Paths.{workbook_part, relationships_part};
@@ -13,9 +14,10 @@ ghost use Rattle.xlsx_open.specs.SharedParts.{shared_said};
 use crate::shared_parts::{SharedParts, read_shared};
 use part_events::Package;
 use std::alloc::{AllocError, Global};
+use std::sync::ArcStr;
 use xlsx_error::XlsxError;
 use xlsx_relationships::{folder_of, joined, read_path, read_relationships};
-use xlsx_workbook::{Metadata, SheetPlaces, WorkbookContents, file_of, read_contents};
+use xlsx_workbook::{KeptPath, Metadata, SheetPlaces, WorkbookContents, file_of, read_contents};
 
 fn workbook_part(alloc: Global, path: &str) -> Result<String, AllocError>
     ensures { IfOk result (λ part. string_bytes part ≡ workbook_part path.now) }
@@ -37,9 +39,9 @@ fn relationships_part(alloc: Global, path: &str) -> Result<String, AllocError>
 pub struct Opened {
     pub metadata: Metadata,
     /// The path of the part of each sheet, in the order of the sheets.
-    pub paths: Vec<String>,
+    pub paths: Vec<KeptPath>,
     /// The folder of the workbook's part, with the slash at its end.
-    pub folder: String,
+    pub folder: ArcStr,
     /// The shared strings, the theme and the styles.
     pub shared: SharedParts,
     pub is_1904: bool,
@@ -48,7 +50,7 @@ pub struct Opened {
 fn from_contents(
     alloc: Global,
     contents: WorkbookContents,
-    folder: &str,
+    folder: ArcStr,
     shared: SharedParts,
 ) -> Result<Opened, AllocError>
     ensures sheets { IfOk result (λ o.
@@ -56,7 +58,7 @@ fn from_contents(
     ensures paths { IfOk result (λ o.
         o.paths.items ≡ map (λ entry. entry.path) contents.entries.items) }
     ensures names { IfOk result (λ o. o.metadata.names.items ≡ contents.names.items) }
-    ensures folder { IfOk result (λ o. string_bytes o.folder ≡ folder.now) }
+    ensures folder { IfOk result (λ o. o.folder ≡ folder) }
     ensures shared { IfOk result (λ o. o.shared ≡ shared) }
     ensures epoch { IfOk result (λ o. o.is_1904 ≡ unwrap_or contents.epoch false) }
 {
@@ -72,29 +74,28 @@ fn from_contents(
             names: contents.names,
         },
         paths,
-        folder: String::from_str(alloc, folder)?,
+        folder,
         shared,
         is_1904: contents.epoch.unwrap_or(false),
     })
 }
 
 /// What a workbook without a part of its own opens as.
-fn nothing_opened(alloc: Global, folder: &str, shared: SharedParts) -> Result<Opened, AllocError>
-    ensures opened { IfOk result (λ o.
-        HoldsOpening o.metadata o.paths.items o.shared o.is_1904
-        (record { sheets = []; names = []; shared = shared_said shared; is_1904 = false })) }
-    ensures folder { IfOk result (λ o. string_bytes o.folder ≡ folder.now) }
+fn nothing_opened(alloc: Global, folder: ArcStr, shared: SharedParts) -> Opened
+    ensures opened { HoldsOpening result.metadata result.paths.items result.shared result.is_1904
+        (record { sheets = []; names = []; shared = shared_said shared; is_1904 = false }) }
+    ensures folder { result.folder ≡ folder }
 {
-    Ok(Opened {
+    Opened {
         metadata: Metadata {
             sheets: Vec::new(alloc),
             names: Vec::new(alloc),
         },
         paths: Vec::new(alloc),
-        folder: String::from_str(alloc, folder)?,
+        folder,
         shared,
         is_1904: false,
-    })
+    }
 }
 
 /// The workbook at this path, whose sheets share this.
@@ -116,7 +117,7 @@ fn open_workbook<P: Package>(
         × HoldsOpening o.metadata o.paths.items o.shared o.is_1904 opening
         × (opening.shared ≡ shared_said shared)
         × WorkbookOpens old.parts path.now opening) }
-    ensures folder { IfOk result (λ o. string_bytes o.folder ≡ folder_of path.now) }
+    ensures folder { IfOk result (λ o. arc_str_bytes o.folder ≡ folder_of path.now) }
     ensures err { let old = P.state «package».old in
         let new = P.state «package».new in
         IfErr result (WorkbookFails path.now old new) }
@@ -125,13 +126,14 @@ fn open_workbook<P: Package>(
     let part = relationships_part(alloc, path)?;
     let relationships = read_relationships(alloc, package, part.as_str())?;
     let part = workbook_part(alloc, path)?;
+    let folder = ArcStr::from_str(alloc, folder_of(path))?;
     let places = SheetPlaces {
-        folder: folder_of(path),
+        folder: &folder,
         relationships: &relationships,
     };
     match read_contents(alloc, package, part.as_str(), places)? {
-        Some(contents) => Ok(from_contents(alloc, contents, folder_of(path), shared)?),
-        None => Ok(nothing_opened(alloc, folder_of(path), shared)?),
+        Some(contents) => Ok(from_contents(alloc, contents, folder, shared)?),
+        None => Ok(nothing_opened(alloc, folder, shared)),
     }
 }
 
@@ -147,7 +149,7 @@ fn open_at<P: Package>(alloc: Global, package: &mut P, path: &str) -> Result<Ope
         old.is_told ≡ true → IfOk result (λ o. (opening : Opening)
         × HoldsOpening o.metadata o.paths.items o.shared o.is_1904 opening
         × BookOpens old.parts path.now opening) }
-    ensures folder { IfOk result (λ o. string_bytes o.folder ≡ folder_of path.now) }
+    ensures folder { IfOk result (λ o. arc_str_bytes o.folder ≡ folder_of path.now) }
     ensures err { let old = P.state «package».old in
         let new = P.state «package».new in
         IfErr result (BookFails path.now old new) }
@@ -180,7 +182,7 @@ pub fn open<P: Package>(alloc: Global, package: &mut P) -> Result<Opened, XlsxEr
         × HoldsOpening o.metadata o.paths.items o.shared o.is_1904 opening
         × OpensAs old.parts opening) }
     ensures folder { let old = P.state «package».old in
-        old.is_told ≡ true → IfOk result (λ o. LiesIn old.parts (string_bytes o.folder)) }
+        old.is_told ≡ true → IfOk result (λ o. LiesIn old.parts (arc_str_bytes o.folder)) }
     ensures err { let old = P.state «package».old in
         let new = P.state «package».new in
         IfErr result (OpeningFails old new) }

@@ -13,4 +13,4 @@ mod targets;
 pub use laws::pivots_have_no_cause_of_a_refusal;
 pub use names::{PivotNames, PivotNamesInSheet};
 pub use pivot_tables::PivotTables;
-pub use pivots::find_pivot_tables;
+pub use pivots::{find_pivot_tables, read_sheet_pivots};

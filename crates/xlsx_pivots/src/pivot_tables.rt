@@ -1,4 +1,5 @@
 use crate::names::{PivotNames, PivotNamesInSheet};
+use std::alloc::Global;
 
 /// A pivot table: its name and its sheet's, and the paths of the parts of its cache.
 #[derive(Debug, Drop)]
@@ -16,9 +17,18 @@ pub struct PivotTables {
 }
 
 impl PivotTables {
-    ghost use Rattle.std.specs.Prelude.{◌≡◌, option_map};
+    ghost use Rattle.std.specs.Prelude.{◌≡◌, [], option_map};
     ghost use Rattle.xlsx_pivots.specs.PivotTables.{pivots_kept, pairs_of, names_on, paths_of};
     ghost use Rattle.xlsx_pivots.specs.PivotTables.{pairs_left, names_left, pair_given};
+
+    /// None yet.
+    pub fn new(alloc: Global) -> PivotTables
+        ensures { pivots_kept result ≡ [] }
+    {
+        PivotTables {
+            pivots: Vec::new(alloc),
+        }
+    }
 
     /// The names of all, each behind the name of its sheet, in the order found.
     pub fn get_pivot_tables_by_name_and_sheet(&self) -> PivotNames<'_>

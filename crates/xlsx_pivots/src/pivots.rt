@@ -119,12 +119,14 @@ fn push_pivots<P: Package>(
     Ok(())
 }
 
-/// Appends the pivot tables of the sheet of this name whose part is at this path.
+/// Appends the pivot tables of the sheet of this name whose part is at this path, in the workbook's
+/// folder, as `find_pivot_tables` finds those of many sheets. After a refusal some of them may be
+/// appended.
 #[tactic(auto, using(crate::proofs::PivotsRead::related_error))]
-fn push_sheet<P: Package>(
+pub fn read_sheet_pivots<P: Package>(
     alloc: Global,
     package: &mut P,
-    pivots: &mut Vec<PivotTable>,
+    found: &mut PivotTables,
     sheet: &str,
     path: &str,
     folder: &str,
@@ -137,15 +139,15 @@ fn push_sheet<P: Package>(
         let count = sheet_sections old.parts path.now in
         old.is_told ≡ true → OnOk result (CountsUp count old.taken new.taken) }
     ensures pivots { let old = P.state «package».old in
-        old.is_told ≡ true → OnOk result ((found : List PivotSaid)
-        × (pivots_on old.parts folder.now (sheet_at sheet.now path.now) ≡ Some found)
-        × (map pivot_kept pivots.new.items ≡ map pivot_kept pivots.old.items ++ found)) }
+        old.is_told ≡ true → OnOk result ((more : List PivotSaid)
+        × (pivots_on old.parts folder.now (sheet_at sheet.now path.now) ≡ Some more)
+        × (pivots_kept found.new ≡ pivots_kept found.old ++ more)) }
     ensures err { let old = P.state «package».old in
         IfErr result (FailsBy (PivotsAtCause old.parts path.now) old (P.state «package».new)) }
     ensures kind { IfErr result IsPivotsError }
 {
     let paths = related_parts(alloc, package, path, PIVOT_TYPE)?;
-    push_pivots(alloc, package, pivots, sheet, &paths, folder)
+    push_pivots(alloc, package, &mut found.pivots, sheet, &paths, folder)
 }
 
 /// Finds the pivot tables of these sheets, which are given by their names and the paths of their
@@ -188,19 +190,19 @@ pub fn find_pivot_tables<P: Package>(
         (P.state «package».new)) }
     ensures kind { IfErr result IsPivotsError }
 {
-    let mut pivots = Vec::new(alloc);
+    let mut found = PivotTables::new(alloc);
     let mut left = sheets;
     'sheets: while let Some((sheet, others)) = left.split_first() {
         let (name, path) = sheet;
-        push_sheet(
+        read_sheet_pivots(
             alloc,
             package,
-            &mut pivots,
+            &mut found,
             name.as_str(),
             path.as_str(),
             xl_path,
         )?;
         left = others;
     }
-    Ok(PivotTables { pivots })
+    Ok(found)
 }

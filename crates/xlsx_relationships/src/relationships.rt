@@ -14,13 +14,15 @@ use attr_text::{RawAttributes, get_attrs};
 use part_events::StartTag;
 use std::alloc::Global;
 use std::collections::BTreeMap;
+use std::sync::ArcStr;
 use xlsx_error::XlsxError;
 use xlsx_sections::decode_at;
 
-/// What a relationship leads to, and its type, both as written.
+/// What a relationship leads to, and its type, both as written. All that it leads to share the text
+/// of its target.
 #[derive(Debug, Drop)]
 pub struct Relationship {
-    pub target: String,
+    pub target: ArcStr,
     pub typ: String,
 }
 
@@ -125,7 +127,7 @@ pub fn keep_relationship(
         return Ok(());
     };
     let relationship = Relationship {
-        target: String::from_str(alloc, text_or(target, ""))?,
+        target: ArcStr::from_str(alloc, text_or(target, ""))?,
         typ: String::from_str(alloc, text_or(typ, ""))?,
     };
     put(map, String::from_str(alloc, id)?, relationship)

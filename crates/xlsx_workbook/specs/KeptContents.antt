@@ -1,15 +1,22 @@
 -- What is kept of the workbook's part, apart from where its texts lie in memory.
 use Rattle.std.specs.Prelude.{ℕ, List, string_bytes, String}
+use Rattle.std.specs.Arc.{arc_str_bytes}
 use Rattle.std.specs.declared.alloc.Global.{Global}
+use Rattle.xlsx_workbook.specs.Paths.{sheet_part}
 use Rattle.xlsx_workbook.specs.Sheets as sheets
+use Rattle.xlsx_workbook.specs.declared.paths.KeptPath.{KeptPath}
 use Rattle.xlsx_workbook.specs.declared.sheet.SheetEntry.{SheetEntry}
+
+-- the path of a sheet's part, of which its folder and its target are kept
+abbrev pub path_kept : KeptPath → List ℕ
+path_kept path = sheet_part (arc_str_bytes path.folder) (arc_str_bytes path.target)
 
 abbrev pub sheet_of_entry : SheetEntry → sheets.PlacedSheet
 sheet_of_entry e = record {
   name = string_bytes e.sheet.name;
   typ = e.sheet.typ;
   visible = e.sheet.visible;
-  path = string_bytes e.path;
+  path = path_kept e.path;
 }
 
 abbrev pub pair_of : String Global × String Global → List ℕ × List ℕ

@@ -7,6 +7,6 @@ mod sheet;
 mod sheet_element;
 mod workbook;
 
-pub use paths::file_of;
+pub use paths::{KeptPath, file_of};
 pub use sheet::{Metadata, Sheet, SheetEntry, SheetType, SheetVisible};
 pub use workbook::{SheetPlaces, WorkbookContents, read_contents};

@@ -1,3 +1,5 @@
+use crate::paths::KeptPath;
+
 /// What kind of a sheet it is.
 #[derive(Clone, Copy, Debug, PartialEq, Eq, Hash)]
 pub enum SheetType {
@@ -34,5 +36,5 @@ pub struct Metadata {
 #[derive(Debug, Drop)]
 pub struct SheetEntry {
     pub sheet: Sheet,
-    pub path: String,
+    pub path: KeptPath,
 }

@@ -1,5 +1,6 @@
 ghost use Rattle.std.specs.Prelude.{◌≡◌, ℕ, List, Bool, map, Option, Result, Ok, Err, option_map};
 ghost use Rattle.std.specs.Prelude.{string_bytes, IfOk, OnOk, IfErr, MatchResult};
+ghost use Rattle.std.specs.Arc.{arc_str_bytes};
 ghost use Rattle.std.specs.Option.{option_copied};
 ghost use Rattle.part_events.specs.Event.{tag_of};
 ghost use Rattle.xlsx_sections.specs.Answers.{and_others, prepended, or_earlier, or_later};
@@ -11,12 +12,13 @@ ghost use Rattle.xlsx_workbook.specs.Sheets.{PlacedSheet, state_named, type_name
 ghost use Rattle.xlsx_workbook.specs.Sheets.{related_sheet, is_true_text, epoch_of};
 ghost use Rattle.xlsx_workbook.specs.WorkbookErrors.{IsWorkbookError};
 
-use crate::paths::sheet_part;
+use crate::paths::KeptPath;
 use crate::sheet::{Sheet, SheetEntry, SheetType, SheetVisible};
 use attr_text::{AttrFault, RawAttributes, get_attrs};
 use part_events::StartTag;
 use std::alloc::Global;
 use std::collections::BTreeMap;
+use std::sync::ArcStr;
 use xlsx_error::XlsxError;
 use xlsx_relationships::{Relationship, find_relationship, last_piece, text_or};
 use xlsx_sections::decode_at;
@@ -45,25 +47,26 @@ fn type_named(text: &str) -> Option<SheetType>
 
 fn related_sheet(
     alloc: Global,
-    folder: &str,
+    folder: &ArcStr,
     name: String,
     visible: SheetVisible,
     relationship: Option<&Relationship>,
 ) -> Result<SheetEntry, XlsxError>
     ensures ok { let related = option_map relationship_of (option_copied relationship.entry) in
-        IfOk result (λ entry.
-        related_sheet folder.now (string_bytes name) visible related
+        let folder = arc_str_bytes folder.now in
+        IfOk result (λ entry. related_sheet folder (string_bytes name) visible related
         ≡ Ok (sheet_of_entry entry)) }
     ensures err { let related = option_map relationship_of (option_copied relationship.entry) in
+        let folder = arc_str_bytes folder.now in
         IfErr result (λ error. (at behind : ℕ) →
-        ElementFails (related_sheet folder.now (string_bytes name) visible related)
+        ElementFails (related_sheet folder (string_bytes name) visible related)
         at behind error) }
     ensures kind { IfErr result IsWorkbookError }
 {
     let Some(relationship) = relationship else {
         return Err(XlsxError::RelationshipNotFound);
     };
-    let path = sheet_part(alloc, folder, relationship.target.as_str())?;
+    let path = KeptPath::new(folder, &relationship.target)?;
     match type_named(last_piece(relationship.typ.as_str())) {
         Some(typ) => Ok(SheetEntry {
             sheet: Sheet { name, typ, visible },
@@ -71,7 +74,7 @@ fn related_sheet(
         }),
         None => Err(XlsxError::Unrecognized {
             typ: "sheet:type",
-            val: path,
+            val: path.joined(alloc)?,
         }),
     }
 }
@@ -81,18 +84,20 @@ fn related_sheet(
 #[tactic(auto, using(crate::proofs::WorkbookErrors::decoding))]
 pub fn sheet_of(
     alloc: Global,
-    folder: &str,
+    folder: &ArcStr,
     relationships: &BTreeMap<String, Relationship>,
     tag: StartTag<'_>,
     at: u64,
 ) -> Result<SheetEntry, XlsxError>
-    ensures ok { let related = related_by_id relationships.now in
+    ensures ok { let folder = arc_str_bytes folder.now in
+        let related = related_by_id relationships.now in
         IfOk result (λ entry. (behind : ℕ) →
-        sheet_of folder.now related (placed_at (tag_of tag.entry) behind)
+        sheet_of folder related (placed_at (tag_of tag.entry) behind)
         ≡ Ok (sheet_of_entry entry)) }
-    ensures err { let related = related_by_id relationships.now in
+    ensures err { let folder = arc_str_bytes folder.now in
+        let related = related_by_id relationships.now in
         IfErr result (λ error. (behind : ℕ) →
-        ElementFails (sheet_of folder.now related (placed_at (tag_of tag.entry) behind))
+        ElementFails (sheet_of folder related (placed_at (tag_of tag.entry) behind))
         at behind error) }
     ensures kind { IfErr result IsWorkbookError }
 {
@@ -133,21 +138,23 @@ pub fn epoch_of(tag: StartTag<'_>) -> Result<Option<bool>, AttrFault>
 pub fn push_sheet(
     alloc: Global,
     sheets: &mut Vec<SheetEntry>,
-    folder: &str,
+    folder: &ArcStr,
     relationships: &BTreeMap<String, Relationship>,
     tag: StartTag<'_>,
     at: u64,
 ) -> Result<(), XlsxError>
-    ensures ok { let related = related_by_id relationships.now in
+    ensures ok { let folder = arc_str_bytes folder.now in
+        let related = related_by_id relationships.now in
         let first = map sheet_of_entry sheets.old.items in
         let last = map sheet_of_entry sheets.new.items in
         OnOk result ((behind : ℕ) (others : Result (List PlacedSheet) Refusal) →
         prepended last others
         ≡ prepended first (and_others
-        (sheet_of folder.now related (placed_at (tag_of tag.entry) behind)) others)) }
-    ensures err { let related = related_by_id relationships.now in
+        (sheet_of folder related (placed_at (tag_of tag.entry) behind)) others)) }
+    ensures err { let folder = arc_str_bytes folder.now in
+        let related = related_by_id relationships.now in
         IfErr result (λ error. (behind : ℕ) →
-        ElementFails (sheet_of folder.now related (placed_at (tag_of tag.entry) behind))
+        ElementFails (sheet_of folder related (placed_at (tag_of tag.entry) behind))
         at behind error) }
     ensures kind { IfErr result IsWorkbookError }
 {

@@ -1,6 +1,7 @@
 ghost use Rattle.std.specs.Prelude.{◌≡◌, ◌<◌, ◌≤◌, ℕ, List, ◌∷◌, ◌++◌, suc, codes, length, map};
 ghost use Rattle.std.specs.Prelude.{true, false, None, Ok, option_map, option_to_list};
 ghost use Rattle.std.specs.Prelude.{string_bytes, IfOk, OnOk, IfErr, MatchOption, IsSomeAnd};
+ghost use Rattle.std.specs.Arc.{arc_str_bytes};
 ghost use Rattle.part_events.specs.Event.{Event, start, tag_of, event_of};
 ghost use Rattle.part_events.specs.JoinedText.{event_text, is_unknown};
 ghost use Rattle.part_events.specs.Package.{Uses, part_of, event_count};
@@ -26,6 +27,7 @@ use crate::sheet_element::{keep_epoch, push_sheet};
 use part_events::{Cursor, Package, PartEvent, StartTag};
 use std::alloc::Global;
 use std::collections::BTreeMap;
+use std::sync::ArcStr;
 use xlsx_error::XlsxError;
 use xlsx_relationships::Relationship;
 use xlsx_sections::{enter_part, name_by, next_event_in, push_text_at};
@@ -43,7 +45,7 @@ pub struct WorkbookContents {
 /// Where the sheets of a workbook are looked for.
 #[derive(Clone, Copy)]
 pub struct SheetPlaces<'a> {
-    pub folder: &'a str,
+    pub folder: &'a ArcStr,
     pub relationships: &'a BTreeMap<String, Relationship>,
 }
 
@@ -56,13 +58,13 @@ fn take_start(
     tag: StartTag<'_>,
     at: u64,
 ) -> Result<(), XlsxError>
-    ensures ok { let folder = places.entry.folder.now in
+    ensures ok { let folder = arc_str_bytes places.entry.folder.now in
         let related = related_by_id places.entry.relationships.now in
         OnOk result ((others : List Event) →
         KeepsSheets folder related found.old (start (tag_of tag.entry) ∷ others)
         found.new others) }
     ensures names { OnOk result (names_of found.new ≡ names_of found.old) }
-    ensures err { let folder = places.entry.folder.now in
+    ensures err { let folder = arc_str_bytes places.entry.folder.now in
         let related = related_by_id places.entry.relationships.now in
         IfErr result (λ error. (others : List Event) →
         RefusedAt
@@ -95,12 +97,12 @@ fn take_event(
     event: PartEvent<'_>,
     at: u64,
 ) -> Result<(), XlsxError>
-    ensures ok { let folder = places.entry.folder.now in
+    ensures ok { let folder = arc_str_bytes places.entry.folder.now in
         let related = related_by_id places.entry.relationships.now in
         OnOk result ((others : List Event) →
         KeepsSheets folder related found.old (event_of event.entry ∷ others) found.new others) }
     ensures names { OnOk result (names_of found.new ≡ names_of found.old) }
-    ensures err { let folder = places.entry.folder.now in
+    ensures err { let folder = arc_str_bytes places.entry.folder.now in
         let related = related_by_id places.entry.relationships.now in
         IfErr result (λ error. (others : List Event) →
         RefusedAt
@@ -178,7 +180,7 @@ fn read_name<P: Package>(
         OnOk result (KeepsSection base old new) }
     ensures sheets { let old = reading (P.state «package».old) cursor.old in
         let new = reading (P.state «package».new) cursor.new in
-        let folder = places.entry.folder.now in
+        let folder = arc_str_bytes places.entry.folder.now in
         let related = related_by_id places.entry.relationships.now in
         old.source.is_told ≡ true → OnOk result (KeepsSheets folder related
         found.old (section_ahead base old) found.new (section_ahead base new)) }
@@ -188,7 +190,7 @@ fn read_name<P: Package>(
         (length (section_ahead base old)) (names_of found.old) (names_of found.new)) }
     ensures err { let old = reading (P.state «package».old) cursor.old in
         let new = reading (P.state «package».new) cursor.new in
-        let folder = places.entry.folder.now in
+        let folder = arc_str_bytes places.entry.folder.now in
         let related = related_by_id places.entry.relationships.now in
         let refused = IsNameRefused folder related found.old (option_map string_bytes name) in
         IfErr result (SectionFails (always (codes "workbook")) refused base old new) }
@@ -238,13 +240,13 @@ fn contents_in<P: Package>(
         let new = reading (P.state «package».new) cursor.new in
         old.source.is_told ≡ true → OnOk result (new.at ≡ suc (section_end base old)) }
     ensures contents { let old = reading (P.state «package».old) cursor.old in
-        let folder = places.entry.folder.now in
+        let folder = arc_str_bytes places.entry.folder.now in
         let related = related_by_id places.entry.relationships.now in
         old.source.is_told ≡ true →
         IfOk result (IsContents folder related (section_ahead base old)) }
     ensures err { let old = reading (P.state «package».old) cursor.old in
         let new = reading (P.state «package».new) cursor.new in
-        let folder = places.entry.folder.now in
+        let folder = arc_str_bytes places.entry.folder.now in
         let related = related_by_id places.entry.relationships.now in
         let refused = AreContentsRefused folder related in
         IfErr result (SectionFails (always (codes "workbook")) refused base old new) }
@@ -285,7 +287,7 @@ pub fn read_contents<P: Package>(
     ensures to_end { ReadsToEnd (codes "workbook") part.now result (P.state «package».old)
         (P.state «package».new) }
     ensures contents { let old = P.state «package».old in
-        let folder = places.entry.folder.now in
+        let folder = arc_str_bytes places.entry.folder.now in
         let related = related_by_id places.entry.relationships.now in
         let inside = closed_section_of (codes "workbook") part.now old.parts in
         old.is_told ≡ true → IfOk result (λ found. MatchOption found
@@ -293,7 +295,7 @@ pub fn read_contents<P: Package>(
         (λ contents. IsSomeAnd inside (λ inside. IsContents folder related inside contents))) }
     ensures err { let old = P.state «package».old in
         let new = P.state «package».new in
-        let folder = places.entry.folder.now in
+        let folder = arc_str_bytes places.entry.folder.now in
         let related = related_by_id places.entry.relationships.now in
         let name = codes "workbook" in
         let refused = AreContentsRefused folder related in

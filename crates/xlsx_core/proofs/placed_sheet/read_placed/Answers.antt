@@ -1,5 +1,5 @@
-use Rattle.std.specs.Option.{option_copied}
 use Rattle.xlsx_cells.specs.Stream.{stream}
+use Rattle.xlsx_core.specs.Opened.{path_lent}
 use Rattle.xlsx_core.proofs.TakenOnce.{data_read}
 use Rattle.xlsx_core.proofs.placed_sheet.read_placed.Goals as goal
 
@@ -9,5 +9,5 @@ returns-clause-uses g c =
     let old = g.P.Package.state c.args.package.now in
     let mid = stream (g.P.Package.state c.open_placed.new.package) entered.sheet in
     let new = stream (g.P.Package.state c.collect.new.package) c.collect.new.sheet in
-    data_read c.collect.result (option_copied c.args.path) entered.field-0-1 old mid new.reading
+    data_read c.collect.result (path_lent c.args.path) entered.field-0-1 old mid new.reading
     entered.ensures.enters c.collect.ensures.reads

@@ -1,4 +1,4 @@
-use Rattle.std.proofs.Common.{[], ◌≡◌, List, ℕ, subst, string_bytes}
+use Rattle.std.proofs.Common.{List, ℕ, subst, string_bytes}
 use Rattle.std.specs.Prelude.{IfOk}
 use Rattle.cell_data.specs.declared.value.HeaderRow.TheVariants.{FirstNonEmptyRow}
 use Rattle.xlsx_cells.specs.SheetPart.{formula_entries}

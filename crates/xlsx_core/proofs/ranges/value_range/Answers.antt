@@ -1,4 +1,4 @@
-use Rattle.std.proofs.Common.{◌≡◌, List, ℕ, subst}
+use Rattle.std.proofs.Common.{List, ℕ, subst}
 use Rattle.std.specs.Prelude.{IfOk}
 use Rattle.cell_data.specs.CellValue.{CellValue, value_of_data}
 use Rattle.cell_data.specs.declared.value.Data.TheVariants.{Empty}

@@ -4,6 +4,7 @@ use Rattle.std.proofs.lemmas.Result.{err_from_is_err_and}
 use Rattle.xlsx_parts.specs.SheetPaths.{SheetPath, sheet_at}
 use Rattle.xlsx_relationships.proofs.RelatedTaken.{sum_further, counts_further}
 use Rattle.xlsx_relationships.proofs.RelatedTaken.{leaves_among}
+use Rattle.xlsx_workbook.specs.KeptContents.{path_kept}
 use Rattle.xlsx_tables.specs.Tables.{tables_of, table_events, table_sections}
 use Rattle.xlsx_tables.specs.Tables.{all_table_events, all_table_sections}
 use Rattle.xlsx_core.specs.Merges.{sheet_paths}
@@ -25,6 +26,8 @@ sheets-preserved g c =
     let more = c.in-Some-split_first.more.now in
     let left : c.sheets.left.now ≡ sheet ∷ others = search rules in
     let rest : c.sheets.rest.now ≡ path ∷ more = search rules in
+    let there : c.as_str.result.now ≡ path_kept path =
+    c.as_str.ensures.value ∙ c.in_ok-path.ensures in
     let front : drop number sheets ≡ sheet ∷ others = now.behind ∙ left in
     record {
       same = search rules;
@@ -32,19 +35,19 @@ sheets-preserved g c =
       forward = omega (arith, now.forward, own.uses.forward);
       taken = λ told.
           sum_further (λ (one : SheetPath). table_events old.parts one.path)
-          (sheet_at (string_bytes sheet.name) (string_bytes path)) (sheet_paths others more)
+          (sheet_at (string_bytes sheet.name) (path_kept path)) (sheet_paths others more)
           old.taken mid.taken new.taken
           (all_table_events old.parts (sheet_paths sheets c.args.paths.now))
           (rw (left, rest) at (now.taken told))
-          (rw (now.same.parts, c.as_str.ensures.value) at
+          (rw (now.same.parts, there) at
           (own.uses.taken (now.same.is_told ∙ told)));
       counts = λ told.
           counts_further (λ (one : SheetPath). table_sections old.parts one.path)
-          (sheet_at (string_bytes sheet.name) (string_bytes path)) (sheet_paths others more)
+          (sheet_at (string_bytes sheet.name) (path_kept path)) (sheet_paths others more)
           old.taken mid.taken new.taken
           (all_table_sections old.parts (sheet_paths sheets c.args.paths.now))
           (rw (left, rest) at (now.counts told))
-          (rw (now.same.parts, c.as_str.ensures.value) at
+          (rw (now.same.parts, there) at
           (own.to_end (now.same.is_told ∙ told)));
       behind = ap (λ (n : ℕ). drop n sheets) (add-one number)
           ∙ next_there sheets number sheet others front;
@@ -54,7 +57,7 @@ sheets-preserved g c =
           tables_further old.parts sheets others sheet path more number c.sheets.tables.items
           c.read_sheet_tables.new.tables.items found.0
           (tables_of old.parts (sheet_paths sheets c.args.paths.now)) front
-          (rw now.same.parts at (rw c.as_str.ensures.value at found.1)) found.2
+          (rw now.same.parts at (rw there at found.1)) found.2
           (rw (left, rest) at (now.said told));
       cause = λ error cause. now.cause error (rw (left, rest) (inr cause));
     }
@@ -72,11 +75,14 @@ returns-in_err-read_sheet_tables-clause-uses g c =
     let more = c.in-Some-split_first.more.now in
     let left : c.sheets.left.now ≡ sheet ∷ others = search rules in
     let rest : c.sheets.rest.now ≡ path ∷ more = search rules in
+    let there : c.as_str.result.now ≡ path_kept path =
+    c.as_str.ensures.value ∙ c.in_ok-path.ensures in
     let error = c.in_err-read_sheet_tables.field-0.0 in
-    let handed = err_from_is_err_and c.from_residual.result c.from_residual.ensures.1 in
+    let handed = err_from_is_err_and c.from_residual-in_err-read_sheet_tables.result
+    c.from_residual-in_err-read_sheet_tables.ensures.1 in
     rw (handed.1, handed.2)
     (leaves_among (λ (one : SheetPath). table_events old.parts one.path)
-    (sheet_at (string_bytes sheet.name) (string_bytes path)) (sheet_paths others more)
+    (sheet_at (string_bytes sheet.name) (path_kept path)) (sheet_paths others more)
     (all_table_events old.parts (sheet_paths sheets c.args.paths.now)) error old mid new now.same
     now.faults now.forward (λ told. rw (left, rest) at (now.taken told))
-    (rw (now.same.parts, c.as_str.ensures.value) at c.in_err-read_sheet_tables.ensures.uses))
+    (rw (now.same.parts, there) at c.in_err-read_sheet_tables.ensures.uses))

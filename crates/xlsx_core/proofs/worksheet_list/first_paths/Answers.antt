@@ -1,8 +1,9 @@
 use Rattle.std.proofs.Common.{◌≡◌, ◌∷◌, ◌-◌, drop, None, refl, sym, ◌∙◌, ap, arith}
 use Rattle.std.proofs.Common.{string_bytes}
-use Rattle.std.specs.Option.{option_copied}
 use Rattle.std.specs.BTreeMap.{get_by_text}
+use Rattle.xlsx_workbook.specs.KeptContents.{path_kept}
 use Rattle.xlsx_workbook.specs.declared.sheet.Sheet.{Sheet}
+use Rattle.xlsx_core.specs.Opened.{path_lent}
 use Rattle.xlsx_core.proofs.SheetsListed.{none_behind, first_further, drop_from}
 use Rattle.xlsx_core.proofs.worksheet_list.first_paths.Goals as goal
 
@@ -11,7 +12,7 @@ places-init c = record {
   sheets = omega (arith, c.min-place.ensures);
   paths = omega (arith, c.min-place.ensures);
   found = λ name.
-      let empty : option_copied (get_by_text c.new-firsts.result name) ≡ None =
+      let empty : path_lent (get_by_text c.new-firsts.result name) ≡ None =
       rw c.new-firsts.ensures.empty refl in
       empty
       ∙ sym (none_behind name c.min-place.result c.args.sheets.now c.args.paths.now
@@ -36,11 +37,11 @@ places-preserved c =
       paths = omega (arith, c.places.invariant.paths);
       found = λ name.
           rw (sheets, paths) (first_further name sheet (drop place c.args.sheets.now) path
-          (drop place c.args.paths.now) (option_copied (get_by_text c.places.firsts name))
-          (option_copied (get_by_text c.put.new.paths name)) c.as_str.result.now
-          c.as_str-in-places.result.now (c.places.invariant.found name)
-          (c.as_str.ensures.value
+          (drop place c.args.paths.now) (path_lent (get_by_text c.places.firsts name))
+          (path_lent (get_by_text c.put.new.paths name)) c.as_str-name.result.now
+          (path_kept path) (c.places.invariant.found name)
+          (c.as_str-name.ensures.value
           ∙ ap (λ (own : Sheet). string_bytes own.name) (sym c.index-sheets-place.is))
-          c.as_str-in-places.ensures.value
+          refl
           (c.in_ok-put.ensures name));
     }

@@ -3,14 +3,13 @@ use Rattle.std.proofs.Common.{append-nil, string_bytes, arith, Option}
 use Rattle.std.specs.Prelude.{MatchOption}
 use Rattle.std.proofs.lemmas.List.{drop_all}
 use Rattle.std.proofs.lemmas.Result.{err_from_is_err_and}
-use Rattle.std.specs.Option.{option_copied}
 use Rattle.part_events.specs.Package.{Part}
 use Rattle.part_events.proofs.Uses.{same_further}
 use Rattle.xlsx_error.specs.declared.error.XlsxError.{XlsxError}
 use Rattle.xlsx_values.specs.Book.{grounds_of}
 use Rattle.xlsx_cells.specs.CellsReader.{values_alone}
 use Rattle.xlsx_core.specs.Listing.{AreListed, IsPutBehind, listed_events}
-use Rattle.xlsx_core.specs.Opened.{path_listed}
+use Rattle.xlsx_core.specs.Opened.{path_listed, path_lent}
 use Rattle.xlsx_core.specs.SheetReading.{placed_events}
 use Rattle.xlsx_core.specs.Worksheets.{ReadsValues, RangeCause}
 use Rattle.xlsx_core.proofs.SheetsListed.{listed_further, drop_from}
@@ -35,7 +34,7 @@ sheets-preserved g c =
     MatchOption range ((error : XlsxError) × RangeCause text values_alone grounds path parts error)
     (ReadsValues grounds header path parts) in
     let named : name ≡ string_bytes sheet.name = c.as_str-name.ensures.value in
-    let path : option_copied c.kept_path-path.result ≡ place name =
+    let path : path_lent c.kept_path-path.result ≡ place name =
     c.kept_path-path.ensures ∙ c.in_ok-firsts.ensures name in
     let front : drop c.sheets.sheet-index sheets
     ≡ sheet ∷ drop (c.sheets.sheet-index + 1) sheets =
@@ -46,7 +45,7 @@ sheets-preserved g c =
       faults = own.uses.faults ∙ now.faults;
       forward = omega (arith, now.forward, own.uses.forward);
       taken = λ told.
-          part_listed place old mid new (option_copied c.kept_path-path.result) name sheet
+          part_listed place old mid new (path_lent c.kept_path-path.result) name sheet
           (drop c.sheets.sheet-index sheets) (drop (c.sheets.sheet-index + 1) sheets)
           (old.taken + listed_events place old.parts sheets) path named front now.keeps.parts
           (now.taken told) (own.uses.taken (now.keeps.is_told ∙ told));
@@ -98,7 +97,7 @@ returns-in_err-range-clause-uses g c =
     let handed = err_from_is_err_and c.from_residual-in_err-range.result
     c.from_residual-in_err-range.ensures.1 in
     rw (handed.1, handed.2)
-    (leaves_listed place old mid new (option_copied c.kept_path-path.result) name sheet
+    (leaves_listed place old mid new (path_lent c.kept_path-path.result) name sheet
     (drop c.sheets.sheet-index sheets) (drop (c.sheets.sheet-index + 1) sheets)
     (listed_events place old.parts sheets) error
     (c.kept_path-path.ensures ∙ c.in_ok-firsts.ensures name) c.as_str-name.ensures.value front
@@ -116,7 +115,7 @@ returns-in_err-put_behind-clause-uses g c =
     let place = λ (text : List ℕ). path_listed text sheets c.args.paths.now in
     let front = drop_from sheets c.sheets.sheet-index (c.sheets.sheet-index + 1) sheet
     c.sheet-item.is c.sheets-test.true refl in
-    let kept = option_copied c.kept_path-path.result in
+    let kept = path_lent c.kept_path-path.result in
     let handed = err_from_is_err_and c.from_residual-in_err-put_behind.result
     c.from_residual-in_err-put_behind.ensures.1 in
     let error = handed.0 in

@@ -1,4 +1,5 @@
 use Rattle.std.proofs.Common.{◌≡◌, ℕ, List, true, ◌∙◌, ap, subst, string_bytes}
+use Rattle.std.specs.Arc.{arc_str_bytes}
 use Rattle.std.specs.Prelude.{OnOk}
 use Rattle.std.proofs.lemmas.Result.{err_from_is_err_and, IfOk-weaker, IfErr-weaker}
 use Rattle.part_events.specs.Package.{Uses}
@@ -65,7 +66,7 @@ pub returns-clause-folder : goal.returns-clause-folder
 returns-clause-folder g c = λ told.
     let old = g.P.Package.state c.args.package.now in
     let path = string_bytes c.in_ok-path.path in
-    IfOk-weaker c.open_at.result (λ o. string_bytes o.folder ≡ folder_of c.as_str.result.now)
-    (λ o. LiesIn old.parts (string_bytes o.folder))
+    IfOk-weaker c.open_at.result (λ o. arc_str_bytes o.folder ≡ folder_of c.as_str.result.now)
+    (λ o. LiesIn old.parts (arc_str_bytes o.folder))
     (λ o is. (path, c.in_ok-path.ensures.path told, is ∙ ap folder_of c.as_str.ensures.value))
     c.open_at.ensures.folder

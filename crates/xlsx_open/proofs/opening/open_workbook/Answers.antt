@@ -1,6 +1,7 @@
 use Rattle.std.proofs.Common.{◌≡◌, ℕ, List, [], true, false, None, Ok, refl, sym, ◌∙◌, ap, subst}
 use Rattle.std.proofs.Common.{codes, arith}
 use Rattle.std.proofs.lemmas.Result.{err_from_is_err_and}
+use Rattle.std.specs.Arc.{arc_str_bytes}
 use Rattle.std.specs.Prelude.{IsSomeAnd}
 use Rattle.part_events.specs.Package.{Part, UsesPackage, LeavesPackage, part_of, event_count}
 use Rattle.xlsx_error.specs.declared.error.XlsxError.TheVariants.{Io}
@@ -28,13 +29,15 @@ returns-in-Some-clause-opened g c = λ told.
     let o = c.in_ok-from_contents-in-Some.field-0 in
     let made = c.in_ok-from_contents-in-Some.ensures in
     let same = c.in_ok-relationships.ensures.uses.parts in
+    let named : arc_str_bytes c.in_ok-folder.folder ≡ folder_of path =
+    c.in_ok-folder.ensures.ok ∙ c.folder_of.ensures in
     let has : HasRelationships old.parts path related =
     subst (λ (part : List ℕ). IsSomeAnd (closed_section_of (codes "Relationships") part old.parts)
     (λ inside. (id : List ℕ) → related_in inside id ≡ Ok (related id))) (c.as_str.ensures.value
     ∙ c.in_ok-part.ensures) (c.in_ok-relationships.ensures.related told)
     in
     let contents : IsSomeAnd (closed_section_of (codes "workbook") c.as_str-2.result.now mid.parts)
-    (λ inside. IsContents c.folder_of.result.now related inside found) =
+    (λ inside. IsContents (arc_str_bytes c.in_ok-folder.folder) related inside found) =
     rw c.in-Some.is at (c.in_ok-contents.ensures.contents (same.is_told ∙ told))
     in
     let contents_here : IsSomeAnd
@@ -45,9 +48,9 @@ returns-in-Some-clause-opened g c = λ told.
     (λ inside. IsContents (folder_of path) related inside found)) same.parts
     (subst (λ (folder : List ℕ). IsSomeAnd
     (closed_section_of (codes "workbook") (workbook_part path) mid.parts)
-    (λ inside. IsContents folder related inside found)) c.folder_of.ensures
+    (λ inside. IsContents folder related inside found)) named
     (subst (λ (part : List ℕ). IsSomeAnd (closed_section_of (codes "workbook") part mid.parts)
-    (λ inside. IsContents c.folder_of.result.now related inside found))
+    (λ inside. IsContents (arc_str_bytes c.in_ok-folder.folder) related inside found))
     (c.as_str-2.ensures.value ∙ c.in_ok-part-2.ensures) contents))
     in (
       opening_of found (shared_said shared),
@@ -82,7 +85,7 @@ returns-clause-opened g c = λ told.
     (sym (c.as_str-2.ensures.value ∙ c.in_ok-part-2.ensures)) ∙ absent
     in (
       record { sheets = []; names = []; shared = shared; is_1904 = false },
-      c.in_ok-nothing_opened-in-None.ensures.opened,
+      c.nothing_opened.ensures.opened,
       refl,
       (related, has, has_nothing old.parts path related shared absent_here),
     )
@@ -101,12 +104,14 @@ returns-in_err-contents-clause-err g c =
     subst (λ (part : List ℕ). IsSomeAnd (closed_section_of (codes "Relationships") part old.parts)
     (λ inside. (id : List ℕ) → related_in inside id ≡ Ok (related id))) (c.as_str.ensures.value
     ∙ c.in_ok-part.ensures) (c.in_ok-relationships.ensures.related told) in
+    let named : arc_str_bytes c.in_ok-folder.folder ≡ folder_of path =
+    c.in_ok-folder.ensures.ok ∙ c.folder_of.ensures in
     let fails : OptionalPartFails name (always name) (AreContentsRefused (folder_of path) related)
     (workbook_part path) mid new e =
     subst (λ (folder : List ℕ). OptionalPartFails name (always name)
-    (AreContentsRefused folder related) (workbook_part path) mid new e) c.folder_of.ensures
+    (AreContentsRefused folder related) (workbook_part path) mid new e) named
     (subst (λ (part : List ℕ). OptionalPartFails name (always name)
-    (AreContentsRefused c.folder_of.result.now related) part mid new e)
+    (AreContentsRefused (arc_str_bytes c.in_ok-folder.folder) related) part mid new e)
     (c.as_str-2.ensures.value ∙ c.in_ok-part-2.ensures) c.in_err-contents.ensures.err) in
     let p = err_from_is_err_and c.from_residual-in_err-contents.result
     c.from_residual-in_err-contents.ensures.1 in

@@ -2,7 +2,7 @@ use Rattle.std.proofs.Common.{◌≡◌, ◌+◌, ◌≤◌, true, map, length, 
 use Rattle.part_events.specs.Package.{SameParts, NeverFalls, CountsUp}
 use Rattle.xlsx_error.specs.declared.error.XlsxError.{XlsxError}
 use Rattle.xlsx_parts.specs.PartSaid.{put_together}
-use Rattle.xlsx_pivots.specs.PivotTables.{pivot_kept, sheet_given}
+use Rattle.xlsx_pivots.specs.PivotTables.{pivots_kept, sheet_given}
 use Rattle.xlsx_pivots.specs.Pivots.{pivots_of, PivotsCause, all_pivot_events, all_pivot_sections}
 use Rattle.xlsx_pivots.proofs.pivots.find_pivot_tables.Given as goal
 
@@ -24,7 +24,7 @@ invariant-sheets g l =
           (now.taken + all_pivot_sections old.parts (map sheet_given l.left));
       said :
           old.is_told ≡ true →
-          put_together (Some (map pivot_kept l.pivots.items))
+          put_together (Some (pivots_kept l.found))
           (pivots_of old.parts l.xl_path (map sheet_given l.left))
           ≡ pivots_of old.parts l.xl_path (map sheet_given l.fn.sheets);
       cause :

@@ -2,6 +2,7 @@ use Rattle.std.proofs.Common.{◌≡◌, ℕ, [], codes, option_map, string_byte
 use Rattle.std.specs.Prelude.{unwrap_or}
 use Rattle.std.specs.Option.{option_copied}
 use Rattle.std.proofs.lemmas.Result.{err_from_is_err_and, IfErr-weaker}
+use Rattle.std.specs.Arc.{arc_str_bytes}
 use Rattle.part_events.specs.Event.{tag_of}
 use Rattle.xlsx_sections.specs.Refusal.{ElementFails, placed_at, decoded_at}
 use Rattle.xlsx_relationships.specs.KeptRelationships.{relationship_of, related_by_id}
@@ -13,7 +14,7 @@ pub returns-in_err-name-2-clause-err : goal.returns-in_err-name-2-clause-err
 returns-in_err-name-2-clause-err c =
     let p = err_from_is_err_and c.from_residual-in_err-name-2.result
     c.from_residual-in_err-name-2.ensures.1 in
-    let folder = c.args.folder.now in
+    let folder = arc_str_bytes c.args.folder.now in
     let related = related_by_id c.args.relationships.now in
     let id = unwrap_or (option_copied c.in_ok-id.id) [] in
     let state = unwrap_or (option_copied c.in_ok-name.state) (codes "visible") in
@@ -26,7 +27,7 @@ returns-in_err-name-2-clause-err c =
 
 pub returns-clause-err : goal.returns-clause-err
 returns-clause-err c =
-    let folder = c.args.folder.now in
+    let folder = arc_str_bytes c.args.folder.now in
     let related = related_by_id c.args.relationships.now in
     let given = related_sheet folder (string_bytes c.in_ok-name-2.name) c.in-Some.visible
     (option_map relationship_of (option_copied c.find_relationship-related.result)) in

@@ -1,6 +1,7 @@
 use Rattle.std.proofs.Common.{◌≡◌, ◌∷◌, ◌-◌, Ok, Err, length, refl, sym, ◌∙◌, inl, inr, arith}
 use Rattle.std.proofs.Common.{codes, option_map, string_bytes}
 use Rattle.std.proofs.lemmas.Result.{err_from_is_err_and}
+use Rattle.std.specs.Arc.{arc_str_bytes}
 use Rattle.part_events.specs.Event.{event_of, tag_of}
 use Rattle.part_events.specs.Reading.{reading, ahead}
 use Rattle.part_events.specs.Section.{content}
@@ -24,7 +25,7 @@ returns-in_err-take_event-clause-err g c =
     c.in-Some.at} c.event-event.ensures c.events.invariant.section c.in_ok-at.ensures.reads
     (rw c.in-Some.is at c.in_ok-at.ensures.stands)
     (λ told. rw c.in-Some.is at (c.in_ok-at.ensures.found told)) in
-    let folder = c.args.places.folder.now in
+    let folder = arc_str_bytes c.args.places.folder.now in
     let related = related_by_id c.args.places.relationships.now in
     let left = section_ahead c.args.base new in
     let p = err_from_is_err_and c.from_residual-in_err-take_event.result
@@ -48,7 +49,7 @@ returns-in_err-name-clause-err g c =
     (rw c.in-Some.is at c.in_ok-at.ensures.stands)
     (λ told. rw c.in-Some.is at (c.in_ok-at.ensures.found told)) in
     let starts = rw c.in-Some-name_start.is at c.name_start.ensures in
-    let folder = c.args.places.folder.now in
+    let folder = arc_str_bytes c.args.places.folder.now in
     let related = related_by_id c.args.places.relationships.now in
     let tag = tag_of c.in-Some-name_start.tag in
     let left = section_ahead base new in
@@ -78,7 +79,7 @@ returns-in_err-read_name-clause-err g c =
     (rw c.in-Some.is at c.in_ok-at.ensures.stands)
     (λ told. rw c.in-Some.is at (c.in_ok-at.ensures.found told)) in
     let starts = rw c.in-Some-name_start.is at c.name_start.ensures in
-    let folder = c.args.places.folder.now in
+    let folder = arc_str_bytes c.args.places.folder.now in
     let related = related_by_id c.args.places.relationships.now in
     let tag = tag_of c.in-Some-name_start.tag in
     let name = option_map string_bytes c.in_ok-name.name in

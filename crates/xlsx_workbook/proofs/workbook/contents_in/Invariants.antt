@@ -1,4 +1,5 @@
 use Rattle.std.proofs.Common.{◌≡◌, true}
+use Rattle.std.specs.Arc.{arc_str_bytes}
 use Rattle.part_events.specs.Reading.{reading}
 use Rattle.part_events.specs.Walk.{section_ahead}
 use Rattle.xlsx_sections.specs.PartSection.{KeepsSection}
@@ -15,7 +16,8 @@ invariant-events g l =
       section : KeepsSection l.base old now;
       keeps :
           old.source.is_told ≡ true →
-          KeepsContents l.places.folder.now related (section_ahead l.base old) l.found
+          KeepsContents (arc_str_bytes l.places.folder.now) related
+          (section_ahead l.base old) l.found
           (section_ahead l.base now);
     }
 

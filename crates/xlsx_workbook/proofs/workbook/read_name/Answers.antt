@@ -2,6 +2,7 @@ use Rattle.std.proofs.Common.{◌≡◌, ◌-◌, ◌+◌, ℕ, length, true, �
 use Rattle.std.proofs.Common.{◌∙◌, ap, inl, inr, arith, rules, codes, option_map, string_bytes}
 use Rattle.std.proofs.lemmas.Result.{err_from_is_err_and}
 use Rattle.std.proofs.lemmas.List.{length-append}
+use Rattle.std.specs.Arc.{arc_str_bytes}
 use Rattle.part_events.specs.Event.{event_of}
 use Rattle.part_events.specs.Reading.{reading, ahead}
 use Rattle.part_events.specs.Section.{content}
@@ -24,7 +25,7 @@ returns-in_err-at-clause-err g c =
     let old = reading (g.P.Package.state c.args.package.now) c.args.cursor.now in
     let mid = reading (g.P.Package.state c.events.package) c.events.cursor in
     let new = reading (g.P.Package.state c.next_event_in.new.package) c.next_event_in.new.cursor in
-    let refused = IsNameRefused c.args.places.folder.now
+    let refused = IsNameRefused (arc_str_bytes c.args.places.folder.now)
     (related_by_id c.args.places.relationships.now) c.args.found.now
     (option_map string_bytes c.args.name) in
     let ending = always (codes "workbook") in
@@ -61,7 +62,7 @@ returns-in_err-take_event-clause-err g c =
     let old = reading (g.P.Package.state c.args.package.now) c.args.cursor.now in
     let mid = reading (g.P.Package.state c.events.package) c.events.cursor in
     let new = reading (g.P.Package.state c.next_event_in.new.package) c.next_event_in.new.cursor in
-    let folder = c.args.places.folder.now in
+    let folder = arc_str_bytes c.args.places.folder.now in
     let related = related_by_id c.args.places.relationships.now in
     let refused = IsNameRefused folder related c.args.found.now
     (option_map string_bytes c.args.name) in
@@ -124,7 +125,7 @@ returns-in_err-push_wanted-clause-err g c =
     let old = reading (g.P.Package.state c.args.package.now) c.args.cursor.now in
     let mid = reading (g.P.Package.state c.events.package) c.events.cursor in
     let new = reading (g.P.Package.state c.next_event_in.new.package) c.next_event_in.new.cursor in
-    let folder = c.args.places.folder.now in
+    let folder = arc_str_bytes c.args.places.folder.now in
     let related = related_by_id c.args.places.relationships.now in
     let name = option_map string_bytes c.args.name in
     let refused = IsNameRefused folder related c.args.found.now name in
@@ -183,7 +184,7 @@ returns-clause-sheets g c = λ told.
     (omega (arith, stands.1, c.requires.within, c.events.invariant.depth)) in
     let closes = no_start new.source.current mid.names new.names stands.0.names
     (omega (arith, stands.1, c.events.invariant.element.within)) in
-    let passed = no_sheet {folder = c.args.places.folder.now} {related =
+    let passed = no_sheet {folder = arc_str_bytes c.args.places.folder.now} {related =
     related_by_id c.args.places.relationships.now} c.events.found new.source.current
     (section_ahead base new) closes in
     sheets_further (c.events.invariant.sheets told)

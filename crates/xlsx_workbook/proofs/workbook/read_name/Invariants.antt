@@ -1,5 +1,6 @@
 use Rattle.std.proofs.Common.{◌≡◌, length, true, string_bytes}
 use Rattle.std.specs.Prelude.{is_some}
+use Rattle.std.specs.Arc.{arc_str_bytes}
 use Rattle.part_events.specs.Reading.{reading, ahead}
 use Rattle.part_events.specs.Section.{content, behind}
 use Rattle.part_events.specs.Walk.{section_ahead, behind_section}
@@ -23,7 +24,8 @@ invariant-events g l =
       names : names_of l.found ≡ names_of l.fn.found;
       sheets :
           old.source.is_told ≡ true →
-          KeepsSheets l.places.folder.now related l.fn.found (section_ahead l.base old) l.found
+          KeepsSheets (arc_str_bytes l.places.folder.now) related l.fn.found
+          (section_ahead l.base old) l.found
           (section_ahead l.base now);
       text :
           old.source.is_told ≡ true → l.wanted ≡ true →

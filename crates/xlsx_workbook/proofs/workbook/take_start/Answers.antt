@@ -1,5 +1,6 @@
 use Rattle.std.proofs.Common.{◌≡◌, ◌∷◌, ℕ, List, length, true, false, refl, rules}
 use Rattle.std.proofs.lemmas.Result.{err_from_is_err_and, IfErr-weaker}
+use Rattle.std.specs.Arc.{arc_str_bytes}
 use Rattle.part_events.specs.Event.{Event, start, tag_of}
 use Rattle.xlsx_sections.specs.Refusal.{RefusedAt, ElementFails, placed_at}
 use Rattle.xlsx_sections.proofs.Refused.{refused_at_weaker}
@@ -11,7 +12,7 @@ use Rattle.xlsx_workbook.proofs.workbook.take_start.Goals as goal
 
 pub returns-then-eq-clause-err : goal.returns-then-eq-clause-err
 returns-then-eq-clause-err c =
-    let folder = c.args.places.folder.now in
+    let folder = arc_str_bytes c.args.places.folder.now in
     let related = related_by_id c.args.places.relationships.now in
     let tag = tag_of c.args.tag in
     let sheet : is_sheet tag ≡ true = search rules in
@@ -30,7 +31,7 @@ returns-in_err-keep_epoch-clause-err c =
     let tag = tag_of c.args.tag in
     let properties : is_properties tag ≡ true = search rules in
     let p = err_from_is_err_and c.from_residual.result c.from_residual.ensures.1 in
-    rw (p.1, p.2) (λ others. epoch_refused c.args.places.folder.now
+    rw (p.1, p.2) (λ others. epoch_refused (arc_str_bytes c.args.places.folder.now)
     (related_by_id c.args.places.relationships.now) tag _ c.args.found.now others properties
     (c.in_err-keep_epoch.ensures.err (length others)))
 

@@ -1,7 +1,8 @@
-use Rattle.std.proofs.Common.{List, subst, String, Global, ℕ}
+use Rattle.std.proofs.Common.{List, subst, ℕ}
 use Rattle.std.specs.Prelude.{IfOk}
 use Rattle.xlsx_values.specs.Book.{grounds_of}
 use Rattle.xlsx_values.specs.Value.{Grounds}
+use Rattle.xlsx_workbook.specs.declared.paths.KeptPath.{KeptPath}
 use Rattle.xlsx_workbook.specs.declared.sheet.Sheet.{Sheet}
 use Rattle.xlsx_core.specs.Listing.{AreListed}
 use Rattle.xlsx_core.specs.Opened.{path_listed}
@@ -19,6 +20,6 @@ returns-clause-lists g c = λ told.
     (subst (λ (sheets : List Sheet). IfOk made (λ listed. AreListed own xlsx.header_row
     (λ (name : List ℕ). path_listed name sheets xlsx.paths.items) parts sheets listed.items))
     c.deref.ensures.value
-    (subst (λ (paths : List (String Global)). IfOk made (λ listed. AreListed own xlsx.header_row
+    (subst (λ (paths : List KeptPath). IfOk made (λ listed. AreListed own xlsx.header_row
     (λ (name : List ℕ). path_listed name c.deref.result.now paths) parts c.deref.result.now
     listed.items)) c.deref-2.ensures.value (c.ranges_listed.ensures.lists told)))

@@ -12,7 +12,7 @@ use Rattle.xlsx_relationships.specs.RelatedParts.{related_parts}
 use Rattle.xlsx_relationships.proofs.RelatedTaken.{related_uses, related_ends}
 use Rattle.xlsx_pivots.specs.Pivots.{pivot_type, PivotsByCause, PivotsAtCause, pivot_events}
 use Rattle.xlsx_pivots.specs.Pivots.{pivot_sections}
-use Rattle.xlsx_pivots.proofs.pivots.push_sheet.Goals as goal
+use Rattle.xlsx_pivots.proofs.pivots.read_sheet_pivots.Goals as goal
 
 pub returns-clause-err : goal.returns-clause-err
 returns-clause-err g c =
