@@ -38,6 +38,12 @@ POSITIONS = [
         '<row r="1"><c r="A1"><v>1</v></c></row><row r="1"><c r="A1"><v>2</v></c></row>',
         "A1\tn:2\t-\t-\n",
     ),
+    (
+        "the same of shared strings, an empty one among them",
+        '<row r="1"><c r="A1" t="s"><v>1</v></c><c r="A1" t="s"><v>0</v></c>'
+        '<c r="A2" t="s"><v>0</v></c><c r="A2" t="s"><v>1</v></c></row>',
+        "A1\ts:zero\t-\t-\nA2\ts:\t-\t-\n",
+    ),
     ("the last row", '<row r="1048576"><c><v>1</v></c></row>', "A1048576\tn:1\t-\t-\n"),
     (
         "a cell behind the last row",
@@ -261,6 +267,14 @@ FORMULAS = [
         "A1\t-\t=B1\t-\nB1\t-\t=C1\t-\nC1\t-\t=X9\t-\n",
     ),
     ("the last formula of a cell, which says nothing", "<c><f>B1</f><f/></c>", ""),
+    (
+        "of derived formulas at one position the last that says something stands",
+        '<row><c r="A1"><f t="shared" si="0" ref="A1">B1</f></c><c r="A1">'
+        '<f t="shared" si="1" ref="A1">D1</f></c><c r="C1"><f t="shared" si="2" ref="A1"/></c>'
+        '<c r="A2"><f t="shared" si="1"/></c><c r="A2"><f t="shared" si="0"/></c>'
+        '<c r="A2"><f t="shared" si="2"/></c><c r="A1"><f t="shared" si="2"/></c></row>',
+        "A1\t-\t=D1\t-\nA2\t-\t=B2\t-\n",
+    ),
     (
         "a reference without a character in the text of a derived formula",
         '<c><f t="shared" si="0"><!nbsp></f></c>',

@@ -1,7 +1,7 @@
 -- How the cells of a sheet's data are collected.
 use Rattle.std.proofs.Common.{◌≡◌, ℕ, List, [], ◌∷◌, ◌++◌, append-nil, Bool, true, false, Option}
 use Rattle.std.proofs.Common.{Result, Ok, Err, refl, sym, ◌∙◌, ap, subst, inl, inr}
-use Rattle.std.proofs.Common.{string_bytes, codes, map, String, Global}
+use Rattle.std.proofs.Common.{codes, map}
 use Rattle.std.specs.Prelude.{if◌then◌else◌, filter}
 use Rattle.std.proofs.lemmas.List.Elements.{filter-append}
 use Rattle.part_events.specs.Event.{Tag}
@@ -23,6 +23,7 @@ use Rattle.xlsx_sections.proofs.Refused.{refused_later}
 use Rattle.xlsx_sections.proofs.SectionsRead.{keeps_further}
 use Rattle.xlsx_values.specs.Value.{Grounds}
 use Rattle.xlsx_formulas.specs.Formula.{FormulaText, cell_formula, behind_formulas}
+use Rattle.xlsx_formulas.specs.declared.cell_formula.CellFormula.{CellFormula}
 use Rattle.xlsx_cells.specs.CellErrors.{IsCellError, IsStyledError, IsStreamError}
 use Rattle.xlsx_cells.specs.CellErrors.{IsStyledStreamError}
 use Rattle.xlsx_cells.specs.Counting.{AreKept}
@@ -38,9 +39,8 @@ use Rattle.xlsx_cells.specs.SheetPart.{LackUnwanted, value_entry, value_entries}
 use Rattle.xlsx_cells.specs.SheetPart.{formula_entry, formula_entries}
 use Rattle.xlsx_cells.specs.Stream.{Stream, StandsBehind, IsGoing, IsCellRefused, IsWritten}
 use Rattle.xlsx_cells.specs.Stream.{TakesCell, NextCellFails, marks_ahead, data_ahead}
-use Rattle.xlsx_cells.specs.Stream.{LacksUnwantedText}
+use Rattle.xlsx_cells.specs.Stream.{WrittenCell, LacksUnwantedText}
 use Rattle.xlsx_cells.specs.StyleIds.{placed_id, ids_in, HoldsIds}
-use Rattle.xlsx_cells.specs.declared.cell_read.CellText.{CellText}
 use Rattle.xlsx_cells.specs.declared.children.Wants.{Wants}
 use Rattle.xlsx_cells.proofs.Fronts.{mark_weaker, no_cell, refused_further}
 
@@ -193,13 +193,13 @@ pub record HasCollected
 -- one cell more
 pub collected_further : (wants : Wants) (grounds : Grounds) (count : ℕ) (old mid new : Stream)
     (values : List ((ℕ × ℕ) × CellValue)) (formulas : List ((ℕ × ℕ) × List ℕ))
-    (ids : List StyledCell) (read : CellText)
+    (ids : List StyledCell) (read : WrittenCell)
     → (been : HasCollected wants grounds count old mid values formulas ids)
     → TakesCell NoCell been.before been.earlier mid new
     (IsWritten wants grounds been.earlier read)
     → HasCollected wants grounds count old new
     (values ++ used_values ((read.pos, value_of_data_ref read.value) ∷ []))
-    (formulas ++ used_formulas ((read.pos, string_bytes read.text) ∷ []))
+    (formulas ++ used_formulas ((read.pos, read.text) ∷ []))
     (ids ++ filter (is_explicit count) ((read.pos.0, read.pos.1, read.style_id) ∷ []))
 collected_further wants grounds count old mid new values formulas ids read been takes =
     let front = takes.takes.front in
@@ -230,7 +230,7 @@ collected_further wants grounds count old mid new values formulas ids read been 
           let own : (ℕ × ℕ) × List FormulaText = (read.pos, takes.kept) in
           let answer : placed_formulas behind element ≡ Ok own =
           rw (takes.holds.placed, takes.holds.listed wanted) refl in
-          let text : string_bytes read.text
+          let text : read.text
           ≡ cell_formula (behind_cells so_far.passed []) read.pos takes.kept =
           takes.holds.found wanted
           ∙ ap (λ (all : List FormulaText). cell_formula all read.pos takes.kept) so_far.behind in
@@ -242,7 +242,7 @@ collected_further wants grounds count old mid new values formulas ids read been 
             behind = ap (behind_formulas takes.kept) so_far.behind
                 ∙ sym (behind_cells_further so_far.passed [] own);
             used = ap (λ (all : List ((ℕ × ℕ) × List ℕ)). all
-                ++ used_formulas ((read.pos, string_bytes read.text) ∷ [])) so_far.used
+                ++ used_formulas ((read.pos, read.text) ∷ [])) so_far.used
                 ∙ ap (λ (formula : List ℕ). used_formulas (formulas_along [] so_far.passed)
                 ++ used_formulas ((read.pos, formula) ∷ [])) text
                 ∙ sym (used_formulas_further (formulas_along [] so_far.passed)
@@ -274,13 +274,13 @@ no_entries entry (own ∷ cells) is = absurd (cc)
 
 -- what isn't wanted of one cell more leaves nothing
 pub unwanted_further : (wants : Wants) (count : ℕ) (values more_values : List (Cell DataRef))
-    (formulas more_formulas : List (Cell (String Global))) (ids more_ids : List StyledCell)
-    (read : CellText) → LackUnwanted wants values formulas ids
+    (formulas more_formulas : List (Cell CellFormula)) (ids more_ids : List StyledCell)
+    (read : WrittenCell) → LackUnwanted wants values formulas ids
     → LacksUnwantedText wants read
     → value_entries more_values
     ≡ value_entries values ++ used_values ((read.pos, value_of_data_ref read.value) ∷ [])
     → formula_entries more_formulas
-    ≡ formula_entries formulas ++ used_formulas ((read.pos, string_bytes read.text) ∷ [])
+    ≡ formula_entries formulas ++ used_formulas ((read.pos, read.text) ∷ [])
     → more_ids
     ≡ ids ++ filter (is_explicit count) ((read.pos.0, read.pos.1, read.style_id) ∷ [])
     → LackUnwanted wants more_values more_formulas more_ids

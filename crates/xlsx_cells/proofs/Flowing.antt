@@ -29,7 +29,8 @@ use Rattle.xlsx_cells.specs.Head.{is_sheet_data, AreDimensions}
 use Rattle.xlsx_cells.specs.Marks.{Mark}
 use Rattle.xlsx_cells.specs.Position.{NoCell}
 use Rattle.xlsx_cells.specs.Stream.{Stream, IsStreaming, IsGoing, RestsAtEnd, TakesCell, IsRead}
-use Rattle.xlsx_cells.specs.Stream.{IsWritten, LacksUnwanted, LacksUnwantedText}
+use Rattle.xlsx_cells.specs.Stream.{WrittenCell, seen_with_text, IsWritten, LacksUnwanted}
+use Rattle.xlsx_cells.specs.Stream.{LacksUnwantedText}
 use Rattle.xlsx_cells.specs.declared.cell_read.CellRead.{CellRead}
 use Rattle.xlsx_cells.specs.declared.cell_read.CellText.{CellText}
 use Rattle.xlsx_cells.specs.declared.children.Wants.{Wants}
@@ -57,10 +58,11 @@ failed_streams s failed = record {
 
 -- the text of the formula that was read last, by the masters behind the cell
 pub text_taken : {before : List Mark} {earlier : List FormulaText} {old new : Stream}
-    {wants : Wants} {grounds : Grounds} (read : CellRead) (own : CellText) → own.pos ≡ read.pos
+    {wants : Wants} {grounds : Grounds} (read : CellRead) (own : WrittenCell)
+    → own.pos ≡ read.pos
     → own.value ≡ read.value → own.style_id ≡ read.style_id
     → ((behind : List FormulaText) → AreMasters behind new.masters
-    → string_bytes own.text ≡ formula_of_last behind read.pos (last_seen read.formula))
+    → own.text ≡ formula_of_last behind read.pos (last_seen read.formula))
     → TakesCell NoCell before earlier old new (IsRead wants true grounds read)
     → TakesCell NoCell before earlier old (record {
       reading = new.reading;
@@ -97,10 +99,34 @@ text_taken {earlier = earlier} read own placed valued styled text takes =
       };
     }
 
-pub text_unwanted : {wants : Wants} (masters : Masters) (read : CellRead) (own : CellText)
+-- the same text, written out
+pub text_written : {before : List Mark} {earlier : List FormulaText} {old new : Stream}
+    {wants : Wants} {grounds : Grounds} (one two : WrittenCell) → one ≡ two
+    → TakesCell NoCell before earlier old new (IsWritten wants grounds earlier one)
+    → TakesCell NoCell before earlier old (record {
+      reading = new.reading;
+      base = new.base;
+      counters = new.counters;
+      masters = new.masters;
+      is_done = new.is_done;
+      is_failed = false;
+    }) (IsWritten wants grounds earlier two)
+text_written {wants = wants} {grounds = grounds} one two same takes = record {
+  element = takes.element;
+  kept = takes.kept;
+  takes = takes.takes;
+  closed = takes.closed;
+  holds = rw same at takes.holds;
+  stands = record {
+    counters = takes.stands.counters;
+    masters = takes.stands.masters;
+  };
+}
+
+pub text_unwanted : {wants : Wants} (masters : Masters) (read : CellRead) (own : WrittenCell)
     → own.value ≡ read.value → own.style_id ≡ read.style_id
     → ((behind : List FormulaText) → AreMasters behind masters
-    → string_bytes own.text ≡ formula_of_last behind read.pos (last_seen read.formula))
+    → own.text ≡ formula_of_last behind read.pos (last_seen read.formula))
     → LacksUnwanted wants read → LacksUnwantedText wants own
 text_unwanted masters read own valued styled text lacks = record {
   value = λ unwanted. valued ∙ lacks.value unwanted;
@@ -119,7 +145,7 @@ pub read_as : {before : List Mark} {earlier : List FormulaText} {old new : Strea
 read_as wanted kept rests takes = rw (wanted, kept, rests) at takes
 
 pub written_as : {before : List Mark} {earlier : List FormulaText} {old new : Stream}
-    {wants own : Wants} {grounds same : Grounds} {read : CellText} → wants ≡ own
+    {wants own : Wants} {grounds same : Grounds} {read : WrittenCell} → wants ≡ own
     → grounds ≡ same
     → TakesCell NoCell before earlier old new (IsWritten wants grounds earlier read)
     → TakesCell NoCell before earlier old new (IsWritten own same earlier read)
@@ -146,7 +172,8 @@ value_taken read own is takes = record {
 pub formula_taken : {before : List Mark} {earlier : List FormulaText} {old new : Stream}
     {grounds : Grounds} (read : CellText) (own : Cell (String Global))
     → own ≡ record { pos = read.pos; val = read.text }
-    → TakesCell NoCell before earlier old new (IsWritten formulas_alone grounds earlier read)
+    → TakesCell NoCell before earlier old new
+    (IsWritten formulas_alone grounds earlier (seen_with_text read))
     → TakesCell NoCell before earlier old new (IsFormula earlier own)
 formula_taken read own is takes = record {
   element = takes.element;
@@ -185,7 +212,8 @@ styled_value_taken read own is takes = record {
 pub written_value_taken : {before : List Mark} {earlier : List FormulaText} {old new : Stream}
     {grounds : Grounds} (read : CellText) (formula : Option (String Global))
     → option_map string_bytes formula ≡ written_text (string_bytes read.text)
-    → TakesCell NoCell before earlier old new (IsWritten values_and_formulas grounds earlier read)
+    → TakesCell NoCell before earlier old new
+    (IsWritten values_and_formulas grounds earlier (seen_with_text read))
     → TakesCell NoCell before earlier old new (IsValuedFormula grounds earlier
     (record { pos = read.pos; value = read.value; formula = formula }))
 written_value_taken read formula is takes = record {

@@ -1,7 +1,6 @@
 -- The part of a sheet: what its data say, and why they can't be read.
 use Rattle.std.specs.Prelude.{◌≡◌, ◌⊎◌, ℕ, ◌+◌, ◌≤◌, List, [], ◌∷◌, length, true, codes, Option}
-use Rattle.std.specs.Prelude.{Some, None, Ok, map, string_bytes, IsSomeAnd, All, String, false}
-use Rattle.std.specs.declared.alloc.Global.{Global}
+use Rattle.std.specs.Prelude.{Some, None, Ok, map, IsSomeAnd, All, false}
 use Rattle.cell_refs.specs.declared.dimensions.Dimensions.{Dimensions}
 use Rattle.part_events.specs.Event.{Event}
 use Rattle.part_events.specs.Nesting.{whole}
@@ -19,6 +18,8 @@ use Rattle.xlsx_sections.specs.PartSection.{section_in, inside_of, has_end}
 use Rattle.xlsx_sections.specs.Refusal.{Refusal}
 use Rattle.xlsx_values.specs.Value.{Grounds}
 use Rattle.xlsx_formulas.specs.Formula.{FormulaText}
+use Rattle.xlsx_formulas.specs.Kept.{text_of_formula}
+use Rattle.xlsx_formulas.specs.declared.cell_formula.CellFormula.{CellFormula}
 use Rattle.xlsx_cells.specs.Ends.{end_in_data}
 use Rattle.xlsx_cells.specs.Finding.{IsMarkRefused}
 use Rattle.xlsx_cells.specs.Head.{dimensions_in, dimensions_or, HeadCause}
@@ -104,20 +105,20 @@ value_entry own = (own.pos, value_of_data_ref own.val)
 abbrev pub value_entries : List (Cell DataRef) → List ((ℕ × ℕ) × CellValue)
 value_entries cells = map value_entry cells
 
-abbrev pub formula_entry : Cell (String Global) → (ℕ × ℕ) × List ℕ
-formula_entry own = (own.pos, string_bytes own.val)
+abbrev pub formula_entry : Cell CellFormula → (ℕ × ℕ) × List ℕ
+formula_entry own = (own.pos, text_of_formula own.val)
 
-abbrev pub formula_entries : List (Cell (String Global)) → List ((ℕ × ℕ) × List ℕ)
+abbrev pub formula_entries : List (Cell CellFormula) → List ((ℕ × ℕ) × List ℕ)
 formula_entries cells = map formula_entry cells
 
 -- cells with values and formulas, and entries of styles, that lie in a worksheet
-abbrev pub LieInSheet : List (Cell DataRef) → List (Cell (String Global)) → List StyledCell → Type 0
+abbrev pub LieInSheet : List (Cell DataRef) → List (Cell CellFormula) → List StyledCell → Type 0
 LieInSheet values formulas styled =
     All IsInSheet values × All IsInSheet formulas × All IsOnSheet styled
 
 -- what wasn't wanted of a sheet is empty
 pub record LackUnwanted
-    (wants : Wants) (valued : List (Cell DataRef)) (written : List (Cell (String Global)))
+    (wants : Wants) (valued : List (Cell DataRef)) (written : List (Cell CellFormula))
     (styled : List StyledCell) : Type 0 where
   pub values : wants.values ≡ false → valued ≡ []
   pub formulas : wants.formulas ≡ false → written ≡ []

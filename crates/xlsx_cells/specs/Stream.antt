@@ -9,6 +9,7 @@ use Rattle.part_events.specs.Reading.{Reading, reading, IsReading, ahead}
 use Rattle.part_events.specs.Section.{Element}
 use Rattle.part_events.specs.Walk.{section_ahead, is_closed_ahead, behind_section}
 use Rattle.cell_data.specs.CellValue.{value_of_data_ref}
+use Rattle.cell_data.specs.declared.value.DataRef.{DataRef}
 use Rattle.cell_data.specs.declared.value.DataRef.TheVariants.{Empty}
 use Rattle.xlsx_error.specs.declared.error.XlsxError.{XlsxError}
 use Rattle.xlsx_error.specs.declared.error.XlsxError.TheVariants.{Failed}
@@ -17,7 +18,7 @@ use Rattle.xlsx_sections.specs.PartSection.{PartSection, SectionFails, inside_of
 use Rattle.xlsx_sections.specs.Refusal.{Refusal, in_element}
 use Rattle.xlsx_values.specs.Value.{Grounds, cell_value}
 use Rattle.xlsx_formulas.specs.Formula.{FormulaText, formulas_in, cell_formula, behind_formulas}
-use Rattle.xlsx_formulas.specs.Kept.{AreMasters, last_seen}
+use Rattle.xlsx_formulas.specs.Kept.{AreMasters, last_seen, text_of_formula}
 use Rattle.xlsx_formulas.specs.declared.masters.Masters.{Masters}
 use Rattle.xlsx_cells.specs.Children.{kept_by}
 use Rattle.xlsx_cells.specs.Counting.{AreKept}
@@ -30,6 +31,7 @@ use Rattle.xlsx_cells.specs.declared.children.Wants.{Wants}
 use Rattle.xlsx_cells.specs.declared.counters.Counters.{Counters}
 use Rattle.xlsx_cells.specs.declared.cell_read.CellRead.{CellRead}
 use Rattle.xlsx_cells.specs.declared.cell_read.CellText.{CellText}
+use Rattle.xlsx_cells.specs.declared.cell_read.CellWithFormula.{CellWithFormula}
 use Rattle.xlsx_cells.specs.declared.sheet_cursor.SheetCursor.{SheetCursor}
 
 -- where a stream stands: its reading, the number of the element of the sheet's data among the open
@@ -149,9 +151,33 @@ pub record IsRead
   pub none : wants.formulas ≡ false → written ≡ []
   pub is_kept : kept ≡ kept_by keeps written
 
+-- a cell with the text of its formula
+pub record WrittenCell : Type 0 where
+  pub pos : ℕ × ℕ
+  pub value : DataRef
+  pub text : List ℕ
+  pub style_id : ℕ
+
+abbrev pub seen_with_text : CellText → WrittenCell
+seen_with_text own = record {
+  pos = own.pos;
+  value = own.value;
+  text = string_bytes own.text;
+  style_id = own.style_id;
+}
+
+-- the same where it isn't written out yet
+abbrev pub seen_with_formula : CellWithFormula → WrittenCell
+seen_with_formula own = record {
+  pos = own.pos;
+  value = own.value;
+  text = text_of_formula own.formula;
+  style_id = own.style_id;
+}
+
 -- what is read of it with the text of its formula, seen by the formulas before it, too
 pub record IsWritten
-    (wants : Wants) (grounds : Grounds) (earlier : List FormulaText) (own : CellText)
+    (wants : Wants) (grounds : Grounds) (earlier : List FormulaText) (own : WrittenCell)
     (before : List Mark) (element : Element) (kept : List FormulaText) : Type 0 where
   pub placed : cell_position before element.tag ≡ Ok own.pos
   pub valued :
@@ -160,7 +186,7 @@ pub record IsWritten
   pub styled : wants.styles ≡ true → id_named element.tag ≡ Ok own.style_id
   pub listed : wants.formulas ≡ true → formulas_in element.inside ≡ Ok kept
   pub found :
-      wants.formulas ≡ true → string_bytes own.text ≡ cell_formula earlier own.pos kept
+      wants.formulas ≡ true → own.text ≡ cell_formula earlier own.pos kept
   pub none : wants.formulas ≡ false → kept ≡ []
 
 -- what wasn't wanted of a cell is empty
@@ -169,9 +195,9 @@ pub record LacksUnwanted (wants : Wants) (read : CellRead) : Type 0 where
   pub formula : wants.formulas ≡ false → read.formula ≡ None
   pub style : wants.styles ≡ false → read.style_id ≡ 0
 
-pub record LacksUnwantedText (wants : Wants) (own : CellText) : Type 0 where
+pub record LacksUnwantedText (wants : Wants) (own : WrittenCell) : Type 0 where
   pub value : wants.values ≡ false → own.value ≡ Empty
-  pub text : wants.formulas ≡ false → string_bytes own.text ≡ []
+  pub text : wants.formulas ≡ false → own.text ≡ []
   pub style : wants.styles ≡ false → own.style_id ≡ 0
 
 -- behind such marks a cell was taken, of which a fact holds

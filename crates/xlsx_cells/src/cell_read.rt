@@ -21,7 +21,7 @@ use cell_data::{CellFormat, DataRef};
 use part_events::{Cursor, Package, StartTag};
 use std::alloc::Global;
 use xlsx_error::XlsxError;
-use xlsx_formulas::{Formula, Masters};
+use xlsx_formulas::{CellFormula, Formula, Masters};
 use xlsx_sections::{skip_element_in, start_tag};
 use xlsx_values::{CellType, cell_type, format_of_style, style_number};
 
@@ -33,6 +33,16 @@ pub struct CellRead {
     pub value: DataRef,
     /// The last `f`, as it is written.
     pub formula: Option<Formula>,
+    pub style_id: usize,
+}
+
+/// A cell with its formula, which may not be written out yet: what wasn't wanted of it is empty.
+#[derive(Debug, Drop)]
+pub struct CellWithFormula {
+    /// The row and the column, counted from 0.
+    pub pos: (u32, u32),
+    pub value: DataRef,
+    pub formula: CellFormula,
     pub style_id: usize,
 }
 

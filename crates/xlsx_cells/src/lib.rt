@@ -12,7 +12,7 @@ mod laws;
 mod sheet_cells;
 mod sheet_cursor;
 
-pub use cell_read::{CellRead, CellText};
+pub use cell_read::{CellRead, CellText, CellWithFormula};
 pub use cell_records::{XlsxCellFormula, XlsxCellFormulaMetadataRecord, equality_is_by_all_fields};
 pub use cells_reader::XlsxCellReader;
 pub use children::{Asked, Wants};

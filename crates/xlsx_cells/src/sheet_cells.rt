@@ -1,5 +1,5 @@
 ghost use Rattle.std.specs.Prelude.{◌≡◌, ◌<◌, ◌++◌, [], ◌∷◌, true, false, IfOk, OnOk, IfErr, All};
-ghost use Rattle.std.specs.Prelude.{string_bytes, filter};
+ghost use Rattle.std.specs.Prelude.{filter};
 ghost use Rattle.cell_refs.specs.declared.TheConstants.{MAX_ROWS, MAX_COLUMNS};
 ghost use Rattle.cell_data.specs.CellValue.{value_of_data_ref};
 ghost use Rattle.xlsx_cells.specs.Sheet.{used_values, used_formulas};
@@ -8,6 +8,7 @@ ghost use Rattle.cell_data.specs.Cells.{IsInSheet};
 ghost use Rattle.xlsx_error.specs.declared.error.XlsxError.TheVariants.{Io, OutOfMemory};
 ghost use Rattle.cell_styles.specs.StyleMap.{IsOnSheet, is_explicit};
 ghost use Rattle.xlsx_values.specs.Book.{grounds_of};
+ghost use Rattle.xlsx_formulas.specs.Kept.{text_of_formula};
 ghost use Rattle.xlsx_cells.specs.Ends.{reads_children};
 ghost use Rattle.xlsx_cells.specs.CellErrors.{IsCellError, IsStyledError};
 ghost use Rattle.xlsx_cells.specs.SheetPart.{DataFails, HoldsValues, HoldsFormulas, value_entries};
@@ -16,21 +17,22 @@ ghost use Rattle.xlsx_cells.specs.StyleIds.{HoldsIds};
 ghost use Rattle.xlsx_cells.specs.Stream.{stream, IsGoing, StandsBehind, data_ahead};
 ghost use Rattle.xlsx_cells.specs.Stream.{are_closed_ahead};
 
-use crate::cell_read::CellText;
+use crate::cell_read::CellWithFormula;
 use crate::children::Asked;
 use crate::sheet_cursor::SheetCursor;
 use cell_data::{Cell, DataRef};
 use part_events::Package;
 use std::alloc::Global;
 use xlsx_error::XlsxError;
+use xlsx_formulas::CellFormula;
 
 /// The cells of a sheet's data that hold something, in their order there.
 #[derive(Debug, Drop)]
 pub struct SheetCells {
     /// Those with a value, where values were asked for. Shared strings are told by their places.
     pub values: Vec<Cell<DataRef>>,
-    /// Those with a formula, where formulas were asked for.
-    pub formulas: Vec<Cell<String>>,
+    /// Those with a formula, where formulas were asked for. Derived ones aren't written out.
+    pub formulas: Vec<Cell<CellFormula>>,
     /// The rows, the columns and the style ids of those whose id is above 0 and below the number of
     /// styles, where style ids were asked for.
     pub style_ids: Vec<(u32, u32, usize)>,
@@ -59,14 +61,14 @@ fn keep_value(
 
 /// Keeps the formula of a cell where it has one.
 fn keep_formula(
-    cells: &mut Vec<Cell<String>>,
+    cells: &mut Vec<Cell<CellFormula>>,
     pos: (u32, u32),
-    formula: String,
+    formula: CellFormula,
 ) -> Result<(), XlsxError>
     requires row { pos.0 < MAX_ROWS }
     requires column { pos.1 < MAX_COLUMNS }
     requires inside { All IsInSheet cells.old.items }
-    ensures formula { let found = used_formulas ((pos, string_bytes formula) ∷ []) in
+    ensures formula { let found = used_formulas ((pos, text_of_formula formula) ∷ []) in
         OnOk result
         (formula_entries cells.new.items ≡ formula_entries cells.old.items ++ found) }
     ensures inside { OnOk result (All IsInSheet cells.new.items) }
@@ -142,15 +144,15 @@ pub fn collect<P: Package>(
         formulas: Vec::new(alloc),
         style_ids: Vec::new(alloc),
     };
-    'cells: while let Some(found) = sheet.next_text(package, asked)? {
-        let CellText {
+    'cells: while let Some(found) = sheet.next_with_formula(package, asked)? {
+        let CellWithFormula {
             pos,
             value,
-            text,
+            formula,
             style_id,
         } = found;
         keep_value(&mut cells.values, pos, value)?;
-        keep_formula(&mut cells.formulas, pos, text)?;
+        keep_formula(&mut cells.formulas, pos, formula)?;
         keep_id(&mut cells.style_ids, pos, style_id, asked.style_count)?;
     }
     Ok(cells)

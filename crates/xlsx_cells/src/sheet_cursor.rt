@@ -17,9 +17,10 @@ ghost use Rattle.xlsx_cells.specs.Position.{NoCell};
 ghost use Rattle.xlsx_cells.specs.Stream.{stream, IsStreaming, StandsBehind, StandsTo, TakesEach};
 ghost use Rattle.xlsx_cells.specs.Stream.{IsRead, IsWritten, NextCellFails, RestsAtEnd};
 ghost use Rattle.xlsx_cells.specs.Stream.{LacksUnwanted, LacksUnwantedText};
+ghost use Rattle.xlsx_cells.specs.Stream.{seen_with_text, seen_with_formula};
 ghost use Rattle.xlsx_cells.specs.StyleSteps.{IsUnstyled, IsStyled, place_of, StyledFails};
 
-use crate::cell_read::{CellRead, CellText, read_cell};
+use crate::cell_read::{CellRead, CellText, CellWithFormula, read_cell};
 use crate::children::{Asked, Wants};
 use crate::counters::Counters;
 use crate::finding::find_cell;
@@ -136,13 +137,13 @@ impl SheetCursor {
         Ok(Some(read))
     }
 
-    /// Takes the next cell as `next` does, with the text of its formula: a derived one is moved
-    /// from its group's to the cell. The formulas of groups are kept for later cells.
-    pub fn next_text<P: Package>(
+    /// Takes the next cell as `next` does, with its formula: a derived one is that of its group,
+    /// moved to the cell, and isn't written out. The formulas of groups are kept for later cells.
+    pub fn next_with_formula<P: Package>(
         &mut self,
         package: &mut P,
         asked: Asked<'_>,
-    ) -> Result<Option<CellText>, XlsxError>
+    ) -> Result<Option<CellWithFormula>, XlsxError>
         requires { IsStreaming (stream (P.state «package».old) self.old) }
         ensures streaming { IsStreaming (stream (P.state «package».new) self.new) }
         ensures reads { let old = stream (P.state «package».old) self.old in
@@ -159,10 +160,10 @@ impl SheetCursor {
             let grounds = grounds_of asked.entry.book in
             old.reading.source.is_told ≡ true → (before : List Mark)
             (earlier : List FormulaText) → StandsBehind before earlier old →
-            IfOk result (λ found.
-            TakesEach NoCell (IsWritten wants grounds earlier) before earlier found old new) }
+            IfOk result (λ found. TakesEach NoCell
+            (λ own. IsWritten wants grounds earlier (seen_with_formula own)) before earlier found old new) }
         ensures unwanted { IfOk result (λ found.
-            IfSome found (LacksUnwantedText asked.entry.wants)) }
+            IfSome found (λ own. LacksUnwantedText asked.entry.wants (seen_with_formula own))) }
         ensures err { let old = stream (P.state «package».old) self.old in
             let new = stream (P.state «package».new) self.new in
             IfErr result
@@ -190,7 +191,63 @@ impl SheetCursor {
         } = read;
         self.failed = true;
         let alloc = self.cursor.alloc();
-        let text = self.masters.cell_formula(alloc, formula, pos)?;
+        let formula = self.masters.cell_formula(alloc, formula, pos)?;
+        self.failed = false;
+        Ok(Some(CellWithFormula {
+            pos,
+            value,
+            formula,
+            style_id,
+        }))
+    }
+
+    /// Takes the next cell as `next_with_formula` does, with the text of its formula.
+    pub fn next_text<P: Package>(
+        &mut self,
+        package: &mut P,
+        asked: Asked<'_>,
+    ) -> Result<Option<CellText>, XlsxError>
+        requires { IsStreaming (stream (P.state «package».old) self.old) }
+        ensures streaming { IsStreaming (stream (P.state «package».new) self.new) }
+        ensures reads { let old = stream (P.state «package».old) self.old in
+            let new = stream (P.state «package».new) self.new in
+            ReadsPart Io result old.reading new.reading }
+        ensures rests { RestsAtEnd (stream (P.state «package».old) self.old)
+            (stream (P.state «package».new) self.new) }
+        ensures stands { let old = stream (P.state «package».old) self.old in
+            let new = stream (P.state «package».new) self.new in
+            IfOk result (λ found. StandsTo (λ own. own.pos) found old new) }
+        ensures takes { let old = stream (P.state «package».old) self.old in
+            let new = stream (P.state «package».new) self.new in
+            let wants = asked.entry.wants in
+            let grounds = grounds_of asked.entry.book in
+            old.reading.source.is_told ≡ true → (before : List Mark)
+            (earlier : List FormulaText) → StandsBehind before earlier old →
+            IfOk result (λ found. TakesEach NoCell
+            (λ own. IsWritten wants grounds earlier (seen_with_text own)) before earlier found old new) }
+        ensures unwanted { IfOk result (λ found.
+            IfSome found (λ own. LacksUnwantedText asked.entry.wants (seen_with_text own))) }
+        ensures err { let old = stream (P.state «package».old) self.old in
+            let new = stream (P.state «package».new) self.new in
+            IfErr result
+            (NextCellFails asked.entry.wants (grounds_of asked.entry.book) old new.reading) }
+        ensures kind { IfErr result IsStreamError }
+        ensures plain { reads_children asked.entry.wants ≡ false →
+            IfErr result IsStyledStreamError }
+        ensures after { self.old.failed ≡ true → IsErrAnd result (λ error. error ≡ Failed) }
+        ensures failed { self.new.failed ≡ is_err result }
+    {
+        let Some(found) = self.next_with_formula(package, asked)? else {
+            return Ok(None);
+        };
+        let CellWithFormula {
+            pos,
+            value,
+            formula,
+            style_id,
+        } = found;
+        self.failed = true;
+        let text = formula.into_text(self.cursor.alloc())?;
         self.failed = false;
         Ok(Some(CellText {
             pos,

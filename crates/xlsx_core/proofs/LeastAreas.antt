@@ -81,7 +81,7 @@ module _ {X : Type 0} where
       ∙ least_end (reverse es) e
       ∙ ap (λ (area : Option Dimensions). Some (area_with e.0 area)) (least_reversed es)
 
-  least_last : (es : List ((ℕ × ℕ) × X)) → least_area (last_of_each es) ≡ least_area es
+  pub least_last : (es : List ((ℕ × ℕ) × X)) → least_area (last_of_each es) ≡ least_area es
   unfolding last_of_each
   least_last es = least_entries (reverse es) ∙ least_reversed es
 

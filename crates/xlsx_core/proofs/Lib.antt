@@ -7,6 +7,7 @@ pub mod RangesRead
 pub mod SheetLaws
 pub mod SheetsListed
 pub mod SheetsRead
+pub mod StandingRanges
 pub mod StylesMade
 pub mod TableRanges
 pub mod TablesListed

@@ -23,7 +23,7 @@ use Rattle.xlsx_core.specs.Worksheets.{IsRangeFrom, IsRangeOf}
 use Rattle.xlsx_core.proofs.LastOfEach.{last_mapped, mapped_cells}
 
 -- an area that begins in no row before this one
-abbrev begins_by : ℕ → Option Dimensions → Type 0
+abbrev pub begins_by : ℕ → Option Dimensions → Type 0
 begins_by row None = ⊤
 begins_by row (Some area) = (row ≤ area.start.0) × (area.start.0 ≤ area.end.0)
 
@@ -60,7 +60,7 @@ in_wider row area k begins inside =
     let (left, right) = and_both (nat_le area.start.1 k.1) (nat_le k.1 area.end.1) columns in
     grind (arith, nat_tests, top, bottom, left, right, begins)
 
-all_kept : {X : Type 0} (p : ℕ × ℕ → Bool) (cells : List ((ℕ × ℕ) × X))
+pub all_kept : {X : Type 0} (p : ℕ × ℕ → Bool) (cells : List ((ℕ × ℕ) × X))
     → list_all (λ cell. p cell.0) cells ≡ true → filter (λ cell. p cell.0) cells ≡ cells
 all_kept p [] is = refl
 all_kept p (e ∷ es) is =
@@ -75,7 +75,7 @@ module _ {X : Type 0} where
 
   -- ---- where the cells lie
 
-  placed_from : (row : ℕ) (cells : List (Cell X)) → placed_cells (cells_from row cells)
+  pub placed_from : (row : ℕ) (cells : List (Cell X)) → placed_cells (cells_from row cells)
       ≡ from_row row (placed_cells cells)
   placed_from row [] = refl
   placed_from row (cell ∷ cells) = placed_if (nat_le row cell.pos.0) (placed_from row cells)
@@ -110,42 +110,37 @@ module _ {X : Type 0} where
       kept true first rest = all_cons cell (cells_from row cells) first rest
       kept false first rest = rest
 
-  begins_from : (row : ℕ) (cells : List (Cell X))
-      → begins_by row (least_area (placed_cells (cells_from row cells)))
+  pub begins_from : (row : ℕ) (es : List ((ℕ × ℕ) × X))
+      → begins_by row (least_area (from_row row es))
   begins_from row [] = tt
-  begins_from row (cell ∷ cells) =
-      kept (nat_le row cell.pos.0) refl (begins_from row cells)
+  begins_from row (e ∷ es) = kept (nat_le row e.0.0) refl (begins_from row es)
     where
-      kept : (test : Bool) → nat_le row cell.pos.0 ≡ test
-          → begins_by row (least_area (placed_cells (cells_from row cells)))
-          → begins_by row (least_area (placed_cells
-          (cond test (cell ∷ cells_from row cells) (cells_from row cells))))
-      kept true first rest =
-          begins_with row cell.pos (least_area (placed_cells (cells_from row cells))) first rest
+      kept : (test : Bool) → nat_le row e.0.0 ≡ test
+          → begins_by row (least_area (from_row row es))
+          → begins_by row (least_area (cond test (e ∷ from_row row es) (from_row row es)))
+      kept true first rest = begins_with row e.0 (least_area (from_row row es)) first rest
       kept false first rest = rest
 
   -- ---- another first row
 
-  pub first_row : (row : ℕ) (cells items : List (Cell X)) (area : Dimensions)
-      (bounds : Option Dimensions) → items ≡ cells_from row cells
-      → bounds ≡ least_area (placed_cells items) → bounds ≡ Some area → row ≤ area.end.0
-  first_row row cells items area bounds there is own =
+  pub first_row : (row : ℕ) (es : List ((ℕ × ℕ) × X)) (area : Dimensions)
+      (bounds : Option Dimensions) → bounds ≡ least_area (from_row row es) → bounds ≡ Some area
+      → row ≤ area.end.0
+  first_row row es area bounds is own =
       let begins : begins_by row (Some area) =
-      subst (begins_by row)
-      (sym (ap (λ (all : List (Cell X)). least_area (placed_cells all)) there) ∙ sym is ∙ own)
-      (begins_from row cells) in
+      subst (begins_by row) (sym is ∙ own) (begins_from row es) in
       omega (arith, begins.0, begins.1)
 
   -- the wider area drops no cell
-  wider_keeps : (row : ℕ) (cells : List (Cell X)) (area : Dimensions)
-      → least_area (placed_cells (cells_from row cells)) ≡ Some area
+  wider_keeps : (row : ℕ) (es : List ((ℕ × ℕ) × X)) (area : Dimensions)
+      → least_area (from_row row es) ≡ Some area
       → filter (λ cell. is_in_area (record { start = (row, area.start.1); end = area.end }) cell.0)
-      (last_of_each (placed_cells (cells_from row cells)))
-      ≡ last_of_each (placed_cells (cells_from row cells))
-  wider_keeps row cells area is =
+      (last_of_each (from_row row es))
+      ≡ last_of_each (from_row row es)
+  wider_keeps row es area is =
       let begins : begins_by row (Some area) =
-      subst (begins_by row) is (begins_from row cells) in
-      let placed = placed_cells (cells_from row cells) in
+      subst (begins_by row) is (begins_from row es) in
+      let placed = from_row row es in
       let inside : lie_inside (Some area) (last_of_each placed) ≡ true =
       subst (λ (bounds : Option Dimensions). lie_inside bounds (last_of_each placed) ≡ true) is
       (last_inside placed) in
@@ -157,59 +152,45 @@ module _ {X : Type 0} where
 
   -- ---- the range
 
-  pub whole_ranges : (cells : List (Cell X)) (blank : X) (made : Result (Range X) AllocError)
-      → IfOk made (λ range. cells_of range ≡ last_of_each (placed_cells cells))
-      → IfOk made (λ range. bounds_of range ≡ least_area (placed_cells cells))
-      → IfOk made (λ range. blank_of range ≡ blank)
-      → IfOk made (IsRangeFrom FirstNonEmptyRow (placed_cells cells) blank)
-  whole_ranges cells blank (Ok range) kept bounds same =
-      record { cells = kept; bounds = bounds; blank = same }
-  whole_ranges cells blank (Err error) kept bounds same = tt
+  -- that of all cells, in their least area
+  pub whole_range : (placed all : List ((ℕ × ℕ) × X)) (blank : X) (range : Range X)
+      → cells_of range ≡ last_of_each placed → bounds_of range ≡ least_area placed
+      → blank_of range ≡ blank → placed ≡ all → IsRangeFrom FirstNonEmptyRow all blank range
+  whole_range placed all blank range kept bounds same are = record {
+    cells = kept ∙ ap last_of_each are;
+    bounds = bounds ∙ ap least_area are;
+    blank = same;
+  }
 
   -- what has no cell from the row on
-  pub empty_from : (row : ℕ) (cells items : List (Cell X)) (blank : X) (range : Range X)
-      → items ≡ cells_from row cells → cells_of range ≡ last_of_each (placed_cells items)
-      → bounds_of range ≡ least_area (placed_cells items) → blank_of range ≡ blank
-      → bounds_of range ≡ None → IsRangeFrom (Row row) (placed_cells cells) blank range
-  empty_from row cells items blank range there kept bounds same none =
-      let all : placed_cells items ≡ from_row row (placed_cells cells) =
-      ap placed_cells there ∙ placed_from row cells in
-      let least : least_area (from_row row (placed_cells cells)) ≡ None =
-      sym (ap least_area all) ∙ sym bounds ∙ none in
+  pub empty_from : (row : ℕ) (es : List ((ℕ × ℕ) × X)) (blank : X) (range : Range X)
+      → IsRangeFrom FirstNonEmptyRow (from_row row es) blank range → bounds_of range ≡ None
+      → IsRangeFrom (Row row) es blank range
+  empty_from row es blank range is none =
+      let least : least_area (from_row row es) ≡ None = sym is.bounds ∙ none in
       record {
-        cells = kept ∙ ap last_of_each all;
+        cells = is.cells;
         bounds = none ∙ sym (ap (area_from row) least);
-        blank = same;
+        blank = is.blank;
       }
 
   -- the cells from the row on, in the area that begins with it
-  pub range_from : (row : ℕ) (cells items : List (Cell X)) (blank : X) (area : Dimensions)
-      (narrow range : Range X) → items ≡ cells_from row cells
-      → cells_of narrow ≡ last_of_each (placed_cells items)
-      → bounds_of narrow ≡ least_area (placed_cells items)
-      → blank_of narrow ≡ blank → bounds_of narrow ≡ Some area
+  pub range_from : (row : ℕ) (es : List ((ℕ × ℕ) × X)) (blank : X) (area : Dimensions)
+      (narrow range : Range X) → IsRangeFrom FirstNonEmptyRow (from_row row es) blank narrow
+      → bounds_of narrow ≡ Some area
       → cells_of range ≡ filter
       (λ cell. is_in_area (record { start = (row, area.start.1); end = area.end }) cell.0)
       (cells_of narrow)
       → bounds_of range ≡ Some (record { start = (row, area.start.1); end = area.end })
-      → blank_of range ≡ blank_of narrow → IsRangeFrom (Row row) (placed_cells cells) blank range
-  range_from row cells items blank area narrow range there kept bounds first own filtered wide
-      same =
+      → blank_of range ≡ blank_of narrow → IsRangeFrom (Row row) es blank range
+  range_from row es blank area narrow range is own filtered wide same =
       let wider : Dimensions = record { start = (row, area.start.1); end = area.end } in
-      let all : placed_cells items ≡ from_row row (placed_cells cells) =
-      ap placed_cells there ∙ placed_from row cells in
-      let found : least_area (placed_cells (cells_from row cells)) ≡ Some area =
-      sym (ap (λ (own : List (Cell X)). least_area (placed_cells own)) there)
-      ∙ sym bounds ∙ own in
-      let least : least_area (from_row row (placed_cells cells)) ≡ Some area =
-      sym (ap least_area all) ∙ sym bounds ∙ own in
+      let least : least_area (from_row row es) ≡ Some area = sym is.bounds ∙ own in
       record {
-        cells = filtered
-            ∙ ap (filter (λ cell. is_in_area wider cell.0))
-            (kept ∙ ap (λ (own : List (Cell X)). last_of_each (placed_cells own)) there)
-            ∙ wider_keeps row cells area found ∙ ap last_of_each (placed_from row cells);
+        cells = filtered ∙ ap (filter (λ cell. is_in_area wider cell.0)) is.cells
+            ∙ wider_keeps row es area least;
         bounds = wide ∙ sym (ap (area_from row) least);
-        blank = same ∙ first;
+        blank = same ∙ is.blank;
       }
 
 -- ---- what is meant by cells

@@ -147,6 +147,12 @@ data_entry own = (own.pos, value_of_data own.val)
 abbrev pub data_entries : List (Cell Data) → List ((ℕ × ℕ) × CellValue)
 data_entries cells = map data_entry cells
 
+abbrev pub text_entry : Cell (String Global) → (ℕ × ℕ) × List ℕ
+text_entry own = (own.pos, string_bytes own.val)
+
+abbrev pub text_entries : List (Cell (String Global)) → List ((ℕ × ℕ) × List ℕ)
+text_entries cells = map text_entry cells
+
 -- what stands in a row from this one on
 abbrev pub from_row : {X : Type 0} → ℕ → List ((ℕ × ℕ) × X) → List ((ℕ × ℕ) × X)
 from_row row cells = filter (λ cell. nat_le row cell.0.0) cells

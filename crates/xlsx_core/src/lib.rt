@@ -10,6 +10,7 @@ mod placed_sheet;
 mod properties;
 mod ranges;
 mod sheet_reading;
+mod standing;
 mod table_data;
 mod table_list;
 mod worksheet_list;

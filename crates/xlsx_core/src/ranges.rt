@@ -5,13 +5,15 @@ ghost use Rattle.cell_styles.specs.StyleMap.{StyledCell, IsOnSheet, is_explicit,
 ghost use Rattle.xlsx_cells.specs.Sheet.{with_texts};
 ghost use Rattle.xlsx_cells.specs.SheetPart.{value_entries, formula_entries, LieInSheet};
 ghost use Rattle.xlsx_core.specs.Worksheets.{IsRangeFrom, IsValueRange, IsPlaceRange};
-ghost use Rattle.xlsx_core.specs.Worksheets.{IsFormulaRange, data_entries};
+ghost use Rattle.xlsx_core.specs.Worksheets.{IsFormulaRange, data_entries, text_entries};
 
 use crate::sheet_reading::SheetReading;
+use crate::standing::{below_header, last_below};
 use cell_data::{Cell, Data, DataRef, HeaderRow, Range};
 use cell_styles::{Style, StyleRange, copied_palette};
 use std::alloc::{AllocError, Global};
 use xlsx_cells::SheetCells;
+use xlsx_formulas::CellFormula;
 use xlsx_values::to_data;
 
 /// The range of the cells from the header row on, which begins with that row where it has a cell.
@@ -24,12 +26,11 @@ fn range_below<T: Drop>(
     requires { All IsInSheet cells.items }
     ensures { IfOk result (IsRangeFrom header_row (placed_cells cells.items) blank) }
 {
-    let HeaderRow::Row(first) = header_row else {
-        return Range::from_sparse(alloc, cells, blank);
-    };
-    let mut cells = cells;
-    cells.retain(|cell| first <= cell.pos.0);
+    let cells = below_header(cells, header_row);
     let range = Range::from_sparse(alloc, cells, blank)?;
+    let HeaderRow::Row(first) = header_row else {
+        return Ok(range);
+    };
     let Some(start) = range.start() else {
         return Ok(range);
     };
@@ -57,7 +58,8 @@ fn with_texts(
     Ok(own)
 }
 
-/// The range of the values from the header row on, with the texts of shared strings.
+/// The range of the values from the header row on, with the texts of shared strings. The text of a
+/// value in whose place a later one stands isn't copied.
 pub fn value_range(
     alloc: Global,
     cells: Vec<Cell<DataRef>>,
@@ -68,7 +70,8 @@ pub fn value_range(
     ensures { IfOk result (IsValueRange header_row
         (with_texts (map string_bytes strings.now) (value_entries cells.items))) }
 {
-    let own = with_texts(alloc, cells, strings)?;
+    let kept = last_below(alloc, cells, header_row)?;
+    let own = with_texts(alloc, kept, strings)?;
     range_below(alloc, own, header_row, Data::Empty)
 }
 
@@ -84,17 +87,33 @@ pub fn place_range(
     range_below(alloc, cells, header_row, DataRef::Empty)
 }
 
-/// The range of the formulas.
-pub fn formula_range(alloc: Global, cells: Vec<Cell<String>>) -> Result<Range<String>, AllocError>
+/// The cells with the texts of their formulas.
+fn written_out(
+    alloc: Global,
+    cells: Vec<Cell<CellFormula>>,
+) -> Result<Vec<Cell<String>>, AllocError>
+    requires { All IsInSheet cells.items }
+    ensures texts { IfOk result (λ own. text_entries own.items ≡ formula_entries cells.items) }
+    ensures inside { IfOk result (λ own. All IsInSheet own.items) }
+{
+    let mut own = Vec::with_capacity(alloc, cells.len())?;
+    'cells: for cell in cells {
+        own.push(Cell::new(cell.pos, cell.val.into_text(alloc)?))?;
+    }
+    Ok(own)
+}
+
+/// The range of the formulas. One in whose place a later one stands isn't written out.
+pub fn formula_range(
+    alloc: Global,
+    cells: Vec<Cell<CellFormula>>,
+) -> Result<Range<String>, AllocError>
     requires { All IsInSheet cells.items }
     ensures { IfOk result (IsFormulaRange (formula_entries cells.items)) }
 {
-    range_below(
-        alloc,
-        cells,
-        HeaderRow::FirstNonEmptyRow,
-        String::new(alloc),
-    )
+    let kept = last_below(alloc, cells, HeaderRow::FirstNonEmptyRow)?;
+    let own = written_out(alloc, kept)?;
+    range_below(alloc, own, HeaderRow::FirstNonEmptyRow, String::new(alloc))
 }
 
 /// The styles of the entries, each a row, a column and a style id, over these styles. Entries that

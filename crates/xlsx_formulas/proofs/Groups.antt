@@ -1,31 +1,36 @@
 -- What is kept of groups is kept of some formulas.
-use Rattle.std.proofs.Common.{◌≡◌, ℕ, List, [], ◌∷◌, Bool, true, false, refl, ◌∙◌, arith}
+use Rattle.std.proofs.Common.{◌≡◌, ℕ, List, [], ◌∷◌, Bool, true, false, refl, ◌∙◌, arith, Global}
 use Rattle.std.specs.Prelude.{map, cond, ◌==◌, if◌then◌else◌, Option, Some, None, option_map}
 use Rattle.std.specs.BTreeMap.{is_at}
 use Rattle.std.specs.Map.{lookup}
 use Rattle.std.specs.Ordering.{nat_cmp}
+use Rattle.std.specs.Rc.{rc_value}
+use Rattle.std.specs.declared.rc.Rc.{Rc}
 use Rattle.xlsx_formulas.specs.Formula.{FormulaText, master, master_of, or_further}
 use Rattle.xlsx_formulas.specs.Kept.{AreMasters, group_seen}
 use Rattle.xlsx_formulas.specs.declared.masters.Masters.{Masters}
 use Rattle.xlsx_formulas.specs.declared.masters.Master as kept
 
 -- a formula of which a group is kept so
-group_formula : ℕ × kept.Master → FormulaText
-group_formula entry = record {
-  sharing = master entry.0 (record { start = entry.1.corner; end = entry.1.corner });
-  text = entry.1.formula;
-}
+group_formula : ℕ × Rc kept.Master Global → FormulaText
+group_formula entry =
+    let own = rc_value entry.1 in
+    record {
+      sharing = master entry.0 (record { start = own.corner; end = own.corner });
+      text = own.formula;
+    }
 
 same_test : (index own : ℕ) → is_at (nat_cmp index) own ≡ (own == index)
 same_test index own = grind arith
 
-first_or_further : (b : Bool) (found : kept.Master) (further : Option kept.Master)
+first_or_further : (b : Bool) (found : Rc kept.Master Global)
+    (further : Option (Rc kept.Master Global))
     → option_map group_seen (cond b (Some found) further)
     ≡ or_further (if b then Some (group_seen found) else None) (option_map group_seen further)
 first_or_further true found further = refl
 first_or_further false found further = refl
 
-groups_of : (index : ℕ) (entries : List (ℕ × kept.Master))
+groups_of : (index : ℕ) (entries : List (ℕ × Rc kept.Master Global))
     → option_map group_seen (lookup (is_at (nat_cmp index)) entries)
     ≡ master_of index (map group_formula entries)
 unfolding group_formula

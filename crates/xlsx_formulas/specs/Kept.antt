@@ -1,9 +1,14 @@
 -- What is kept of formulas, apart from where their texts lie in memory.
-use Rattle.std.specs.Prelude.{◌≡◌, ℕ, List, Option, option_map, string_bytes}
+use Rattle.std.specs.Prelude.{◌≡◌, ℕ, List, Option, Some, option_map, string_bytes}
 use Rattle.std.specs.BTreeMap.{get}
 use Rattle.std.specs.Ordering.{nat_cmp}
+use Rattle.std.specs.Rc.{rc_value}
+use Rattle.std.specs.declared.alloc.Global.{Global}
+use Rattle.std.specs.declared.rc.Rc.{Rc}
 use Rattle.xlsx_formulas.specs.Formula.{Sharing, own, master, derived, FormulaText, GroupFormula}
-use Rattle.xlsx_formulas.specs.Formula.{master_of}
+use Rattle.xlsx_formulas.specs.Formula.{master_of, moved_to}
+use Rattle.xlsx_formulas.specs.declared.cell_formula.CellFormula.{CellFormula}
+use Rattle.xlsx_formulas.specs.declared.cell_formula.CellFormula.TheVariants as cells
 use Rattle.xlsx_formulas.specs.declared.formula.Share.{Share}
 use Rattle.xlsx_formulas.specs.declared.formula.Share.TheVariants.{Own, Master, Derived}
 use Rattle.xlsx_formulas.specs.declared.formula.Formula.{Formula}
@@ -25,8 +30,9 @@ formula_seen formula = record {
 abbrev pub last_seen : Option Formula → Option FormulaText
 last_seen last = option_map formula_seen last
 
-abbrev pub group_seen : kept.Master → GroupFormula
-group_seen found = record { text = found.formula; corner = found.corner }
+-- the formula of a group, which those that are derived from it share
+abbrev pub group_seen : Rc kept.Master Global → GroupFormula
+group_seen found = record { text = (rc_value found).formula; corner = (rc_value found).corner }
 
 -- the formula that is kept of the group of an index
 abbrev pub masters_in : Masters → ℕ → Option GroupFormula
@@ -35,3 +41,8 @@ masters_in masters index = option_map group_seen (get nat_cmp masters.groups ind
 -- the formulas that are kept are those of the last masters among these
 abbrev pub AreMasters : List FormulaText → Masters → Type 0
 AreMasters earlier masters = (index : ℕ) → masters_in masters index ≡ master_of index earlier
+
+-- the text of a cell's formula: a derived one is that of its group, as it stands at the position
+abbrev pub text_of_formula : CellFormula → List ℕ
+text_of_formula (cells.Text text) = string_bytes text
+text_of_formula (cells.Derived found position) = moved_to position (Some (group_seen found))

@@ -2,12 +2,14 @@
 //! section 18.3.1.40).
 #![tactic(auto)]
 
+mod cell_formula;
 mod equality;
 mod formula;
 mod masters;
 mod metadata;
 
+pub use cell_formula::CellFormula;
 pub use equality::equality_is_by_all_fields;
 pub use formula::{Formula, Share, read_formula, share_of};
-pub use masters::Masters;
+pub use masters::{Master, Masters};
 pub use metadata::{XlsxFormulaMetadata, metadata_of};

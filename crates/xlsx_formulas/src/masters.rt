@@ -1,24 +1,26 @@
-ghost use Rattle.std.specs.Prelude.{◌≡◌, [], ◌∷◌, List, string_bytes, IfOk, OnOk, OnErr};
+ghost use Rattle.std.specs.Prelude.{◌≡◌, [], ◌∷◌, List, IfOk, OnOk, OnErr};
 ghost use Rattle.xlsx_formulas.specs.Formula.{FormulaText, formula_of_last};
-ghost use Rattle.xlsx_formulas.specs.Kept.{formula_seen, last_seen, AreMasters};
+ghost use Rattle.xlsx_formulas.specs.Kept.{formula_seen, last_seen, AreMasters, text_of_formula};
 
+use crate::cell_formula::CellFormula;
 use crate::formula::{Formula, Share};
 use formula_shift::CutFormula;
 use std::alloc::{AllocError, Global};
 use std::collections::BTreeMap;
+use std::rc::Rc;
 
 /// The formula of a group, and the first written corner of the group's area.
 #[derive(Debug, Drop)]
-struct Master {
-    formula: CutFormula,
-    corner: (u32, u32),
+pub struct Master {
+    pub(crate) formula: CutFormula,
+    pub(crate) corner: (u32, u32),
 }
 
 /// The formulas of the groups of a sheet, by their indices: of each group the last one that was
 /// written.
 #[derive(Debug, Drop)]
 pub struct Masters {
-    groups: BTreeMap<u64, Master>,
+    groups: BTreeMap<u64, Rc<Master>>,
 }
 
 impl Masters {
@@ -45,38 +47,40 @@ impl Masters {
         let Share::Master { index, area } = formula.share else {
             return Ok(());
         };
-        let formula = CutFormula::new(*formula.text.allocator(), &formula.text)?;
+        let alloc = *formula.text.allocator();
+        let formula = CutFormula::new(alloc, &formula.text)?;
         let corner = area.start;
-        self.groups.insert(index, Master { formula, corner })?;
+        let master = Rc::new(alloc, Master { formula, corner })?;
+        self.groups.insert(index, master)?;
         Ok(())
     }
 
     /// The formula of the cell at `position`, a row and a column counted from 0, by its last `f`,
     /// and empty without one. A formula that is derived from that of a group is moved by the way
     /// from the first written corner of the group's area to the cell; where no such group is kept,
-    /// it is empty.
+    /// it is empty. It takes no memory.
     pub fn cell_formula(
         &self,
         alloc: Global,
         last: Option<Formula>,
         position: (u32, u32),
-    ) -> Result<String, AllocError>
-        ensures { IfOk result (λ text. (earlier : List FormulaText) →
+    ) -> Result<CellFormula, AllocError>
+        ensures { IfOk result (λ found. (earlier : List FormulaText) →
             AreMasters earlier self.now →
-            string_bytes text ≡ formula_of_last earlier position (last_seen last)) }
+            text_of_formula found ≡ formula_of_last earlier position (last_seen last)) }
     {
         let Some(formula) = last else {
-            return Ok(String::new(alloc));
+            return Ok(CellFormula::Text(String::new(alloc)));
         };
         let Share::Derived { index } = formula.share else {
-            return Ok(formula.text);
+            return Ok(CellFormula::Text(formula.text));
         };
-        let mut text = String::new(alloc);
-        if let Some(master) = self.groups.get(&index) {
-            master
-                .formula
-                .expand_into(master.corner, position, &mut text)?;
-        }
-        Ok(text)
+        let Some(master) = self.groups.get(&index) else {
+            return Ok(CellFormula::Text(String::new(alloc)));
+        };
+        Ok(CellFormula::Derived {
+            master: master.clone()?,
+            position,
+        })
     }
 }

@@ -8,6 +8,7 @@ use Rattle.xlsx_cells.specs.Position.{NoCell}
 use Rattle.xlsx_cells.specs.SheetPart.{value_entries, formula_entries}
 use Rattle.xlsx_cells.specs.Stream.{stream, PassesCell, EndsData, TakesCell, IsWritten}
 use Rattle.xlsx_cells.specs.Stream.{IsCellRefused, marks_ahead, LacksUnwantedText}
+use Rattle.xlsx_cells.specs.Stream.{seen_with_formula}
 use Rattle.xlsx_cells.proofs.Collecting.{collected_further, values_whole, formulas_whole, ids_whole}
 use Rattle.xlsx_cells.proofs.Collecting.{taken_is_mark, keeps_on, step_refused, unwanted_further}
 use Rattle.xlsx_cells.proofs.Collecting.{step_error, styled_error}
@@ -17,7 +18,7 @@ pub returns-in_err-found-clause-err : goal.returns-in_err-found-clause-err
 returns-in_err-found-clause-err g c =
     let old = stream (g.P.Package.state c.args.package.now) c.args.sheet.now in
     let mid = stream (g.P.Package.state c.cells.package) c.cells.sheet in
-    let new = stream (g.P.Package.state c.next_text.new.package) c.next_text.new.self in
+    let new = stream (g.P.Package.state c.next_with_formula.new.package) c.next_with_formula.new.self in
     let wants = c.args.asked.wants in
     let grounds = grounds_of c.args.asked.book in
     let now = c.cells.invariant in
@@ -34,11 +35,11 @@ pub cells-preserved : goal.cells-preserved
 cells-preserved g c =
     let old = stream (g.P.Package.state c.args.package.now) c.args.sheet.now in
     let mid = stream (g.P.Package.state c.cells.package) c.cells.sheet in
-    let new = stream (g.P.Package.state c.next_text.new.package) c.next_text.new.self in
+    let new = stream (g.P.Package.state c.next_with_formula.new.package) c.next_with_formula.new.self in
     let wants = c.args.asked.wants in
     let grounds = grounds_of c.args.asked.book in
     let now = c.cells.invariant in
-    let read = c.in-Some.found in
+    let read = seen_with_formula c.in-Some.found in
     let stands : PassesCell read.pos mid new = rw c.in-Some.is at c.in_ok-found.ensures.stands in
     record {
       base = stands.base ∙ now.base;
@@ -79,7 +80,7 @@ returns-clause-closed g c = λ told.
     let mid = stream (g.P.Package.state c.cells.package) c.cells.sheet in
     let now = c.cells.invariant in
     let been = now.collected told in
-    let new = stream (g.P.Package.state c.next_text.new.package) c.next_text.new.self in
+    let new = stream (g.P.Package.state c.next_with_formula.new.package) c.next_with_formula.new.self in
     let ends : EndsData NoCell been.before mid new = rw c.in_default.is at
     (c.in_ok-found.ensures.takes (now.keeps.section.reads.moves.parts.is_told ∙ told) been.before
     been.earlier been.stands) now.going.done in
@@ -94,7 +95,7 @@ returns-clause-values g c = λ told wanted.
     let grounds = grounds_of c.args.asked.book in
     let now = c.cells.invariant in
     let been = now.collected told in
-    let new = stream (g.P.Package.state c.next_text.new.package) c.next_text.new.self in
+    let new = stream (g.P.Package.state c.next_with_formula.new.package) c.next_with_formula.new.self in
     let ends : EndsData NoCell been.before mid new = rw c.in_default.is at
     (c.in_ok-found.ensures.takes (now.keeps.section.reads.moves.parts.is_told ∙ told) been.before
     been.earlier been.stands) now.going.done in
@@ -110,7 +111,7 @@ returns-clause-formulas g c = λ told wanted.
     let grounds = grounds_of c.args.asked.book in
     let now = c.cells.invariant in
     let been = now.collected told in
-    let new = stream (g.P.Package.state c.next_text.new.package) c.next_text.new.self in
+    let new = stream (g.P.Package.state c.next_with_formula.new.package) c.next_with_formula.new.self in
     let ends : EndsData NoCell been.before mid new = rw c.in_default.is at
     (c.in_ok-found.ensures.takes (now.keeps.section.reads.moves.parts.is_told ∙ told) been.before
     been.earlier been.stands) now.going.done in
@@ -126,7 +127,7 @@ returns-clause-styles g c = λ told wanted.
     let grounds = grounds_of c.args.asked.book in
     let now = c.cells.invariant in
     let been = now.collected told in
-    let new = stream (g.P.Package.state c.next_text.new.package) c.next_text.new.self in
+    let new = stream (g.P.Package.state c.next_with_formula.new.package) c.next_with_formula.new.self in
     let ends : EndsData NoCell been.before mid new = rw c.in_default.is at
     (c.in_ok-found.ensures.takes (now.keeps.section.reads.moves.parts.is_told ∙ told) been.before
     been.earlier been.stands) now.going.done in
@@ -137,7 +138,7 @@ returns-clause-styles g c = λ told wanted.
 pub returns-in_err-found-clause-kind : goal.returns-in_err-found-clause-kind
 returns-in_err-found-clause-kind g c =
     let mid = stream (g.P.Package.state c.cells.package) c.cells.sheet in
-    let new = stream (g.P.Package.state c.next_text.new.package) c.next_text.new.self in
+    let new = stream (g.P.Package.state c.next_with_formula.new.package) c.next_with_formula.new.self in
     let p = err_from_is_err_and c.from_residual.result c.from_residual.ensures.1 in
     rw (p.1, p.2) (step_error c.args.asked.wants (grounds_of c.args.asked.book) mid new
     c.in_err-found.field-0.0 c.cells.invariant.going c.in_err-found.ensures.err
@@ -146,7 +147,7 @@ returns-in_err-found-clause-kind g c =
 pub returns-in_err-found-clause-plain : goal.returns-in_err-found-clause-plain
 returns-in_err-found-clause-plain g c = λ skips.
     let mid = stream (g.P.Package.state c.cells.package) c.cells.sheet in
-    let new = stream (g.P.Package.state c.next_text.new.package) c.next_text.new.self in
+    let new = stream (g.P.Package.state c.next_with_formula.new.package) c.next_with_formula.new.self in
     let p = err_from_is_err_and c.from_residual.result c.from_residual.ensures.1 in
     rw (p.1, p.2) (styled_error c.args.asked.wants (grounds_of c.args.asked.book) mid new
     c.in_err-found.field-0.0 c.cells.invariant.going c.in_err-found.ensures.err

@@ -1,56 +1,51 @@
-use Rattle.std.proofs.Common.{rules, ◌≡◌, sym, ◌∙◌, subst}
-use Rattle.std.specs.Prelude.{All}
-use Rattle.std.proofs.lemmas.Fn.{filter_same}
+use Rattle.std.proofs.Common.{sym, ◌∙◌}
+use Rattle.cell_data.specs.Cells.{placed_cells}
 use Rattle.cell_refs.specs.declared.dimensions.Dimensions.{Dimensions}
-use Rattle.cell_data.specs.Cells.{IsInSheet}
-use Rattle.xlsx_core.proofs.RangesMade.{cells_from, sheet_from, whole_ranges, first_row, bounds_by}
-use Rattle.xlsx_core.proofs.RangesMade.{no_bounds, empty_from, range_from}
+use Rattle.xlsx_core.proofs.RangesMade.{whole_range, first_row, bounds_by, no_bounds, empty_from}
+use Rattle.xlsx_core.proofs.RangesMade.{range_from}
 use Rattle.xlsx_core.proofs.ranges.range_below.Goals as goal
-
-pub from_sparse-requires-2 : goal.from_sparse-requires-2
-from_sparse-requires-2 g c =
-    let kept : c.retain.new.self.items ≡ cells_from c.in-Row.first c.args.cells.items =
-    filter_same _ _ _ (λ x b f called. search rules) _ _ c.retain.ensures.filtered in
-    subst (All IsInSheet) (sym kept) (sheet_from c.in-Row.first c.args.cells.items c.requires)
 
 pub returns-in_default : goal.returns-in_default
 returns-in_default g c =
+    let narrow = c.in_ok-range in
+    let below = rw c.in_default.is at c.below_header-cells.ensures.cells in
     rw c.in_default.is
-    (whole_ranges c.args.cells.items c.args.blank c.from_sparse.result
-    c.from_sparse.ensures.cells c.from_sparse.ensures.bounds c.from_sparse.ensures.blank)
+    (whole_range (placed_cells c.below_header-cells.result.items) (placed_cells c.args.cells.items)
+    c.args.blank narrow.range narrow.ensures.cells narrow.ensures.bounds narrow.ensures.blank below)
 
 pub range-requires-clause-rows : goal.range-requires-clause-rows
 range-requires-clause-rows g c =
-    let kept : c.retain.new.self.items ≡ cells_from c.in-Row.first c.args.cells.items =
-    filter_same _ _ _ (λ x b f called. search rules) _ _ c.retain.ensures.filtered in
     let narrow = c.in_ok-range in
-    first_row c.in-Row.first c.args.cells.items c.retain.new.self.items
-    (record { start = c.in-Some.start; end = c.in-Some-end.end }) narrow.range.bounds kept
-    narrow.ensures.bounds
+    let below = rw c.in-Row.is at c.below_header-cells.ensures.cells in
+    let is =
+    whole_range (placed_cells c.below_header-cells.result.items) _ c.args.blank narrow.range
+    narrow.ensures.cells narrow.ensures.bounds narrow.ensures.blank below in
+    first_row c.in-Row.first (placed_cells c.args.cells.items)
+    (record { start = c.in-Some.start; end = c.in-Some-end.end }) narrow.range.bounds is.bounds
     (bounds_by narrow.range.bounds c.in-Some.start c.in-Some-end.end
     (sym c.in-Some.is ∙ c.start.ensures) (sym c.in-Some-end.is ∙ c.end.ensures))
 
 pub returns-in_default-start : goal.returns-in_default-start
 returns-in_default-start g c =
-    let kept : c.retain.new.self.items ≡ cells_from c.in-Row.first c.args.cells.items =
-    filter_same _ _ _ (λ x b f called. search rules) _ _ c.retain.ensures.filtered in
     let narrow = c.in_ok-range in
+    let below = rw c.in-Row.is at c.below_header-cells.ensures.cells in
     rw c.in-Row.is
-    (empty_from c.in-Row.first c.args.cells.items c.retain.new.self.items c.args.blank
-    narrow.range kept narrow.ensures.cells narrow.ensures.bounds narrow.ensures.blank
+    (empty_from c.in-Row.first (placed_cells c.args.cells.items) c.args.blank narrow.range
+    (whole_range (placed_cells c.below_header-cells.result.items) _ c.args.blank narrow.range
+    narrow.ensures.cells narrow.ensures.bounds narrow.ensures.blank below)
     (no_bounds narrow.range.bounds (λ (area : Dimensions). area.start)
     (sym c.in_default-start.is ∙ c.start.ensures)))
 
 pub returns : goal.returns
 returns g c =
-    let kept : c.retain.new.self.items ≡ cells_from c.in-Row.first c.args.cells.items =
-    filter_same _ _ _ (λ x b f called. search rules) _ _ c.retain.ensures.filtered in
     let narrow = c.in_ok-range in
+    let below = rw c.in-Row.is at c.below_header-cells.ensures.cells in
     let area : Dimensions = record { start = c.in-Some.start; end = c.in-Some-end.end } in
     rw c.in-Row.is
-    (range_from c.in-Row.first c.args.cells.items c.retain.new.self.items c.args.blank area
-    narrow.range c.range.result kept narrow.ensures.cells narrow.ensures.bounds
-    narrow.ensures.blank
+    (range_from c.in-Row.first (placed_cells c.args.cells.items) c.args.blank area narrow.range
+    c.range.result
+    (whole_range (placed_cells c.below_header-cells.result.items) _ c.args.blank narrow.range
+    narrow.ensures.cells narrow.ensures.bounds narrow.ensures.blank below)
     (bounds_by narrow.range.bounds c.in-Some.start c.in-Some-end.end
     (sym c.in-Some.is ∙ c.start.ensures) (sym c.in-Some-end.is ∙ c.end.ensures))
     c.range.ensures.cells c.range.ensures.bounds c.range.ensures.blank)
