@@ -10,3 +10,4 @@ pub mod SheetsRead
 pub mod StylesMade
 pub mod TableRanges
 pub mod TablesListed
+pub mod TakenOnce
