@@ -11,3 +11,4 @@ pub mod StandingRanges
 pub mod StylesMade
 pub mod TableRanges
 pub mod TablesListed
+pub mod TakenOnce

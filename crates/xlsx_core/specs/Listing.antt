@@ -1,6 +1,7 @@
 -- The worksheets of an open workbook, listed.
 use Rattle.std.specs.Prelude.{◌≡◌, ◌⊎◌, ◌++◌, ℕ, List, [], ◌∷◌, Bool, true, false, Option, String}
 use Rattle.std.specs.Prelude.{string_bytes}
+use Rattle.std.specs.List.{sum_by}
 use Rattle.std.specs.declared.alloc.Global.{Global}
 use Rattle.part_events.specs.Package.{Part}
 use Rattle.cell_data.specs.declared.range.Range.{Range}
@@ -11,6 +12,7 @@ use Rattle.xlsx_error.specs.declared.error.XlsxError.TheVariants.{OutOfMemory, I
 use Rattle.xlsx_values.specs.Value.{Grounds}
 use Rattle.xlsx_cells.specs.CellsReader.{values_alone}
 use Rattle.xlsx_workbook.specs.declared.sheet.Sheet.{Sheet}
+use Rattle.xlsx_core.specs.SheetReading.{placed_events}
 use Rattle.xlsx_core.specs.Worksheets.{ReadsValues, RangeCause}
 
 -- a sheet's name, and the range of values of the first sheet of this name; `place` tells where the
@@ -37,6 +39,11 @@ AreListed grounds header place parts (sheet ∷ sheets) listed =
     ⊎ ((first : String Global × Range Data) × (others : List (String Global × Range Data))
     × (listed ≡ first ∷ others) × IsListedAs grounds header place parts sheet first
     × AreListed grounds header place parts sheets others)
+
+-- how many events their reading may take: those of the part of each, by the first sheet of its name
+abbrev pub listed_events : (List ℕ → Option (List ℕ)) → List Part → List Sheet → ℕ
+listed_events place parts sheets =
+    sum_by (λ (sheet : Sheet). placed_events (place (string_bytes sheet.name)) parts) sheets
 
 -- nothing is listed where a range is refused so
 abbrev pub ends_listing : XlsxError → Bool

@@ -1,7 +1,7 @@
 -- The reading of one sheet of a workbook that opens.
 use Rattle.std.specs.Prelude.{◌≡◌, ◌⊎◌, ℕ, List, [], ◌∷◌, true, if◌then◌else◌, Option, Some}
 use Rattle.std.specs.Prelude.{None, Bool, map, length, option_and_then, string_bytes, IsSomeAnd}
-use Rattle.std.specs.Prelude.{String}
+use Rattle.std.specs.Prelude.{String, ◌+◌, ◌≤◌}
 use Rattle.std.specs.Option.{option_map_or}
 use Rattle.std.specs.Str.{bytes_eq}
 use Rattle.std.specs.declared.alloc.Global.{Global}
@@ -28,7 +28,7 @@ use Rattle.xlsx_cells.specs.Sheet.{used_values, with_texts, used_formulas, formu
 use Rattle.xlsx_cells.specs.SheetPart.{SheetPartCause, IsSoundSheet}
 use Rattle.xlsx_cells.specs.declared.children.Wants.{Wants}
 use Rattle.xlsx_workbook.specs.Sheets.{PlacedSheet}
-use Rattle.xlsx_open.specs.Opening.{Opening, OpensAs, IsOpeningError, OpeningCause}
+use Rattle.xlsx_open.specs.Opening.{Opening, OpensAs, IsOpeningError, OpeningCause, TakesOpening}
 use Rattle.xlsx_core.specs.declared.sheet_reading.SheetReading.{SheetReading}
 use Rattle.xlsx_sections.specs.Failing.{FailsBy}
 
@@ -197,3 +197,18 @@ ReadsPlaced grounds palette path parts found =
     IsSomeAnd (events_at path parts)
     (λ events. HoldsSheet grounds palette events (value_pairs found.values)
     (formula_pairs found.formulas) found.styles)
+
+-- The workbook opens, and no more events were taken than its opening takes, and then those of the
+-- part of its sheet of this name.
+pub record TakesPart (parts : List Part) (name : List ℕ) (before after : ℕ) : Type 0 where
+  pub opening : Opening
+  pub behind : ℕ
+  pub opens : OpensAs parts opening
+  pub takes : TakesOpening parts before behind
+  pub once : after ≤ behind + placed_events (path_named name opening.sheets) parts
+
+-- How many events the reading of the sheet of this name may take: those of each part that it looks
+-- up, once for each time.
+abbrev pub TakesSheet : List Part → List ℕ → ℕ → ℕ → Type 0
+TakesSheet parts name before after =
+    TakesOpening parts before after ⊎ TakesPart parts name before after

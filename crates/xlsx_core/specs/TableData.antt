@@ -1,6 +1,7 @@
 -- What a table of an open workbook says, by its name.
 use Rattle.std.specs.Prelude.{◌≡◌, ⊤, ℕ, List, [], map, filter, find, Option, Some, None}
 use Rattle.std.specs.Prelude.{option_and_then, IsSome, IsSomeAnd, string_bytes}
+use Rattle.std.specs.Option.{option_map_or}
 use Rattle.std.specs.Str.{bytes_eq}
 use Rattle.cell_refs.specs.Positions.{is_in_area, last_of_each}
 use Rattle.cell_refs.specs.declared.dimensions.Dimensions.{Dimensions}
@@ -19,7 +20,7 @@ use Rattle.xlsx_values.specs.Value.{Grounds}
 use Rattle.xlsx_cells.specs.CellsReader.{values_alone}
 use Rattle.xlsx_cells.specs.Sheet.{with_texts}
 use Rattle.xlsx_tables.specs.Tables.{SheetTable, table_of_sheet}
-use Rattle.xlsx_core.specs.SheetReading.{pairs_by}
+use Rattle.xlsx_core.specs.SheetReading.{pairs_by, placed_events}
 use Rattle.xlsx_core.specs.TableList.{loaded_tables}
 use Rattle.xlsx_core.specs.Worksheets.{below_header, ReadsUsed, RangeFails, IsRangeError}
 use Rattle.xlsx_core.specs.Worksheets.{path_of, grounds_of_book}
@@ -37,6 +38,19 @@ table_of_book xlsx name = first_named name (loaded_tables xlsx)
 abbrev pub area_of_book : {P : Type 0} → Xlsx P → List ℕ → Option Dimensions
 area_of_book xlsx name =
     option_and_then (λ (own : SheetTable). own.table.area) (table_of_book xlsx name)
+
+-- how many events the reading of what stands in an area of a sheet may take: those of the part at
+-- its path, and without an area none
+abbrev pub area_events : Option Dimensions → Option (List ℕ) → List Part → ℕ
+area_events None path parts = 0
+area_events (Some area) path parts = placed_events path parts
+
+-- and the reading of the data of a table
+abbrev pub table_data_events : {P : Type 0} → Xlsx P → List ℕ → List Part → ℕ
+table_data_events xlsx name parts =
+    option_map_or
+    (λ (own : SheetTable). area_events own.table.area (path_of xlsx own.sheet) parts)
+    (table_of_book xlsx name) 0
 
 -- what is kept of a table while its data are read
 abbrev pub head_said : TableHead → SheetTable

@@ -1,7 +1,7 @@
-ghost use Rattle.std.specs.Prelude.{◌≡◌, true, false, option_map, IfOk, OnOk, IfErr, IsSomeAnd};
+ghost use Rattle.std.specs.Prelude.{◌≡◌, true, false, option_map, IfOk, IfErr, IsSomeAnd};
 ghost use Rattle.std.specs.Prelude.{length, map, string_bytes, slice_get, Some, None};
 ghost use Rattle.std.specs.Option.{option_copied};
-ghost use Rattle.part_events.specs.Package.{SameParts, KeepsFaults};
+ghost use Rattle.part_events.specs.Package.{Uses};
 ghost use Rattle.xlsx_error.specs.declared.error.XlsxError.TheVariants.{Io};
 ghost use Rattle.xlsx_values.specs.Book.{grounds_of};
 ghost use Rattle.xlsx_cells.specs.SheetPart.{EntersData, value_entries, formula_entries};
@@ -11,7 +11,7 @@ ghost use Rattle.xlsx_cells.specs.Ends.{reads_children};
 ghost use Rattle.xlsx_cells.specs.Stream.{stream};
 ghost use Rattle.xlsx_core.specs.Merges.{IsIndexError};
 ghost use Rattle.xlsx_core.specs.Opened.{path_listed};
-ghost use Rattle.xlsx_core.specs.SheetReading.{events_at, grounds_with};
+ghost use Rattle.xlsx_core.specs.SheetReading.{events_at, placed_events, grounds_with};
 ghost use Rattle.xlsx_core.specs.SheetReading.{PlacedHeadFails, PlacedSheetFails};
 ghost use Rattle.xlsx_core.specs.SheetReading.{IsPlacedHeadError, IsPlacedError};
 ghost use Rattle.xlsx_core.specs.Worksheets.{HoldsWanted, IsStyleRangeError, AnswersCells};
@@ -69,14 +69,14 @@ pub fn open_placed<P: Package>(
     path: Option<&str>,
     name: &str,
 ) -> Result<(SheetCursor, Dimensions), XlsxError>
-    ensures keeps { SameParts (P.state «package».old) (P.state «package».new) }
+    ensures uses { let old = P.state «package».old in
+        let new = P.state «package».new in
+        Uses (placed_events (option_copied path.entry) old.parts) Io result old new }
     ensures enters { let old = P.state «package».old in
         IfOk result (λ entered. IsSomeAnd (option_copied path.entry) (λ there.
         EntersData there entered.1 old (stream (P.state «package».new) entered.0))) }
     ensures err { IfErr result (PlacedHeadFails name.now (option_copied path.entry)
         (P.state «package».old) (P.state «package».new)) }
-    ensures counts { IfErr result
-        (KeepsFaults Io (P.state «package».old) (P.state «package».new)) }
     ensures kind { IfErr result (IsPlacedHeadError name.now) }
 {
     if let Some(path) = path {
@@ -95,9 +95,9 @@ pub fn read_placed<P: Package>(
     name: &str,
     asked: Asked<'_>,
 ) -> Result<SheetCells, XlsxError>
-    ensures keeps { SameParts (P.state «package».old) (P.state «package».new) }
-    ensures faults { OnOk result
-        ((P.state «package».new).faults ≡ (P.state «package».old).faults) }
+    ensures uses { let old = P.state «package».old in
+        let new = P.state «package».new in
+        Uses (placed_events (option_copied path.entry) old.parts) Io result old new }
     ensures inside { IfOk result (λ cells.
         LieInSheet cells.values.items cells.formulas.items cells.style_ids.items) }
     ensures reads { let old = P.state «package».old in
@@ -111,8 +111,6 @@ pub fn read_placed<P: Package>(
     ensures err { IfErr result (PlacedSheetFails name.now asked.entry.wants
         (grounds_of asked.entry.book) (option_copied path.entry) (P.state «package».old)
         (P.state «package».new)) }
-    ensures counts { IfErr result
-        (KeepsFaults Io (P.state «package».old) (P.state «package».new)) }
     ensures kind { IfErr result (IsPlacedError name.now) }
     ensures plain { reads_children asked.entry.wants ≡ false →
         IfErr result (IsStyleRangeError name.now) }
@@ -151,9 +149,9 @@ pub fn read_range<P: Package>(
     name: &str,
     asked: Asked<'_>,
 ) -> Result<SheetCells, XlsxError>
-    ensures keeps { SameParts (P.state «package».old) (P.state «package».new) }
-    ensures faults { OnOk result
-        ((P.state «package».new).faults ≡ (P.state «package».old).faults) }
+    ensures uses { let old = P.state «package».old in
+        let new = P.state «package».new in
+        Uses (placed_events (option_copied path.entry) old.parts) Io result old new }
     ensures inside { IfOk result (λ cells.
         LieInSheet cells.values.items cells.formulas.items cells.style_ids.items) }
     ensures reads { let old = P.state «package».old in
@@ -167,8 +165,6 @@ pub fn read_range<P: Package>(
     ensures err { IfErr result (RangeFails name.now asked.entry.wants
         (grounds_of asked.entry.book) (option_copied path.entry) (P.state «package».old)
         (P.state «package».new)) }
-    ensures counts { IfErr result
-        (KeepsFaults Io (P.state «package».old) (P.state «package».new)) }
     ensures kind { IfErr result (IsRangeError name.now) }
 {
     match read_placed(alloc, package, path, name, asked) {
@@ -192,17 +188,15 @@ pub fn read_values<P: Package>(
     header_row: HeaderRow,
 ) -> Result<Range<Data>, XlsxError>
     requires { asked.wants ≡ values_alone }
-    ensures keeps { SameParts (P.state «package».old) (P.state «package».new) }
-    ensures faults { OnOk result
-        ((P.state «package».new).faults ≡ (P.state «package».old).faults) }
+    ensures uses { let old = P.state «package».old in
+        let new = P.state «package».new in
+        Uses (placed_events (option_copied path.entry) old.parts) Io result old new }
     ensures reads { let old = P.state «package».old in
         let path = option_copied path.entry in
         old.is_told ≡ true → IfOk result
         (ReadsValues (grounds_of asked.entry.book) header_row path old.parts) }
     ensures err { IfErr result (RangeFails name.now values_alone (grounds_of asked.entry.book)
         (option_copied path.entry) (P.state «package».old) (P.state «package».new)) }
-    ensures counts { IfErr result
-        (KeepsFaults Io (P.state «package».old) (P.state «package».new)) }
     ensures kind { IfErr result (IsRangeError name.now) }
 {
     let cells = read_range(alloc, package, path, name, asked)?;

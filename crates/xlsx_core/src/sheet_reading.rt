@@ -2,7 +2,7 @@ ghost use Rattle.std.specs.Prelude.{◌≡◌, true, IfOk, OnOk, IfErr};
 ghost use Rattle.part_events.specs.Package.{SameParts, KeepsFaults};
 ghost use Rattle.xlsx_error.specs.declared.error.XlsxError.TheVariants.{Io};
 ghost use Rattle.xlsx_core.specs.SheetReading.{ReadsAs, SheetFails, IsSheetError};
-ghost use Rattle.xlsx_core.specs.SheetReading.{value_pairs, formula_pairs};
+ghost use Rattle.xlsx_core.specs.SheetReading.{value_pairs, formula_pairs, TakesSheet};
 ghost use Rattle.xlsx_core.specs.Worksheets.{HasLeastRanges};
 
 use crate::xlsx::{OpenFailure, Xlsx};
@@ -50,6 +50,9 @@ pub fn read_sheet<P: Package>(alloc: Global, package: P, name: &str) -> SheetAns
         (SheetFails name.now (P.state «package») (P.state result.package)) }
     ensures counts { IfErr result.result
         (KeepsFaults Io (P.state «package») (P.state result.package)) }
+    ensures taken { let old = P.state «package» in
+        let new = P.state result.package in
+        old.is_told ≡ true → TakesSheet old.parts name.now old.taken new.taken }
     ensures kind { IfErr result.result (IsSheetError name.now) }
 {
     match Xlsx::new(alloc, package) {

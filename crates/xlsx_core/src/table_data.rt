@@ -1,15 +1,15 @@
 ghost use Rattle.std.specs.Prelude.{◌≡◌, List, true, None, Some, map, string_bytes, option_map};
-ghost use Rattle.std.specs.Prelude.{IfOk, OnOk, IfErr, IsSome, IsSomeAnd};
+ghost use Rattle.std.specs.Prelude.{IfOk, IfErr, IsSome, IsSomeAnd};
 ghost use Rattle.std.specs.Option.{option_copied};
 ghost use Rattle.cell_data.specs.Range.{bounds_of};
 ghost use Rattle.cell_data.specs.Table.{table_data};
 ghost use Rattle.cell_refs.specs.Positions.{is_sheet_area, are_sheet_bounds};
-ghost use Rattle.part_events.specs.Package.{SameParts, KeepsFaults};
+ghost use Rattle.part_events.specs.Package.{Uses};
 ghost use Rattle.xlsx_error.specs.declared.error.XlsxError.TheVariants.{Io};
 ghost use Rattle.xlsx_core.specs.TableData.{first_named, table_of_book, area_of_book, head_said};
 ghost use Rattle.xlsx_core.specs.TableData.{IsCut, IsOfTable, ReadsValuesIn, ReadsPlacesIn};
 ghost use Rattle.xlsx_core.specs.TableData.{AreaFails, TableDataFails, IsTableDataError};
-ghost use Rattle.xlsx_core.specs.TableData.{LacksTable};
+ghost use Rattle.xlsx_core.specs.TableData.{LacksTable, area_events, table_data_events};
 ghost use Rattle.xlsx_core.specs.TableList.{table_held, tables_held, loaded_tables};
 ghost use Rattle.xlsx_core.specs.Worksheets.{path_of, grounds_of_book, KeepsWorkbook, IsRangeError};
 ghost use Rattle.xlsx_workbook.specs.declared.sheet.Sheet.{Sheet};
@@ -94,10 +94,11 @@ impl<P: Package> Xlsx<P> {
     /// are read without an area.
     fn values_in(&mut self, sheet: &str, area: Option<Dimensions>) -> Result<Range<Data>, XlsxError>
         requires { are_sheet_bounds area ≡ true }
-        ensures keeps { SameParts (P.state self.old.package) (P.state self.new.package) }
+        ensures uses { let old = P.state self.old.package in
+            let new = P.state self.new.package in
+            let most = area_events area (path_of self.old sheet.now) old.parts in
+            Uses most Io result old new }
         ensures rest { KeepsWorkbook self.old self.new }
-        ensures faults { OnOk result
-            ((P.state self.new.package).faults ≡ (P.state self.old.package).faults) }
         ensures unread { area ≡ None →
             P.state self.new.package ≡ P.state self.old.package }
         ensures bounds { IfOk result (λ range. bounds_of range ≡ area) }
@@ -106,8 +107,6 @@ impl<P: Package> Xlsx<P> {
             self.old.header_row area (path_of self.old sheet.now) old.parts) }
         ensures err { IfErr result (AreaFails self.old sheet.now area (P.state self.old.package)
             (P.state self.new.package)) }
-        ensures counts { IfErr result
-            (KeepsFaults Io (P.state self.old.package) (P.state self.new.package)) }
         ensures kind { IfErr result (IsRangeError sheet.now) }
     {
         let Some(area) = area else {
@@ -124,10 +123,11 @@ impl<P: Package> Xlsx<P> {
         area: Option<Dimensions>,
     ) -> Result<Range<DataRef>, XlsxError>
         requires { are_sheet_bounds area ≡ true }
-        ensures keeps { SameParts (P.state self.old.package) (P.state self.new.package) }
+        ensures uses { let old = P.state self.old.package in
+            let new = P.state self.new.package in
+            let most = area_events area (path_of self.old sheet.now) old.parts in
+            Uses most Io result old new }
         ensures rest { KeepsWorkbook self.old self.new }
-        ensures faults { OnOk result
-            ((P.state self.new.package).faults ≡ (P.state self.old.package).faults) }
         ensures unread { area ≡ None →
             P.state self.new.package ≡ P.state self.old.package }
         ensures bounds { IfOk result (λ range. bounds_of range ≡ area) }
@@ -136,8 +136,6 @@ impl<P: Package> Xlsx<P> {
             self.old.header_row area (path_of self.old sheet.now) old.parts) }
         ensures err { IfErr result (AreaFails self.old sheet.now area (P.state self.old.package)
             (P.state self.new.package)) }
-        ensures counts { IfErr result
-            (KeepsFaults Io (P.state self.old.package) (P.state self.new.package)) }
         ensures kind { IfErr result (IsRangeError sheet.now) }
     {
         let Some(area) = area else {
@@ -158,10 +156,11 @@ impl<P: Package> Xlsx<P> {
     /// `worksheet_range` of its sheet's name is, where the area has a cell.
     pub fn table_by_name(&mut self, table_name: &str) -> Result<Table<Data>, XlsxError>
         requires { IsSome self.old.lists.tables }
-        ensures keeps { SameParts (P.state self.old.package) (P.state self.new.package) }
+        ensures uses { let old = P.state self.old.package in
+            let new = P.state self.new.package in
+            let most = table_data_events self.old table_name.now old.parts in
+            Uses most Io result old new }
         ensures rest { KeepsWorkbook self.old self.new }
-        ensures faults { OnOk result
-            ((P.state self.new.package).faults ≡ (P.state self.old.package).faults) }
         ensures unread { area_of_book self.old table_name.now ≡ None →
             P.state self.new.package ≡ P.state self.old.package }
         ensures table { IfOk result (λ table.
@@ -173,8 +172,6 @@ impl<P: Package> Xlsx<P> {
             (path_of self.old own.sheet) old.parts (table_data table))) }
         ensures err { IfErr result (TableDataFails self.old table_name.now
             (P.state self.old.package) (P.state self.new.package)) }
-        ensures counts { IfErr result
-            (KeepsFaults Io (P.state self.old.package) (P.state self.new.package)) }
         ensures kind { IfErr result (IsTableDataError self.old table_name.now) }
     {
         let head = self.table_head(table_name)?;
@@ -187,10 +184,11 @@ impl<P: Package> Xlsx<P> {
     /// `table_by_name` is.
     pub fn table_by_name_ref(&mut self, table_name: &str) -> Result<Table<DataRef>, XlsxError>
         requires { IsSome self.old.lists.tables }
-        ensures keeps { SameParts (P.state self.old.package) (P.state self.new.package) }
+        ensures uses { let old = P.state self.old.package in
+            let new = P.state self.new.package in
+            let most = table_data_events self.old table_name.now old.parts in
+            Uses most Io result old new }
         ensures rest { KeepsWorkbook self.old self.new }
-        ensures faults { OnOk result
-            ((P.state self.new.package).faults ≡ (P.state self.old.package).faults) }
         ensures unread { area_of_book self.old table_name.now ≡ None →
             P.state self.new.package ≡ P.state self.old.package }
         ensures table { IfOk result (λ table.
@@ -202,8 +200,6 @@ impl<P: Package> Xlsx<P> {
             (path_of self.old own.sheet) old.parts (table_data table))) }
         ensures err { IfErr result (TableDataFails self.old table_name.now
             (P.state self.old.package) (P.state self.new.package)) }
-        ensures counts { IfErr result
-            (KeepsFaults Io (P.state self.old.package) (P.state self.new.package)) }
         ensures kind { IfErr result (IsTableDataError self.old table_name.now) }
     {
         let head = self.table_head(table_name)?;

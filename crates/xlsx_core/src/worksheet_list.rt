@@ -3,13 +3,14 @@ ghost use Rattle.std.specs.Prelude.{if◌then◌else◌, Some};
 ghost use Rattle.std.specs.BTreeMap.{get_by_text};
 ghost use Rattle.std.specs.Option.{option_copied};
 ghost use Rattle.std.specs.Str.{bytes_eq};
-ghost use Rattle.part_events.specs.Package.{SameParts, KeepsFaults};
+ghost use Rattle.part_events.specs.Package.{Uses};
 ghost use Rattle.xlsx_error.specs.declared.error.XlsxError.TheVariants.{Io};
 ghost use Rattle.xlsx_sections.specs.Failing.{SoundFails};
 ghost use Rattle.xlsx_values.specs.Book.{grounds_of};
 ghost use Rattle.xlsx_cells.specs.CellsReader.{values_alone};
 ghost use Rattle.xlsx_core.specs.Opened.{path_listed};
-ghost use Rattle.xlsx_core.specs.Listing.{AreListed, IsPutBehind, ends_listing};
+ghost use Rattle.xlsx_core.specs.Listing.{AreListed, IsPutBehind, ends_listing, listed_events};
+ghost use Rattle.xlsx_core.specs.SheetReading.{placed_events};
 ghost use Rattle.xlsx_core.specs.Worksheets.{ReadsValues, RangeCause, KeepsWorkbook};
 ghost use Rattle.xlsx_core.specs.Worksheets.{grounds_of_book, path_of};
 
@@ -87,9 +88,9 @@ fn range_or_none<P: Package>(
     header_row: HeaderRow,
 ) -> Result<Option<Range<Data>>, XlsxError>
     requires { asked.wants ≡ values_alone }
-    ensures keeps { SameParts (P.state «package».old) (P.state «package».new) }
-    ensures faults { OnOk result
-        ((P.state «package».new).faults ≡ (P.state «package».old).faults) }
+    ensures uses { let old = P.state «package».old in
+        let new = P.state «package».new in
+        Uses (placed_events (option_copied path.entry) old.parts) Io result old new }
     ensures reads { let old = P.state «package».old in
         let grounds = grounds_of asked.entry.book in
         let path = option_copied path.entry in
@@ -97,8 +98,6 @@ fn range_or_none<P: Package>(
         ((error : XlsxError) × RangeCause name.now values_alone grounds path old.parts error)
         (ReadsValues grounds header_row path old.parts)) }
     ensures err { IfErr result (SoundFails (P.state «package».old) (P.state «package».new)) }
-    ensures counts { IfErr result
-        (KeepsFaults Io (P.state «package».old) (P.state «package».new)) }
 {
     match read_values(alloc, package, path, name, asked, header_row) {
         Ok(range) => Ok(Some(range)),
@@ -137,16 +136,15 @@ fn ranges_listed<P: Package>(
     header_row: HeaderRow,
 ) -> Result<Vec<(String, Range<Data>)>, XlsxError>
     requires { asked.wants ≡ values_alone }
-    ensures keeps { SameParts (P.state «package».old) (P.state «package».new) }
-    ensures faults { OnOk result
-        ((P.state «package».new).faults ≡ (P.state «package».old).faults) }
+    ensures uses { let old = P.state «package».old in
+        let new = P.state «package».new in
+        let place = λ (name : List ℕ). path_listed name sheets.now paths.now in
+        Uses (listed_events place old.parts sheets.now) Io result old new }
     ensures lists { let old = P.state «package».old in
         let place = λ (name : List ℕ). path_listed name sheets.now paths.now in
         old.is_told ≡ true → IfOk result (λ listed. AreListed (grounds_of asked.entry.book)
         header_row place old.parts sheets.now listed.items) }
     ensures err { IfErr result (SoundFails (P.state «package».old) (P.state «package».new)) }
-    ensures counts { IfErr result
-        (KeepsFaults Io (P.state «package».old) (P.state «package».new)) }
 {
     let firsts = first_paths(alloc, sheets, paths)?;
     let mut listed = Vec::new(alloc);
@@ -165,18 +163,17 @@ impl<P: Package> Xlsx<P> {
     /// sheets of one name both have the range of the first. A sheet whose range is refused is left
     /// out, but a fault of the package (`Io`) and want of memory are answered.
     pub fn worksheets(&mut self) -> Result<Vec<(String, Range<Data>)>, XlsxError>
-        ensures keeps { SameParts (P.state self.old.package) (P.state self.new.package) }
+        ensures uses { let old = P.state self.old.package in
+            let new = P.state self.new.package in
+            let sheets = self.old.metadata.sheets.items in
+            Uses (listed_events (path_of self.old) old.parts sheets) Io result old new }
         ensures rest { KeepsWorkbook self.old self.new }
-        ensures faults { OnOk result
-            ((P.state self.new.package).faults ≡ (P.state self.old.package).faults) }
         ensures lists { let old = P.state self.old.package in
             old.is_told ≡ true → IfOk result (λ listed. AreListed (grounds_of_book self.old)
             self.old.header_row (path_of self.old) old.parts self.old.metadata.sheets.items
             listed.items) }
         ensures err { IfErr result
             (SoundFails (P.state self.old.package) (P.state self.new.package)) }
-        ensures counts { IfErr result
-            (KeepsFaults Io (P.state self.old.package) (P.state self.new.package)) }
     {
         let wants = Wants {
             values: true,

@@ -1,14 +1,14 @@
-ghost use Rattle.std.specs.Prelude.{◌≡◌, true, false, length, IfOk, OnOk, IfErr, IsSomeAnd};
+ghost use Rattle.std.specs.Prelude.{◌≡◌, true, false, length, IfOk, IfErr, IsSomeAnd};
 ghost use Rattle.part_events.specs.Lending.{LentFails};
-ghost use Rattle.part_events.specs.Package.{SameParts, KeepsFaults};
+ghost use Rattle.part_events.specs.Package.{Uses};
 ghost use Rattle.xlsx_error.specs.declared.error.XlsxError.TheVariants.{Io};
 ghost use Rattle.xlsx_cells.specs.CellsReader.{values_alone, formulas_alone, area_held, stream_by};
 ghost use Rattle.xlsx_cells.specs.CellsReader.{grounds_by, styles_held, styles_alone};
 ghost use Rattle.xlsx_cells.specs.Ends.{reads_children};
 ghost use Rattle.xlsx_cells.specs.SheetPart.{value_entries, formula_entries, LieInSheet};
 ghost use Rattle.xlsx_cells.specs.Stream.{stream, IsStreaming};
-ghost use Rattle.xlsx_core.specs.SheetReading.{all_wanted, events_at, PlacedSheetFails};
-ghost use Rattle.xlsx_core.specs.SheetReading.{PlacedHeadFails};
+ghost use Rattle.xlsx_core.specs.SheetReading.{all_wanted, events_at, placed_events};
+ghost use Rattle.xlsx_core.specs.SheetReading.{PlacedSheetFails, PlacedHeadFails};
 ghost use Rattle.xlsx_core.specs.SheetReading.{IsPlacedHeadError, IsPlacedError, ReadsPlaced};
 ghost use Rattle.xlsx_core.specs.Worksheets.{path_of, grounds_of_book, KeepsWorkbook, HoldsWanted};
 ghost use Rattle.xlsx_core.specs.Worksheets.{AnswersCells, ReadsValues, ReadsPlaces};
@@ -34,10 +34,10 @@ use xlsx_open::SharedParts;
 impl<P: Package> Xlsx<P> {
     /// What is wanted of the first sheet of this name.
     fn placed_cells(&mut self, name: &str, wants: Wants) -> Result<SheetCells, XlsxError>
-        ensures keeps { SameParts (P.state self.old.package) (P.state self.new.package) }
+        ensures uses { let old = P.state self.old.package in
+            let new = P.state self.new.package in
+            Uses (placed_events (path_of self.old name.now) old.parts) Io result old new }
         ensures rest { KeepsWorkbook self.old self.new }
-        ensures faults { OnOk result
-            ((P.state self.new.package).faults ≡ (P.state self.old.package).faults) }
         ensures inside { IfOk result (λ cells.
             LieInSheet cells.values.items cells.formulas.items cells.style_ids.items) }
         ensures reads { let old = P.state self.old.package in
@@ -49,8 +49,6 @@ impl<P: Package> Xlsx<P> {
             (formula_entries cells.formulas.items) cells.style_ids.items)) }
         ensures err { IfErr result (PlacedSheetFails name.now wants (grounds_of_book self.old)
             (path_of self.old name.now) (P.state self.old.package) (P.state self.new.package)) }
-        ensures counts { IfErr result
-            (KeepsFaults Io (P.state self.old.package) (P.state self.new.package)) }
         ensures kind { IfErr result (IsPlacedError name.now) }
         ensures plain { reads_children wants ≡ false → IfErr result (IsStyleRangeError name.now) }
     {
@@ -63,9 +61,9 @@ impl<P: Package> Xlsx<P> {
     /// The workbook is given up, and its styles go with the sheet.
     #[tactic(auto, using(crate::proofs::LeastAreas::least_ranges))]
     pub(crate) fn into_sheet(self, name: &str) -> SheetAnswer<P>
-        ensures keeps { SameParts (P.state self.package) (P.state result.package) }
-        ensures faults { OnOk result.result
-            ((P.state result.package).faults ≡ (P.state self.package).faults) }
+        ensures uses { let old = P.state self.package in
+            let new = P.state result.package in
+            Uses (placed_events (path_of self name.now) old.parts) Io result.result old new }
         ensures ranges { IfOk result.result HasLeastRanges }
         ensures reads { let old = P.state self.package in
             old.is_told ≡ true → IfOk result.result
@@ -74,8 +72,6 @@ impl<P: Package> Xlsx<P> {
         ensures err { IfErr result.result (PlacedSheetFails name.now all_wanted
             (grounds_of_book self) (path_of self name.now) (P.state self.package)
             (P.state result.package)) }
-        ensures counts { IfErr result.result
-            (KeepsFaults Io (P.state self.package) (P.state result.package)) }
         ensures kind { IfErr result.result (IsPlacedError name.now) }
     {
         let wants = Wants {
@@ -117,10 +113,10 @@ impl<P: Package> Xlsx<P> {
 
     /// What is wanted of the first sheet of this name, and nothing where its part is no worksheet.
     fn worksheet_cells(&mut self, name: &str, wants: Wants) -> Result<SheetCells, XlsxError>
-        ensures keeps { SameParts (P.state self.old.package) (P.state self.new.package) }
+        ensures uses { let old = P.state self.old.package in
+            let new = P.state self.new.package in
+            Uses (placed_events (path_of self.old name.now) old.parts) Io result old new }
         ensures rest { KeepsWorkbook self.old self.new }
-        ensures faults { OnOk result
-            ((P.state self.new.package).faults ≡ (P.state self.old.package).faults) }
         ensures inside { IfOk result (λ cells.
             LieInSheet cells.values.items cells.formulas.items cells.style_ids.items) }
         ensures reads { let old = P.state self.old.package in
@@ -132,8 +128,6 @@ impl<P: Package> Xlsx<P> {
             (formula_entries cells.formulas.items) cells.style_ids.items)) }
         ensures err { IfErr result (RangeFails name.now wants (grounds_of_book self.old)
             (path_of self.old name.now) (P.state self.old.package) (P.state self.new.package)) }
-        ensures counts { IfErr result
-            (KeepsFaults Io (P.state self.old.package) (P.state self.new.package)) }
         ensures kind { IfErr result (IsRangeError name.now) }
     {
         let path = path_named(&self.metadata.sheets, &self.paths, name);
@@ -149,18 +143,16 @@ impl<P: Package> Xlsx<P> {
     /// `WorksheetNotFound` where no sheet has the name or the first such sheet has no part. Else
     /// the first start, row or cell that can't be read gives the refusal.
     pub fn worksheet_range(&mut self, name: &str) -> Result<Range<Data>, XlsxError>
-        ensures keeps { SameParts (P.state self.old.package) (P.state self.new.package) }
+        ensures uses { let old = P.state self.old.package in
+            let new = P.state self.new.package in
+            Uses (placed_events (path_of self.old name.now) old.parts) Io result old new }
         ensures rest { KeepsWorkbook self.old self.new }
-        ensures faults { OnOk result
-            ((P.state self.new.package).faults ≡ (P.state self.old.package).faults) }
         ensures reads { let old = P.state self.old.package in
             let path = path_of self.old name.now in
             old.is_told ≡ true → IfOk result
             (ReadsValues (grounds_of_book self.old) self.old.header_row path old.parts) }
         ensures err { IfErr result (RangeFails name.now values_alone (grounds_of_book self.old)
             (path_of self.old name.now) (P.state self.old.package) (P.state self.new.package)) }
-        ensures counts { IfErr result
-            (KeepsFaults Io (P.state self.old.package) (P.state self.new.package)) }
         ensures kind { IfErr result (IsRangeError name.now) }
     {
         let wants = Wants {
@@ -177,18 +169,16 @@ impl<P: Package> Xlsx<P> {
     /// The values that `worksheet_range` answers, with shared strings by their places, whose texts
     /// `shared_string` has. Refused as `worksheet_range` is.
     pub fn worksheet_range_ref(&mut self, name: &str) -> Result<Range<DataRef>, XlsxError>
-        ensures keeps { SameParts (P.state self.old.package) (P.state self.new.package) }
+        ensures uses { let old = P.state self.old.package in
+            let new = P.state self.new.package in
+            Uses (placed_events (path_of self.old name.now) old.parts) Io result old new }
         ensures rest { KeepsWorkbook self.old self.new }
-        ensures faults { OnOk result
-            ((P.state self.new.package).faults ≡ (P.state self.old.package).faults) }
         ensures reads { let old = P.state self.old.package in
             let path = path_of self.old name.now in
             old.is_told ≡ true → IfOk result
             (ReadsPlaces (grounds_of_book self.old) self.old.header_row path old.parts) }
         ensures err { IfErr result (RangeFails name.now values_alone (grounds_of_book self.old)
             (path_of self.old name.now) (P.state self.old.package) (P.state self.new.package)) }
-        ensures counts { IfErr result
-            (KeepsFaults Io (P.state self.old.package) (P.state self.new.package)) }
         ensures kind { IfErr result (IsRangeError name.now) }
     {
         let wants = Wants {
@@ -207,17 +197,15 @@ impl<P: Package> Xlsx<P> {
     /// A part that is no worksheet has the empty range. Refused as `worksheet_range` is, but by
     /// what formulas say in place of values.
     pub fn worksheet_formula(&mut self, name: &str) -> Result<Range<String>, XlsxError>
-        ensures keeps { SameParts (P.state self.old.package) (P.state self.new.package) }
+        ensures uses { let old = P.state self.old.package in
+            let new = P.state self.new.package in
+            Uses (placed_events (path_of self.old name.now) old.parts) Io result old new }
         ensures rest { KeepsWorkbook self.old self.new }
-        ensures faults { OnOk result
-            ((P.state self.new.package).faults ≡ (P.state self.old.package).faults) }
         ensures reads { let old = P.state self.old.package in
             old.is_told ≡ true → IfOk result
             (ReadsFormulas (path_of self.old name.now) old.parts) }
         ensures err { IfErr result (RangeFails name.now formulas_alone (grounds_of_book self.old)
             (path_of self.old name.now) (P.state self.old.package) (P.state self.new.package)) }
-        ensures counts { IfErr result
-            (KeepsFaults Io (P.state self.old.package) (P.state self.new.package)) }
         ensures kind { IfErr result (IsRangeError name.now) }
     {
         let wants = Wants {
@@ -238,18 +226,16 @@ impl<P: Package> Xlsx<P> {
     /// part, with `NotAWorksheet` where its part is none, and else as
     /// `XlsxCellReader::next_style_id`.
     pub fn worksheet_style(&mut self, name: &str) -> Result<StyleRange, XlsxError>
-        ensures keeps { SameParts (P.state self.old.package) (P.state self.new.package) }
+        ensures uses { let old = P.state self.old.package in
+            let new = P.state self.new.package in
+            Uses (placed_events (path_of self.old name.now) old.parts) Io result old new }
         ensures rest { KeepsWorkbook self.old self.new }
-        ensures faults { OnOk result
-            ((P.state self.new.package).faults ≡ (P.state self.old.package).faults) }
         ensures reads { let old = P.state self.old.package in
             old.is_told ≡ true → IfOk result (ReadsStyles (palette_of_book self.old)
             (path_of self.old name.now) old.parts) }
         ensures err { IfErr result (PlacedSheetFails name.now styles_alone
             (grounds_of_book self.old) (path_of self.old name.now) (P.state self.old.package)
             (P.state self.new.package)) }
-        ensures counts { IfErr result
-            (KeepsFaults Io (P.state self.old.package) (P.state self.new.package)) }
         ensures kind { IfErr result (IsStyleRangeError name.now) }
     {
         let wants = Wants {
@@ -269,15 +255,15 @@ impl<P: Package> Xlsx<P> {
     /// Fails with `WorksheetNotFound` where no sheet has the name or the first such sheet has no
     /// part, with `NotAWorksheet` where its part is none, and else as `XlsxCellReader::new`.
     pub fn enter_worksheet(&mut self, name: &str) -> Result<(SheetCursor, Dimensions), XlsxError>
-        ensures keeps { SameParts (P.state self.old.package) (P.state self.new.package) }
+        ensures uses { let old = P.state self.old.package in
+            let new = P.state self.new.package in
+            Uses (placed_events (path_of self.old name.now) old.parts) Io result old new }
         ensures rest { KeepsWorkbook self.old self.new }
         ensures enters { let new = P.state self.new.package in
             IfOk result (λ entered. EntersSheet (path_of self.old name.now) entered.1
             (P.state self.old.package) (stream new entered.0)) }
         ensures err { IfErr result (PlacedHeadFails name.now (path_of self.old name.now)
             (P.state self.old.package) (P.state self.new.package)) }
-        ensures counts { IfErr result
-            (KeepsFaults Io (P.state self.old.package) (P.state self.new.package)) }
         ensures kind { IfErr result (IsPlacedHeadError name.now) }
     {
         let path = path_named(&self.metadata.sheets, &self.paths, name);

@@ -1,10 +1,12 @@
 use Rattle.std.proofs.Common.{◌∙◌, map, string_bytes}
 use Rattle.std.proofs.lemmas.Result.{IfOk-weaker, IfErr-weaker}
+use Rattle.xlsx_error.specs.declared.error.XlsxError.TheVariants.{Io}
 use Rattle.xlsx_core.specs.Opened.{path_listed}
 use Rattle.xlsx_core.specs.SheetReading.{all_wanted, grounds_with, value_pairs, formula_pairs}
-use Rattle.xlsx_core.specs.SheetReading.{ReadsAs}
+use Rattle.xlsx_core.specs.SheetReading.{ReadsAs, placed_events}
 use Rattle.xlsx_core.specs.SheetReading.{ReadsPlaced, SheetFails, PlacedSheetFails}
 use Rattle.xlsx_core.proofs.SheetsRead.{opens_placed, reads_as, sheet_fails, opening_fails}
+use Rattle.xlsx_core.proofs.TakenOnce.{sheet_taken, uses_taken}
 use Rattle.xlsx_core.proofs.sheet_reading.read_sheet.Goals as goal
 
 pub returns-in-Ok-clause-reading : goal.returns-in-Ok-clause-reading
@@ -51,3 +53,21 @@ returns-in-Err-clause-err g c =
     opening_fails c.args.name.now (g.P.Package.state c.args.package)
     (g.P.Package.state c.in-Err.field-0.package) c.in-Err.field-0.error c.in-Err.ensures.kind
     c.in-Err.ensures.err
+
+pub returns-in-Ok-clause-taken : goal.returns-in-Ok-clause-taken
+returns-in-Ok-clause-taken g c = λ told.
+    let xlsx = c.in-Ok.xlsx in
+    let old = g.P.Package.state c.args.package in
+    let mid = g.P.Package.state xlsx.package in
+    let new = g.P.Package.state c.into_sheet.result.package in
+    let name = c.args.name.now in
+    let path = path_listed name xlsx.metadata.sheets.items xlsx.paths.items in
+    let grounds = grounds_with (map string_bytes xlsx.shared.strings.items)
+    xlsx.shared.style_sheet.formats.items xlsx.is_1904 in
+    let palette = xlsx.shared.style_sheet.styles.items in
+    let opened = c.in-Ok.ensures.opens told in
+    let same = c.in-Ok.ensures.uses.parts in
+    sheet_taken name path grounds palette old mid new same
+    (opens_placed name opened.0 opened.1 opened.2) (c.in-Ok.ensures.uses.taken told)
+    (uses_taken (placed_events path mid.parts) Io c.into_sheet.result.result mid new
+    c.into_sheet.ensures.uses (same.is_told ∙ told))

@@ -1,22 +1,27 @@
-use Rattle.std.proofs.Common.{◌≡◌, ◌∷◌, ◌+◌, ℕ, List, [], drop, refl, ◌∙◌, subst, append-nil}
-use Rattle.std.proofs.Common.{string_bytes, arith, Option}
+use Rattle.std.proofs.Common.{◌≡◌, ◌∷◌, ◌+◌, ◌≤◌, ℕ, List, [], drop, refl, ◌∙◌, subst}
+use Rattle.std.proofs.Common.{append-nil, string_bytes, arith, Option}
 use Rattle.std.specs.Prelude.{MatchOption}
 use Rattle.std.proofs.lemmas.List.{drop_all}
+use Rattle.std.proofs.lemmas.Result.{err_from_is_err_and}
 use Rattle.std.specs.Option.{option_copied}
 use Rattle.part_events.specs.Package.{Part}
+use Rattle.part_events.proofs.Uses.{same_further}
 use Rattle.xlsx_error.specs.declared.error.XlsxError.{XlsxError}
 use Rattle.xlsx_values.specs.Book.{grounds_of}
 use Rattle.xlsx_cells.specs.CellsReader.{values_alone}
-use Rattle.xlsx_core.specs.Listing.{AreListed, IsPutBehind}
+use Rattle.xlsx_core.specs.Listing.{AreListed, IsPutBehind, listed_events}
 use Rattle.xlsx_core.specs.Opened.{path_listed}
+use Rattle.xlsx_core.specs.SheetReading.{placed_events}
 use Rattle.xlsx_core.specs.Worksheets.{ReadsValues, RangeCause}
 use Rattle.xlsx_core.proofs.SheetsListed.{listed_further, drop_from}
+use Rattle.xlsx_core.proofs.TakenOnce.{part_listed, leaves_listed, leaves_behind}
 use Rattle.xlsx_core.proofs.worksheet_list.ranges_listed.Goals as goal
 
 pub sheets-preserved : goal.sheets-preserved
 sheets-preserved g c =
     let old = g.P.Package.state c.args.package.now in
     let mid = g.P.Package.state c.sheets.package in
+    let new = g.P.Package.state c.range_or_none.new.package in
     let now = c.sheets.invariant in
     let own = c.in_ok-range.ensures in
     let sheet = c.sheet-item.result in
@@ -29,17 +34,23 @@ sheets-preserved g c =
     let reads_at = λ (text : List ℕ) (path : Option (List ℕ)) (parts : List Part).
     MatchOption range ((error : XlsxError) × RangeCause text values_alone grounds path parts error)
     (ReadsValues grounds header path parts) in
+    let named : name ≡ string_bytes sheet.name = c.as_str-name.ensures.value in
+    let path : option_copied c.kept_path-path.result ≡ place name =
+    c.kept_path-path.ensures ∙ c.in_ok-firsts.ensures name in
+    let front : drop c.sheets.sheet-index sheets
+    ≡ sheet ∷ drop (c.sheets.sheet-index + 1) sheets =
+    drop_from sheets c.sheets.sheet-index (c.sheets.sheet-index + 1) sheet c.sheet-item.is
+    c.sheets-test.true refl in
     record {
-      keeps = record {
-        parts = own.keeps.parts ∙ now.keeps.parts;
-        is_told = own.keeps.is_told ∙ now.keeps.is_told;
-        faults = omega (arith, own.keeps.faults, now.keeps.faults);
-      };
-      faults = own.faults ∙ now.faults;
+      keeps = same_further now.keeps own.uses.parts;
+      faults = own.uses.faults ∙ now.faults;
+      forward = omega (arith, now.forward, own.uses.forward);
+      taken = λ told.
+          part_listed place old mid new (option_copied c.kept_path-path.result) name sheet
+          (drop c.sheets.sheet-index sheets) (drop (c.sheets.sheet-index + 1) sheets)
+          (old.taken + listed_events place old.parts sheets) path named front now.keeps.parts
+          (now.taken told) (own.uses.taken (now.keeps.is_told ∙ told));
       listed = λ told.
-          let named : name ≡ string_bytes sheet.name = c.as_str-name.ensures.value in
-          let path : option_copied c.kept_path-path.result ≡ place name =
-          c.kept_path-path.ensures ∙ c.in_ok-firsts.ensures name in
           let read : reads_at name (place name) old.parts =
           subst (reads_at name (place name)) now.keeps.parts
           (subst (λ (there : Option (List ℕ)). reads_at name there mid.parts) path
@@ -54,10 +65,6 @@ sheets-preserved g c =
           (c.put_behind.new.listed.items ≡ c.sheets.listed.items)
           (IsPutBehind text c.sheets.listed.items c.put_behind.new.listed.items)) named
           c.in_ok-put_behind.ensures in
-          let front : drop c.sheets.sheet-index sheets
-          ≡ sheet ∷ drop (c.sheets.sheet-index + 1) sheets =
-          drop_from sheets c.sheets.sheet-index (c.sheets.sheet-index + 1) sheet c.sheet-item.is
-          c.sheets-test.true refl in
           listed_further grounds header place old.parts sheet
           (drop (c.sheets.sheet-index + 1) sheets) range c.sheets.listed.items
           c.put_behind.new.listed.items (AreListed grounds header place old.parts sheets) reads
@@ -74,3 +81,48 @@ returns-clause-lists g c = λ told.
     c.args.sheets.now) (append-nil c.sheets.listed.items)
     (c.sheets.invariant.listed told []
     (rw behind refl))
+
+pub returns-in_err-range-clause-uses : goal.returns-in_err-range-clause-uses
+returns-in_err-range-clause-uses g c =
+    let old = g.P.Package.state c.args.package.now in
+    let mid = g.P.Package.state c.sheets.package in
+    let new = g.P.Package.state c.range_or_none.new.package in
+    let now = c.sheets.invariant in
+    let sheet = c.sheet-item.result in
+    let name = c.as_str-name.result.now in
+    let sheets = c.args.sheets.now in
+    let place = λ (text : List ℕ). path_listed text sheets c.args.paths.now in
+    let front = drop_from sheets c.sheets.sheet-index (c.sheets.sheet-index + 1) sheet
+    c.sheet-item.is c.sheets-test.true refl in
+    let error = c.in_err-range.field-0.0 in
+    let handed = err_from_is_err_and c.from_residual-in_err-range.result
+    c.from_residual-in_err-range.ensures.1 in
+    rw (handed.1, handed.2)
+    (leaves_listed place old mid new (option_copied c.kept_path-path.result) name sheet
+    (drop c.sheets.sheet-index sheets) (drop (c.sheets.sheet-index + 1) sheets)
+    (listed_events place old.parts sheets) error
+    (c.kept_path-path.ensures ∙ c.in_ok-firsts.ensures name) c.as_str-name.ensures.value front
+    now.keeps now.faults now.forward now.taken c.in_err-range.ensures.uses)
+
+pub returns-in_err-put_behind-clause-uses : goal.returns-in_err-put_behind-clause-uses
+returns-in_err-put_behind-clause-uses g c =
+    let old = g.P.Package.state c.args.package.now in
+    let mid = g.P.Package.state c.sheets.package in
+    let new = g.P.Package.state c.range_or_none.new.package in
+    let now = c.sheets.invariant in
+    let sheet = c.sheet-item.result in
+    let name = c.as_str-name.result.now in
+    let sheets = c.args.sheets.now in
+    let place = λ (text : List ℕ). path_listed text sheets c.args.paths.now in
+    let front = drop_from sheets c.sheets.sheet-index (c.sheets.sheet-index + 1) sheet
+    c.sheet-item.is c.sheets-test.true refl in
+    let kept = option_copied c.kept_path-path.result in
+    let handed = err_from_is_err_and c.from_residual-in_err-put_behind.result
+    c.from_residual-in_err-put_behind.ensures.1 in
+    let error = handed.0 in
+    rw handed.1
+    (leaves_listed place old mid new kept name sheet (drop c.sheets.sheet-index sheets)
+    (drop (c.sheets.sheet-index + 1) sheets) (listed_events place old.parts sheets) error
+    (c.kept_path-path.ensures ∙ c.in_ok-firsts.ensures name) c.as_str-name.ensures.value front
+    now.keeps now.faults now.forward now.taken
+    (leaves_behind (placed_events kept mid.parts) mid new error c.in_ok-range.ensures.uses))

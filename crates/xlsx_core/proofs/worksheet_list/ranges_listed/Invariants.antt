@@ -1,9 +1,9 @@
-use Rattle.std.proofs.Common.{◌≡◌, ◌++◌, ℕ, List, drop, true, String, Global}
-use Rattle.part_events.specs.Package.{SameParts}
+use Rattle.std.proofs.Common.{◌≡◌, ◌+◌, ◌≤◌, ◌++◌, ℕ, List, drop, true, String, Global}
+use Rattle.part_events.specs.Package.{SameParts, NeverFalls}
 use Rattle.cell_data.specs.declared.range.Range.{Range}
 use Rattle.cell_data.specs.declared.value.Data.{Data}
 use Rattle.xlsx_values.specs.Book.{grounds_of}
-use Rattle.xlsx_core.specs.Listing.{AreListed}
+use Rattle.xlsx_core.specs.Listing.{AreListed, listed_events}
 use Rattle.xlsx_core.specs.Opened.{path_listed}
 use Rattle.xlsx_core.proofs.worksheet_list.ranges_listed.Given as goal
 
@@ -15,6 +15,10 @@ invariant-sheets g l =
     record {
       keeps : SameParts old now;
       faults : now.faults ≡ old.faults;
+      forward : NeverFalls old.taken now.taken;
+      taken : old.is_told ≡ true →
+          now.taken + listed_events place old.parts (drop l.sheet-index l.fn.sheets)
+          ≤ old.taken + listed_events place old.parts l.fn.sheets;
       listed : old.is_told ≡ true → (others : List (String Global × Range Data)) →
           AreListed (grounds_of l.asked.book) l.header_row place old.parts
           (drop l.sheet-index l.fn.sheets) others →
