@@ -161,7 +161,8 @@ impl SheetCursor {
             old.reading.source.is_told ≡ true → (before : List Mark)
             (earlier : List FormulaText) → StandsBehind before earlier old →
             IfOk result (λ found. TakesEach NoCell
-            (λ own. IsWritten wants grounds earlier (seen_with_formula own)) before earlier found old new) }
+            (λ own. IsWritten wants grounds earlier (seen_with_formula own))
+            before earlier found old new) }
         ensures unwanted { IfOk result (λ found.
             IfSome found (λ own. LacksUnwantedText asked.entry.wants (seen_with_formula own))) }
         ensures err { let old = stream (P.state «package».old) self.old in
@@ -224,7 +225,8 @@ impl SheetCursor {
             old.reading.source.is_told ≡ true → (before : List Mark)
             (earlier : List FormulaText) → StandsBehind before earlier old →
             IfOk result (λ found. TakesEach NoCell
-            (λ own. IsWritten wants grounds earlier (seen_with_text own)) before earlier found old new) }
+            (λ own. IsWritten wants grounds earlier (seen_with_text own))
+            before earlier found old new) }
         ensures unwanted { IfOk result (λ found.
             IfSome found (λ own. LacksUnwantedText asked.entry.wants (seen_with_text own))) }
         ensures err { let old = stream (P.state «package».old) self.old in

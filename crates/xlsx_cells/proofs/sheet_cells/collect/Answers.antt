@@ -18,7 +18,8 @@ pub returns-in_err-found-clause-err : goal.returns-in_err-found-clause-err
 returns-in_err-found-clause-err g c =
     let old = stream (g.P.Package.state c.args.package.now) c.args.sheet.now in
     let mid = stream (g.P.Package.state c.cells.package) c.cells.sheet in
-    let new = stream (g.P.Package.state c.next_with_formula.new.package) c.next_with_formula.new.self in
+    let new = stream (g.P.Package.state c.next_with_formula.new.package)
+    c.next_with_formula.new.self in
     let wants = c.args.asked.wants in
     let grounds = grounds_of c.args.asked.book in
     let now = c.cells.invariant in
@@ -35,7 +36,8 @@ pub cells-preserved : goal.cells-preserved
 cells-preserved g c =
     let old = stream (g.P.Package.state c.args.package.now) c.args.sheet.now in
     let mid = stream (g.P.Package.state c.cells.package) c.cells.sheet in
-    let new = stream (g.P.Package.state c.next_with_formula.new.package) c.next_with_formula.new.self in
+    let new = stream (g.P.Package.state c.next_with_formula.new.package)
+    c.next_with_formula.new.self in
     let wants = c.args.asked.wants in
     let grounds = grounds_of c.args.asked.book in
     let now = c.cells.invariant in
@@ -80,7 +82,8 @@ returns-clause-closed g c = λ told.
     let mid = stream (g.P.Package.state c.cells.package) c.cells.sheet in
     let now = c.cells.invariant in
     let been = now.collected told in
-    let new = stream (g.P.Package.state c.next_with_formula.new.package) c.next_with_formula.new.self in
+    let new = stream (g.P.Package.state c.next_with_formula.new.package)
+    c.next_with_formula.new.self in
     let ends : EndsData NoCell been.before mid new = rw c.in_default.is at
     (c.in_ok-found.ensures.takes (now.keeps.section.reads.moves.parts.is_told ∙ told) been.before
     been.earlier been.stands) now.going.done in
@@ -95,7 +98,8 @@ returns-clause-values g c = λ told wanted.
     let grounds = grounds_of c.args.asked.book in
     let now = c.cells.invariant in
     let been = now.collected told in
-    let new = stream (g.P.Package.state c.next_with_formula.new.package) c.next_with_formula.new.self in
+    let new = stream (g.P.Package.state c.next_with_formula.new.package)
+    c.next_with_formula.new.self in
     let ends : EndsData NoCell been.before mid new = rw c.in_default.is at
     (c.in_ok-found.ensures.takes (now.keeps.section.reads.moves.parts.is_told ∙ told) been.before
     been.earlier been.stands) now.going.done in
@@ -111,7 +115,8 @@ returns-clause-formulas g c = λ told wanted.
     let grounds = grounds_of c.args.asked.book in
     let now = c.cells.invariant in
     let been = now.collected told in
-    let new = stream (g.P.Package.state c.next_with_formula.new.package) c.next_with_formula.new.self in
+    let new = stream (g.P.Package.state c.next_with_formula.new.package)
+    c.next_with_formula.new.self in
     let ends : EndsData NoCell been.before mid new = rw c.in_default.is at
     (c.in_ok-found.ensures.takes (now.keeps.section.reads.moves.parts.is_told ∙ told) been.before
     been.earlier been.stands) now.going.done in
@@ -127,7 +132,8 @@ returns-clause-styles g c = λ told wanted.
     let grounds = grounds_of c.args.asked.book in
     let now = c.cells.invariant in
     let been = now.collected told in
-    let new = stream (g.P.Package.state c.next_with_formula.new.package) c.next_with_formula.new.self in
+    let new = stream (g.P.Package.state c.next_with_formula.new.package)
+    c.next_with_formula.new.self in
     let ends : EndsData NoCell been.before mid new = rw c.in_default.is at
     (c.in_ok-found.ensures.takes (now.keeps.section.reads.moves.parts.is_told ∙ told) been.before
     been.earlier been.stands) now.going.done in
@@ -138,7 +144,8 @@ returns-clause-styles g c = λ told wanted.
 pub returns-in_err-found-clause-kind : goal.returns-in_err-found-clause-kind
 returns-in_err-found-clause-kind g c =
     let mid = stream (g.P.Package.state c.cells.package) c.cells.sheet in
-    let new = stream (g.P.Package.state c.next_with_formula.new.package) c.next_with_formula.new.self in
+    let new = stream (g.P.Package.state c.next_with_formula.new.package)
+    c.next_with_formula.new.self in
     let p = err_from_is_err_and c.from_residual.result c.from_residual.ensures.1 in
     rw (p.1, p.2) (step_error c.args.asked.wants (grounds_of c.args.asked.book) mid new
     c.in_err-found.field-0.0 c.cells.invariant.going c.in_err-found.ensures.err
@@ -147,7 +154,8 @@ returns-in_err-found-clause-kind g c =
 pub returns-in_err-found-clause-plain : goal.returns-in_err-found-clause-plain
 returns-in_err-found-clause-plain g c = λ skips.
     let mid = stream (g.P.Package.state c.cells.package) c.cells.sheet in
-    let new = stream (g.P.Package.state c.next_with_formula.new.package) c.next_with_formula.new.self in
+    let new = stream (g.P.Package.state c.next_with_formula.new.package)
+    c.next_with_formula.new.self in
     let p = err_from_is_err_and c.from_residual.result c.from_residual.ensures.1 in
     rw (p.1, p.2) (styled_error c.args.asked.wants (grounds_of c.args.asked.book) mid new
     c.in_err-found.field-0.0 c.cells.invariant.going c.in_err-found.ensures.err

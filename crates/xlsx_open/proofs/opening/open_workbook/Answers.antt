@@ -129,7 +129,8 @@ returns-in_err-contents-clause-uses g c =
     subst (λ (part : List ℕ). UsesPackage (event_count old.parts part) old mid)
     (c.as_str.ensures.value ∙ c.in_ok-part.ensures) c.in_ok-relationships.ensures.uses in
     let second : LeavesPackage (event_count old.parts (workbook_part path)) Io mid new e =
-    subst (λ (parts : List Part). LeavesPackage (event_count parts (workbook_part path)) Io mid new e)
+    subst
+    (λ (parts : List Part). LeavesPackage (event_count parts (workbook_part path)) Io mid new e)
     first.parts.parts
     (subst (λ (part : List ℕ). LeavesPackage (event_count mid.parts part) Io mid new e)
     (c.as_str-2.ensures.value ∙ c.in_ok-part-2.ensures) c.in_err-contents.ensures.uses) in
