@@ -6,9 +6,11 @@ use cell_data::{HeaderRow, Range};
 use part_events::{MemoryPackage, Package};
 use std::alloc::Global;
 use std::test::Fail;
-use test_packages::{RELATIONSHIPS, ROOT, SHEET_NAME, WORKBOOK, package_of, package_with};
+use test_packages::{
+    RELATIONSHIPS, ROOT, SHEET, SHEET_NAME, WORKBOOK, add_front, package_of, package_with,
+};
 use test_tables::{assert_text, cases, cut};
-use xlsx_core::Xlsx;
+use xlsx_core::{SheetAnswer, Xlsx, read_sheet};
 
 /// The minimal workbook with this part of its sheet.
 fn workbook_of(alloc: Global, sheet: &str) -> Result<Xlsx<MemoryPackage>, Fail> {
@@ -198,5 +200,27 @@ fn absent_sheets_are_told(rt: HostRuntime) -> Result<(), Fail> {
     assert_text(&told, want, "formulas")?;
     let told = cells_taken(alloc, &mut xlsx, "S")?;
     assert_text(&told, want, "cells")?;
+    Ok(())
+}
+
+/// The events of the minimal package before its sheet: those of two parts of relationships, and
+/// those of the workbook.
+const OPENING_EVENTS: u64 = 4 + 4 + 6;
+
+#[test]
+fn a_sheet_is_read_once(rt: HostRuntime) -> Result<(), Fail> {
+    let alloc = rt.alloc();
+    for count in 0..12 {
+        let mut package = package_of(alloc, &[ROOT, RELATIONSHIPS, WORKBOOK])?;
+        add_front(&mut package, alloc, SHEET, count)?;
+        let SheetAnswer { result, package } = read_sheet(alloc, package, "S");
+        let taken = package.taken();
+        let is_read = result.is_ok();
+        assert!(rt;
+            taken <= OPENING_EVENTS + count as u64,
+            "of {count} events: {taken}"
+        );
+        assert!(rt; is_read == (10 <= count), "of {count} events");
+    }
     Ok(())
 }
