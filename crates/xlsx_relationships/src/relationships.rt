@@ -18,8 +18,8 @@ use std::sync::ArcStr;
 use xlsx_error::XlsxError;
 use xlsx_sections::decode_at;
 
-/// What a relationship leads to, and its type, both as written. All that it leads to share the text
-/// of its target.
+/// What a relationship leads to, and its type, both as written. The text of the target is shared by
+/// all that keep it.
 #[derive(Debug, Drop)]
 pub struct Relationship {
     pub target: ArcStr,
