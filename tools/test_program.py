@@ -90,6 +90,27 @@ def sheets_of_one_target(folder, target, count):
     }
 
 
+def styles_named_often(kind, lists, count):
+    """A workbook with so many cell formats, each of which names the first of a list."""
+    formats = f"<xf {kind}/>" * count
+    styles = f"<styleSheet>{lists}<cellXfs>{formats}</cellXfs></styleSheet>"
+    return {**with_rows('<row><c r="A1"><v>1</v></c></row>'), "xl/styles.xml": styles}
+
+
+def string_in_cells(text, positions):
+    """A workbook with one shared string in cells at these positions."""
+    cells = "".join(f'<c r="{position}" t="s"><v>0</v></c>' for position in positions)
+    strings = f"<sst><si><t>{text}</t></si></sst>"
+    return {**with_rows(f"<row>{cells}</row>"), "xl/sharedStrings.xml": strings}
+
+
+def master_in_cells(text, positions):
+    """A workbook with a shared formula at A1, and derived ones at these positions."""
+    derived = (f'<c r="{position}"><f t="shared" si="0"/></c>' for position in positions)
+    first = f'<c r="A1"><f t="shared" si="0" ref="A1">{text}</f></c>'
+    return with_rows(f"<row>{first}{''.join(derived)}</row>")
+
+
 def filled(size):
     """The shipped package with spaces behind it, of this size."""
     return PACKAGE.ljust(size)
@@ -354,6 +375,28 @@ class Edge:
             for words, wanted in ((["sheets"], lines), (["tables"], b""), (["pivots"], b"")):
                 answer = self.run_on(package, words, preexec_fn=bound)
                 self.assertEqual(answer, (0, wanted, b""), (folder[:3], words))
+
+    def test_texts_that_cells_and_styles_name_often(self):
+        def bound():
+            resource.setrlimit(resource.RLIMIT_AS, (200_000_000, 200_000_000))
+
+        long, count = 500_000, 1_000
+        text, formula = "s" * long, "+".join(["A1"] * (long // 3))
+        one, each = ["A2"] * count, [f"A{row}" for row in range(2, count + 2)]
+        font = f'<fonts><font><name val="{text}"/></font></fonts>'
+        code = f'<numFmts><numFmt numFmtId="200" formatCode="{"0" * long}"/></numFmts>'
+        moved = f"A1\t-\t={formula}\t-\nA2\t-\t={formula.replace('A1', 'A2')}\t-\n"
+        for parts, wanted in (
+            (string_in_cells(text, one), (0, f"A2\ts:{text}\t-\t-\n".encode(), b"")),
+            (string_in_cells(text, each), refusal(8)),
+            (master_in_cells(formula, one), (0, moved.encode(), b"")),
+            (master_in_cells(formula, each), refusal(8)),
+            (styles_named_often('fontId="0"', font, count), refusal(8)),
+            (styles_named_often('numFmtId="200"', code, count), refusal(8)),
+        ):
+            answer = self.run_on(package_text(parts), preexec_fn=bound)
+            # Not by `assertEqual`, which would print the texts.
+            self.assertTrue(answer == wanted, (answer[0], answer[1][:40], answer[2]))
 
     def test_want_of_memory(self):
         def bound():
