@@ -21,6 +21,7 @@ pub use format::{
 };
 pub use range::Range;
 pub use range_iterators::{Cells, RowCells, Rows, UsedCells};
+pub use sparse::in_order;
 pub use split::split_at_position;
 pub use table::Table;
 pub use value::{

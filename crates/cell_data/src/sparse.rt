@@ -50,7 +50,8 @@ fn last_cells<T: Drop>(alloc: Global, cells: Vec<Cell<T>>) -> Result<Vec<Cell<T>
     Ok(kept)
 }
 
-/// The same. Cells that are in order already stay where they are.
+/// The last cell of each position, in the order of positions: row by row. Cells that are in order
+/// already stay where they are.
 pub fn in_order<T: Drop>(alloc: Global, cells: Vec<Cell<T>>) -> Result<Vec<Cell<T>>, AllocError>
     ensures { IfOk result
         (λ kept. placed_cells kept.items ≡ last_of_each (placed_cells cells.items)) }
