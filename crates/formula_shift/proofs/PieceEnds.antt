@@ -1,5 +1,6 @@
 -- A text that is known to begin with a piece of so many bytes, and the places behind its pieces.
-use Rattle.std.proofs.Common.{◌≡◌, ℕ, suc, ◌+◌, ◌-◌, ◌<◌, ◌≤◌, List, [], ◌∷◌, length, get_or, take, drop}
+use Rattle.std.proofs.Common.{◌≡◌, ℕ, suc, ◌+◌, ◌-◌, ◌<◌, ◌≤◌, List, [], ◌∷◌, length, get_or, take}
+use Rattle.std.proofs.Common.{drop}
 use Rattle.std.proofs.Common.{Some, IsUtf8, sym, refl, ap, ◌∙◌, subst, arith, add-one}
 use Rattle.std.proofs.Common.{length-append}
 use Rattle.std.specs.Str.{IsCharBoundary}

@@ -1,11 +1,10 @@
 -- Parts are found by their names.
 use Rattle.std.proofs.Common.{◌≡◌, ℕ, suc, ◌<◌, List, [], ◌∷◌, ◌++◌, length, Bool, true, false}
 use Rattle.std.proofs.Common.{Option, Some, None, refl, sym, ap, ◌∙◌, subst, arith}
-use Rattle.std.proofs.lemmas.Bool.{cases_Bool}
 use Rattle.std.proofs.lemmas.Cmp.{eq_by_cmp_equiv, nat_list_cmp_total, nat_list_eq_equiv}
 use Rattle.std.proofs.lemmas.Map.Text.{is_eq-slice_cmp}
 use Rattle.std.specs.Prelude.{if◌then◌else◌, option_map, is_some, IfSome, Vec, ◌≤◌}
-use Rattle.std.specs.BTreeMap.{BTreeMap, UpdatesBy, get_by, is_at}
+use Rattle.std.specs.BTreeMap.{BTreeMap, UpdatesBy, is_at}
 use Rattle.std.specs.Cmp.Lexicographic.{slice_cmp}
 use Rattle.std.specs.Cmp.Lexicographic.{bytes_decides}
 use Rattle.std.specs.Ordering.{nat_cmp, is_eq, eq_by_cmp}
@@ -23,7 +22,8 @@ abbrev pub events_at : List Part → ℕ → List Event
 events_at parts place = (part_at parts place).events
 
 map_twice : (part : Part) (parts : List Part) (place : Option ℕ)
-    → option_map (events_at parts) place ≡ option_map (events_at (part ∷ parts)) (option_map suc place)
+    → option_map (events_at parts) place
+    ≡ option_map (events_at (part ∷ parts)) (option_map suc place)
 map_twice part parts None = refl
 map_twice part parts (Some place) = refl
 
@@ -205,7 +205,8 @@ again_if None false last some = refl
 
 -- or another part of its name stands before it
 pub finds_again : (old new : PartNames) (parts : List Part) (part : Part) (key : Vec ℕ Global)
-    → FindsParts old parts → key.items ≡ folded part.name → (place_by old.places key.items ≡ None → ⊥)
+    → FindsParts old parts → key.items ≡ folded part.name
+    → (place_by old.places key.items ≡ None → ⊥)
     → new.places ≡ old.places → length old.buffer.items ≤ length new.buffer.items
     → length (folded part.name) ≤ length new.buffer.items
     → FindsParts new (parts ++ part ∷ [])

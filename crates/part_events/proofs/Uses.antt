@@ -1,5 +1,5 @@
 -- How calls on a package follow one another.
-use Rattle.std.proofs.Common.{◌≡◌, ◌+◌, ◌≤◌, ℕ, Result, Ok, Err, ◌∙◌, arith}
+use Rattle.std.proofs.Common.{◌+◌, ◌≤◌, ℕ, Result, Ok, Err, ◌∙◌, arith}
 use Rattle.part_events.specs.Package.{PackageState, SameParts, UsesPackage, LeavesPackage, Uses}
 
 -- one call behind another

@@ -50,8 +50,8 @@ fn is_error(cell: &Cell<DataRef>) -> bool
 }
 
 /// The first cell whose value is an error, where there is one. Nothing behind it is read, and so
-/// refuses nothing: of what was taken up to it no value is an error, and a refusal comes of the next
-/// cell behind such ones.
+/// refuses nothing: of what was taken up to it no value is an error, and a refusal comes of the
+/// next cell behind such ones.
 pub fn first_error<P: Package>(
     reader: &mut XlsxCellReader<'_, P>,
 ) -> Result<Option<Cell<DataRef>>, XlsxError>

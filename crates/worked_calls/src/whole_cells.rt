@@ -17,8 +17,8 @@ fn is_full(cell: &CellRead) -> bool {
 }
 
 /// How many cells of the part at this path have all that a cell can have. A path without a part has
-/// none. The package is lent for this call alone, so it is known what a refusal leaves; the count is
-/// tested, and no clause says it.
+/// none. The package is lent for this call alone, so it is known what a refusal leaves; the count
+/// is tested, and no clause says it.
 pub fn full_cells<P: Package>(
     alloc: Global,
     package: &mut P,

@@ -242,7 +242,8 @@ fn failing_told(alloc: Global, call: u64) -> Result<String, Fail> {
 
 #[test]
 fn a_fault_in_properties_is_told_and_keeps_none(rt: HostRuntime) -> Result<(), Fail> {
-    // Three parts are looked for, and of the two that are there 5 and 4 events and their ends taken.
+    // Three parts are looked for, and of the two that are there 5 and 4 events and their ends are
+    // taken.
     for call in OPENING..OPENING + 3 + 6 + 5 {
         let told = failing_told(rt.alloc(), call)?;
         let wanted = "Io title=T;A:; title=T;A:; 1";

@@ -1,4 +1,5 @@
-//! What texts say: tests of attributes, character data, A1 texts and formulas by their public calls.
+//! What texts say: tests of attributes, character data, A1 texts and formulas by their public
+//! calls.
 #![tactic(auto)]
 
 #[cfg(test)]

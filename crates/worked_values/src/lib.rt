@@ -1,5 +1,5 @@
-//! What values are: tests of decimals, number formats, ranges, styles and their lines by their public
-//! calls.
+//! What values are: tests of decimals, number formats, ranges, styles and their lines by their
+//! public calls.
 #![tactic(auto)]
 
 #[cfg(test)]

@@ -60,7 +60,10 @@ hyperlink_law a b =
           ap (λ (link : Link). link.target) same,
           (
             ap (λ (link : Link). link.location) same,
-            (ap (λ (link : Link). link.displayed_text) same, ap (λ (link : Link). link.tooltip) same),
+            (
+              ap (λ (link : Link). link.displayed_text) same,
+              ap (λ (link : Link). link.tooltip) same,
+            ),
           ),
         ),
       ),

@@ -5,7 +5,6 @@ use Rattle.std.specs.Prelude.{option_map, IsSomeAnd}
 use Rattle.part_events.specs.Event.{Tag, Event}
 use Rattle.part_events.specs.Nesting.{whole}
 use Rattle.part_events.specs.Section.{Element, behind_start, is_named}
-use Rattle.cell_data.specs.CellValue.{CellValue}
 use Rattle.cell_refs.specs.declared.dimensions.Dimensions.{Dimensions}
 use Rattle.xlsx_error.specs.declared.error.XlsxError.{XlsxError}
 use Rattle.cell_styles.specs.StyleMap.{StyledCell}
@@ -15,7 +14,7 @@ use Rattle.xlsx_sections.specs.PartSection.{section_from, section_in}
 use Rattle.xlsx_sections.specs.Refusal.{Refusal, in_element}
 use Rattle.xlsx_sections.proofs.Sound.{no_section_cause}
 use Rattle.xlsx_values.specs.Value.{Grounds, cell_value}
-use Rattle.xlsx_formulas.specs.Formula.{FormulaText, formulas_in}
+use Rattle.xlsx_formulas.specs.Formula.{formulas_in}
 use Rattle.xlsx_cells.specs.CellsReader.{formulas_alone, styles_alone}
 use Rattle.xlsx_cells.specs.Ends.{end_in_data}
 use Rattle.xlsx_cells.specs.Marks.{Mark, row_start, row_end, cell, marks}

@@ -1,5 +1,5 @@
 -- A stream of cells: where it stands, and what its steps do.
-use Rattle.std.specs.Prelude.{◌≡◌, ◌⊎◌, ⊤, ℕ, ◌≤◌, ◌<◌, List, [], ◌∷◌, length, Bool, ◌||◌, true}
+use Rattle.std.specs.Prelude.{◌≡◌, ◌⊎◌, ℕ, ◌≤◌, ◌<◌, List, [], ◌∷◌, length, Bool, ◌||◌, true}
 use Rattle.std.specs.Prelude.{false, Option, Some, None, Ok, Err, string_bytes}
 use Rattle.std.specs.List.{last_or}
 use Rattle.cell_refs.specs.declared.TheConstants.{MAX_ROWS, MAX_COLUMNS}

@@ -1,6 +1,7 @@
 -- The rows of a sheet: those of a range by what its values mean, and when there are none.
 use Rattle.std.proofs.Common.{◌≡◌, ◌∙◌, ℕ, ◌+◌, ◌-◌, ◌<◌, ◌≤◌, List, [], ◌∷◌, ◌++◌, map, cond}
-use Rattle.std.proofs.Common.{true, false, refl, sym, ap, subst, arith, inl, inr, ◌⊎◌, Option, Some, None}
+use Rattle.std.proofs.Common.{true, false, refl, sym, ap, subst, arith, inl, inr, ◌⊎◌, Option, Some}
+use Rattle.std.proofs.Common.{None}
 use Rattle.std.proofs.Common.{Result, Ok, Err}
 use mathlib.Core.Path.{fun_ext}
 use Rattle.std.specs.Prelude.{Vec, ◌↔◌}

@@ -1,5 +1,6 @@
 -- The first table of a name with its data, and why these aren't had.
-use Rattle.std.proofs.Common.{◌≡◌, ◌∙◌, ◌⊎◌, inl, inr, ap, sym, subst, refl, ℕ, List, Option, Some, None}
+use Rattle.std.proofs.Common.{◌≡◌, ◌∙◌, ◌⊎◌, inl, inr, ap, sym, subst, refl, ℕ, List, Option, Some}
+use Rattle.std.proofs.Common.{None}
 use Rattle.std.specs.Prelude.{IsSome, IsSomeAnd}
 use Rattle.cell_data.specs.Table.{table_data}
 use Rattle.cell_data.specs.declared.range.Range.{Range}

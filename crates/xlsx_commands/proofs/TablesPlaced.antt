@@ -83,7 +83,8 @@ module _ (parts : List Part) (name : List ℕ) (table : Table Data)
   area_said : (range : Range Data) → range ≡ table_data table → bounds_of range ≡ has.own.table.area
   area_said range same = ap (λ (own : Range Data). bounds_of own) same ∙ has.is.area
 
-  pub header_of_data : (range : Range Data) (header : List (String Global)) → range ≡ table_data table
+  pub header_of_data : (range : Range Data) (header : List (String Global))
+      → range ≡ table_data table
       → map string_bytes header
       ≡ header_over (bounds_of (table_data table)) (table_columns table)
       → IfSome (bounds_of range) (λ own. length header ≡ width_of (Some own))

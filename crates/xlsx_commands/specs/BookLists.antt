@@ -25,7 +25,8 @@ state_word VeryHidden = codes "veryHidden"
 -- a line for each sheet, and one for each defined name
 abbrev pub sheet_lines : List ListedSheet → List ℕ
 sheet_lines sheets =
-    flat_map (λ sheet. sheet_line sheet.name (type_word sheet.typ) (state_word sheet.visible)) sheets
+    flat_map
+    (λ sheet. sheet_line sheet.name (type_word sheet.typ) (state_word sheet.visible)) sheets
 
 abbrev pub name_lines : List (List ℕ × List ℕ) → List ℕ
 name_lines names = flat_map (λ name. pair_line name.0 name.1) names

@@ -1,4 +1,5 @@
--- When what is asked of all sheets of a workbook is refused, and when the cache of a pivot table is.
+-- When what is asked of all sheets of a workbook is refused, and when the cache of a pivot table
+-- is.
 use Rattle.std.specs.Prelude.{ℕ, List}
 use Rattle.part_events.specs.Package.{Part}
 use Rattle.xlsx_error.specs.declared.error.XlsxError.{XlsxError}

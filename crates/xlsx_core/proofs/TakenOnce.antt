@@ -18,7 +18,7 @@ use Rattle.xlsx_cells.specs.Stream.{Stream}
 use Rattle.xlsx_workbook.specs.declared.sheet.Sheet.{Sheet}
 use Rattle.xlsx_open.specs.Opening.{TakesOpening}
 use Rattle.xlsx_core.specs.Listing.{listed_events}
-use Rattle.xlsx_core.specs.SheetReading.{path_named, placed_events, TakesSheet}
+use Rattle.xlsx_core.specs.SheetReading.{placed_events, TakesSheet}
 use Rattle.xlsx_core.proofs.SheetsRead.{OpensPlaced}
 
 -- whatever a call answers

@@ -1,25 +1,22 @@
 -- What a section says that a part may lack, and when it is refused.
 use Rattle.std.proofs.Common.{◌≡◌, ℕ, List, [], ◌∷◌, Bool, true, Option, Some, None, Result, Ok}
-use Rattle.std.proofs.Common.{refl, ap}
-use Rattle.std.proofs.Common.{length, ◌∙◌, suc, sym, inr, subst, eq-eqb}
+use Rattle.std.proofs.Common.{ap}
+use Rattle.std.proofs.Common.{length, ◌∙◌, eq-eqb}
 use Rattle.std.specs.Prelude.{option_map, option_and_then, if◌then◌else◌}
-use Rattle.std.specs.Option.{option_map_or}
 use Rattle.part_events.specs.Event.{Event}
 use Rattle.part_events.specs.Nesting.{whole}
 use Rattle.part_events.specs.Package.{PackageState, SameParts, part_of}
 use Rattle.part_events.specs.Reading.{Reading, events_of}
-use Rattle.part_events.specs.Section.{behind_start, is_named, is_closed, content}
-use Rattle.part_events.specs.Walk.{is_closed_ahead}
+use Rattle.part_events.specs.Section.{behind_start, is_named, content}
 use Rattle.xlsx_error.specs.declared.error.XlsxError.{XlsxError}
 use Rattle.xlsx_error.specs.declared.error.XlsxError.TheVariants.{OutOfMemory, Io}
 use Rattle.xlsx_sections.specs.Failing.{FailsBy, SoundFails}
 use Rattle.xlsx_sections.specs.PartSection.{PartSection, Ending, Refusing, SectionCause}
-use Rattle.xlsx_sections.specs.PartSection.{SectionFails, section_left, section_from, section_in}
-use Rattle.xlsx_sections.specs.PartSection.{closed_section, if_closed, inside_of, has_end, last_of}
+use Rattle.xlsx_sections.specs.PartSection.{section_left, section_from, section_in}
+use Rattle.xlsx_sections.specs.PartSection.{if_closed, inside_of, has_end}
 use Rattle.xlsx_sections.specs.Refusal.{Refusal}
-use Rattle.xlsx_sections.specs.SectionEvents.{section_events}
 use Rattle.xlsx_sections.proofs.Failing.{fails_by_weaker, same_parts}
-use Rattle.xlsx_parts.specs.PartSaid.{ok_or_none, section_said, section_said_or, is_whole, if_whole}
+use Rattle.xlsx_parts.specs.PartSaid.{ok_or_none, section_said, section_said_or, is_whole}
 use Rattle.xlsx_parts.specs.PartSaid.{lacking_or, whole_said}
 use Rattle.xlsx_parts.specs.WholePart.{OpensPart, IsBroken, LackingCause, IfThere, FindSectionFails}
 

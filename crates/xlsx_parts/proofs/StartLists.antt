@@ -1,5 +1,5 @@
 -- What some starts give is kept start by start, in a list.
-use Rattle.std.proofs.Common.{◌≡◌, ℕ, List, [], ◌∷◌, ◌++◌, Bool, Option, Some, None, Result, Ok}
+use Rattle.std.proofs.Common.{◌≡◌, ℕ, List, [], ◌++◌, Bool, Option, Some, None, Result, Ok}
 use Rattle.std.proofs.Common.{Err}
 use Rattle.std.proofs.Common.{length, refl, ap, sym, ◌∙◌, true, append-nil, option_to_list}
 use Rattle.part_events.specs.Event.{Tag, Event}

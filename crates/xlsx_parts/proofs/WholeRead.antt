@@ -1,26 +1,25 @@
 -- How a part is read whole.
 use Rattle.std.proofs.Common.{◌≡◌, ℕ, zero, suc, ◌+◌, ◌-◌, List, [], ◌∷◌, ◌++◌, length, reverse}
-use Rattle.std.proofs.Common.{Bool, true, false, Option, Some, None, refl, sym, ◌∙◌, ap, arith}
+use Rattle.std.proofs.Common.{true, false, Option, Some, None, refl, ◌∙◌, ap, arith}
 use Rattle.std.proofs.Common.{subst, append-nil, Result, Err}
-use Rattle.std.specs.Prelude.{slice_get, if◌then◌else◌, option_map}
+use Rattle.std.specs.Prelude.{slice_get, if◌then◌else◌}
 use Rattle.std.specs.Option.{option_map_or}
 use Rattle.std.specs.Str.{bytes_eq}
-use Rattle.std.proofs.lemmas.List.{length-append, length-reverse}
+use Rattle.std.proofs.lemmas.List.{length-reverse}
 use Rattle.part_events.specs.Event.{Tag, Event, start, end, leaf}
 use Rattle.part_events.specs.Nesting.{open_name, closes, whole_rest, whole}
 use Rattle.part_events.specs.Package.{PackageState}
 use Rattle.part_events.specs.Reading.{Reading, IsReading, ReadsOn, IsAtEnd, ahead, events_of}
-use Rattle.part_events.specs.Section.{content, is_closed, behind_start, is_named}
+use Rattle.part_events.specs.Section.{content, is_closed}
 use Rattle.part_events.specs.Walk.{section_ahead, is_closed_ahead, inside}
 use Rattle.part_events.specs.declared.fault.XmlFault.TheVariants.{EndMismatch, Unclosed}
 use Rattle.part_events.proofs.Onward.{whole_at_end}
 use Rattle.xlsx_error.specs.declared.error.XlsxError.{XlsxError}
 use Rattle.xlsx_error.specs.declared.error.XlsxError.TheVariants.{OutOfMemory, Io, Xml, XmlEof}
-use Rattle.xlsx_sections.specs.PartSection.{PartSection, Ending, KeepsSection, section_left}
+use Rattle.xlsx_sections.specs.PartSection.{Ending, section_left}
 use Rattle.xlsx_sections.specs.PartSection.{last_of}
-use Rattle.xlsx_sections.specs.PartSection.{section_in, section_from, inside_of}
 use Rattle.xlsx_sections.specs.Elements.{IsInsideRefused}
-use Rattle.xlsx_sections.specs.Refusal.{Refusal, RefusedAs}
+use Rattle.xlsx_sections.specs.Refusal.{Refusal}
 use Rattle.xlsx_sections.proofs.Failing.{fails_by_weaker, same_parts}
 use Rattle.xlsx_sections.proofs.Refused.{refused_weaker}
 use Rattle.xlsx_sections.proofs.SectionsRead.{nothing_past, ahead_at_first}

@@ -1,7 +1,7 @@
 -- How a part is read whole, and why it can't be.
 use Rattle.std.specs.Prelude.{◌≡◌, ◌⊎◌, ⊤, ℕ, ◌+◌, List, [], ◌∷◌, length, Bool, true, false, Option}
 use Rattle.std.specs.Prelude.{Some, None, MatchOption, Result, Err}
-use Rattle.part_events.specs.Event.{Tag, Event, IsStartAnd}
+use Rattle.part_events.specs.Event.{Tag, Event}
 use Rattle.part_events.specs.Nesting.{whole}
 use Rattle.part_events.specs.Package.{PackageState, SameParts, part_of, event_count}
 use Rattle.part_events.specs.Reading.{Reading, IsReading, BreaksAt, events_of}

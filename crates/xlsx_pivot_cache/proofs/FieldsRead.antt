@@ -28,7 +28,8 @@ use Rattle.xlsx_parts.specs.WholePart.{EndsPart, IsBroken, IsMeaningRefused, Ste
 use Rattle.xlsx_parts.proofs.SaidRead.{whole_there}
 use Rattle.xlsx_parts.proofs.StartLists.{some_kept}
 use Rattle.xlsx_parts.proofs.WholeRead.{BeginsPart}
-use Rattle.xlsx_pivot_cache.specs.CacheFields.{FieldSaid, field_said, is_field, fields_in, fields_said}
+use Rattle.xlsx_pivot_cache.specs.CacheFields.{FieldSaid, field_said, is_field, fields_in}
+use Rattle.xlsx_pivot_cache.specs.CacheFields.{fields_said}
 use Rattle.xlsx_pivot_cache.specs.CacheFields.{FieldsCause}
 
 -- what elements say of fields, behind what those before them said

@@ -42,7 +42,8 @@ said_by_section meaning s = if has_end s then ok_or_none (meaning (inside_of s))
 
 -- what the first section of a name says is what it says by what is left of it
 said_from : {A : Type 0} (meaning : List Event → Result A Refusal) (events : List Event)
-    (found : Option (List Event)) (s : PartSection) → option_map (section_from events) found ≡ Some s
+    (found : Option (List Event)) (s : PartSection)
+    → option_map (section_from events) found ≡ Some s
     → option_and_then (λ (inside : List Event). ok_or_none (meaning inside))
     (option_and_then if_closed found) ≡ said_by_section meaning s
 said_from meaning events None s is = absurd (cc)
@@ -146,7 +147,8 @@ events_there : (events : List Event) (found : Option (List Event)) (s : PartSect
     → option_map (section_from events) found ≡ Some s → s.events ≡ events
 events_there events None s is = absurd (cc)
 events_there events (Some there) s is =
-    let same : section_from events there ≡ s = cc in sym (ap (λ (own : PartSection). own.events) same)
+    let same : section_from events there ≡ s = cc in
+    sym (ap (λ (own : PartSection). own.events) same)
 
 -- why what is left of the records can't be taken is why they can't
 left_cause : {base : ℕ} {r : Reading} {s : PartSection} (fields : List FieldSaid)

@@ -1,12 +1,12 @@
 -- How the records of a cache are read.
-use Rattle.std.proofs.Common.{◌≡◌, ◌∙◌, ◌-◌, ◌≤◌, ℕ, suc, List, [], ◌∷◌, ◌++◌, length, Bool, true}
+use Rattle.std.proofs.Common.{◌≡◌, ◌∙◌, ◌-◌, ℕ, suc, List, [], ◌∷◌, ◌++◌, length, Bool, true}
 use Rattle.std.proofs.Common.{false, Option, Some, None, Result, Ok, Err, refl, sym, ap}
 use Rattle.std.proofs.Common.{append-nil, arith}
 use Rattle.std.proofs.Common.{option_to_list}
 use Rattle.std.proofs.lemmas.List.{length-append}
 use Rattle.std.specs.Prelude.{slice_get, if◌then◌else◌}
 use Rattle.part_events.specs.Event.{Tag, Event}
-use Rattle.part_events.specs.Reading.{Reading, IsReading, PassesElement, ahead}
+use Rattle.part_events.specs.Reading.{Reading, PassesElement, ahead}
 use Rattle.part_events.specs.Section.{Element, content, is_closed, is_any, outermost, unclosed}
 use Rattle.part_events.specs.Walk.{inside, section_ahead, section_behind, element_at}
 use Rattle.part_events.proofs.Matches.{open_still}

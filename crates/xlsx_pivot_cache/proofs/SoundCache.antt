@@ -15,7 +15,8 @@ use Rattle.xlsx_parts.specs.PartSaid.{whole_said, section_said}
 use Rattle.xlsx_parts.specs.WholePart.{IfThere}
 use Rattle.xlsx_parts.proofs.SaidFrom.{mapped_from, and_then_from}
 use Rattle.xlsx_parts.proofs.SoundParts.{no_said_cause, no_whole_cause}
-use Rattle.xlsx_pivot_cache.specs.CacheFields.{FieldSaid, is_field, fields_in, fields_said, fields_at}
+use Rattle.xlsx_pivot_cache.specs.CacheFields.{FieldSaid, is_field, fields_in, fields_said}
+use Rattle.xlsx_pivot_cache.specs.CacheFields.{fields_at}
 use Rattle.xlsx_pivot_cache.specs.CacheFields.{FieldsCause, FieldsAtCause}
 use Rattle.xlsx_pivot_cache.specs.CacheRecords.{rows_in, names_row, rows_at, cache_rows}
 use Rattle.xlsx_pivot_cache.specs.CacheRecords.{records_name, RowsCause, CacheCause}

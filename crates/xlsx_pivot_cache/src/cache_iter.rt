@@ -6,8 +6,8 @@ use part_events::Package;
 use std::alloc::Global;
 use xlsx_error::XlsxError;
 
-/// The rows of a pivot table's cache, one at a time (ECMA-376 part 1, section 18.10.1.69): the names
-/// of its fields first, and then a row for each record. After a refusal it gives None.
+/// The rows of a pivot table's cache, one at a time (ECMA-376 part 1, section 18.10.1.69): the
+/// names of its fields first, and then a row for each record. After a refusal it gives None.
 ///
 /// What it keeps beside the package is a type parameter, so that a caller knows what became of the
 /// package once the iterator is gone. A caller who has to know what became of the package where a

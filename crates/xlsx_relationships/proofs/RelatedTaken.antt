@@ -5,7 +5,7 @@ use Rattle.std.proofs.lemmas.List.Sums.{sum_by-cons}
 use Rattle.std.specs.List.{sum_by}
 use Rattle.std.specs.Option.{option_map_or}
 use Rattle.std.specs.Prelude.{OnOk}
-use Rattle.part_events.specs.Package.{Part, PackageState, SameParts, UsesPackage, LeavesPackage}
+use Rattle.part_events.specs.Package.{PackageState, SameParts, UsesPackage, LeavesPackage}
 use Rattle.part_events.specs.Package.{Uses, NeverFalls, CountsUp}
 use Rattle.part_events.proofs.Uses.{uses_behind, same_further}
 use Rattle.xlsx_error.specs.declared.error.XlsxError.{XlsxError}

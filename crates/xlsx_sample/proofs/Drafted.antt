@@ -1,6 +1,6 @@
 -- Events behind those of a package in memory, joined.
 use Rattle.std.proofs.Common.{◌≡◌, ◌∙◌, ℕ, suc, ◌+◌, ◌<◌, List, [], ◌∷◌, ◌++◌, length, map, drop}
-use Rattle.std.proofs.Common.{get_or, refl, ap, sym, append_assoc, arith}
+use Rattle.std.proofs.Common.{get_or, refl, ap, sym, append_assoc}
 use Rattle.std.proofs.lemmas.List.{append-nil, drop_more}
 use Rattle.part_events.specs.Event.{Event, start, end, event_of}
 use Rattle.part_events.specs.Package.{Part}

@@ -52,7 +52,8 @@ pub record KeepsElementsSaid {K A : Type 0} (wanted : Tag → Bool)
       said kept (outermost wanted (section_ahead base now)) ≡ meaning (section_ahead base first)
 
 -- one more element is kept
-pub elements_further : {K A : Type 0} {wanted : Tag → Bool} {meaning : List Event → Result A Refusal}
+pub elements_further : {K A : Type 0} {wanted : Tag → Bool}
+    {meaning : List Event → Result A Refusal}
     {base place : ℕ} {tag : Tag} {kept next : K} {first old new after : Reading}
     (said : K → List Element → Result A Refusal)
     → KeepsElementsSaid wanted said meaning base kept first old

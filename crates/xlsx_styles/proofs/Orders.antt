@@ -112,7 +112,8 @@ pub zero_tint : (color after : Color) (tint : Decimal) → color.red < 256 → c
     → IsNearest after.blue (tint_fraction color tint color.blue) → after ≡ color
 zero_tint color after tint small_red small_green small_blue none alpha red green blue =
     let bound : channel_sum color ≤ 510 = omega arith in
-    let reds = zero_keeps color tint color.red after.red none bound (omega arith) (omega arith) red in
+    let reds = zero_keeps color tint color.red after.red none bound (omega arith)
+    (omega arith) red in
     let greens = zero_keeps color tint color.green after.green none bound (omega arith)
     (omega arith) green in
     let blues = zero_keeps color tint color.blue after.blue none bound (omega arith) (omega arith)

@@ -175,7 +175,8 @@ has_output words old new command parts is succeeds =
     succeeds.reads in
     let gives = given_by (own_parts command) read.parts old.source new.source
     (read.fed.fed is.tells) in
-    let package_is = same_package (own_parts command) old.source read.parts parts gives is.gives in (
+    let package_is =
+    same_package (own_parts command) old.source read.parts parts gives is.gives in (
       succeeds.output,
       subst (λ (parts : List Part). IsOutput command parts succeeds.output) package_is
           read.is_output,

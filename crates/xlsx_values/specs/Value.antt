@@ -58,7 +58,8 @@ format_of formats style = format_at formats (style_number style)
 
 abbrev pub string_at : List (List ℕ) → ℕ → Result CellValue Refusal
 string_at strings place =
-    if is_some (slice_get strings place) then Ok (value.shared_text place) else Err (plain lacks_string)
+    if is_some (slice_get strings place) then Ok (value.shared_text place)
+    else Err (plain lacks_string)
 
 -- The value of the text of a shared string: the place that it names. A text that names none names
 -- the first, and an empty one nothing.

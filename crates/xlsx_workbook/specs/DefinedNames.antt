@@ -1,14 +1,12 @@
 -- What the elements of defined names say.
 use Rattle.std.specs.Prelude.{ℕ, ◌+◌, ◌-◌, List, [], ◌∷◌, length, Bool, false, codes, Option, Some}
 use Rattle.std.specs.Prelude.{None, Result, Ok, Err}
-use Rattle.attr_text.specs.Attributes.{value_of}
-use Rattle.attr_text.specs.declared.fault.AttrFault.{AttrFault}
 use Rattle.part_events.specs.Event.{Tag, Event}
 use Rattle.part_events.specs.JoinedText.{joined_text, unknown_entity}
-use Rattle.part_events.specs.Section.{PlacedTag, Element, outermost, is_named}
+use Rattle.part_events.specs.Section.{Element, outermost, is_named}
 use Rattle.xlsx_sections.specs.Answers.{some_answers}
 use Rattle.xlsx_sections.specs.Names.{name_by}
-use Rattle.xlsx_sections.specs.Refusal.{Refusal, plain, lookup_fault, no_character, decoded_at}
+use Rattle.xlsx_sections.specs.Refusal.{Refusal, no_character}
 
 -- How many events of a section stand behind one that has `within` behind it in an element. `behind`
 -- stand behind the start of the element, and `inside` in it.

@@ -3,7 +3,8 @@ use Rattle.std.proofs.lemmas.List.{map-append}
 use Rattle.std.proofs.lemmas.Result.{err_from_is_err_and}
 use Rattle.cell_data.specs.CellValue.{CellValue}
 use Rattle.xlsx_values.specs.Value.{Grounds, cell_value}
-use Rattle.xlsx_cells.specs.CellsReader.{stream_by, grounds_by, values_and_formulas, IsValuedFormula}
+use Rattle.xlsx_cells.specs.CellsReader.{stream_by, grounds_by, values_and_formulas}
+use Rattle.xlsx_cells.specs.CellsReader.{IsValuedFormula}
 use Rattle.xlsx_cells.specs.Position.{NoCell}
 use Rattle.xlsx_cells.specs.WholeReadings.{formula_value_entry}
 use Rattle.xlsx_cells.specs.Stream.{PassesCell, TakesCell, EndsData, NextCellFails}
@@ -91,5 +92,5 @@ returns-in_err-cell-clause-err g c =
     let now = c.cells.invariant in
     let p = err_from_is_err_and c.from_residual.result c.from_residual.ensures.1 in
     rw (p.1, p.2) (took_refused new error now.took
-    (subst (λ (grounds : Grounds). NextCellFails values_and_formulas grounds mid new.reading error) now.hold
-    c.in_err-cell.ensures.err))
+    (subst (λ (grounds : Grounds). NextCellFails values_and_formulas grounds mid new.reading error)
+    now.hold c.in_err-cell.ensures.err))

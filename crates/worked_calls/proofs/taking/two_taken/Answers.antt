@@ -40,7 +40,8 @@ returns-in_default-2-clause-none g c = λ told before earlier kept.
     let old = stream_by g.P.Package.state c.args.reader.now in
     let mid = stream_by g.P.Package.state c.next_cell.new.self in
     let own = c.in-Some.first in
-    let first : TakesCell NoCell before earlier old mid (IsValued (grounds_by c.args.reader.now) own) =
+    let first :
+    TakesCell NoCell before earlier old mid (IsValued (grounds_by c.args.reader.now) own) =
     rw c.in-Some.is at (c.in_ok-first.ensures.takes told before earlier kept) in
     let passes : PassesCell own.pos old mid = rw c.in-Some.is at c.in_ok-first.ensures.stands in
     let behind = cell first.element ∷ behind_marks first.takes.front.passed before in

@@ -1,4 +1,4 @@
-use Rattle.std.proofs.Common.{◌∙◌, refl}
+use Rattle.std.proofs.Common.{refl}
 use Rattle.std.proofs.lemmas.Result.{err_from_is_err_and}
 use Rattle.xlsx_pivots.specs.PivotTables.{pivots_kept}
 use Rattle.xlsx_pivots.specs.Pivots.{PivotsCause}

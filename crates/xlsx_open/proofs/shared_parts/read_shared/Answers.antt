@@ -18,8 +18,9 @@ returns-in_err-style_sheet-clause-err g c =
     let theme = c.as_slice.result.now in
     let e = c.in_err-style_sheet.field-0.0 in
     let same = c.in_ok-strings.ensures.uses.parts in
-    let both : UsesPackage
-    (event_count old.parts (strings_part path) + event_count first.parts (theme_part path)) old mid =
+    let both :
+    UsesPackage (event_count old.parts (strings_part path)
+    + event_count first.parts (theme_part path)) old mid =
     uses_then (omega arith) c.in_ok-strings.ensures.uses c.in_ok-theme.ensures.uses in
     let colors : old.is_told ≡ true → theme ≡ theme_colors old.parts (theme_part path) = λ told.
     c.as_slice.ensures.value ∙ (c.in_ok-theme.ensures.theme (same.is_told ∙ told)).colors

@@ -19,8 +19,8 @@ returns-in_err-_at-clause-err g c =
     let old = reading (g.P.Package.state c.args.package.now) c.args.cursor.now in
     let mid = reading (g.P.Package.state c.events.package) c.events.cursor in
     let new = reading (g.P.Package.state c.next_event_in.new.package) c.next_event_in.new.cursor in
-    given_back (SectionFails (always (codes "cacheField")) (IsInsideRefused items_in) c.args.base old
-    new) c.from_residual.result c.from_residual.ensures.1
+    given_back (SectionFails (always (codes "cacheField")) (IsInsideRefused items_in) c.args.base
+    old new) c.from_residual.result c.from_residual.ensures.1
     (refused_later c.args.base old mid (always (codes "cacheField")) Never
     (IsInsideRefused items_in) new c.in_err-_at.field-0.0 c.events.invariant.keeps
     (λ told. refl) (λ told refusal never. absurd never) c.in_err-_at.ensures.err)
@@ -43,8 +43,8 @@ returns-in_err-take_event-clause-err g c =
     (subst (λ (own : Event). IsEnclosed own mid.names) (sym c.event.ensures) step.takes.enclosed)
     in
     let place = c.events.contents.place in
-    given_back (SectionFails (always (codes "cacheField")) (IsInsideRefused items_in) c.args.base old
-    new) c.from_residual-in_err-take_event.result
+    given_back (SectionFails (always (codes "cacheField")) (IsInsideRefused items_in) c.args.base
+    old new) c.from_residual-in_err-take_event.result
     c.from_residual-in_err-take_event.ensures.1
     (event_refused c.args.base c.in-Some._at (length left) old (always (codes "cacheField"))
     (λ (refusal : Refusal). items_from place (depth_before event depth) (event ∷ left)

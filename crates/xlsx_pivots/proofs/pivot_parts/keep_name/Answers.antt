@@ -27,5 +27,6 @@ returns-clause-err c =
     (name_kept (placed_at (tag_of c.args.tag) behind) kept) c.args.at behind error)
     (λ error fails behind.
     let same : name_kept (placed_at (tag_of c.args.tag) behind) kept
-    ≡ kept_with single.Name kept name = ap (kept_by single.Name kept) (c.in_ok-name.ensures.ok behind) in
+    ≡ kept_with single.Name kept name =
+    ap (kept_by single.Name kept) (c.in_ok-name.ensures.ok behind) in
     rw same (fails c.args.at behind)) c.keep.ensures.err

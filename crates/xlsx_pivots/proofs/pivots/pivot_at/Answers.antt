@@ -1,13 +1,11 @@
-use Rattle.std.proofs.Common.{◌≡◌, ◌+◌, ◌∙◌, ℕ, List, true, Ok, Err, arith, ap, sym, rules, codes}
-use Rattle.std.proofs.Common.{subst, string_bytes, Option, Some}
+use Rattle.std.proofs.Common.{◌≡◌, ◌∙◌, List, arith, codes}
+use Rattle.std.proofs.Common.{subst, string_bytes, Some}
 use Rattle.std.proofs.lemmas.Result.{err_from_is_err_and}
-use Rattle.std.specs.Option.{option_map_or}
-use Rattle.part_events.specs.Package.{Part, UsesPackage, LeavesPackage, CountsUp, event_count}
-use Rattle.part_events.proofs.Uses.{uses_then, leaves_then}
+use Rattle.part_events.specs.Package.{Part, LeavesPackage, CountsUp, event_count}
+use Rattle.part_events.proofs.Uses.{leaves_then}
 use Rattle.xlsx_error.specs.declared.error.XlsxError.TheVariants.{Io}
 use Rattle.xlsx_sections.specs.SectionEvents.{section_events_of}
 use Rattle.xlsx_relationships.specs.Paths.{relationships_beside}
-use Rattle.xlsx_pivots.specs.Pivots.{pivot_events, pivot_sections}
 use Rattle.xlsx_pivots.specs.Targets.{definitions_at}
 use Rattle.xlsx_pivots.proofs.PivotsTaken.{pivot_uses, pivot_leaves, pivot_ends}
 use Rattle.xlsx_pivots.proofs.pivots.pivot_at.Goals as goal

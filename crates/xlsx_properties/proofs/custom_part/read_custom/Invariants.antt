@@ -13,7 +13,8 @@ invariant-events g l =
     let now = reading (g.P.Package.state l.package) l.cursor in
     record {
       keeps : KeepsEvents (λ (name : List ℕ). custom_held name l.fn.properties)
-          (λ (name : List ℕ). custom_held name l.properties) custom_in (custom_behind l.place) old now;
+          (λ (name : List ℕ). custom_held name l.properties) custom_in (custom_behind l.place)
+          old now;
       held : (own : Property) → held own l.properties ≡ held own l.fn.properties;
     }
 

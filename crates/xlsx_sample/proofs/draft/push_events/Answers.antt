@@ -1,4 +1,4 @@
-use Rattle.std.proofs.Common.{◌≡◌, ◌∙◌, ◌+◌, length, map, drop, ap, arith, List}
+use Rattle.std.proofs.Common.{◌≡◌, ◌∙◌, ◌+◌, length, map, drop, ap, arith}
 use Rattle.part_events.specs.Event.{event_of}
 use Rattle.part_events.specs.Memory.{Contents}
 use Rattle.xlsx_sample.specs.Markup.{with_events}

@@ -6,7 +6,8 @@ use Rattle.xlsx_sections.specs.Refusal.{placed_at}
 use Rattle.xlsx_styles.specs.Fonts.{said_of, name_changed, font_change}
 use Rattle.xlsx_styles.proofs.font.change_font.Goals as goal
 
-pub returns-in_err-change_name-in-name-clause-err : goal.returns-in_err-change_name-in-name-clause-err
+pub returns-in_err-change_name-in-name-clause-err :
+    goal.returns-in_err-change_name-in-name-clause-err
 returns-in_err-change_name-in-name-clause-err c =
     let p = err_from_is_err_and c.from_residual.result c.from_residual.ensures.1 in
     let font = said_of c.args.font.now in

@@ -7,7 +7,8 @@ abbrev pub invariant-borders : goal.invariant-borders
 invariant-borders g l =
     let old = reading (g.P.Package.state l.fn.package) l.fn.cursor in
     let now = reading (g.P.Package.state l.package) l.cursor in
-    KeepsList is_border (border_said l.theme_colors) l.base l.fn.borders.items l.borders.items old now
+    KeepsList is_border (border_said l.theme_colors) l.base l.fn.borders.items l.borders.items
+    old now
 
 abbrev pub decreases-borders : goal.decreases-borders
 decreases-borders g l = (g.P.Package.state l.package).left

@@ -1,4 +1,4 @@
-use Rattle.std.proofs.Common.{◌≡◌, ◌<◌, ℕ, List, length, Option, Some, None, sym, subst, refl, arith}
+use Rattle.std.proofs.Common.{◌≡◌, ◌<◌, ℕ, length, Option, Some, sym, subst, refl, arith}
 use Rattle.std.specs.Prelude.{IfSome}
 use Rattle.part_events.specs.Package.{folded}
 use Rattle.part_events.specs.PartNames.{place_of}

@@ -1,4 +1,4 @@
-use Rattle.std.proofs.Common.{◌∙◌, ◌<◌, length, string_bytes, sym}
+use Rattle.std.proofs.Common.{◌<◌, length, string_bytes}
 use Rattle.part_events.proofs.StoredTexts.{event_count, stored_there, event_there}
 use Rattle.part_events.proofs.stored.StoredPart.event.Goals as goal
 

@@ -1,5 +1,4 @@
-use Rattle.std.proofs.Common.{◌≡◌, ◌∙◌, length, string_bytes, sym}
-use Rattle.part_events.specs.Stored.{end_behind}
+use Rattle.std.proofs.Common.{◌∙◌, string_bytes}
 use Rattle.part_events.proofs.StoredTexts.{pushed, same_pushed, end_push}
 use Rattle.part_events.proofs.stored.StoredPart.push.Goals as goal
 

@@ -29,6 +29,7 @@ pub returns-clause-reads : goal.returns-clause-reads
 returns-clause-reads g c = λ told.
     let xlsx = c.args.self.now in
     rw c.in-Some.is
-    (places_cut (grounds_of_book xlsx) xlsx.header_row c.in-Some.area (path_of xlsx c.args.sheet.now)
+    (places_cut (grounds_of_book xlsx) xlsx.header_row c.in-Some.area
+    (path_of xlsx c.args.sheet.now)
     (g.P.Package.state xlsx.package).parts c.in_ok-range.range c.cut.result c.cut.ensures
     (c.in_ok-range.ensures.reads told))

@@ -10,7 +10,8 @@ returns-in_err-head-clause-err g c =
     let p = err_from_is_err_and c.from_residual.result
     c.from_residual.ensures.1 in
     rw (p.1, p.2)
-    (lacks_fails xlsx c.args.table_name.now old old c.in_err-head.field-0.0 c.in_err-head.ensures.err)
+    (lacks_fails xlsx c.args.table_name.now old old c.in_err-head.field-0.0
+    c.in_err-head.ensures.err)
 
 pub returns-in_err-head-clause-kind : goal.returns-in_err-head-clause-kind
 returns-in_err-head-clause-kind g c =

@@ -51,7 +51,8 @@ returns c =
     let copies = c.in_ok-copy.field-0.entries in
     record {
       held = c.in_ok-copy_texts.ensures.held;
-      custom = ap (λ (own : BTreeMap (String Global) (String Global)). map texts_of own.entries) kept
+      custom =
+          ap (λ (own : BTreeMap (String Global) (String Global)). map texts_of own.entries) kept
           ∙ same_texts source copies c.in_ok-copy.ensures.cases;
       named = λ name.
           ap (λ (own : BTreeMap (String Global) (String Global)).
