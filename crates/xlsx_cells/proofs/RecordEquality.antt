@@ -10,7 +10,8 @@ use Rattle.xlsx_formulas.specs.Described.{description_seen}
 use Rattle.xlsx_formulas.proofs.SameMetadata.{metadata_law}
 use Rattle.xlsx_cells.specs.Records.{formula_cell, metadata_cell}
 use Rattle.xlsx_cells.specs.contracts.cell_records.XlsxCellFormulaPartialEq.TheImpl as formula
-use Rattle.xlsx_cells.specs.contracts.cell_records.XlsxCellFormulaMetadataRecordPartialEq.TheImpl as metadata
+use Rattle.xlsx_cells.specs.contracts.cell_records.XlsxCellFormulaMetadataRecordPartialEq.TheImpl
+    as metadata
 use Rattle.xlsx_cells.specs.declared.cell_records.XlsxCellFormula.{XlsxCellFormula}
 use Rattle.xlsx_cells.specs.declared.cell_records.XlsxCellFormulaMetadataRecord.{XlsxCellFormulaMetadataRecord}
 

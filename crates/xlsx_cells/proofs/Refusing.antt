@@ -16,7 +16,7 @@ use Rattle.xlsx_cells.specs.Ends.{end_in_data}
 use Rattle.xlsx_cells.specs.Finding.{IsMarkRefused, IsStepRefused, IsCutOff}
 use Rattle.xlsx_cells.specs.Marks.{Mark, row_start, is_row, marks_of}
 use Rattle.xlsx_cells.specs.Position.{row_named, NoCell}
-use Rattle.xlsx_cells.specs.Stream.{Stream, IsGoing, StepFails}
+use Rattle.xlsx_cells.specs.Stream.{Stream, IsGoing, PassingFails}
 use Rattle.xlsx_cells.specs.declared.children.Wants.{Wants}
 
 pub is_refused_weaker : (after before : Refusal → Type 0) (error : XlsxError)
@@ -70,6 +70,6 @@ pub step_fails : (passes : List Mark → Element → Type 0)
     → SectionFails (end_in_data wants) (IsStepRefused passes refused old.counters) old.base
     old.reading new error
     → IsCutOff passes old.counters old.base old.reading error
-    → StepFails passes refused wants old new error
+    → PassingFails passes refused wants old new error
 step_fails passes refused wants old new Failed never going cause cut = absurd (never refl)
 step_fails passes refused wants old new error never going cause cut = (going, cause, cut)

@@ -117,11 +117,11 @@ IsCellRefused wants grounds before element refusal =
 
 -- when a step is refused that passes such cells: after a refusal, or where the next cell that it
 -- takes can't be read
-abbrev pub StepFails :
+abbrev pub PassingFails :
     (List Mark → Element → Type 0) → (List Mark → Element → Refusal → Type 0) → Wants → Stream →
     Reading → XlsxError → Type 0
-StepFails passes refused wants old new Failed = old.is_failed ≡ true
-StepFails passes refused wants old new error =
+PassingFails passes refused wants old new Failed = old.is_failed ≡ true
+PassingFails passes refused wants old new error =
     IsGoing old
     × SectionFails (end_in_data wants) (IsStepRefused passes refused old.counters) old.base
     old.reading new error
@@ -129,7 +129,7 @@ StepFails passes refused wants old new error =
 
 abbrev pub NextCellFails : Wants → Grounds → Stream → Reading → XlsxError → Type 0
 NextCellFails wants grounds old new error =
-    StepFails NoCell (IsCellRefused wants grounds) wants old new error
+    PassingFails NoCell (IsCellRefused wants grounds) wants old new error
 
 -- behind the end of the data and behind a refusal nothing is read
 abbrev pub RestsAtEnd : Stream → Stream → Type 0

@@ -8,7 +8,7 @@ use Rattle.cell_styles.specs.StyleMap.{StyledCell, is_explicit}
 use Rattle.xlsx_formulas.specs.Formula.{FormulaText}
 use Rattle.xlsx_cells.specs.CellsReader.{styles_alone}
 use Rattle.xlsx_cells.specs.Marks.{Mark}
-use Rattle.xlsx_cells.specs.Stream.{Stream, StepFails}
+use Rattle.xlsx_cells.specs.Stream.{Stream, PassingFails}
 use Rattle.xlsx_cells.specs.StyleIds.{placed_id, IsIdRefused}
 
 -- a cell whose id doesn't count
@@ -20,10 +20,10 @@ IsUnstyled count before element =
 abbrev pub IsStyled : StyledCell → List Mark → Element → List FormulaText → Type 0
 IsStyled own before element kept = (placed_id before element ≡ Ok own) × (kept ≡ [])
 
-abbrev pub place_of : StyledCell → ℕ × ℕ
-place_of own = (own.0, own.1)
+abbrev pub styled_position : StyledCell → ℕ × ℕ
+styled_position own = (own.0, own.1)
 
 -- when such a step is refused
 abbrev pub StyledFails : ℕ → Stream → Reading → XlsxError → Type 0
 StyledFails count old new error =
-    StepFails (IsUnstyled count) IsIdRefused styles_alone old new error
+    PassingFails (IsUnstyled count) IsIdRefused styles_alone old new error

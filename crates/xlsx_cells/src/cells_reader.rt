@@ -77,7 +77,8 @@ impl<'a, P: Package> XlsxCellReader<'a, P> {
     ghost use Rattle.xlsx_cells.specs.CellsReader.{values_and_styles, values_and_formulas};
     ghost use Rattle.xlsx_cells.specs.CellsReader.{IsValuedStyle, IsValuedFormula};
     ghost use Rattle.xlsx_cells.specs.CellsReader.{IsValuedMetadata};
-    ghost use Rattle.xlsx_cells.specs.StyleSteps.{IsUnstyled, IsStyled, place_of, StyledFails};
+    ghost use Rattle.xlsx_cells.specs.StyleSteps.{IsUnstyled, IsStyled, styled_position};
+    ghost use Rattle.xlsx_cells.specs.StyleSteps.{StyledFails};
 
     /// A reader of the cells of the part that `xml` reads, of which it has taken nothing yet. It
     /// reads on behind the first start of the sheet's data. The values of cells rest on the shared
@@ -478,7 +479,7 @@ impl<'a, P: Package> XlsxCellReader<'a, P> {
         ensures rests { RestsAtEnd (stream_by P.state self.old) (stream_by P.state self.new) }
         ensures stands { let old = stream_by P.state self.old in
             let new = stream_by P.state self.new in
-            IfOk result (λ found. StandsTo place_of found old new) }
+            IfOk result (λ found. StandsTo styled_position found old new) }
         ensures counts { let count = length (styles_held self.old) in
             IfOk result (λ found. IfSome found (λ own. is_explicit count own ≡ true)) }
         ensures takes { let old = stream_by P.state self.old in

@@ -18,7 +18,7 @@ ghost use Rattle.xlsx_cells.specs.Stream.{stream, IsStreaming, StandsBehind, Sta
 ghost use Rattle.xlsx_cells.specs.Stream.{IsRead, IsWritten, NextCellFails, RestsAtEnd};
 ghost use Rattle.xlsx_cells.specs.Stream.{LacksUnwanted, LacksUnwantedText};
 ghost use Rattle.xlsx_cells.specs.Stream.{seen_with_text, seen_with_formula};
-ghost use Rattle.xlsx_cells.specs.StyleSteps.{IsUnstyled, IsStyled, place_of, StyledFails};
+ghost use Rattle.xlsx_cells.specs.StyleSteps.{IsUnstyled, IsStyled, styled_position, StyledFails};
 
 use crate::cell_read::{CellRead, CellText, CellWithFormula, read_cell};
 use crate::children::{Asked, Wants};
@@ -283,7 +283,7 @@ impl SheetCursor {
             (stream (P.state «package».new) self.new) }
         ensures stands { let old = stream (P.state «package».old) self.old in
             let new = stream (P.state «package».new) self.new in
-            IfOk result (λ found. StandsTo place_of found old new) }
+            IfOk result (λ found. StandsTo styled_position found old new) }
         ensures counts { IfOk result (λ found.
             IfSome found (λ own. is_explicit style_count own ≡ true)) }
         ensures takes { let old = stream (P.state «package».old) self.old in

@@ -12,7 +12,7 @@ use Rattle.std.specs.declared.cmp.Ordering.{Ordering}
 use Rattle.std.specs.declared.cmp.Ordering.TheVariants.{Less}
 use Rattle.part_events.specs.Package.{Part}
 use Rattle.xlsx_error.specs.declared.error.XlsxError.{XlsxError}
-use Rattle.xlsx_properties.specs.Kept.{texts_of}
+use Rattle.xlsx_properties.specs.Kept.{entry_texts}
 use Rattle.xlsx_properties.specs.Parts.{SayProperties, PropertiesCause}
 use Rattle.xlsx_properties.specs.declared.property.Property.{Property}
 use Rattle.xlsx_open.specs.Opening.{OpensSoundly}
@@ -30,13 +30,13 @@ named_cmp one other = slice_cmp nat_cmp (string_bytes one) (string_bytes other)
 pub held_is_listed : (name : List ℕ) (entries : List Entry)
     → option_map string_bytes
     (lookup (is_at (λ (k : String Global). slice_cmp nat_cmp name (string_bytes k))) entries)
-    ≡ text_of_name (map texts_of entries) name
+    ≡ text_of_name (map entry_texts entries) name
 held_is_listed name [] = refl
 held_is_listed name (own ∷ entries) =
     elim (is_at (slice_cmp nat_cmp name) (string_bytes own.0)) as (λ b.
     option_map string_bytes (if b then Some own.1 else lookup
     (is_at (λ (k : String Global). slice_cmp nat_cmp name (string_bytes k))) entries)
-    ≡ (if b then Some (string_bytes own.1) else text_of_name (map texts_of entries) name)) [
+    ≡ (if b then Some (string_bytes own.1) else text_of_name (map entry_texts entries) name)) [
       | true ↦ refl
       | false ↦ held_is_listed name entries
     ]
@@ -44,13 +44,13 @@ held_is_listed name (own ∷ entries) =
 below_all : (key : String Global) (entries : List Entry)
     → AllByRecursion (λ (other : String Global). named_cmp key other ≡ Less) (keys_of entries)
     → AllByRecursion (λ (name : List ℕ). slice_cmp nat_cmp (string_bytes key) name ≡ Less)
-    (keys_of (map texts_of entries))
+    (keys_of (map entry_texts entries))
 below_all key [] below = tt
 below_all key (own ∷ entries) below = (below.0, below_all key entries below.1)
 
 -- entries in the order of their keys are by name
 pub listed_by_name : (entries : List Entry) → IsStrictlySortedBy named_cmp (keys_of entries)
-    → AreByName (map texts_of entries)
+    → AreByName (map entry_texts entries)
 unfolding IsStrictlySortedBy
 listed_by_name [] ordered = tt
 listed_by_name (own ∷ entries) ordered =

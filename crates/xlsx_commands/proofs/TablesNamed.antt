@@ -28,7 +28,7 @@ use Rattle.xlsx_core.proofs.SheetsRead.{opens_placed}
 use Rattle.xlsx_commands.specs.Outputs.{CallFails}
 use Rattle.xlsx_commands.specs.Status.{of_workbook}
 use Rattle.xlsx_commands.specs.TableLists.{HasTables, ListedTablesCause}
-use Rattle.xlsx_commands.specs.TableLists.{HasNamedTable, LacksTable, HasTableCause}
+use Rattle.xlsx_commands.specs.TableLists.{HasNamedTable, NamesNoTable, HasTableCause}
 use Rattle.xlsx_commands.specs.TableLists.{NamedTableCause, HasTable}
 use Rattle.xlsx_commands.specs.SheetsRefused.{ListingFails}
 use Rattle.xlsx_commands.specs.TablesOpened.{OpensWithTables}
@@ -189,7 +189,7 @@ same_table parts name one two first second =
     cc
 
 lacks_never : (parts : List Part) (name : List ℕ) (own : SheetTable)
-    → HasNamedTable parts name own → LacksTable parts name → ⊥
+    → HasNamedTable parts name own → NamesNoTable parts name → ⊥
 lacks_never parts name own has lacks =
     let both : Some own ≡ None = sym has.named
     ∙ ap (first_named name) (same_tables parts has.tables lacks.tables has.has lacks.has)

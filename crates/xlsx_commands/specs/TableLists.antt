@@ -51,7 +51,7 @@ pub record HasNamedTable (parts : List Part) (name : List ℕ) (own : SheetTable
   pub named : first_named name tables ≡ Some own
 
 -- no table has the name
-pub record LacksTable (parts : List Part) (name : List ℕ) : Type 0 where
+pub record NamesNoTable (parts : List Part) (name : List ℕ) : Type 0 where
   pub tables : List SheetTable
   pub has : HasTables parts tables
   pub none : first_named name tables ≡ None
@@ -68,7 +68,7 @@ pub record HasTableCause (parts : List Part) (name : List ℕ) (error : XlsxErro
 -- why its data aren't had
 abbrev pub NamedTableCause : List Part → List ℕ → XlsxError → Type 0
 NamedTableCause parts name (TableNotFound asked) =
-    (string_bytes asked ≡ name) × LacksTable parts name
+    (string_bytes asked ≡ name) × NamesNoTable parts name
 NamedTableCause parts name error = ListedTablesCause parts error ⊎ HasTableCause parts name error
 
 -- the first table of a name with its data: the values that its sheet has in its area

@@ -15,7 +15,8 @@ use Rattle.xlsx_workbook.specs.KeptContents.{path_kept}
 use Rattle.xlsx_workbook.specs.declared.paths.KeptPath.{KeptPath}
 use Rattle.xlsx_workbook.specs.declared.sheet.Sheet.{Sheet}
 use Rattle.xlsx_core.specs.Merges.{sheet_paths}
-use Rattle.xlsx_core.specs.TableList.{sheet_name, with_sheet, table_held, tables_held, names_of}
+use Rattle.xlsx_core.specs.TableList.{sheet_name, with_sheet, table_held, tables_held}
+use Rattle.xlsx_core.specs.TableList.{table_names_of}
 
 -- ---- the sheet that comes next
 
@@ -91,7 +92,7 @@ tables_further parts sheets others sheet path more number kept now found all fro
 -- ---- names
 
 pub all_names : (tables : List SheetTable)
-    → names_of None tables ≡ map (λ (own : SheetTable). own.table.name) tables
+    → table_names_of None tables ≡ map (λ (own : SheetTable). own.table.name) tables
 all_names [] = refl
 all_names (own ∷ tables) =
     ap (λ (rest : List (List ℕ)). own.table.name ∷ rest) (all_names tables)

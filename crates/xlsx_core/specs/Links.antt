@@ -9,7 +9,7 @@ use Rattle.xlsx_error.specs.declared.error.XlsxError.TheVariants.{WorksheetNotFo
 use Rattle.xlsx_sections.specs.Failing.{FailsBy}
 use Rattle.xlsx_areas.specs.Hyperlinks.{Link, links_at, link_events}
 use Rattle.xlsx_areas.specs.LinkErrors.{SheetLinksCause, IsSheetLinksError}
-use Rattle.xlsx_core.specs.Merges.{name_at, IsOutOfRange}
+use Rattle.xlsx_core.specs.Merges.{sheet_name_at, IsOutOfRange}
 use Rattle.xlsx_core.specs.SheetReading.{PlacedCause}
 use Rattle.xlsx_core.specs.Worksheets.{path_of}
 use Rattle.xlsx_core.specs.declared.xlsx.Xlsx.{Xlsx}
@@ -43,5 +43,5 @@ IsPlacedLinksError name error = IsSheetLinksError error
 abbrev pub NumberedLinksFail :
     {P : Type 0} → Xlsx P → ℕ → PackageState → PackageState → XlsxError → Type 0
 NumberedLinksFail xlsx index old new error =
-    FailsBy (λ own. MatchOption (name_at xlsx index) (IsOutOfRange index own)
+    FailsBy (λ own. MatchOption (sheet_name_at xlsx index) (IsOutOfRange index own)
     (λ name. PlacedLinksCause name (path_of xlsx name) old.parts own)) old new error

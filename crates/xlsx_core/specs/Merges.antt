@@ -31,14 +31,14 @@ abbrev pub sheets_of_book : {P : Type 0} → Xlsx P → List SheetPath
 sheets_of_book xlsx = sheet_paths xlsx.metadata.sheets.items xlsx.paths.items
 
 -- the name of the sheet at an index
-abbrev pub name_at : {P : Type 0} → Xlsx P → ℕ → Option (List ℕ)
-name_at xlsx index =
+abbrev pub sheet_name_at : {P : Type 0} → Xlsx P → ℕ → Option (List ℕ)
+sheet_name_at xlsx index =
     option_map (λ (sheet : Sheet). string_bytes sheet.name)
     (slice_get xlsx.metadata.sheets.items index)
 
 -- where the part is of the first sheet of that name
 abbrev pub path_at : {P : Type 0} → Xlsx P → ℕ → Option (List ℕ)
-path_at xlsx index = option_and_then (path_of xlsx) (name_at xlsx index)
+path_at xlsx index = option_and_then (path_of xlsx) (sheet_name_at xlsx index)
 
 -- the merged cells of the part at a path, where there is one
 abbrev pub merges_placed : Option (List ℕ) → List Part → Option (List Dimensions)
@@ -74,7 +74,7 @@ IsIndexError index error = IsOutOfRange index error
 abbrev pub NumberedMergesFail :
     {P : Type 0} → Xlsx P → ℕ → PackageState → PackageState → XlsxError → Type 0
 NumberedMergesFail xlsx index old new error =
-    FailsBy (λ own. MatchOption (name_at xlsx index) (IsOutOfRange index own)
+    FailsBy (λ own. MatchOption (sheet_name_at xlsx index) (IsOutOfRange index own)
     (λ name. PlacedCause name (path_of xlsx name) MergesCause old.parts own)) old new error
 
 -- when the call that takes a faulty section for none is refused: the nesting breaks before one

@@ -48,11 +48,12 @@ is_wanted None sheet = true
 is_wanted (Some name) sheet = bytes_eq sheet name
 
 -- the names of the tables that are wanted so
-abbrev pub names_of : Option (List ℕ) → List SheetTable → List (List ℕ)
-names_of wanted tables =
+abbrev pub table_names_of : Option (List ℕ) → List SheetTable → List (List ℕ)
+table_names_of wanted tables =
     map (λ (own : SheetTable). own.table.name)
     (filter (λ (own : SheetTable). is_wanted wanted own.sheet) tables)
 
 -- the names that an iterator has left
-abbrev pub names_left : TableNames → List (List ℕ)
-names_left it = names_of (option_copied it.sheet) (tables_held it.sheets.now it.left.now)
+abbrev pub table_names_left : TableNames → List (List ℕ)
+table_names_left it =
+    table_names_of (option_copied it.sheet) (tables_held it.sheets.now it.left.now)

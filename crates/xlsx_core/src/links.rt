@@ -4,7 +4,7 @@ ghost use Rattle.xlsx_error.specs.declared.error.XlsxError.TheVariants.{Io};
 ghost use Rattle.xlsx_areas.specs.Hyperlinks.{link_said, link_sections};
 ghost use Rattle.xlsx_core.specs.Links.{links_placed, PlacedLinksFail, IsPlacedLinksError};
 ghost use Rattle.xlsx_core.specs.Links.{NumberedLinksFail, placed_link_events};
-ghost use Rattle.xlsx_core.specs.Merges.{name_at, path_at, IsIndexError};
+ghost use Rattle.xlsx_core.specs.Merges.{sheet_name_at, path_at, IsIndexError};
 ghost use Rattle.xlsx_core.specs.Opened.{path_lent};
 ghost use Rattle.xlsx_core.specs.Worksheets.{path_of, KeepsWorkbook};
 
@@ -100,7 +100,7 @@ impl<P: Package> Xlsx<P> {
         ensures err { IfErr result (NumberedLinksFail self.old id (P.state self.old.package)
             (P.state self.new.package)) }
         ensures kind { IfErr result (λ error.
-            MatchOption (name_at self.old id) (IsIndexError id error)
+            MatchOption (sheet_name_at self.old id) (IsIndexError id error)
             (λ name. IsPlacedLinksError name error)) }
     {
         let sheet = numbered_sheet(self.alloc, &self.metadata.sheets, id)?;

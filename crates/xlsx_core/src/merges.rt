@@ -8,7 +8,7 @@ ghost use Rattle.xlsx_parts.specs.WholePart.{IsBreakError};
 ghost use Rattle.xlsx_areas.specs.MergeErrors.{IsRegionsError};
 ghost use Rattle.xlsx_areas.specs.MergedCells.{merges_at};
 ghost use Rattle.xlsx_areas.specs.Regions.{region_events, regions_left, is_of_sheet};
-ghost use Rattle.xlsx_core.specs.Merges.{sheet_paths, sheets_of_book, name_at, path_at};
+ghost use Rattle.xlsx_core.specs.Merges.{sheet_paths, sheets_of_book, sheet_name_at, path_at};
 ghost use Rattle.xlsx_core.specs.Merges.{merges_placed, merges_or_none_placed, PlacedMergesFail};
 ghost use Rattle.xlsx_core.specs.Merges.{IsPlacedMergesError, IsIndexError, NumberedMergesFail};
 ghost use Rattle.xlsx_core.specs.Merges.{PlacedBreaks, HoldsRegions, AllRegionsFail};
@@ -181,7 +181,7 @@ impl<P: Package> Xlsx<P> {
         ensures err { IfErr result (NumberedMergesFail self.old id (P.state self.old.package)
             (P.state self.new.package)) }
         ensures kind { IfErr result (λ error.
-            MatchOption (name_at self.old id) (IsIndexError id error)
+            MatchOption (sheet_name_at self.old id) (IsIndexError id error)
             (λ name. IsPlacedMergesError name error)) }
     {
         let sheet = numbered_sheet(self.alloc, &self.metadata.sheets, id)?;

@@ -8,7 +8,7 @@ ghost use Rattle.xlsx_tables.specs.Tables.{SheetTable, tables_of, IsTablesError}
 ghost use Rattle.xlsx_tables.specs.Tables.{all_table_events, all_table_sections};
 ghost use Rattle.xlsx_core.specs.Merges.{sheet_paths, sheets_of_book};
 ghost use Rattle.xlsx_core.specs.TableList.{sheet_name, table_held, tables_held, loaded_tables};
-ghost use Rattle.xlsx_core.specs.TableList.{AllTablesFail, is_wanted, names_of};
+ghost use Rattle.xlsx_core.specs.TableList.{AllTablesFail, is_wanted, table_names_of};
 ghost use Rattle.xlsx_core.specs.Worksheets.{KeepsBook, KeepsWorkbook};
 
 use crate::xlsx::Xlsx;
@@ -88,13 +88,13 @@ pub struct TableNames<'a> {
 }
 
 impl<'a> TableNames<'a> {
-    ghost use Rattle.xlsx_core.specs.TableList.{names_left};
+    ghost use Rattle.xlsx_core.specs.TableList.{table_names_left};
 
     /// The names of these tables that stand on the sheets of this name, or of all of them, of which
     /// none was taken yet.
     fn new(tables: &'a [LoadedTable], sheets: &'a [Sheet], sheet: Option<&'a str>) -> TableNames<'a>
-        ensures { names_left result
-            ≡ names_of (option_copied sheet.entry) (tables_held sheets.now tables.now) }
+        ensures { table_names_left result
+            ≡ table_names_of (option_copied sheet.entry) (tables_held sheets.now tables.now) }
     {
         TableNames {
             left: tables,
@@ -106,13 +106,13 @@ impl<'a> TableNames<'a> {
 
 impl<'a> Iterator for TableNames<'a> {
     ghost use Rattle.std.specs.Iterator.{YieldsFirstRef, item_count};
-    ghost use Rattle.xlsx_core.specs.TableList.{names_left};
+    ghost use Rattle.xlsx_core.specs.TableList.{table_names_left};
 
     type Item = &'a str;
 
-    ghost next_gives = { YieldsFirstRef names_left };
+    ghost next_gives = { YieldsFirstRef table_names_left };
 
-    ghost remaining = { item_count names_left };
+    ghost remaining = { item_count table_names_left };
 
     fn next(&mut self) -> Option<&'a str> {
         'tables: while let Some((first, left)) = self.left.split_first() {
@@ -127,7 +127,7 @@ impl<'a> Iterator for TableNames<'a> {
 
 /// The tables of an open workbook.
 impl<P: Package> Xlsx<P> {
-    ghost use Rattle.xlsx_core.specs.TableList.{names_left};
+    ghost use Rattle.xlsx_core.specs.TableList.{table_names_left};
 
     /// Loads the tables of all sheets in their order (ECMA-376 part 1, section 18.5.1.2): those of
     /// the parts that the relationships of a sheet of the type for tables lead to, in order. A part
@@ -241,7 +241,7 @@ impl<P: Package> Xlsx<P> {
     /// The names of the tables, in order. It can be called once `tables_loaded`.
     pub fn table_names(&self) -> TableNames<'_>
         requires { IsSome self.now.lists.tables }
-        ensures { names_left result
+        ensures { table_names_left result
             ≡ map (λ (own : SheetTable). own.table.name) (loaded_tables self.now) }
     {
         TableNames::new(self.kept_tables(), &self.metadata.sheets, None)
@@ -250,8 +250,8 @@ impl<P: Package> Xlsx<P> {
     /// The names of those on the sheets of this name. It can be called once `tables_loaded`.
     pub fn table_names_in_sheet<'a>(&'a self, sheet_name: &'a str) -> TableNames<'a>
         requires { IsSome self.now.lists.tables }
-        ensures { names_left result
-            ≡ names_of (Some sheet_name.now) (loaded_tables self.now) }
+        ensures { table_names_left result
+            ≡ table_names_of (Some sheet_name.now) (loaded_tables self.now) }
     {
         TableNames::new(self.kept_tables(), &self.metadata.sheets, Some(sheet_name))
     }

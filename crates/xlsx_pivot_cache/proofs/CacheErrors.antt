@@ -10,7 +10,7 @@ use Rattle.xlsx_sections.specs.PartSection.{IsStepError}
 use Rattle.xlsx_sections.specs.Refusal.{IsDecodeError}
 use Rattle.xlsx_parts.specs.WholePart.{IsBreakError}
 use Rattle.xlsx_pivot_cache.specs.CacheErrors.{IsItemError, IsFieldsError}
-use Rattle.xlsx_pivot_cache.specs.CacheErrors.{IsFaultError, IsValueError, IsRowError}
+use Rattle.xlsx_pivot_cache.specs.CacheErrors.{IsFaultError, IsRecordValueError, IsRowError}
 
 pub fields_step : (error : XlsxError) → IsStepError (codes "cacheField") error
     → IsFieldsError error
@@ -50,16 +50,16 @@ break_error Io is = tt
 break_error (Xml (EndMismatch at)) is = tt
 break_error _ is = absurd is
 
-pub fault_error : (error : XlsxError) → IsFaultError error → IsValueError error
+pub fault_error : (error : XlsxError) → IsFaultError error → IsRecordValueError error
 fault_error (Unexpected text) is = is
 fault_error _ is = absurd is
 
-pub item_value : (error : XlsxError) → IsItemError error → IsValueError error
+pub item_value : (error : XlsxError) → IsItemError error → IsRecordValueError error
 item_value OutOfMemory is = tt
 item_value (XmlAttr fault) is = tt
 item_value _ is = absurd is
 
-pub value_row : (error : XlsxError) → IsValueError error → IsRowError error
+pub value_row : (error : XlsxError) → IsRecordValueError error → IsRowError error
 value_row OutOfMemory is = tt
 value_row (XmlAttr fault) is = tt
 value_row (Unexpected text) is = is

@@ -8,8 +8,8 @@ use Rattle.xlsx_error.specs.declared.error.XlsxError.{XlsxError}
 use Rattle.xlsx_sections.specs.Answers.{prepended, and_others_if}
 use Rattle.xlsx_sections.specs.Refusal.{Refusal, ElementFails}
 use Rattle.xlsx_sections.proofs.Refused.{refused_at_weaker}
-use Rattle.xlsx_pivot_cache.specs.CacheFields.{some_value, item_said, field_named}
-use Rattle.xlsx_pivot_cache.specs.FieldEvents.{items_left, items_from, depth_before}
+use Rattle.xlsx_pivot_cache.specs.CacheFields.{some_item, item_said, field_named}
+use Rattle.xlsx_pivot_cache.specs.FieldEvents.{items_behind, items_from_place, depth_before}
 use Rattle.xlsx_pivot_cache.specs.declared.contents.ItemsPlace.{ItemsPlace}
 use Rattle.xlsx_pivot_cache.specs.declared.contents.ItemsPlace.TheVariants.{Within}
 
@@ -30,25 +30,25 @@ name_fails at behind formula inside name error fails =
     (λ refusal is. ap (field_named formula inside) is) fails
 
 pub value_fails : (at behind : ℕ) (own : Result CellValue Refusal) (error : XlsxError)
-    → ElementFails own at behind error → ElementFails (some_value own) at behind error
+    → ElementFails own at behind error → ElementFails (some_item own) at behind error
 value_fails at behind own error fails =
-    fails_as at behind own (some_value own) error (λ refusal is. ap some_value is) fails
+    fails_as at behind own (some_item own) error (λ refusal is. ap some_item is) fails
 
 -- a child of `sharedItems` comes next
 pub child_first : (base depth : ℕ) (tag : Tag) (events : List Event) → depth - base ≡ 0
-    → items_from (Within base) depth (start tag ∷ events)
-    ≡ and_others_if (item_said tag) (items_left 1 events)
+    → items_from_place (Within base) depth (start tag ∷ events)
+    ≡ and_others_if (item_said tag) (items_behind 1 events)
 child_first base depth tag events none = rw none refl
 
 -- and is refused
 pub child_fails : (base depth at behind : ℕ) (tag : Tag) (events : List Event)
     (error : XlsxError) → depth - base ≡ 0 → ElementFails (item_said tag) at behind error
-    → ElementFails (items_from (Within base) depth (start tag ∷ events)) at behind error
+    → ElementFails (items_from_place (Within base) depth (start tag ∷ events)) at behind error
 child_fails base depth at behind tag events error none fails =
-    fails_as at behind (item_said tag) (items_from (Within base) depth (start tag ∷ events)) error
-    (λ refusal is. child_first base depth tag events none
-    ∙ ap (λ (own : Result (Option CellValue) Refusal). and_others_if own (items_left 1 events)) is)
-    fails
+    fails_as at behind (item_said tag) (items_from_place (Within base) depth (start tag ∷ events))
+    error (λ refusal is. child_first base depth tag events none
+    ∙ ap (λ (own : Result (Option CellValue) Refusal). and_others_if own (items_behind 1 events))
+    is) fails
 
 opened_before : (event : Event) (names : List (List ℕ)) → IsEnclosed event names
     → depth_before event (length (names_behind event names)) ≡ length names
@@ -68,11 +68,11 @@ depth_there event depth old new is takes enclosed =
 pub items_refused : (place : ItemsPlace) (kept : List CellValue) (event : Event) (depth : ℕ)
     {before : ℕ} {ahead left : List Event} {all : Result (List CellValue) Refusal}
     {refusal : Refusal} → depth_before event depth ≡ before → ahead ≡ event ∷ left
-    → items_from place (depth_before event depth) (event ∷ left) ≡ Err refusal
-    → prepended kept (items_from place before ahead) ≡ all → all ≡ Err refusal
+    → items_from_place place (depth_before event depth) (event ∷ left) ≡ Err refusal
+    → prepended kept (items_from_place place before ahead) ≡ all → all ≡ Err refusal
 items_refused place kept event depth {before = before} {left =
     left} same comes refuses holds =
     sym holds
-    ∙ ap (λ (events : List Event). prepended kept (items_from place before events)) comes
-    ∙ ap (λ (n : ℕ). prepended kept (items_from place n (event ∷ left))) (sym same)
+    ∙ ap (λ (events : List Event). prepended kept (items_from_place place before events)) comes
+    ∙ ap (λ (n : ℕ). prepended kept (items_from_place place n (event ∷ left))) (sym same)
     ∙ ap (prepended kept) refuses

@@ -27,7 +27,7 @@ use Rattle.xlsx_sections.proofs.ElementsSaid.{KeepsElementsSaid, elements_furthe
 use Rattle.xlsx_sections.proofs.Kept.{prepended-and_others}
 use Rattle.xlsx_sections.proofs.Refused.{event_refused, refused_by}
 use Rattle.xlsx_pivot_cache.specs.CacheFields.{FieldSaid}
-use Rattle.xlsx_pivot_cache.specs.CacheRecords.{records_name, value_said, with_value, values_from}
+use Rattle.xlsx_pivot_cache.specs.CacheRecords.{records_name, value_said, record_with, values_from}
 use Rattle.xlsx_pivot_cache.specs.CacheRecords.{row_in, row_said, rows_in, is_record}
 use Rattle.xlsx_pivot_cache.specs.PivotRows.{TakesRecord, IsFirstTaken, IsNextRefused}
 use Rattle.xlsx_pivot_cache.specs.PivotRows.{NextRecordCause, LacksRecord, records_ahead}
@@ -76,7 +76,7 @@ step_refused wanted base first before new error fails =
 value_kept : (fields : List FieldSaid) (kept : List CellValue) (own : Option CellValue)
     (answer : Result (Option CellValue) Refusal) (rest : List Element) → answer ≡ Ok own
     → values_behind fields (kept ++ option_to_list own) rest
-    ≡ prepended kept (with_value answer (values_from fields (suc (length kept)) rest)
+    ≡ prepended kept (record_with answer (values_from fields (suc (length kept)) rest)
     (values_from fields (length kept) rest))
 value_kept fields kept None answer rest is = rw (is, append-nil kept) refl
 value_kept fields kept (Some own) answer rest is =
@@ -113,7 +113,7 @@ value_refused {base = base} {place = place} {kept = kept} {tag = tag} {first =
     (λ told refusal is.
     sym (list.same told) ∙ ap (values_behind fields kept)
     (found.next told).elements
-    ∙ ap (λ (own : Result (Option CellValue) Refusal). prepended kept (with_value own
+    ∙ ap (λ (own : Result (Option CellValue) Refusal). prepended kept (record_with own
     (values_from fields (suc (length kept)) rest) (values_from fields (length kept) rest))) is)
     fails
 

@@ -35,14 +35,14 @@ IsFaultError (Unexpected text) = IsSomeAnd (told_by text.now unexpected) IsRecor
 IsFaultError _ = ⊥
 
 -- those of a value of a record
-abbrev pub IsValueError : XlsxError → Type 0
-IsValueError OutOfMemory = ⊤
-IsValueError (XmlAttr fault) = ⊤
-IsValueError error = IsFaultError error
+abbrev pub IsRecordValueError : XlsxError → Type 0
+IsRecordValueError OutOfMemory = ⊤
+IsRecordValueError (XmlAttr fault) = ⊤
+IsRecordValueError error = IsFaultError error
 
 -- those of a record, whatever the package tells
 abbrev pub IsRowError : XlsxError → Type 0
 IsRowError Io = ⊤
 IsRowError (Xml (EndMismatch at)) = ⊤
 IsRowError (XmlEof element) = element.now ≡ codes "pivotCacheRecords"
-IsRowError error = IsValueError error
+IsRowError error = IsRecordValueError error

@@ -20,7 +20,7 @@ use Rattle.xlsx_sections.specs.PartSection.{LacksPart}
 use Rattle.xlsx_sections.specs.Refusal.{Refusal, RefusedAs, plain, lookup_fault, decoded_at}
 use Rattle.xlsx_parts.specs.PartSaid.{whole_said}
 use Rattle.xlsx_parts.specs.WholePart.{IfThere, IsMeaningRefused}
-use Rattle.xlsx_pivot_cache.specs.CacheItems.{item_kind, item_of}
+use Rattle.xlsx_pivot_cache.specs.CacheItems.{item_kind, item_of_start}
 use Rattle.xlsx_pivot_cache.specs.declared.field.CacheField.{CacheField}
 use Rattle.xlsx_pivot_cache.specs.declared.item.ItemKind.{ItemKind}
 
@@ -32,13 +32,13 @@ pub record FieldSaid : Type 0 where
 abbrev pub field_with : List ℕ → List CellValue → FieldSaid
 field_with name items = record { name = name; items = items }
 
-abbrev pub some_value : Result CellValue Refusal → Result (Option CellValue) Refusal
-some_value (Ok own) = Ok (Some own)
-some_value (Err refusal) = Err refusal
+abbrev pub some_item : Result CellValue Refusal → Result (Option CellValue) Refusal
+some_item (Ok own) = Ok (Some own)
+some_item (Err refusal) = Err refusal
 
 abbrev pub item_if : Option ItemKind → Tag → Result (Option CellValue) Refusal
 item_if None tag = Ok None
-item_if (Some kind) tag = some_value (item_of kind tag)
+item_if (Some kind) tag = some_item (item_of_start kind tag)
 
 -- an element that is no item says nothing
 abbrev pub item_said : Tag → Result (Option CellValue) Refusal
@@ -53,13 +53,13 @@ is_shared tag = is_named (codes "sharedItems" ∷ []) tag
 abbrev pub is_group : Tag → Bool
 is_group tag = is_named (codes "groupItems" ∷ []) tag
 
-abbrev pub shared_in : Option (List Event) → Result (List CellValue) Refusal
-shared_in None = Ok []
-shared_in (Some behind) = some_answers item_among (children (content 0 behind))
+abbrev pub items_shared : Option (List Event) → Result (List CellValue) Refusal
+items_shared None = Ok []
+items_shared (Some behind) = some_answers item_among (children (content 0 behind))
 
 -- the items of the first `sharedItems` in a field: its children
 abbrev pub items_in : List Event → Result (List CellValue) Refusal
-items_in inside = shared_in (behind_start is_shared inside)
+items_in inside = items_shared (behind_start is_shared inside)
 
 -- a field that groups others' items, at any depth
 abbrev pub groups_items : List Event → Bool

@@ -16,8 +16,8 @@ use Rattle.xlsx_pivot_cache.specs.declared.item.ItemKind.{ItemKind}
 use Rattle.xlsx_pivot_cache.specs.declared.item.ItemKind.TheVariants as kind
 
 -- what an element is an item of, by its local name
-abbrev pub kind_named : List ℕ → Option ItemKind
-kind_named name =
+abbrev pub item_kind_named : List ℕ → Option ItemKind
+item_kind_named name =
     named (
     (codes "s", Some kind.Text)
     ∷ (codes "n", Some kind.Number)
@@ -30,7 +30,7 @@ kind_named name =
     None name
 
 abbrev pub item_kind : Tag → Option ItemKind
-item_kind tag = kind_named (local_name_of tag.name)
+item_kind tag = item_kind_named (local_name_of tag.name)
 
 -- the value of a text that isn't of its kind
 abbrev pub unread : CellValue
@@ -52,13 +52,13 @@ decimal_value None = unread
 decimal_value (Some decimal) = value.number decimal
 
 -- a number whose text has a point is a decimal, and one without is a whole number
-abbrev pub number_value : List ℕ → CellValue
-number_value text =
+abbrev pub item_number : List ℕ → CellValue
+item_number text =
     if list_any (λ byte. byte == 46) text then decimal_value (decimal_of text)
     else whole_value (whole_number text)
 
-abbrev pub truth_value : List ℕ → CellValue
-truth_value text =
+abbrev pub item_truth : List ℕ → CellValue
+item_truth text =
     named (
     (codes "0", value.truth false)
     ∷ (codes "1", value.truth true)
@@ -71,10 +71,10 @@ truth_value text =
 -- the value of a text in an item of a kind
 abbrev pub value_as : ItemKind → List ℕ → CellValue
 value_as kind.Text text = value.text text
-value_as kind.Number text = number_value text
+value_as kind.Number text = item_number text
 value_as kind.Missing text = value.nothing
 value_as kind.Failure text = value.failure Ref
-value_as kind.Truth text = truth_value text
+value_as kind.Truth text = item_truth text
 value_as kind.Date text = value.iso_time text
 
 -- without a text an item is empty
@@ -87,5 +87,5 @@ item_by kind (Ok text) = Ok (item_with kind text)
 item_by kind (Err fault) = Err (plain (lookup_fault fault))
 
 -- the item of a start, by its text as it is written
-abbrev pub item_of : ItemKind → Tag → Result CellValue Refusal
-item_of kind tag = item_by kind (value_of (codes "v") tag.attributes)
+abbrev pub item_of_start : ItemKind → Tag → Result CellValue Refusal
+item_of_start kind tag = item_by kind (value_of (codes "v") tag.attributes)

@@ -13,7 +13,7 @@ use Rattle.xlsx_error.specs.declared.error.XlsxError.TheVariants.{OutOfMemory, I
 use Rattle.xlsx_sections.specs.Failing.{FailsBy}
 use Rattle.xlsx_pivot_cache.specs.CacheErrors.{IsRowError}
 use Rattle.xlsx_pivot_cache.specs.CacheRecords.{row_kept, RowsCause, OpenRowsCause}
-use Rattle.xlsx_pivot_cache.specs.PivotRows.{PivotRows, pivot_rows, rows_left, IsDone}
+use Rattle.xlsx_pivot_cache.specs.PivotRows.{PivotRows, pivot_rows, cache_rows_left, IsDone}
 use Rattle.xlsx_pivot_cache.specs.PivotRows.{ReadsRow, TakesRow, GivesRowOf, GivesNone}
 use Rattle.xlsx_pivot_cache.specs.PivotRows.{NextRowFails}
 use Rattle.xlsx_pivot_cache.specs.declared.cache_iter.PivotCacheIter.{PivotCacheIter}
@@ -26,8 +26,8 @@ use Rattle.xlsx_pivot_cache.specs.declared.pivot_cursor.RecordsPlace.TheVariants
 abbrev pub rows_by : {P : Type 0} → (P → PackageState) → PivotCacheIter P PivotCursor → PivotRows
 rows_by state rows = pivot_rows (state rows.package.now) rows.rows
 
-abbrev pub reference_of : {P : Type 0} → PivotCacheIter P PivotCursor → GName
-reference_of rows = rows.package.ghost_name
+abbrev pub rows_reference : {P : Type 0} → PivotCacheIter P PivotCursor → GName
+rows_reference rows = rows.package.ghost_name
 
 -- each row takes an event of the part, and a refusal is the last answer before None
 abbrev pub most_left : RecordsPlace → ℕ → ℕ
@@ -45,7 +45,7 @@ pub record GivesRow (result : Option (Result (Vec Data Global) XlsxError)) (old 
   pub reads : ReadsRow result old.reading new.reading
   pub row : IfSome result (λ next. IfOk next (λ row. TakesRow (row_kept row.items) old new))
   pub given : IfSome result (λ next. IfOk next (λ row. GivesRowOf (row_kept row.items) old new))
-  pub none : old.reading.source.is_told ≡ true → IfNone result (rows_left old ≡ Some [])
+  pub none : old.reading.source.is_told ≡ true → IfNone result (cache_rows_left old ≡ Some [])
   pub none_left : IfNone result (GivesNone old new)
   pub ended : IfNone result (IsDone new)
   pub done : IfSome result (λ next. OnErr next (IsDone new))

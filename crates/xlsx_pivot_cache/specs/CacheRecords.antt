@@ -20,7 +20,7 @@ use Rattle.xlsx_sections.specs.Refusal.{Refusal, PlainRefusal, plain, lookup_fau
 use Rattle.xlsx_sections.specs.Refusal.{wrong_item_number, lacks_field, lacks_item}
 use Rattle.xlsx_parts.specs.PartSaid.{part_said}
 use Rattle.xlsx_parts.specs.WholePart.{IfThere}
-use Rattle.xlsx_pivot_cache.specs.CacheFields.{FieldSaid, item_said, some_value, fields_at}
+use Rattle.xlsx_pivot_cache.specs.CacheFields.{FieldSaid, item_said, some_item, fields_at}
 use Rattle.xlsx_pivot_cache.specs.CacheFields.{FieldsAtCause}
 
 abbrev pub is_reference : Tag → Bool
@@ -51,21 +51,21 @@ referred_item field tag = referred_by field (value_of (codes "v") tag.attributes
 -- nor an item says nothing.
 abbrev pub value_said : Option FieldSaid → Tag → Result (Option CellValue) Refusal
 value_said field tag =
-    if is_reference tag then some_value (referred_item field tag) else item_said tag
+    if is_reference tag then some_item (referred_item field tag) else item_said tag
 
 -- what says nothing takes no place
-abbrev pub with_value :
+abbrev pub record_with :
     Result (Option CellValue) Refusal → Result (List CellValue) Refusal →
     Result (List CellValue) Refusal → Result (List CellValue) Refusal
-with_value (Ok (Some own)) others same = with_first own others
-with_value (Ok None) others same = same
-with_value (Err refusal) others same = Err refusal
+record_with (Ok (Some own)) others same = with_first own others
+record_with (Ok None) others same = same
+record_with (Err refusal) others same = Err refusal
 
 -- the values of elements, the first of which stands at this place
 abbrev pub values_from : List FieldSaid → ℕ → List Element → Result (List CellValue) Refusal
 values_from fields place [] = Ok []
 values_from fields place (element ∷ elements) =
-    with_value (value_said (slice_get fields place) element.tag)
+    record_with (value_said (slice_get fields place) element.tag)
     (values_from fields (suc place) elements) (values_from fields place elements)
 
 -- the row of a record, by what stands in it

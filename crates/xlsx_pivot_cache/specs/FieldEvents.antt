@@ -10,21 +10,21 @@ use Rattle.xlsx_pivot_cache.specs.declared.contents.ItemsPlace.{ItemsPlace}
 use Rattle.xlsx_pivot_cache.specs.declared.contents.ItemsPlace.TheVariants.{Before, Within, Behind}
 
 -- the items that are left where so many elements are open in `sharedItems`
-abbrev pub items_left : ℕ → List Event → Result (List CellValue) Refusal
-items_left within events =
+abbrev pub items_behind : ℕ → List Event → Result (List CellValue) Refusal
+items_behind within events =
     some_answers item_among (outermost_from is_any within (content within events))
 
 -- the items that these events give from a place on, where so many elements are open
-abbrev pub items_from : ItemsPlace → ℕ → List Event → Result (List CellValue) Refusal
-items_from Before depth events = items_in events
-items_from (Within base) depth events = items_left (depth - base) events
-items_from Behind depth events = Ok []
+abbrev pub items_from_place : ItemsPlace → ℕ → List Event → Result (List CellValue) Refusal
+items_from_place Before depth events = items_in events
+items_from_place (Within base) depth events = items_behind (depth - base) events
+items_from_place Behind depth events = Ok []
 
 -- an element that the place stands in is open
-abbrev pub IsWithin : ItemsPlace → ℕ → Type 0
-IsWithin Before depth = Unit {0}
-IsWithin (Within base) depth = base ≤ depth
-IsWithin Behind depth = Unit {0}
+abbrev pub LiesWithin : ItemsPlace → ℕ → Type 0
+LiesWithin Before depth = Unit {0}
+LiesWithin (Within base) depth = base ≤ depth
+LiesWithin Behind depth = Unit {0}
 
 -- how many elements were open before an event, behind which so many are
 abbrev pub depth_before : Event → ℕ → ℕ

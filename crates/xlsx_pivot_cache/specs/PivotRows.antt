@@ -52,8 +52,8 @@ left_from Done fields r = Some []
 
 -- The rows that are left. Behind the end of the records and behind a refusal there are none; they
 -- can't be said where one of them is refused.
-abbrev pub rows_left : PivotRows → Option (List (List CellValue))
-rows_left rows = left_from rows.place rows.fields rows.reading
+abbrev pub cache_rows_left : PivotRows → Option (List (List CellValue))
+cache_rows_left rows = left_from rows.place rows.fields rows.reading
 
 -- What is left of a section of records, as this section is that of the part: a refusal there is one
 -- of the section.
@@ -72,19 +72,19 @@ pub record IsInRecords (fields : List FieldSaid) (base : ℕ) (r : Reading) : Ty
   pub within : base ≤ length r.names
   pub left : r.source.is_told ≡ true → (s : PartSection) × IsLeftOf fields base r s
 
-abbrev pub StandsAt : RecordsPlace → List FieldSaid → Reading → Type 0
-StandsAt Before fields r = IsReading r × (r.at ≡ 0)
-StandsAt (Within base) fields r = IsInRecords fields base r
-StandsAt Done fields r = Unit {0}
+abbrev pub RowsStand : RecordsPlace → List FieldSaid → Reading → Type 0
+RowsStand Before fields r = IsReading r × (r.at ≡ 0)
+RowsStand (Within base) fields r = IsInRecords fields base r
+RowsStand Done fields r = Unit {0}
 
 -- it may be asked for the next row
 abbrev pub IsAtRecords : PivotRows → Type 0
-IsAtRecords rows = StandsAt rows.place rows.fields rows.reading
+IsAtRecords rows = RowsStand rows.place rows.fields rows.reading
 
 -- it is in the records, at a depth of which this holds
-abbrev pub IsWithin : (ℕ → Type 0) → RecordsPlace → Type 0
-IsWithin holds (Within base) = holds base
-IsWithin holds _ = ⊥
+abbrev pub HoldsWithin : (ℕ → Type 0) → RecordsPlace → Type 0
+HoldsWithin holds (Within base) = holds base
+HoldsWithin holds _ = ⊥
 
 -- it is behind the end of the records, or behind a refusal
 abbrev pub IsDone : PivotRows → Type 0
@@ -106,7 +106,8 @@ ReadsRow (Some result) old new =
 abbrev pub TakesRow : List CellValue → PivotRows → PivotRows → Type 0
 TakesRow row old new =
     old.reading.source.is_told ≡ true →
-    rows_left old ≡ option_map (λ (rows : List (List CellValue)). row ∷ rows) (rows_left new)
+    cache_rows_left old
+    ≡ option_map (λ (rows : List (List CellValue)). row ∷ rows) (cache_rows_left new)
 
 -- the package gives fewer events then
 abbrev pub IsFewer : Reading → Reading → Type 0
@@ -151,7 +152,7 @@ pub record EntersRecords (base : ℕ) (old new : Reading) : Type 0 where
 abbrev pub TakesRowAt : RecordsPlace → List CellValue → PivotRows → PivotRows → Type 0
 TakesRowAt Before row old new =
     (row ≡ names_row old.fields)
-    × IsWithin (λ base. EntersRecords base old.reading new.reading) new.place
+    × HoldsWithin (λ base. EntersRecords base old.reading new.reading) new.place
 TakesRowAt (Within base) row old new =
     (new.place ≡ Within base)
     × (old.reading.source.is_told ≡ true →
@@ -224,4 +225,4 @@ pub record OpensRows (definitions records : List ℕ) (old : PackageState) (new 
         old.is_told ≡ true →
         new.reading.source.taken + length new.reading.source.rest
         ≤ old.taken + event_count old.parts definitions + event_count old.parts records
-    pub rows : old.is_told ≡ true → rows_left new ≡ cache_rows old.parts definitions records
+    pub rows : old.is_told ≡ true → cache_rows_left new ≡ cache_rows old.parts definitions records

@@ -33,7 +33,7 @@ impl<'a, P: Package> PivotCacheIter<'a, P> {
     ghost use Rattle.part_events.specs.Lending.{LentFails};
     ghost use Rattle.xlsx_error.specs.declared.error.XlsxError.TheVariants.{Io};
     ghost use Rattle.xlsx_pivot_cache.specs.CacheErrors.{IsCacheFieldsError};
-    ghost use Rattle.xlsx_pivot_cache.specs.CacheIter.{rows_by, reference_of, OpenCacheFails};
+    ghost use Rattle.xlsx_pivot_cache.specs.CacheIter.{rows_by, rows_reference, OpenCacheFails};
     ghost use Rattle.xlsx_pivot_cache.specs.PivotRows.{OpensRows};
 
     /// Reads the fields of a cache, whose definitions are the part at the first path, and opens the
@@ -45,7 +45,7 @@ impl<'a, P: Package> PivotCacheIter<'a, P> {
         records: &str,
     ) -> Result<PivotCacheIter<'a, P>, XlsxError>
         ensures same_reference { IfOk result (λ rows.
-            reference_of rows ≡ «package».entry.ghost_name) }
+            rows_reference rows ≡ «package».entry.ghost_name) }
         ensures opens { IfOk result (λ rows. OpensRows definitions.now records.now
             (P.state «package».old) (rows_by P.state rows)) }
         ensures err { IfErr result
@@ -59,14 +59,15 @@ impl<'a, P: Package> PivotCacheIter<'a, P> {
 }
 
 impl<'a, P: Package> Iterator for PivotCacheIter<'a, P> {
-    ghost use Rattle.xlsx_pivot_cache.specs.CacheIter.{rows_by, reference_of, rows_count, GivesRow};
+    ghost use Rattle.xlsx_pivot_cache.specs.CacheIter.{rows_by, rows_reference, rows_count};
+    ghost use Rattle.xlsx_pivot_cache.specs.CacheIter.{GivesRow};
     ghost use Rattle.xlsx_pivot_cache.specs.PivotRows.{IsAtRecords};
 
     type Item = Result<Vec<Data>, XlsxError>;
 
     ghost can_next = { λ s. IsAtRecords (rows_by P.state s) };
 
-    ghost next_gives = { λ s result t. (reference_of t ≡ reference_of s)
+    ghost next_gives = { λ s result t. (rows_reference t ≡ rows_reference s)
         × GivesRow result (rows_by P.state s) (rows_by P.state t) };
 
     ghost remaining = { λ s. rows_count (rows_by P.state s) };

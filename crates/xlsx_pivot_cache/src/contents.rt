@@ -12,7 +12,8 @@ ghost use Rattle.xlsx_sections.specs.Refusal.{Refusal, ElementFails};
 ghost use Rattle.xlsx_pivot_cache.specs.CacheErrors.{IsItemError, IsFieldsError};
 ghost use Rattle.xlsx_pivot_cache.specs.CacheFields.{item_said, is_shared, is_group, items_in};
 ghost use Rattle.xlsx_pivot_cache.specs.CacheFields.{groups_items};
-ghost use Rattle.xlsx_pivot_cache.specs.FieldEvents.{items_from, IsWithin, depth_before, IsOpened};
+ghost use Rattle.xlsx_pivot_cache.specs.FieldEvents.{items_from_place, LiesWithin, depth_before};
+ghost use Rattle.xlsx_pivot_cache.specs.FieldEvents.{IsOpened};
 ghost use Rattle.xlsx_pivot_cache.specs.declared.contents.ItemsPlace.TheVariants.{Before};
 
 use crate::item::{item_kind, item_of};
@@ -73,10 +74,10 @@ fn is_group(tag: StartTag<'_>) -> bool
 impl ItemsPlace {
     /// The place behind an end, where so many elements are open.
     fn behind_end(self, depth: usize) -> ItemsPlace
-        requires { IsWithin self (suc depth) }
-        ensures within { IsWithin result depth }
-        ensures items { (name : List ℕ) (events : List Event) → items_from result depth events
-            ≡ items_from self (suc depth) (end name ∷ events) }
+        requires { LiesWithin self (suc depth) }
+        ensures within { LiesWithin result depth }
+        ensures items { (name : List ℕ) (events : List Event) → items_from_place result depth events
+            ≡ items_from_place self (suc depth) (end name ∷ events) }
     {
         match self {
             ItemsPlace::Within(base) if depth < base => ItemsPlace::Behind,
@@ -107,17 +108,17 @@ impl FieldContents {
         depth: usize,
     ) -> Result<(), XlsxError>
         requires opened { 0 < depth }
-        requires within { IsWithin self.old.place (depth - 1) }
-        ensures within { OnOk result (IsWithin self.new.place depth) }
+        requires within { LiesWithin self.old.place (depth - 1) }
+        ensures within { OnOk result (LiesWithin self.new.place depth) }
         ensures items { OnOk result ((events : List Event) →
             prepended (map value_of_data self.new.items.items)
-            (items_from self.new.place depth events)
+            (items_from_place self.new.place depth events)
             ≡ prepended (map value_of_data self.old.items.items)
-            (items_from self.old.place (depth - 1) (start (tag_of tag.entry) ∷ events))) }
+            (items_from_place self.old.place (depth - 1) (start (tag_of tag.entry) ∷ events))) }
         ensures groups { self.new.groups ≡ self.old.groups }
         ensures err { IfErr result (λ error. (at behind : ℕ) (events : List Event) →
             ElementFails
-            (items_from self.old.place (depth - 1) (start (tag_of tag.entry) ∷ events))
+            (items_from_place self.old.place (depth - 1) (start (tag_of tag.entry) ∷ events))
             at behind error) }
         ensures kind { IfErr result IsItemError }
     {
@@ -139,20 +140,20 @@ impl FieldContents {
         depth: usize,
     ) -> Result<(), XlsxError>
         requires opened { IsOpened (event_of event) depth }
-        requires within { IsWithin self.old.place (depth_before (event_of event) depth) }
-        ensures within { OnOk result (IsWithin self.new.place depth) }
+        requires within { LiesWithin self.old.place (depth_before (event_of event) depth) }
+        ensures within { OnOk result (LiesWithin self.new.place depth) }
         ensures items { let event = event_of event.entry in
             OnOk result ((events : List Event) →
             prepended (map value_of_data self.new.items.items)
-            (items_from self.new.place depth events)
+            (items_from_place self.new.place depth events)
             ≡ prepended (map value_of_data self.old.items.items)
-            (items_from self.old.place (depth_before event depth) (event ∷ events))) }
+            (items_from_place self.old.place (depth_before event depth) (event ∷ events))) }
         ensures groups { let event = event_of event.entry in
             OnOk result ((events : List Event) → (self.new.groups || groups_items events)
             ≡ (self.old.groups || groups_items (event ∷ events))) }
         ensures err { let event = event_of event.entry in
             IfErr result (λ error. (at behind : ℕ) (events : List Event) → ElementFails
-            (items_from self.old.place (depth_before event depth) (event ∷ events))
+            (items_from_place self.old.place (depth_before event depth) (event ∷ events))
             at behind error) }
         ensures kind { IfErr result IsItemError }
     {

@@ -6,8 +6,9 @@ ghost use Rattle.cell_data.specs.CellValue.{value_of_data};
 ghost use Rattle.xlsx_sections.specs.NumberText.{number_below};
 ghost use Rattle.xlsx_sections.specs.Refusal.{ElementFails};
 ghost use Rattle.xlsx_pivot_cache.specs.CacheErrors.{IsItemError};
-ghost use Rattle.xlsx_pivot_cache.specs.CacheItems.{kind_named, item_kind, whole_number};
-ghost use Rattle.xlsx_pivot_cache.specs.CacheItems.{number_value, truth_value, value_as, item_of};
+ghost use Rattle.xlsx_pivot_cache.specs.CacheItems.{item_kind_named, item_kind, whole_number};
+ghost use Rattle.xlsx_pivot_cache.specs.CacheItems.{item_number, item_truth, value_as};
+ghost use Rattle.xlsx_pivot_cache.specs.CacheItems.{item_of_start};
 
 use attr_text::RawAttributes;
 use cell_data::{CellErrorType, Data, Decimal};
@@ -29,7 +30,7 @@ pub enum ItemKind {
 
 /// The kind of the items of this name.
 fn kind_named(name: &str) -> Option<ItemKind>
-    ensures { result ≡ kind_named name.now }
+    ensures { result ≡ item_kind_named name.now }
 {
     match name {
         "s" => Some(ItemKind::Text),
@@ -93,7 +94,7 @@ fn has_point(text: &[u8]) -> bool
 
 /// The value of the text of a number: a decimal where it has a point, and a whole number otherwise.
 fn number_value(text: &str) -> Data
-    ensures { value_of_data result ≡ number_value text.now }
+    ensures { value_of_data result ≡ item_number text.now }
 {
     if has_point(text.as_bytes()) {
         return match Decimal::parse(text) {
@@ -109,7 +110,7 @@ fn number_value(text: &str) -> Data
 
 /// The value of the text of a truth value.
 fn truth_value(text: &str) -> Data
-    ensures { value_of_data result ≡ truth_value text.now }
+    ensures { value_of_data result ≡ item_truth text.now }
 {
     match text {
         "0" => Data::Bool(false),
@@ -137,9 +138,10 @@ fn value_as(alloc: Global, kind: ItemKind, text: &str) -> Result<Data, AllocErro
 /// The item of this kind that a start says by its `v`, whose text isn't decoded. Without `v` it is
 /// empty.
 pub(crate) fn item_of(alloc: Global, kind: ItemKind, tag: StartTag<'_>) -> Result<Data, XlsxError>
-    ensures ok { IfOk result (λ own. item_of kind (tag_of tag.entry) ≡ Ok (value_of_data own)) }
+    ensures ok { IfOk result
+        (λ own. item_of_start kind (tag_of tag.entry) ≡ Ok (value_of_data own)) }
     ensures err { IfErr result (λ error. (at behind : ℕ) →
-        ElementFails (item_of kind (tag_of tag.entry)) at behind error) }
+        ElementFails (item_of_start kind (tag_of tag.entry)) at behind error) }
     ensures kind { IfErr result IsItemError }
 {
     match tag.raw_attr("v")? {

@@ -6,7 +6,8 @@ ghost use Rattle.xlsx_error.specs.declared.error.XlsxError.TheVariants.{Io};
 ghost use Rattle.xlsx_sections.specs.Failing.{FailsBy};
 ghost use Rattle.xlsx_pivot_cache.specs.CacheErrors.{IsRowError, IsCacheFieldsError};
 ghost use Rattle.xlsx_pivot_cache.specs.CacheRecords.{row_kept, RowsCause, OpenRowsCause};
-ghost use Rattle.xlsx_pivot_cache.specs.PivotRows.{pivot_rows, rows_left, IsAtRecords, IsDone};
+ghost use Rattle.xlsx_pivot_cache.specs.PivotRows.{pivot_rows, cache_rows_left, IsAtRecords};
+ghost use Rattle.xlsx_pivot_cache.specs.PivotRows.{IsDone};
 ghost use Rattle.xlsx_pivot_cache.specs.PivotRows.{ReadsRow, TakesRow, OpensRows, IsFewer};
 ghost use Rattle.xlsx_pivot_cache.specs.PivotRows.{GivesRowOf, GivesNone, NextRowFails};
 ghost use Rattle.xlsx_pivot_cache.specs.declared.pivot_cursor.RecordsPlace.TheVariants.{Before};
@@ -137,7 +138,7 @@ impl PivotCursor {
             IfOk result (λ found. IfSome found (λ row. IsFewer old.reading new.reading)) }
         ensures none { let old = pivot_rows (P.state «package».old) self.old in
             old.reading.source.is_told ≡ true →
-            IfOk result (λ found. IfNone found (rows_left old ≡ Some [])) }
+            IfOk result (λ found. IfNone found (cache_rows_left old ≡ Some [])) }
         ensures none_left { let old = pivot_rows (P.state «package».old) self.old in
             let new = pivot_rows (P.state «package».new) self.new in
             IfOk result (λ found. IfNone found (GivesNone old new)) }
@@ -188,7 +189,7 @@ impl PivotCursor {
         ensures step { IfSome result (λ next.
             OnOk next ((P.state «package».new).left < (P.state «package».old).left)) }
         ensures none { let old = pivot_rows (P.state «package».old) self.old in
-            old.reading.source.is_told ≡ true → IfNone result (rows_left old ≡ Some []) }
+            old.reading.source.is_told ≡ true → IfNone result (cache_rows_left old ≡ Some []) }
         ensures none_left { let old = pivot_rows (P.state «package».old) self.old in
             let new = pivot_rows (P.state «package».new) self.new in
             IfNone result (GivesNone old new) }

@@ -9,7 +9,7 @@ ghost use Rattle.xlsx_error.specs.declared.error.XlsxError.TheVariants.{Io};
 ghost use Rattle.xlsx_sections.specs.Elements.{ElementReadFails};
 ghost use Rattle.xlsx_sections.specs.PartSection.{always};
 ghost use Rattle.xlsx_sections.specs.Refusal.{ElementFails, plain_told};
-ghost use Rattle.xlsx_pivot_cache.specs.CacheErrors.{IsFaultError, IsValueError, IsRowError};
+ghost use Rattle.xlsx_pivot_cache.specs.CacheErrors.{IsFaultError, IsRecordValueError, IsRowError};
 ghost use Rattle.xlsx_pivot_cache.specs.CacheFields.{field_kept, fields_kept};
 ghost use Rattle.xlsx_pivot_cache.specs.CacheRecords.{is_reference, referred_item, value_said};
 ghost use Rattle.xlsx_pivot_cache.specs.CacheRecords.{records_name, row_in, row_kept};
@@ -71,7 +71,7 @@ fn referred_item(
     ensures err { let said = option_map field_kept (option_copied field.entry) in
         IfErr result (λ error. (at behind : ℕ) →
         ElementFails (referred_item said (tag_of tag.entry)) at behind error) }
-    ensures kind { IfErr result IsValueError }
+    ensures kind { IfErr result IsRecordValueError }
 {
     let Some(text) = tag.raw_attr("v")? else {
         return Ok(Data::Empty);
@@ -102,7 +102,7 @@ fn value_said(
     ensures err { let said = option_map field_kept (option_copied field.entry) in
         IfErr result (λ error. (at behind : ℕ) →
         ElementFails (value_said said (tag_of tag.entry)) at behind error) }
-    ensures kind { IfErr result IsValueError }
+    ensures kind { IfErr result IsRecordValueError }
 {
     if is_reference(tag) {
         return Ok(Some(referred_item(alloc, field, tag)?));

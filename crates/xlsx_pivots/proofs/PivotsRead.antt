@@ -16,8 +16,8 @@ use Rattle.xlsx_sections.proofs.Refused.{refused_at_weaker}
 use Rattle.xlsx_parts.specs.WholePart.{IsBreakError}
 use Rattle.xlsx_relationships.specs.RelationshipErrors.{IsRelatedError}
 use Rattle.xlsx_pivots.specs.PivotErrors.{IsSingleError, IsPivotsError}
-use Rattle.xlsx_pivots.specs.Singles.{many, kept_with, kept_by}
-use Rattle.xlsx_pivots.specs.Targets.{counted_by}
+use Rattle.xlsx_pivots.specs.Singles.{many, kept_with, single_kept_by}
+use Rattle.xlsx_pivots.specs.Targets.{counted_target}
 use Rattle.xlsx_pivots.specs.declared.single.Single.{Single}
 
 pub related_error : (error : XlsxError) → IsRelatedError error → IsPivotsError error
@@ -74,22 +74,22 @@ many_fails single at behind first own _ is told = absurd is
 pub kept_fails : (single : Single) (at behind : ℕ) (kept : Option (List ℕ))
     (answer : Result (Option (List ℕ)) Refusal) (error : XlsxError)
     → ElementFails answer at behind error
-    → ElementFails (kept_by single kept answer) at behind error
+    → ElementFails (single_kept_by single kept answer) at behind error
 kept_fails single at behind kept answer error fails =
     refused_at_weaker at behind
-    (λ (refusal : Refusal). kept_by single kept answer ≡ Err refusal)
+    (λ (refusal : Refusal). single_kept_by single kept answer ≡ Err refusal)
     (λ (refusal : Refusal). answer ≡ Err refusal) error
-    (λ refusal is. ap (kept_by single kept) is) fails
+    (λ refusal is. ap (single_kept_by single kept) is) fails
 
 pub target_fails : (single : Single) (at behind : ℕ) (kept : Option (List ℕ))
     (target : Result (Option (List ℕ)) Refusal) (error : XlsxError)
     → ElementFails target at behind error
-    → ElementFails (kept_by single kept (counted_by kept target)) at behind error
+    → ElementFails (single_kept_by single kept (counted_target kept target)) at behind error
 target_fails single at behind kept target error fails =
-    kept_fails single at behind kept (counted_by kept target) error
-    (refused_at_weaker at behind (λ (refusal : Refusal). counted_by kept target ≡ Err refusal)
+    kept_fails single at behind kept (counted_target kept target) error
+    (refused_at_weaker at behind (λ (refusal : Refusal). counted_target kept target ≡ Err refusal)
     (λ (refusal : Refusal). target ≡ Err refusal) error
-    (λ refusal is. ap (counted_by kept) is) fails)
+    (λ refusal is. ap (counted_target kept) is) fails)
 
 -- such an error has its cause in the parts
 pub single_refused : (cause : XlsxError → Type 0) (old new : PackageState) (error : XlsxError)

@@ -16,13 +16,13 @@ use Rattle.xlsx_parts.proofs.SoundParts.{no_said_cause, no_first_said_cause}
 use Rattle.xlsx_relationships.specs.Paths.{relationships_beside}
 use Rattle.xlsx_relationships.specs.RelatedParts.{related_parts, all_lead_to, target_path}
 use Rattle.xlsx_pivots.specs.PivotParts.{name_said, name_in_part, NameCause}
-use Rattle.xlsx_pivots.specs.Pivots.{PivotSaid, pivot_type, name_at, pivot_with, pivot_from}
-use Rattle.xlsx_pivots.specs.Pivots.{pivot_named, pivot_at, alone, pivots_at, pivots_by}
+use Rattle.xlsx_pivots.specs.Pivots.{PivotSaid, pivot_type, pivot_name_at, pivot_with, pivot_from}
+use Rattle.xlsx_pivots.specs.Pivots.{pivot_named, pivot_at, one_pivot, pivots_at, pivots_by}
 use Rattle.xlsx_pivots.specs.Pivots.{pivots_on, pivots_of, NameAtCause, PivotCause}
 use Rattle.xlsx_pivots.specs.Pivots.{PivotsAtCause, PivotsCause}
 use Rattle.xlsx_pivots.specs.Singles.{only_one, Lacks}
 use Rattle.xlsx_pivots.specs.Targets.{definitions_type, records_type, definitions_at, records_at}
-use Rattle.xlsx_pivots.specs.Targets.{records_path, target_in, target_beside, TargetCause}
+use Rattle.xlsx_pivots.specs.Targets.{records_path, single_target_in, target_beside, TargetCause}
 use Rattle.xlsx_pivots.specs.declared.single.Single.{Single}
 use Rattle.xlsx_pivots.specs.declared.single.Single.TheVariants as single
 
@@ -54,7 +54,7 @@ no_cause_of_name events name error says (inr lacks) =
     not_lacking single.Name (name_in_part events) name error says lacks
 
 no_name_cause : (parts : List Part) (path name : List ℕ) (error : XlsxError)
-    → name_at parts path ≡ Some name → NameAtCause parts path error → ⊥
+    → pivot_name_at parts path ≡ Some name → NameAtCause parts path error → ⊥
 no_name_cause parts path name error says (inl lacks) =
     let there = and_then_from name_in_part (part_of parts path) (Some name)
     (one_said (option_and_then name_in_part (part_of parts path)) name says) in
@@ -67,21 +67,21 @@ no_name_cause parts path name error says (inr cause) =
 
 absent_or_refused : (single : Single) (wanted : List ℕ) (part : Option (List Event))
     (own : Option (List ℕ)) (error : XlsxError)
-    → option_and_then (section_said (codes "Relationships") (target_in wanted single)) part
+    → option_and_then (section_said (codes "Relationships") (single_target_in wanted single)) part
     ≡ Some own → OptionalPartCause (codes "Relationships") (always (codes "Relationships"))
-    (IsInsideRefused (target_in wanted single)) part error → ⊥
+    (IsInsideRefused (single_target_in wanted single)) part error → ⊥
 absent_or_refused single wanted None own error says cause = absurd (cc)
 absent_or_refused single wanted (Some events) own error says cause =
     no_said_cause (codes "Relationships") (always (codes "Relationships")) None
-    (target_in wanted single) (Some events) error own says cause
+    (single_target_in wanted single) (Some events) error own says cause
 
 no_target_cause : (parts : List Part) (wanted : List ℕ) (single : Single) (path own : List ℕ)
     (error : XlsxError) → only_one (target_beside parts wanted single path) ≡ Some own
     → TargetCause parts wanted single path error → ⊥
 no_target_cause parts wanted single path own error says (inl (inl lacks)) =
     let part = part_of parts (relationships_beside path) in
-    let there = and_then_from (section_said (codes "Relationships") (target_in wanted single)) part
-    (Some own) (one_said (target_beside parts wanted single path) own says) in
+    let said = section_said (codes "Relationships") (single_target_in wanted single) in
+    let there = and_then_from said part (Some own) (one_said (target_beside parts wanted single path) own says) in
     not_absent parts (relationships_beside path) error there.0 there.1 lacks
 no_target_cause parts wanted single path own error says (inl (inr cause)) =
     absent_or_refused single wanted (part_of parts (relationships_beside path)) (Some own) error
@@ -94,20 +94,20 @@ no_pivot_cause : (parts : List Part) (folder sheet path : List ℕ) (pivot : Piv
     (error : XlsxError) → pivot_at parts folder sheet path ≡ Some pivot
     → PivotCause parts path error → ⊥
 no_pivot_cause parts folder sheet path pivot error says (inl cause) =
-    let name = and_then_from (pivot_named parts folder sheet path) (name_at parts path) pivot says
-    in
+    let name = and_then_from (pivot_named parts folder sheet path) (pivot_name_at parts path)
+    pivot says in
     no_name_cause parts path name.0 error name.1 cause
 no_pivot_cause parts folder sheet path pivot error says (inr (inl cause)) =
-    let name = and_then_from (pivot_named parts folder sheet path) (name_at parts path) pivot says
-    in
+    let name = and_then_from (pivot_named parts folder sheet path) (pivot_name_at parts path)
+    pivot says in
     let lies = and_then_from (pivot_from parts folder sheet name.0) (definitions_at parts path)
     pivot name.2 in
     let target = and_then_from (target_path path)
     (only_one (target_beside parts definitions_type single.Definitions path)) lies.0 lies.1 in
     no_target_cause parts definitions_type single.Definitions path target.0 error target.1 cause
 no_pivot_cause parts folder sheet path pivot error says (inr (inr cause)) =
-    let name = and_then_from (pivot_named parts folder sheet path) (name_at parts path) pivot says
-    in
+    let name = and_then_from (pivot_named parts folder sheet path) (pivot_name_at parts path)
+    pivot says in
     let lies = and_then_from (pivot_from parts folder sheet name.0) (definitions_at parts path)
     pivot name.2 in
     let records = mapped_from (pivot_with sheet name.0 lies.0) (records_at parts folder lies.0)
@@ -121,7 +121,7 @@ no_cause_at : (parts : List Part) (folder sheet path : List ℕ) (all : List Piv
     (error : XlsxError) → pivots_at parts folder sheet path ≡ Some all
     → PivotCause parts path error → ⊥
 no_cause_at parts folder sheet path all error says cause =
-    let own = mapped_from alone (pivot_at parts folder sheet path) all says in
+    let own = mapped_from one_pivot (pivot_at parts folder sheet path) all says in
     no_pivot_cause parts folder sheet path own.0 error own.1 cause
 
 no_cause_on : (parts : List Part) (folder : List ℕ) (sheet : SheetPath) (all : List PivotSaid)

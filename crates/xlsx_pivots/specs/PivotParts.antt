@@ -7,7 +7,7 @@ use Rattle.xlsx_sections.specs.Changes.{all_changes, changed_by}
 use Rattle.xlsx_sections.specs.Names.{name_by}
 use Rattle.xlsx_sections.specs.Refusal.{Refusal, placed_at}
 use Rattle.xlsx_parts.specs.FirstElement.{first_said, FirstElementCause}
-use Rattle.xlsx_pivots.specs.Singles.{kept_by, Lacks}
+use Rattle.xlsx_pivots.specs.Singles.{single_kept_by, Lacks}
 use Rattle.xlsx_pivots.specs.declared.single.Single.TheVariants as single
 
 abbrev pub is_pivot : Tag → Bool
@@ -15,7 +15,7 @@ is_pivot tag = is_named (codes "pivotTableDefinition" ∷ []) tag
 
 -- one more name, if the start has one
 abbrev pub name_kept : PlacedTag → Option (List ℕ) → Result (Option (List ℕ)) Refusal
-name_kept start kept = kept_by single.Name kept (name_by start)
+name_kept start kept = single_kept_by single.Name kept (name_by start)
 
 -- the name that was kept, or that of the only start among these events that has one
 abbrev pub name_behind : Option (List ℕ) → List Event → Result (Option (List ℕ)) Refusal

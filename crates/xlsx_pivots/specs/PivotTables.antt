@@ -54,5 +54,5 @@ pair_given pair = (pair.0.now, pair.1.now)
 abbrev pub pairs_left : PivotNames → List (List ℕ × List ℕ)
 pairs_left it = pairs_of (map pivot_kept it.left.now)
 
-abbrev pub names_left : PivotNamesInSheet → List (List ℕ)
-names_left it = names_on it.sheet.now (map pivot_kept it.left.now)
+abbrev pub pivot_names_left : PivotNamesInSheet → List (List ℕ)
+pivot_names_left it = names_on it.sheet.now (map pivot_kept it.left.now)

@@ -38,8 +38,8 @@ pivot_with sheet name definitions records = record {
 }
 
 -- the name of the pivot table whose part is at a path
-abbrev pub name_at : List Part → List ℕ → Option (List ℕ)
-name_at parts path = only_one (option_and_then name_in_part (part_of parts path))
+abbrev pub pivot_name_at : List Part → List ℕ → Option (List ℕ)
+pivot_name_at parts path = only_one (option_and_then name_in_part (part_of parts path))
 
 -- the records of these definitions go with the name
 abbrev pub pivot_from :
@@ -55,13 +55,13 @@ pivot_named parts folder sheet path name =
 -- definitions
 abbrev pub pivot_at : List Part → List ℕ → List ℕ → List ℕ → Option PivotSaid
 pivot_at parts folder sheet path =
-    option_and_then (pivot_named parts folder sheet path) (name_at parts path)
+    option_and_then (pivot_named parts folder sheet path) (pivot_name_at parts path)
 
-abbrev pub alone : PivotSaid → List PivotSaid
-alone pivot = pivot ∷ []
+abbrev pub one_pivot : PivotSaid → List PivotSaid
+one_pivot pivot = pivot ∷ []
 
 abbrev pub pivots_at : List Part → List ℕ → List ℕ → List ℕ → Option (List PivotSaid)
-pivots_at parts folder sheet path = option_map alone (pivot_at parts folder sheet path)
+pivots_at parts folder sheet path = option_map one_pivot (pivot_at parts folder sheet path)
 
 -- those of the parts at these paths, one after the other
 abbrev pub pivots_by : List Part → List ℕ → List ℕ → List (List ℕ) → Option (List PivotSaid)

@@ -27,11 +27,11 @@ kept_with single kept None = Ok kept
 kept_with single None (Some own) = Ok (Some own)
 kept_with single (Some first) (Some own) = Err (plain (many single))
 
-abbrev pub kept_by :
+abbrev pub single_kept_by :
     Single → Option (List ℕ) → Result (Option (List ℕ)) Refusal →
     Result (Option (List ℕ)) Refusal
-kept_by single kept (Ok own) = kept_with single kept own
-kept_by single kept (Err refusal) = Err refusal
+single_kept_by single kept (Ok own) = kept_with single kept own
+single_kept_by single kept (Err refusal) = Err refusal
 
 -- the one that was found, where it is said whether there is one
 abbrev pub only_one : Option (Option (List ℕ)) → Option (List ℕ)

@@ -14,7 +14,7 @@ use Rattle.xlsx_parts.specs.PartSaid.{part_said}
 use Rattle.xlsx_relationships.specs.Paths.{relationships_beside, without_slash}
 use Rattle.xlsx_relationships.specs.RelatedParts.{target_path, typed_target}
 use Rattle.xlsx_relationships.specs.Relationships.{relationship_starts}
-use Rattle.xlsx_pivots.specs.Singles.{kept_by, only_one, Lacks}
+use Rattle.xlsx_pivots.specs.Singles.{single_kept_by, only_one, Lacks}
 use Rattle.xlsx_pivots.specs.declared.single.Single.{Single}
 use Rattle.xlsx_pivots.specs.declared.single.Single.TheVariants as single
 
@@ -35,38 +35,39 @@ counted None None = None
 counted None (Some []) = None
 counted None (Some (byte ∷ target)) = Some (byte ∷ target)
 
-abbrev pub counted_by :
+abbrev pub counted_target :
     Option (List ℕ) → Result (Option (List ℕ)) Refusal → Result (Option (List ℕ)) Refusal
-counted_by kept (Ok target) = Ok (counted kept target)
-counted_by kept (Err refusal) = Err refusal
+counted_target kept (Ok target) = Ok (counted kept target)
+counted_target kept (Err refusal) = Err refusal
 
 -- what was kept isn't empty
-abbrev pub IsWritten : Option (List ℕ) → Type 0
-IsWritten None = ⊤
-IsWritten (Some []) = ⊥
-IsWritten (Some (byte ∷ target)) = ⊤
+abbrev pub HasText : Option (List ℕ) → Type 0
+HasText None = ⊤
+HasText (Some []) = ⊥
+HasText (Some (byte ∷ target)) = ⊤
 
 -- one more target, if the relationship is of this type
 abbrev pub target_kept :
     List ℕ → Single → PlacedTag → Option (List ℕ) → Result (Option (List ℕ)) Refusal
 target_kept wanted single start kept =
-    kept_by single kept (counted_by kept (typed_target wanted start))
+    single_kept_by single kept (counted_target kept (typed_target wanted start))
 
 -- the only target of that type
-abbrev pub target_in : List ℕ → Single → List Event → Result (Option (List ℕ)) Refusal
-target_in wanted single inside =
+abbrev pub single_target_in : List ℕ → Single → List Event → Result (Option (List ℕ)) Refusal
+single_target_in wanted single inside =
     all_changes (target_kept wanted single) (relationship_starts inside) None
 
 -- whether the relationships of the part at a path say it, and which
 abbrev pub target_beside : List Part → List ℕ → Single → List ℕ → Option (Option (List ℕ))
 target_beside parts wanted single path =
-    part_said (codes "Relationships") (target_in wanted single) parts (relationships_beside path)
+    part_said (codes "Relationships") (single_target_in wanted single) parts
+    (relationships_beside path)
 
 -- why it can't be taken: these relationships are absent or refused, or there is none
 abbrev pub TargetCause : List Part → List ℕ → Single → List ℕ → XlsxError → Type 0
 TargetCause parts wanted single path error =
     PartCause (codes "Relationships") (always (codes "Relationships"))
-    (IsInsideRefused (target_in wanted single)) parts (relationships_beside path) error
+    (IsInsideRefused (single_target_in wanted single)) parts (relationships_beside path) error
     ⊎ Lacks single (target_beside parts wanted single path) error
 
 -- the path of the definitions of the pivot table whose part is at a path

@@ -44,11 +44,11 @@ pub struct PivotNamesInSheet<'a> {
 
 impl<'a> PivotNamesInSheet<'a> {
     ghost use Rattle.std.specs.Prelude.{◌≡◌, map};
-    ghost use Rattle.xlsx_pivots.specs.PivotTables.{names_left, names_on, pivot_kept};
+    ghost use Rattle.xlsx_pivots.specs.PivotTables.{pivot_names_left, names_on, pivot_kept};
 
     /// The names of those among these, of which none was taken yet.
     pub(crate) fn new(pivots: &'a [PivotTable], sheet: &'a str) -> PivotNamesInSheet<'a>
-        ensures { names_left result ≡ names_on sheet.now (map pivot_kept pivots.now) }
+        ensures { pivot_names_left result ≡ names_on sheet.now (map pivot_kept pivots.now) }
     {
         PivotNamesInSheet {
             left: pivots,
@@ -59,13 +59,13 @@ impl<'a> PivotNamesInSheet<'a> {
 
 impl<'a> Iterator for PivotNamesInSheet<'a> {
     ghost use Rattle.std.specs.Iterator.{YieldsFirstRef, item_count};
-    ghost use Rattle.xlsx_pivots.specs.PivotTables.{names_left};
+    ghost use Rattle.xlsx_pivots.specs.PivotTables.{pivot_names_left};
 
     type Item = &'a str;
 
-    ghost next_gives = { YieldsFirstRef names_left };
+    ghost next_gives = { YieldsFirstRef pivot_names_left };
 
-    ghost remaining = { item_count names_left };
+    ghost remaining = { item_count pivot_names_left };
 
     fn next(&mut self) -> Option<&'a str> {
         'pivots: while let Some((first, left)) = self.left.split_first() {

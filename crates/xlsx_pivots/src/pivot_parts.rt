@@ -13,7 +13,7 @@ ghost use Rattle.xlsx_sections.specs.Refusal.{ElementFails, placed_at};
 ghost use Rattle.xlsx_sections.specs.SectionEvents.{ReadsToEnd, section_events};
 ghost use Rattle.xlsx_pivots.specs.PivotErrors.{IsPivotsError};
 ghost use Rattle.xlsx_pivots.specs.PivotParts.{name_kept, name_behind, name_in_part, NameCause};
-ghost use Rattle.xlsx_pivots.specs.Pivots.{name_at, NameAtCause};
+ghost use Rattle.xlsx_pivots.specs.Pivots.{pivot_name_at, NameAtCause};
 
 use crate::single::Single;
 use part_events::{Cursor, Package, StartTag};
@@ -135,7 +135,7 @@ pub fn name_at<P: Package>(alloc: Global, package: &mut P, path: &str) -> Result
         (P.state «package».old) (P.state «package».new) }
     ensures name { let old = P.state «package».old in
         old.is_told ≡ true →
-        IfOk result (λ name. name_at old.parts path.now ≡ Some (string_bytes name)) }
+        IfOk result (λ name. pivot_name_at old.parts path.now ≡ Some (string_bytes name)) }
     ensures err { let old = P.state «package».old in
         IfErr result (FailsBy (NameAtCause old.parts path.now) old (P.state «package».new)) }
     ensures kind { IfErr result IsPivotsError }

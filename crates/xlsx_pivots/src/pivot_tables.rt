@@ -19,7 +19,7 @@ pub struct PivotTables {
 impl PivotTables {
     ghost use Rattle.std.specs.Prelude.{◌≡◌, [], option_map};
     ghost use Rattle.xlsx_pivots.specs.PivotTables.{pivots_kept, pairs_of, names_on, paths_of};
-    ghost use Rattle.xlsx_pivots.specs.PivotTables.{pairs_left, names_left, pair_given};
+    ghost use Rattle.xlsx_pivots.specs.PivotTables.{pairs_left, pivot_names_left, pair_given};
 
     /// None yet.
     pub fn new(alloc: Global) -> PivotTables
@@ -39,7 +39,7 @@ impl PivotTables {
 
     /// The names of those on the sheets of this name, in the order found.
     pub fn pivot_tables_by_sheet<'a>(&'a self, sheet_name: &'a str) -> PivotNamesInSheet<'a>
-        ensures { names_left result ≡ names_on sheet_name.now (pivots_kept self.now) }
+        ensures { pivot_names_left result ≡ names_on sheet_name.now (pivots_kept self.now) }
     {
         PivotNamesInSheet::new(&self.pivots, sheet_name)
     }

@@ -12,7 +12,7 @@ ghost use Rattle.xlsx_sections.specs.Refusal.{ElementFails, placed_at};
 ghost use Rattle.xlsx_sections.specs.SectionEvents.{ReadsToEnd};
 ghost use Rattle.xlsx_relationships.specs.Paths.{relationships_beside};
 ghost use Rattle.xlsx_pivots.specs.PivotErrors.{IsPivotsError};
-ghost use Rattle.xlsx_pivots.specs.Targets.{counted, IsWritten, target_kept, target_in};
+ghost use Rattle.xlsx_pivots.specs.Targets.{counted, HasText, target_kept, single_target_in};
 ghost use Rattle.xlsx_pivots.specs.Targets.{target_beside, TargetCause, definitions_at};
 ghost use Rattle.xlsx_pivots.specs.Targets.{definitions_type, records_type, records_path};
 ghost use Rattle.xlsx_pivots.specs.Targets.{records_at};
@@ -55,8 +55,8 @@ fn keep_target(
     wanted: &str,
     single: Single,
 ) -> Result<(), XlsxError>
-    requires written { IsWritten (option_map string_bytes kept.old) }
-    ensures written { OnOk result (IsWritten (option_map string_bytes kept.new)) }
+    requires written { HasText (option_map string_bytes kept.old) }
+    ensures written { OnOk result (HasText (option_map string_bytes kept.new)) }
     ensures ok { OnOk result ((behind : ℕ) →
         target_kept wanted.now single (placed_at (tag_of tag.entry) behind)
         (option_map string_bytes kept.old) ≡ Ok (option_map string_bytes kept.new)) }
@@ -93,13 +93,13 @@ fn target_in<P: Package>(
         old.source.is_told ≡ true → OnOk result (new.at ≡ suc (section_end base old)) }
     ensures target { let old = reading (P.state «package».old) cursor.old in
         old.source.is_told ≡ true → IfOk result (λ target.
-        target_in wanted.now single (section_ahead base old)
+        single_target_in wanted.now single (section_ahead base old)
         ≡ Ok (option_map string_bytes target)) }
-    ensures written { IfOk result (λ target. IsWritten (option_map string_bytes target)) }
+    ensures written { IfOk result (λ target. HasText (option_map string_bytes target)) }
     ensures err { let old = reading (P.state «package».old) cursor.old in
         let new = reading (P.state «package».new) cursor.new in
         IfErr result (SectionFails (always (codes "Relationships"))
-        (IsInsideRefused (target_in wanted.now single)) base old new) }
+        (IsInsideRefused (single_target_in wanted.now single)) base old new) }
     ensures kind { IfErr result IsPivotsError }
 {
     let mut kept = None;
@@ -133,7 +133,7 @@ fn target_beside<P: Package>(
         old.is_told ≡ true → IfOk result (λ target.
         target_beside old.parts wanted.now single path.now
         ≡ Some (Some (string_bytes target))) }
-    ensures written { IfOk result (λ target. IsWritten (Some (string_bytes target))) }
+    ensures written { IfOk result (λ target. HasText (Some (string_bytes target))) }
     ensures err { let old = P.state «package».old in
         IfErr result (FailsBy (TargetCause old.parts wanted.now single path.now) old
         (P.state «package».new)) }

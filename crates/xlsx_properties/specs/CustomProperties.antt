@@ -20,12 +20,12 @@ pub record OpenCustom : Type 0 where
   pub name : List ℕ
   pub text : List ℕ
 
-abbrev pub opened : Option (List ℕ) → Option OpenCustom
-opened None = None
-opened (Some name) = Some (record { name = name; text = [] })
+abbrev pub custom_opened : Option (List ℕ) → Option OpenCustom
+custom_opened None = None
+custom_opened (Some name) = Some (record { name = name; text = [] })
 
-abbrev pub with_text : List ℕ → OpenCustom → OpenCustom
-with_text more property = record { name = property.name; text = property.text ++ more }
+abbrev pub custom_with_text : List ℕ → OpenCustom → OpenCustom
+custom_with_text more property = record { name = property.name; text = property.text ++ more }
 
 -- the text of a property that ends, where it has the name
 abbrev pub text_named : List ℕ → Option OpenCustom → Option (List ℕ)
@@ -36,7 +36,7 @@ text_named name (Some own) = if bytes_eq name own.name then Some own.text else N
 abbrev pub begun_by :
     (Option OpenCustom → Result (Option (List ℕ)) Refusal) →
     Result (Option (List ℕ)) Refusal → Result (Option (List ℕ)) Refusal
-begun_by others (Ok name) = others (opened name)
+begun_by others (Ok name) = others (custom_opened name)
 begun_by others (Err refusal) = Err refusal
 
 -- a leaf whose text counts in the property that is open
@@ -48,7 +48,7 @@ is_taken (Some property) takes = takes
 abbrev pub behind_leaf : Bool → Event → Option OpenCustom → Option OpenCustom
 behind_leaf takes event None = None
 behind_leaf takes event (Some property) =
-    Some (if takes then with_text (event_text false event) property else property)
+    Some (if takes then custom_with_text (event_text false event) property else property)
 
 -- What these events say of a name, of which the last text stands, where a property may be open. Its
 -- text is that of the leaves between another start and the next end (`takes`). A start of a

@@ -37,12 +37,12 @@ held Manager kept = option_map string_bytes kept.manager
 abbrev pub custom_held : List ℕ → WorkbookProperties → Option (List ℕ)
 custom_held name kept = option_map string_bytes (get_by_text kept.custom_properties name)
 
-abbrev pub texts_of : String Global × String Global → List ℕ × List ℕ
-texts_of entry = (string_bytes entry.0, string_bytes entry.1)
+abbrev pub entry_texts : String Global × String Global → List ℕ × List ℕ
+entry_texts entry = (string_bytes entry.0, string_bytes entry.1)
 
 -- the names that users gave, with their texts, in the order of the names
 abbrev pub custom_texts : WorkbookProperties → List (List ℕ × List ℕ)
-custom_texts kept = map texts_of kept.custom_properties.entries
+custom_texts kept = map entry_texts kept.custom_properties.entries
 
 -- these properties have the same texts
 pub record AreSame (one other : WorkbookProperties) : Type 0 where

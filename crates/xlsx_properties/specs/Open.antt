@@ -8,11 +8,11 @@ use Rattle.xlsx_properties.specs.declared.open_custom.CustomPlace.{CustomPlace}
 use Rattle.xlsx_properties.specs.declared.open_custom.OpenCustom as open_custom
 use Rattle.xlsx_properties.specs.declared.open_property.OpenProperty.{OpenProperty}
 
-abbrev pub text_of : OpenProperty → OpenText
-text_of own = record { property = own.property; text = string_bytes own.text }
+abbrev pub open_text : OpenProperty → OpenText
+open_text own = record { property = own.property; text = string_bytes own.text }
 
 abbrev pub open_in : Option OpenProperty → Option OpenText
-open_in started = option_map text_of started
+open_in started = option_map open_text started
 
 abbrev pub custom_text_of : open_custom.OpenCustom → custom.OpenCustom
 custom_text_of own = record { name = string_bytes own.name; text = string_bytes own.text }

@@ -7,7 +7,7 @@ ghost use Rattle.xlsx_error.specs.declared.error.XlsxError.TheVariants.{OutOfMem
 ghost use Rattle.xlsx_sections.specs.Answers.{or_earlier};
 ghost use Rattle.xlsx_sections.specs.Refusal.{RefusedAt, no_character};
 ghost use Rattle.xlsx_properties.specs.CustomProperties.{custom_from, text_named, behind_leaf};
-ghost use Rattle.xlsx_properties.specs.CustomProperties.{is_taken, ends_property, opened};
+ghost use Rattle.xlsx_properties.specs.CustomProperties.{is_taken, ends_property, custom_opened};
 ghost use Rattle.xlsx_properties.specs.Errors.{IsPropertyError};
 ghost use Rattle.xlsx_properties.specs.Kept.{held, custom_held};
 ghost use Rattle.xlsx_properties.specs.Open.{custom_in_place, custom_behind};
@@ -36,7 +36,7 @@ pub(crate) struct CustomPlace {
 }
 
 fn opened(alloc: Global, name: Option<String>) -> Option<OpenCustom>
-    ensures { custom_in_place result ≡ opened (option_map string_bytes name) }
+    ensures { custom_in_place result ≡ custom_opened (option_map string_bytes name) }
 {
     Some(OpenCustom {
         name: name?,

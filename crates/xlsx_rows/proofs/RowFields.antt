@@ -22,7 +22,7 @@ use Rattle.cell_data.specs.declared.value.Data.{Data}
 use Rattle.csv.specs.Writing.{default_writer, row_text}
 use Rattle.csv.specs.declared.writer.Writer.{Writer}
 use Rattle.xlsx_rows.specs.RowsText.{data_field, record_text, header_fields, header_text}
-use Rattle.xlsx_rows.specs.RowSteps.{IsInRecord, IsBetweenRecords, TakesField, TakesRecord}
+use Rattle.xlsx_rows.specs.RowSteps.{IsInRecord, IsBetweenRecords, TakesField, WritesRecord}
 
 -- the values of the first columns of a row
 abbrev pub first_values : Range Data → ℕ → ℕ → List Data
@@ -76,7 +76,7 @@ value_taken range row column value before old new is fits takes inside =
 -- one record more
 pub record_taken : (range : Range Data) (row : ℕ) (before : List ℕ)
     (old new : Writer (Vec ℕ Global)) →
-    TakesRecord (map data_field (row_values range row 0)) old new →
+    WritesRecord (map data_field (row_values range row 0)) old new →
     IsBetweenRecords (before ++ flat_map record_text (first_rows range row)) old →
     IsBetweenRecords (before ++ flat_map record_text (first_rows range (row + 1))) new
 record_taken range row before old new takes between =

@@ -40,8 +40,8 @@ TakesField field old new =
     → IsInRecord before fields old → IsInRecord before (fields ++ field ∷ []) new
 
 -- the writer takes one record more
-abbrev pub TakesRecord : List (List ℕ) → Writer (Vec ℕ Global) → Writer (Vec ℕ Global) → Type 0
-TakesRecord fields old new =
+abbrev pub WritesRecord : List (List ℕ) → Writer (Vec ℕ Global) → Writer (Vec ℕ Global) → Type 0
+WritesRecord fields old new =
     (before : List ℕ) → IsBetweenRecords before old
     → IsBetweenRecords (before ++ row_text default_writer fields) new
 

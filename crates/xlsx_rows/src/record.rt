@@ -2,7 +2,7 @@
 ghost use Rattle.std.specs.Prelude.{ℕ, List, ◌++◌, OnOk, Some};
 ghost use Rattle.csv.specs.Writing.{default_writer, row_text};
 ghost use Rattle.xlsx_rows.specs.RowsText.{data_field, header_fields, header_text};
-ghost use Rattle.xlsx_rows.specs.RowSteps.{IsInRecord, IsBetweenRecords, TakesField, TakesRecord};
+ghost use Rattle.xlsx_rows.specs.RowSteps.{IsInRecord, IsBetweenRecords, TakesField, WritesRecord};
 
 use crate::field::push_field;
 use cell_data::Data;
@@ -59,7 +59,7 @@ pub fn write_value(
 }
 
 fn write_names(writer: &mut Writer<Vec<u8>>, names: &[String]) -> Result<(), AllocError>
-    ensures { OnOk result (TakesRecord (header_fields names.now) writer.old writer.new) }
+    ensures { OnOk result (WritesRecord (header_fields names.now) writer.old writer.new) }
 {
     'names: for i in 0..names.len() {
         write_bytes(writer, names[i].as_bytes())?;

@@ -8,7 +8,7 @@ ghost use Rattle.cell_data.specs.Range.{cells_of, bounds_of, width_of};
 ghost use Rattle.cell_data.specs.RangeItems.{box_count, row_values, row_items};
 ghost use Rattle.xlsx_rows.specs.RowsText.{data_field, header_fields, header_text, record_text};
 ghost use Rattle.xlsx_rows.specs.RowsText.{rows_text};
-ghost use Rattle.xlsx_rows.specs.RowSteps.{IsBetweenRecords, TakesRecord, AreLeftFrom};
+ghost use Rattle.xlsx_rows.specs.RowSteps.{IsBetweenRecords, WritesRecord, AreLeftFrom};
 ghost use Rattle.xlsx_rows.specs.declared.error.CsvError.TheVariants.{BoxTooLarge};
 
 use crate::error::CsvError;
@@ -38,7 +38,7 @@ fn write_row<'a>(
     requires cells { AreLeftFrom area (area.start.0 + row, area.start.1) (cells_of range.now)
         cells.now }
     ensures text { OnOk result
-        (TakesRecord (map data_field (row_values range.now row 0)) writer.old writer.new) }
+        (WritesRecord (map data_field (row_values range.now row 0)) writer.old writer.new) }
     ensures left { IfOk result (λ left. AreLeftFrom area (area.start.0 + row + 1, area.start.1)
         (cells_of range.now) left.now) }
 {

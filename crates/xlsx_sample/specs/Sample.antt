@@ -10,13 +10,13 @@ use Rattle.xlsx_sample.specs.Markup.{element, attribute, words}
 -- ---- the rows
 
 -- `<v>7</v>`
-abbrev pub value_element : ℕ → List Event
-value_element number = element (codes "v") [] (words (decimal number))
+abbrev pub sample_value : ℕ → List Event
+sample_value number = element (codes "v") [] (words (decimal number))
 
 -- `<c r="A7"><v>7</v></c>`
 abbrev pub number_cell : ℕ → List Event
 number_cell row =
-    element (codes "c") (attribute (codes "r") (codes "A" ++ decimal row)) (value_element row)
+    element (codes "c") (attribute (codes "r") (codes "A" ++ decimal row)) (sample_value row)
 
 abbrev pub master_attributes : ℕ → List ℕ
 master_attributes rows =
@@ -41,7 +41,7 @@ formula_element rows row = if row == 1 then master_formula rows else derived_for
 abbrev pub doubled_cell : ℕ → ℕ → List Event
 doubled_cell rows row =
     element (codes "c") (attribute (codes "r") (codes "B" ++ decimal row))
-    (formula_element rows row ++ value_element (2 * row))
+    (formula_element rows row ++ sample_value (2 * row))
 
 -- where the row is odd, ` s="1"`
 abbrev pub style_attribute : ℕ → List ℕ
@@ -53,7 +53,7 @@ string_cell row =
     element (codes "c")
     (attribute (codes "r") (codes "C" ++ decimal row)
     ++ (style_attribute row ++ attribute (codes "t") (codes "s")))
-    (value_element (row % 3))
+    (sample_value (row % 3))
 
 abbrev pub row_element : ℕ → ℕ → List Event
 row_element rows row =
@@ -86,8 +86,8 @@ root_part = record {
       (related (codes "officeDocument") (codes "xl/workbook.xml"));
 }
 
-abbrev pub relationships_part : Part
-relationships_part = record {
+abbrev pub sample_relationships : Part
+sample_relationships = record {
   name = codes "xl/_rels/workbook.xml.rels";
   events = element (codes "Relationships") []
       (related (codes "worksheet") (codes "worksheets/sheet1.xml"));
@@ -102,8 +102,8 @@ sheet_element =
 abbrev pub sheets_element : List Event
 sheets_element = element (codes "sheets") [] sheet_element
 
-abbrev pub workbook_part : Part
-workbook_part = record {
+abbrev pub sample_workbook : Part
+sample_workbook = record {
   name = codes "xl/workbook.xml";
   events = element (codes "workbook") [] sheets_element;
 }
@@ -111,8 +111,8 @@ workbook_part = record {
 abbrev pub data_element : ℕ → List Event
 data_element rows = element (codes "sheetData") [] (first_rows rows rows)
 
-abbrev pub sheet_part : ℕ → Part
-sheet_part rows = record {
+abbrev pub sample_sheet : ℕ → Part
+sample_sheet rows = record {
   name = codes "xl/worksheets/sheet1.xml";
   events = element (codes "worksheet") [] (data_element rows);
 }
@@ -120,8 +120,8 @@ sheet_part rows = record {
 abbrev pub string_element : List ℕ → List Event
 string_element content = element (codes "si") [] (element (codes "t") [] (words content))
 
-abbrev pub strings_part : Part
-strings_part = record {
+abbrev pub sample_strings : Part
+sample_strings = record {
   name = codes "xl/sharedStrings.xml";
   events = element (codes "sst") []
       (string_element (codes "red")
@@ -160,8 +160,8 @@ abbrev pub formats_element : List Event
 formats_element =
     element (codes "cellXfs") [] (format_element (codes "0") ++ format_element (codes "2"))
 
-abbrev pub styles_part : Part
-styles_part = record {
+abbrev pub sample_styles : Part
+sample_styles = record {
   name = codes "xl/styles.xml";
   events = element (codes "styleSheet") [] (fills_element ++ formats_element);
 }
@@ -169,5 +169,5 @@ styles_part = record {
 -- the parts of the workbook with so many rows
 unfoldable pub sample_parts : ℕ → List Part
 sample_parts rows =
-    root_part ∷ relationships_part ∷ workbook_part ∷ sheet_part rows ∷ strings_part
-    ∷ styles_part ∷ []
+    root_part ∷ sample_relationships ∷ sample_workbook ∷ sample_sheet rows ∷ sample_strings
+    ∷ sample_styles ∷ []

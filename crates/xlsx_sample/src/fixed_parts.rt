@@ -1,10 +1,10 @@
 ghost use Rattle.std.specs.Prelude.{◌≡◌, ◌++◌, ◌∷◌, [], IfOk, OnOk};
 ghost use Rattle.part_events.specs.Memory.{closed};
 ghost use Rattle.xlsx_sample.specs.Markup.{with_events};
-ghost use Rattle.xlsx_sample.specs.Sample.{root_part, relationships_part, workbook_part};
-ghost use Rattle.xlsx_sample.specs.Sample.{sheets_element, string_element, strings_part};
+ghost use Rattle.xlsx_sample.specs.Sample.{root_part, sample_relationships, sample_workbook};
+ghost use Rattle.xlsx_sample.specs.Sample.{sheets_element, string_element, sample_strings};
 ghost use Rattle.xlsx_sample.specs.Sample.{plain_fill, yellow_pattern, yellow_fill, fills_element};
-ghost use Rattle.xlsx_sample.specs.Sample.{formats_element, styles_part};
+ghost use Rattle.xlsx_sample.specs.Sample.{formats_element, sample_styles};
 
 use crate::draft::Draft;
 use std::alloc::{AllocError, Global};
@@ -32,7 +32,7 @@ pub fn with_root(alloc: Global) -> Result<Draft, AllocError>
 /// Appends the part of the workbook's relationships.
 pub fn add_relationships(draft: &mut Draft) -> Result<(), AllocError>
     ensures { OnOk result (draft.new
-        ≡ closed (draft.old.parts ++ relationships_part ∷ []) draft.old.taken) }
+        ≡ closed (draft.old.parts ++ sample_relationships ∷ []) draft.old.taken) }
 {
     draft.begin_part("xl/_rels/workbook.xml.rels", "Relationships")?;
     draft.push_empty("Relationship", TO_SHEET)?;
@@ -51,7 +51,7 @@ fn push_sheets(draft: &mut Draft) -> Result<(), AllocError>
 /// Appends the workbook's own part.
 pub fn add_workbook(draft: &mut Draft) -> Result<(), AllocError>
     ensures { OnOk result (draft.new
-        ≡ closed (draft.old.parts ++ workbook_part ∷ []) draft.old.taken) }
+        ≡ closed (draft.old.parts ++ sample_workbook ∷ []) draft.old.taken) }
 {
     draft.begin_part("xl/workbook.xml", "workbook")?;
     push_sheets(draft)?;
@@ -71,7 +71,7 @@ fn push_string(draft: &mut Draft, content: &str) -> Result<(), AllocError>
 /// Appends the part of the shared strings.
 pub fn add_strings(draft: &mut Draft) -> Result<(), AllocError>
     ensures { OnOk result (draft.new
-        ≡ closed (draft.old.parts ++ strings_part ∷ []) draft.old.taken) }
+        ≡ closed (draft.old.parts ++ sample_strings ∷ []) draft.old.taken) }
 {
     draft.begin_part("xl/sharedStrings.xml", "sst")?;
     push_string(draft, "red")?;
@@ -132,7 +132,7 @@ fn push_formats(draft: &mut Draft) -> Result<(), AllocError>
 /// Appends the part of the styles.
 pub fn add_styles(draft: &mut Draft) -> Result<(), AllocError>
     ensures { OnOk result (draft.new
-        ≡ closed (draft.old.parts ++ styles_part ∷ []) draft.old.taken) }
+        ≡ closed (draft.old.parts ++ sample_styles ∷ []) draft.old.taken) }
 {
     draft.begin_part("xl/styles.xml", "styleSheet")?;
     push_fills(draft)?;

@@ -1,6 +1,6 @@
 ghost use Rattle.std.specs.Prelude.{◌≡◌, ◌*◌, OnOk};
 ghost use Rattle.xlsx_sample.specs.Markup.{with_events};
-ghost use Rattle.xlsx_sample.specs.Sample.{value_element, number_cell, master_formula, first_rows};
+ghost use Rattle.xlsx_sample.specs.Sample.{sample_value, number_cell, master_formula, first_rows};
 ghost use Rattle.xlsx_sample.specs.Sample.{formula_element, doubled_cell, string_cell};
 ghost use Rattle.xlsx_sample.specs.Sample.{row_element, derived_formula, style_attribute};
 
@@ -9,7 +9,7 @@ use std::alloc::{AllocError, Global};
 
 /// Appends the value of a cell.
 fn push_value(draft: &mut Draft, alloc: Global, number: u64) -> Result<(), AllocError>
-    ensures { OnOk result (draft.new ≡ with_events draft.old (value_element number)) }
+    ensures { OnOk result (draft.new ≡ with_events draft.old (sample_value number)) }
 {
     let digits = number.to_string(alloc)?;
     draft.push_text("v", "", digits.as_str())

@@ -1,7 +1,7 @@
 ghost use Rattle.std.specs.Prelude.{◌≡◌, ◌++◌, ◌∷◌, [], IfOk, OnOk};
 ghost use Rattle.part_events.specs.Memory.{closed};
 ghost use Rattle.xlsx_sample.specs.Markup.{with_events};
-ghost use Rattle.xlsx_sample.specs.Sample.{data_element, sheet_part, sample_parts};
+ghost use Rattle.xlsx_sample.specs.Sample.{data_element, sample_sheet, sample_parts};
 
 use crate::draft::Draft;
 use crate::fixed_parts::{add_relationships, add_strings, add_styles, add_workbook, with_root};
@@ -21,7 +21,7 @@ fn push_data(draft: &mut Draft, alloc: Global, rows: u32) -> Result<(), AllocErr
 /// Appends the part of the sheet, with so many rows.
 fn add_sheet(draft: &mut Draft, alloc: Global, rows: u32) -> Result<(), AllocError>
     ensures { OnOk result (draft.new
-        ≡ closed (draft.old.parts ++ sheet_part rows ∷ []) draft.old.taken) }
+        ≡ closed (draft.old.parts ++ sample_sheet rows ∷ []) draft.old.taken) }
 {
     draft.begin_part("xl/worksheets/sheet1.xml", "worksheet")?;
     push_data(draft, alloc, rows)?;

@@ -16,7 +16,7 @@ use Rattle.xlsx_sections.specs.Answers.{some_answers, and_others_if, or_earlier,
 use Rattle.xlsx_sections.specs.PartSection.{PartSection, inside_of}
 use Rattle.xlsx_sections.specs.Refusal.{Refusal, RefusedAt, no_character, placed_at}
 use Rattle.xlsx_sections.specs.Names.{name_by}
-use Rattle.xlsx_workbook.specs.DefinedNames.{with_text, defined_name, is_defined_name}
+use Rattle.xlsx_workbook.specs.DefinedNames.{name_with_text, defined_name, is_defined_name}
 use Rattle.xlsx_workbook.specs.DefinedNames.{names_in, behind_in_section}
 use Rattle.xlsx_relationships.specs.Relationships.{Related}
 use Rattle.xlsx_workbook.specs.Sheets.{is_sheet, is_properties, sheet_of, epoch_of, sheets_in}
@@ -99,7 +99,7 @@ unknown_first {events = events} {left = left} same is joins =
 
 pub unknown_text : (name : Option (String Global)) (all : List Event) (behind within : ℕ)
     → is_some name ≡ true → unknown_entity all ≡ Some within
-    → with_text all behind (Ok (option_map string_bytes name))
+    → name_with_text all behind (Ok (option_map string_bytes name))
     ≡ Err (no_character (behind_in_section all behind within))
 unknown_text None all behind within some is = absurd (cc)
 unknown_text (Some own) all behind within some is = rw is refl
@@ -111,7 +111,7 @@ pub text_refused : (Told : Type 0) (name : Option (String Global)) (all : List E
     → (Told → wanted ≡ true → is_unknown event ≡ true → unknown_entity all ≡ Some within)
     → TextRefused wanted event place error
     → RefusedAt (λ (refusal : Refusal). Told
-    → with_text all behind (Ok (option_map string_bytes name))
+    → name_with_text all behind (Ok (option_map string_bytes name))
     ≡ Err refusal) place (behind_in_section all behind within) error
 text_refused Told name all behind within place wanted event (Xml (Entity at)) some unknown fails = (
   behind_in_section all behind within,
@@ -142,7 +142,7 @@ contents_refused s refusal keeps (inr is) = inr (inr (sym keeps.epoch ∙ is))
 -- the start of a defined name comes next
 abbrev pub IsNameNext : Tag → List Event → List Event → ℕ → List Event → Type 0
 IsNameNext tag events inside behind others =
-    names_in events ≡ and_others_if (with_text inside behind (name_by (placed_at tag behind)))
+    names_in events ≡ and_others_if (name_with_text inside behind (name_by (placed_at tag behind)))
     (names_in others)
 
 pub name_next : (base : ℕ) (tag : Tag) (old new : Reading) → TakesEvent old new
@@ -159,7 +159,7 @@ pub name_refused : {folder : List ℕ} {related : List ℕ
     (left inside others : List Event) (behind : ℕ) (name : Result (Option (List ℕ)) Refusal)
     (refusal : Refusal) → KeepsContents folder related (inside_of s) found left
     → IsNameNext tag left inside behind others → name_by (placed_at tag behind) ≡ name
-    → with_text inside behind name ≡ Err refusal → AreContentsRefused folder related s refusal
+    → name_with_text inside behind name ≡ Err refusal → AreContentsRefused folder related s refusal
 unfolding AreContentsRefused
 name_refused {found = found} s tag left inside others behind name refusal keeps next same refuses =
     let here : prepended (names_of found) (names_in left) ≡ Err refusal =
@@ -181,9 +181,9 @@ name_taken {found = found} tag left inside others behind after name keeps sheets
       names =
           taken (names_in others)
           ∙ ap (λ (names : List (List ℕ × List ℕ)). prepended names
-          (and_others_if (with_text inside behind (Ok name)) (names_in others))) same
+          (and_others_if (name_with_text inside behind (Ok name)) (names_in others))) same
           ∙ ap (λ (own : Result (Option (List ℕ)) Refusal). prepended (names_of found)
-          (and_others_if (with_text inside behind own) (names_in others))) (sym named)
+          (and_others_if (name_with_text inside behind own) (names_in others))) (sym named)
           ∙ ap (prepended (names_of found)) (sym next) ∙ keeps.names;
       epoch = sheets.epoch ∙ keeps.epoch;
     }

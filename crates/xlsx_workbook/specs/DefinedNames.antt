@@ -19,18 +19,18 @@ text_or_refusal name text place None = Ok (Some (name, text))
 text_or_refusal name text place (Some within) = Err (no_character (place within))
 
 -- a name with the text of its element, behind whose start `behind` events of the section stand
-abbrev pub with_text :
+abbrev pub name_with_text :
     List Event → ℕ → Result (Option (List ℕ)) Refusal → Result (Option (List ℕ × List ℕ)) Refusal
-with_text inside behind (Ok (Some name)) =
+name_with_text inside behind (Ok (Some name)) =
     text_or_refusal name (joined_text false inside) (behind_in_section inside behind)
     (unknown_entity inside)
-with_text inside behind (Ok None) = Ok None
-with_text inside behind (Err refusal) = Err refusal
+name_with_text inside behind (Ok None) = Ok None
+name_with_text inside behind (Err refusal) = Err refusal
 
 -- the defined name of an element; one without a name is passed over
 abbrev pub defined_name : Element → Result (Option (List ℕ × List ℕ)) Refusal
 defined_name element =
-    with_text element.inside element.behind
+    name_with_text element.inside element.behind
     (name_by (record { tag = element.tag; behind = element.behind }))
 
 abbrev pub is_defined_name : Tag → Bool

@@ -10,7 +10,7 @@ use Rattle.xlsx_error.specs.declared.error.XlsxError.TheVariants.{OutOfMemory, X
 use Rattle.xlsx_sections.specs.Answers.{and_others_if, or_earlier, prepended}
 use Rattle.xlsx_sections.specs.PartSection.{PartSection, inside_of}
 use Rattle.xlsx_sections.specs.Refusal.{Refusal}
-use Rattle.xlsx_workbook.specs.DefinedNames.{with_text, is_defined_name, names_in}
+use Rattle.xlsx_workbook.specs.DefinedNames.{name_with_text, is_defined_name, names_in}
 use Rattle.xlsx_workbook.specs.KeptContents.{pair_of, sheet_of_entry}
 use Rattle.xlsx_relationships.specs.Relationships.{Related}
 use Rattle.xlsx_workbook.specs.Sheets.{PlacedSheet, sheets_in, epoch_in}
@@ -53,7 +53,7 @@ abbrev pub KeepsName :
 KeepsName name inside behind first last =
     (others : Result (List (List ℕ × List ℕ)) Refusal) →
     prepended last others
-    ≡ prepended first (and_others_if (with_text inside behind (Ok name)) others)
+    ≡ prepended first (and_others_if (name_with_text inside behind (Ok name)) others)
 
 -- Why the element of a name is refused, at whose start reading stands: by a sheet or the dates, in
 -- the element or behind it, or by its text.
@@ -62,7 +62,7 @@ abbrev pub IsNameRefused :
     PartSection → Refusal → Type 0
 IsNameRefused folder related found name s refusal =
     AreSheetsRefused folder related found (inside_of s) refusal
-    ⊎ (with_text (content 0 s.ahead) (length (inside_of s)) (Ok name) ≡ Err refusal)
+    ⊎ (name_with_text (content 0 s.ahead) (length (inside_of s)) (Ok name) ≡ Err refusal)
 
 abbrev pub is_name_start : Event → Bool
 is_name_start (start tag) = is_defined_name tag

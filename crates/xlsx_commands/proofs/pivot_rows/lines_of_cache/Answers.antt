@@ -6,7 +6,7 @@ use Rattle.part_events.specs.Event.{Event}
 use Rattle.part_events.specs.Memory.{state_of}
 use Rattle.sheet_listing.specs.SheetListing.{row_line}
 use Rattle.xlsx_pivot_cache.specs.CacheRecords.{row_kept}
-use Rattle.xlsx_pivot_cache.specs.PivotRows.{pivot_rows, rows_left, TakesRow, KeepsPart}
+use Rattle.xlsx_pivot_cache.specs.PivotRows.{pivot_rows, cache_rows_left, TakesRow, KeepsPart}
 use Rattle.xlsx_commands.proofs.CachesRead.{opening_rows_fails, rows_moved, lines_behind}
 use Rattle.xlsx_commands.proofs.pivot_rows.lines_of_cache.Goals as goal
 
@@ -41,6 +41,6 @@ rows-preserved c =
             ∙ sym (lines_behind taken row),
         now.rows.2
             ∙ ap (option_map (λ (rest : List (List CellValue)). taken ++ rest)) (takes refl)
-            ∙ rows_moved taken row (rows_left new),
+            ∙ rows_moved taken row (cache_rows_left new),
       );
     }

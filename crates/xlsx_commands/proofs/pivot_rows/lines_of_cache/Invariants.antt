@@ -6,7 +6,7 @@ use Rattle.part_events.specs.Package.{part_of}
 use Rattle.part_events.specs.Reading.{events_of}
 use Rattle.xlsx_pivot_cache.specs.CacheFields.{fields_at}
 use Rattle.xlsx_pivot_cache.specs.CacheRecords.{cache_rows}
-use Rattle.xlsx_pivot_cache.specs.PivotRows.{pivot_rows, IsAtRecords, rows_left}
+use Rattle.xlsx_pivot_cache.specs.PivotRows.{pivot_rows, IsAtRecords, cache_rows_left}
 use Rattle.xlsx_commands.specs.CacheRows.{row_lines}
 use Rattle.xlsx_commands.proofs.pivot_rows.lines_of_cache.Given as goal
 
@@ -21,7 +21,7 @@ invariant-rows l =
       rows :
           (taken : List (List CellValue)) × (string_bytes l.out ≡ row_lines taken)
           × (cache_rows parts l.definitions l.records
-          ≡ option_map (λ (rest : List (List CellValue)). taken ++ rest) (rows_left now));
+          ≡ option_map (λ (rest : List (List CellValue)). taken ++ rest) (cache_rows_left now));
     }
 
 abbrev pub decreases-rows : goal.decreases-rows

@@ -1,9 +1,9 @@
 use Rattle.std.proofs.Common.{◌≡◌, ◌++◌, map, string_bytes}
-use Rattle.xlsx_properties.specs.Kept.{texts_of, custom_texts}
+use Rattle.xlsx_properties.specs.Kept.{entry_texts, custom_texts}
 use Rattle.xlsx_commands.specs.PropertyLists.{custom_lines}
 use Rattle.xlsx_commands.proofs.property_lines.push_customs.Given as goal
 
 abbrev pub invariant-loop-name : goal.invariant-loop-name
 invariant-loop-name l =
-    string_bytes l.out ++ custom_lines (map texts_of l.name-iterator)
+    string_bytes l.out ++ custom_lines (map entry_texts l.name-iterator)
     ≡ string_bytes l.fn.out ++ custom_lines (custom_texts l.properties)

@@ -1,7 +1,7 @@
 use Rattle.std.proofs.Common.{◌≡◌, ◌∷◌, ◌∙◌, ap, sym, map, drop, arith, ℕ, List}
 use Rattle.std.proofs.Common.{add-one, append-nil, string_bytes, ◌++◌}
 use Rattle.xlsx_tables.specs.Tables.{SheetTable}
-use Rattle.xlsx_core.specs.TableList.{loaded_tables, names_left}
+use Rattle.xlsx_core.specs.TableList.{loaded_tables, table_names_left}
 use Rattle.xlsx_commands.specs.TableLists.{table_lines, line_of_table}
 use Rattle.xlsx_commands.proofs.TablesListed.{name_said, next_table, lines_more, none_left}
 use Rattle.xlsx_commands.proofs.table_lines.lines_of_tables.Goals as goal
@@ -11,9 +11,9 @@ tables-preserved c =
     let tables = loaded_tables c.args.xlsx.now in
     let index = c.tables.index in
     let name = c.in-Some.name.now in
-    let rest = names_left c.next.new.self in
+    let rest = table_names_left c.next.new.self in
     let now = c.tables.invariant in
-    let left : names_left c.tables.name-iterator ≡ name ∷ rest = c.in-Some.ensures.steps in
+    let left : table_names_left c.tables.name-iterator ≡ name ∷ rest = c.in-Some.ensures.steps in
     let next = next_table tables index name rest (sym now.names ∙ left) in
     let pushed : string_bytes c.push_table.new.out
     ≡ string_bytes c.tables.out ++ line_of_table next.own =

@@ -10,7 +10,7 @@ use Rattle.xlsx_sections.proofs.Failing.{given_back}
 use Rattle.xlsx_sections.proofs.Refused.{event_refused, refused_later}
 use Rattle.xlsx_sections.proofs.SectionsRead.{event_inside}
 use Rattle.xlsx_pivot_cache.specs.CacheFields.{items_in}
-use Rattle.xlsx_pivot_cache.specs.FieldEvents.{items_from, depth_before}
+use Rattle.xlsx_pivot_cache.specs.FieldEvents.{items_from_place, depth_before}
 use Rattle.xlsx_pivot_cache.proofs.ItemsRead.{depth_there, items_refused}
 use Rattle.xlsx_pivot_cache.proofs.contents.contents_in.Goals as goal
 
@@ -47,7 +47,7 @@ returns-in_err-take_event-clause-err g c =
     old new) c.from_residual-in_err-take_event.result
     c.from_residual-in_err-take_event.ensures.1
     (event_refused c.args.base c.in-Some._at (length left) old (always (codes "cacheField"))
-    (λ (refusal : Refusal). items_from place (depth_before event depth) (event ∷ left)
+    (λ (refusal : Refusal). items_from_place place (depth_before event depth) (event ∷ left)
     ≡ Err refusal)
     (IsInsideRefused items_in) new c.in_err-take_event.field-0.0 step.there
     (λ told refusal refuses. items_refused place

@@ -6,7 +6,7 @@ use Rattle.cell_data.specs.CellValue.{value_of_data}
 use Rattle.xlsx_sections.specs.Answers.{prepended}
 use Rattle.xlsx_sections.specs.PartSection.{KeepsSection}
 use Rattle.xlsx_pivot_cache.specs.CacheFields.{items_in, groups_items}
-use Rattle.xlsx_pivot_cache.specs.FieldEvents.{items_from, IsWithin}
+use Rattle.xlsx_pivot_cache.specs.FieldEvents.{items_from_place, LiesWithin}
 use Rattle.xlsx_pivot_cache.proofs.contents.contents_in.Given as goal
 
 abbrev pub invariant-events : goal.invariant-events
@@ -15,11 +15,11 @@ invariant-events g l =
     let now = reading (g.P.Package.state l.package) l.cursor in
     record {
       keeps : KeepsSection l.base old now;
-      within : IsWithin l.contents.place (length (open_elements l.cursor));
+      within : LiesWithin l.contents.place (length (open_elements l.cursor));
       items :
           old.source.is_told ≡ true →
           prepended (map value_of_data l.contents.items.items)
-          (items_from l.contents.place (length (open_elements l.cursor))
+          (items_from_place l.contents.place (length (open_elements l.cursor))
           (section_ahead l.base now))
           ≡ items_in (section_ahead l.base old);
       groups :

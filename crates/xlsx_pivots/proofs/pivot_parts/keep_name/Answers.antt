@@ -5,7 +5,7 @@ use Rattle.xlsx_sections.specs.Names.{name_by}
 use Rattle.xlsx_sections.specs.Refusal.{ElementFails, placed_at}
 use Rattle.xlsx_sections.proofs.Failing.{given_back}
 use Rattle.xlsx_pivots.specs.PivotParts.{name_kept}
-use Rattle.xlsx_pivots.specs.Singles.{kept_by, kept_with}
+use Rattle.xlsx_pivots.specs.Singles.{single_kept_by, kept_with}
 use Rattle.xlsx_pivots.specs.declared.single.Single.TheVariants as single
 use Rattle.xlsx_pivots.proofs.PivotsRead.{kept_fails}
 use Rattle.xlsx_pivots.proofs.pivot_parts.keep_name.Goals as goal
@@ -28,5 +28,5 @@ returns-clause-err c =
     (λ error fails behind.
     let same : name_kept (placed_at (tag_of c.args.tag) behind) kept
     ≡ kept_with single.Name kept name =
-    ap (kept_by single.Name kept) (c.in_ok-name.ensures.ok behind) in
+    ap (single_kept_by single.Name kept) (c.in_ok-name.ensures.ok behind) in
     rw same (fails c.args.at behind)) c.keep.ensures.err

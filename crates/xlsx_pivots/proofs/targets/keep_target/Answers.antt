@@ -4,8 +4,8 @@ use Rattle.part_events.specs.Event.{tag_of}
 use Rattle.xlsx_sections.specs.Refusal.{ElementFails, placed_at}
 use Rattle.xlsx_sections.proofs.Failing.{given_back}
 use Rattle.xlsx_relationships.specs.RelatedParts.{typed_target}
-use Rattle.xlsx_pivots.specs.Singles.{kept_by, kept_with}
-use Rattle.xlsx_pivots.specs.Targets.{counted_by, target_kept}
+use Rattle.xlsx_pivots.specs.Singles.{single_kept_by, kept_with}
+use Rattle.xlsx_pivots.specs.Targets.{counted_target, target_kept}
 use Rattle.xlsx_pivots.proofs.PivotsRead.{target_fails}
 use Rattle.xlsx_pivots.proofs.targets.keep_target.Goals as goal
 
@@ -29,7 +29,7 @@ returns-clause-err c =
     (λ error fails behind.
     let same : target_kept c.args.wanted.now c.args.single
     (placed_at (tag_of c.args.tag) behind) kept ≡ kept_with c.args.single kept target
-    = ap (λ own. kept_by c.args.single kept (counted_by kept own))
+    = ap (λ own. single_kept_by c.args.single kept (counted_target kept own))
     (c.in_ok-target.ensures.ok behind)
     ∙ ap (kept_with c.args.single kept) (sym c.counted-target.ensures) in
     rw same (fails c.args.at behind)) c.keep.ensures.err

@@ -13,7 +13,7 @@ use Rattle.xlsx_sections.specs.PartSection.{always, Never, StandsAtEvent, sectio
 use Rattle.xlsx_sections.specs.Refusal.{Refusal}
 use Rattle.xlsx_sections.proofs.Refused.{event_refused, refused_in}
 use Rattle.xlsx_sections.proofs.SectionsRead.{event_inside, section_taken}
-use Rattle.xlsx_workbook.specs.DefinedNames.{with_text, behind_in_section}
+use Rattle.xlsx_workbook.specs.DefinedNames.{name_with_text, behind_in_section}
 use Rattle.xlsx_relationships.specs.KeptRelationships.{related_by_id}
 use Rattle.xlsx_workbook.specs.Workbook.{AreSheetsRefused, IsNameRefused}
 use Rattle.xlsx_workbook.proofs.Contents.{sheets_further, refused_earlier, event_taken}
@@ -152,7 +152,7 @@ returns-in_err-push_wanted-clause-err g c =
     rw (p.1, p.2)
     (event_refused base c.in-Some.at (behind_in_section all behind within) old
     (always (codes "workbook")) (λ (refusal : Refusal). old.source.is_told ≡ true
-    → with_text all behind (Ok name) ≡ Err refusal) refused new c.in_err-push_wanted.field-0.0
+    → name_with_text all behind (Ok name) ≡ Err refusal) refused new c.in_err-push_wanted.field-0.0
     (λ told. omega (arith, inner.there told, here, more))
     (λ told refusal refuses. inr (refuses told))
     (text_refused (old.source.is_told

@@ -1,10 +1,10 @@
 use Rattle.std.proofs.Common.{◌≡◌, length}
-use Rattle.xlsx_core.specs.TableList.{names_left}
+use Rattle.xlsx_core.specs.TableList.{table_names_left}
 use Rattle.xlsx_core.proofs.table_list.TableNamesIterator.next.Given as goal
 
 abbrev pub invariant-tables : goal.invariant-tables
 invariant-tables l = record {
-  left : names_left l.self ≡ names_left l.fn.self;
+  left : table_names_left l.self ≡ table_names_left l.fn.self;
   sheets : l.self.sheets ≡ l.fn.self.sheets;
   sheet : l.self.sheet ≡ l.fn.self.sheet;
 }

@@ -3,7 +3,7 @@ use Rattle.std.proofs.lemmas.Result.{IfErr-weaker}
 use Rattle.part_events.specs.Event.{Event, start, tag_of}
 use Rattle.xlsx_sections.specs.Refusal.{ElementFails}
 use Rattle.xlsx_pivot_cache.specs.CacheFields.{item_said}
-use Rattle.xlsx_pivot_cache.specs.FieldEvents.{items_from}
+use Rattle.xlsx_pivot_cache.specs.FieldEvents.{items_from_place}
 use Rattle.xlsx_pivot_cache.proofs.ItemsRead.{child_fails}
 use Rattle.xlsx_pivot_cache.proofs.contents.FieldContents.take_start.Goals as goal
 
@@ -13,7 +13,7 @@ returns-in-Within-clause-err c =
     IfErr-weaker c.push_item.result
     (λ e. (at behind : ℕ) → ElementFails (item_said tag) at behind e)
     (λ e. (at behind : ℕ) (events : List Event)
-    → ElementFails (items_from c.args.self.now.place (c.args.depth - 1) (start tag ∷ events))
+    → ElementFails (items_from_place c.args.self.now.place (c.args.depth - 1) (start tag ∷ events))
     at behind e)
     (λ e fails at behind events.
     rw c.in-Within.is (child_fails c.in-Within.base (c.args.depth - 1) at behind tag events e

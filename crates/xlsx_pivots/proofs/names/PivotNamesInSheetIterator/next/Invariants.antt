@@ -1,10 +1,10 @@
 use Rattle.std.proofs.Common.{◌≡◌, length}
-use Rattle.xlsx_pivots.specs.PivotTables.{names_left}
+use Rattle.xlsx_pivots.specs.PivotTables.{pivot_names_left}
 use Rattle.xlsx_pivots.proofs.names.PivotNamesInSheetIterator.next.Given as goal
 
 abbrev pub invariant-pivots : goal.invariant-pivots
 invariant-pivots l = record {
-  left : names_left l.self ≡ names_left l.fn.self;
+  left : pivot_names_left l.self ≡ pivot_names_left l.fn.self;
   sheet : l.self.sheet ≡ l.fn.self.sheet;
 }
 

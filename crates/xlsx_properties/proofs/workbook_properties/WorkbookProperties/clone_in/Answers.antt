@@ -7,7 +7,7 @@ use Rattle.std.specs.Map.{lookup}
 use Rattle.std.specs.Ordering.{nat_cmp}
 use Rattle.std.specs.List.{AllZip}
 use Rattle.std.specs.declared.alloc.Global.{Global}
-use Rattle.xlsx_properties.specs.Kept.{texts_of}
+use Rattle.xlsx_properties.specs.Kept.{entry_texts}
 use Rattle.xlsx_properties.proofs.workbook_properties.WorkbookProperties.clone_in.Goals as goal
 
 abbrev Entry : Type 0
@@ -22,7 +22,7 @@ IsCopy own copy =
     (string_bytes copy.0 ≡ string_bytes own.0) × (string_bytes copy.1 ≡ string_bytes own.1)
 
 same_texts : (entries copies : List Entry) → AllZip IsCopy entries copies
-    → map texts_of copies ≡ map texts_of entries
+    → map entry_texts copies ≡ map entry_texts entries
 same_texts [] [] are = refl
 same_texts [] (copy ∷ copies) are = absurd are
 same_texts (own ∷ entries) [] are = absurd are
@@ -52,7 +52,7 @@ returns c =
     record {
       held = c.in_ok-copy_texts.ensures.held;
       custom =
-          ap (λ (own : BTreeMap (String Global) (String Global)). map texts_of own.entries) kept
+          ap (λ (own : BTreeMap (String Global) (String Global)). map entry_texts own.entries) kept
           ∙ same_texts source copies c.in_ok-copy.ensures.cases;
       named = λ name.
           ap (λ (own : BTreeMap (String Global) (String Global)).
