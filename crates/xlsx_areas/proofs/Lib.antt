@@ -3,3 +3,4 @@ pub mod LinksBeside
 pub mod LinksRead
 pub mod MergesRead
 pub mod SoundLinks
+pub mod SoundMerges

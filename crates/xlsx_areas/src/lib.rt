@@ -14,7 +14,10 @@ mod regions;
 pub use equality::equality_is_by_all_fields;
 pub use hyperlink::Hyperlink;
 pub use hyperlinks::read_hyperlinks;
-pub use laws::{links_have_no_cause_of_a_refusal, merges_have_no_cause_of_a_refusal};
+pub use laws::{
+    links_have_no_cause_of_a_refusal, merges_have_no_cause_of_a_refusal,
+    targets_have_no_cause_of_a_refusal,
+};
 pub use link_parts::read_sheet_links;
 pub use merged_cells::read_merge_cells;
 pub use merged_parts::{read_merges, read_merges_or_none, read_regions};

@@ -24,6 +24,7 @@ use Rattle.xlsx_cells.specs.Head.{dimension_area}
 use Rattle.xlsx_cells.specs.Head.{dimensions_by, dimensions_in, dimensions_at}
 use Rattle.xlsx_cells.specs.Head.{other_in, other_name, IsHeadStartRefused, LacksData}
 use Rattle.xlsx_cells.specs.Head.{HasNoData, HasSoundDimensions, HeadCause, HeadFails}
+use Rattle.xlsx_cells.specs.Head.{IfNoWorksheet}
 use Rattle.xlsx_cells.specs.declared.head.Head.{Head}
 
 -- what is kept of the events before `left`, with what these say, is what all of them say
@@ -74,6 +75,21 @@ dimensions_refused {events = events} {event = event} {head = head} keeps same no
     ∙ ap (or_earlier head.dimensions) (ap dimensions_in same ∙ dimensions_event event events none
     ∙ ap (λ (answer : Result (Option Dimensions) Refusal). or_later answer (dimensions_in events))
     is)
+
+-- a start before the data doesn't tell that the part is no worksheet
+pub start_tells : (fact : Type 0) (answer : Result (Option Dimensions) Refusal) (error : XlsxError)
+    → IsHeadStartRefused answer error → IfNoWorksheet fact error
+start_tells fact answer (NotAWorksheet name) refuses = absurd (refuses 0)
+start_tells fact answer _ refuses = tt
+
+pub tells_with : {fact : Type 0} (error : XlsxError) → fact → IfNoWorksheet fact error
+tells_with (NotAWorksheet name) is = is
+tells_with _ is = tt
+
+pub tells_weaker : {one two : Type 0} (error : XlsxError) → (one → two)
+    → IfNoWorksheet one error → IfNoWorksheet two error
+tells_weaker (NotAWorksheet name) goes is = goes is
+tells_weaker _ goes is = tt
 
 -- a start before the data is refused, and so is the head
 pub head_refused : (old new : Reading) (answer : Result (Option Dimensions) Refusal)

@@ -1,9 +1,8 @@
 -- Cells without a style id that counts are passed.
-use Rattle.std.proofs.Common.{◌≡◌, ℕ, List, [], ◌∷◌, ◌++◌, true, false, Ok, refl, sym, ◌∙◌, ap}
-use Rattle.std.proofs.Common.{subst}
-use Rattle.std.proofs.Common.{inl, inr, codes}
+use Rattle.std.proofs.Common.{◌≡◌, ℕ, suc, List, [], ◌∷◌, ◌++◌, true, false, Ok, refl, sym, ◌∙◌}
+use Rattle.std.proofs.Common.{ap, subst, inl, inr, codes}
 use Rattle.part_events.specs.Section.{Element}
-use Rattle.part_events.specs.Walk.{behind_section}
+use Rattle.part_events.specs.Walk.{behind_section, section_end}
 use Rattle.xlsx_error.specs.declared.error.XlsxError.{XlsxError}
 use Rattle.xlsx_error.specs.declared.error.XlsxError.TheVariants.{Failed}
 use Rattle.cell_styles.specs.StyleMap.{StyledCell, is_explicit}
@@ -117,14 +116,16 @@ styled_taken count before earlier grounds old mid new read been takes =
 pub unstyled_ends : (count : ℕ) (before : List Mark) (earlier : List FormulaText)
     (old mid new : Stream) → (been : HasSkipped count before earlier old mid)
     → behind_section mid.base mid.reading ≡ behind_section old.base old.reading
+    → section_end mid.base mid.reading ≡ section_end old.base old.reading
     → EndsData NoCell (behind_marks been.front.passed before) mid new
     → EndsData (IsUnstyled count) before old new
-unstyled_ends count before earlier old mid new been behind ends = record {
+unstyled_ends count before earlier old mid new been behind last ends = record {
   rows = passes_all been.front
       (passes_weaker (no_cell count) (marks_ahead mid) (behind_marks been.front.passed before)
       ends.rows);
   closed = been.closed ∙ ends.closed;
   left = sym behind ∙ ends.left;
+  ends = ends.ends ∙ ap suc last;
 }
 
 -- ---- what is refused

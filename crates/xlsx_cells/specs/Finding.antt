@@ -1,13 +1,13 @@
 -- How the next cell of a sheet's data is found.
-use Rattle.std.specs.Prelude.{◌≡◌, ◌⊎◌, ⊤, ℕ, ◌-◌, ◌<◌, List, [], ◌∷◌, ◌++◌, codes, true, Option}
-use Rattle.std.specs.Prelude.{Some}
+use Rattle.std.specs.Prelude.{◌≡◌, ◌⊎◌, ⊤, ℕ, suc, ◌-◌, ◌<◌, List, [], ◌∷◌, ◌++◌, codes, true}
+use Rattle.std.specs.Prelude.{Option, Some}
 use Rattle.std.specs.Prelude.{None, Result, Ok, Err, length}
 use Rattle.cell_refs.specs.declared.TheConstants.{MAX_ROWS, MAX_COLUMNS}
 use Rattle.part_events.specs.Event.{Tag, Event, start, end}
 use Rattle.part_events.specs.Reading.{Reading, ahead}
 use Rattle.part_events.specs.Section.{Element, unclosed}
 use Rattle.part_events.specs.Walk.{element_at, section_ahead, section_behind, is_closed_ahead}
-use Rattle.part_events.specs.Walk.{behind_section}
+use Rattle.part_events.specs.Walk.{behind_section, section_end}
 use Rattle.xlsx_error.specs.declared.error.XlsxError.{XlsxError}
 use Rattle.xlsx_sections.specs.Elements.{FindsElementIn, IfCutOff, end_among}
 use Rattle.xlsx_sections.specs.PartSection.{PartSection, SectionFails, StandsAtStart, inside_of}
@@ -64,6 +64,7 @@ pub record FindsNone (before : List Mark) (base : ℕ) (old new : Reading) : Typ
   pub rows : PassesMarks NoCell before (marks_left base old)
   pub closed : is_closed_ahead base old ≡ true
   pub left : behind_section base old ≡ ahead new
+  pub ends : new.at ≡ suc (section_end base old)
 
 abbrev pub Finds :
     List Mark → Option (ℕ × ℕ) → ℕ → Reading → Reading → Counters → Type 0

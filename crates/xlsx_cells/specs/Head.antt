@@ -133,6 +133,11 @@ HeadCause events ahead (NotAWorksheet name) =
 HeadCause events ahead error =
     RefusedAs 0 (λ refusal. dimensions_in ahead ≡ Err refusal) error
 
+-- where an error tells that the part is no worksheet
+abbrev pub IfNoWorksheet : Type 0 → XlsxError → Type 0
+IfNoWorksheet fact (NotAWorksheet name) = fact
+IfNoWorksheet fact _ = ⊤
+
 -- when the head can't be read; want of memory may come at any time
 abbrev pub HeadFails : Reading → Reading → XlsxError → Type 0
 HeadFails old new error =

@@ -1,13 +1,13 @@
 -- A stream of cells: where it stands, and what its steps do.
-use Rattle.std.specs.Prelude.{◌≡◌, ◌⊎◌, ℕ, ◌≤◌, ◌<◌, List, [], ◌∷◌, length, Bool, ◌||◌, true}
-use Rattle.std.specs.Prelude.{false, Option, Some, None, Ok, Err, string_bytes}
+use Rattle.std.specs.Prelude.{◌≡◌, ◌⊎◌, ℕ, suc, ◌≤◌, ◌<◌, List, [], ◌∷◌, length, Bool, ◌||◌}
+use Rattle.std.specs.Prelude.{true, false, Option, Some, None, Ok, Err, string_bytes}
 use Rattle.std.specs.List.{last_or}
 use Rattle.cell_refs.specs.declared.TheConstants.{MAX_ROWS, MAX_COLUMNS}
 use Rattle.part_events.specs.Event.{Tag, Event}
 use Rattle.part_events.specs.Package.{PackageState}
 use Rattle.part_events.specs.Reading.{Reading, reading, IsReading, ahead}
 use Rattle.part_events.specs.Section.{Element}
-use Rattle.part_events.specs.Walk.{section_ahead, is_closed_ahead, behind_section}
+use Rattle.part_events.specs.Walk.{section_ahead, is_closed_ahead, behind_section, section_end}
 use Rattle.cell_data.specs.CellValue.{value_of_data_ref}
 use Rattle.cell_data.specs.declared.value.DataRef.{DataRef}
 use Rattle.cell_data.specs.declared.value.DataRef.TheVariants.{Empty}
@@ -219,6 +219,7 @@ pub record EndsData
   pub rows : PassesMarks passes before (marks_ahead old)
   pub closed : are_closed_ahead old ≡ true
   pub left : behind_section old.base old.reading ≡ ahead new.reading
+  pub ends : new.reading.at ≡ suc (section_end old.base old.reading)
 
 -- What a step answers that passes such cells; `fact` says what its answer is of the cell.
 abbrev pub TakesEach :

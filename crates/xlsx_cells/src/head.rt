@@ -3,7 +3,7 @@ ghost use Rattle.std.specs.Prelude.{IfErr};
 ghost use Rattle.std.specs.Option.{option_or};
 ghost use Rattle.part_events.specs.Event.{tag_of, event_of};
 ghost use Rattle.part_events.specs.Reading.{reading, open_elements, IsReading, IsAtElement};
-ghost use Rattle.part_events.specs.Reading.{ReadsPart, ahead};
+ghost use Rattle.part_events.specs.Reading.{ReadsPart, ahead, events_of};
 ghost use Rattle.part_events.specs.Section.{behind_start};
 ghost use Rattle.xlsx_error.specs.declared.error.XlsxError.TheVariants.{Io};
 ghost use Rattle.xlsx_sections.specs.Answers.{or_earlier};
@@ -11,7 +11,7 @@ ghost use Rattle.xlsx_cells.specs.Counting.{IsRefused};
 ghost use Rattle.xlsx_cells.specs.Head.{is_sheet_data, starts_data, dimension_area, dimensions_by};
 ghost use Rattle.xlsx_cells.specs.Head.{dimensions_at, AreDimensions, other_by, other_at};
 ghost use Rattle.xlsx_cells.specs.Head.{other_name, IsHeadStartRefused, LacksData, HeadFails};
-ghost use Rattle.xlsx_cells.specs.Head.{IsHeadError};
+ghost use Rattle.xlsx_cells.specs.Head.{IsHeadError, IfNoWorksheet};
 
 use attr_text::RawAttributes;
 use cell_refs::{Dimensions, get_dimension};
@@ -137,6 +137,10 @@ pub fn enter_data<P: Package>(
     ensures err { let old = reading (P.state «package».old) cursor.old in
         let new = reading (P.state «package».new) cursor.new in
         IfErr result (HeadFails old new) }
+    ensures lacks { let old = reading (P.state «package».old) cursor.old in
+        let new = reading (P.state «package».new) cursor.new in
+        old.source.is_told ≡ true →
+        IfErr result (IfNoWorksheet (new.at ≡ length (events_of old))) }
     ensures kind { IfErr result IsHeadError }
 {
     let mut head = Head::new();

@@ -6,6 +6,7 @@ ghost use Rattle.xlsx_cells.specs.Sheet.{used_values, used_formulas};
 ghost use Rattle.part_events.specs.Reading.{ReadsPart};
 ghost use Rattle.cell_data.specs.Cells.{IsInSheet};
 ghost use Rattle.xlsx_error.specs.declared.error.XlsxError.TheVariants.{Io, OutOfMemory};
+ghost use Rattle.xlsx_sections.specs.Elements.{ReachesEnd};
 ghost use Rattle.cell_styles.specs.StyleMap.{IsOnSheet, is_explicit};
 ghost use Rattle.xlsx_values.specs.Book.{grounds_of};
 ghost use Rattle.xlsx_formulas.specs.Kept.{text_of_formula};
@@ -15,7 +16,6 @@ ghost use Rattle.xlsx_cells.specs.SheetPart.{DataFails, HoldsValues, HoldsFormul
 ghost use Rattle.xlsx_cells.specs.SheetPart.{formula_entries, LieInSheet, LackUnwanted};
 ghost use Rattle.xlsx_cells.specs.StyleIds.{HoldsIds};
 ghost use Rattle.xlsx_cells.specs.Stream.{stream, IsGoing, StandsBehind, data_ahead};
-ghost use Rattle.xlsx_cells.specs.Stream.{are_closed_ahead};
 
 use crate::cell_read::CellWithFormula;
 use crate::children::Asked;
@@ -116,8 +116,10 @@ pub fn collect<P: Package>(
     ensures reads { let old = stream (P.state «package».old) sheet.old in
         let new = stream (P.state «package».new) sheet.new in
         ReadsPart Io result old.reading new.reading }
-    ensures closed { let old = stream (P.state «package».old) sheet.old in
-        old.reading.source.is_told ≡ true → OnOk result (are_closed_ahead old ≡ true) }
+    ensures ends { let old = stream (P.state «package».old) sheet.old in
+        let new = stream (P.state «package».new) sheet.new in
+        old.reading.source.is_told ≡ true →
+        OnOk result (ReachesEnd old.base old.reading new.reading) }
     ensures inside { IfOk result (λ cells. LieInSheet cells.values.items cells.formulas.items
         cells.style_ids.items) }
     ensures values { let old = stream (P.state «package».old) sheet.old in

@@ -1,7 +1,8 @@
 ghost use Rattle.std.specs.Prelude.{◌≡◌, List, [], length, true, false, None, IfOk, OnOk, IfErr};
 ghost use Rattle.std.specs.Prelude.{IfSome, IfNone, IsErrAnd, is_err};
 ghost use Rattle.part_events.specs.Package.{UsesPackage, LeavesPackage, part_of, event_count};
-ghost use Rattle.xlsx_cells.specs.Head.{IsHeadError};
+ghost use Rattle.part_events.specs.Package.{CountsUp};
+ghost use Rattle.xlsx_cells.specs.Head.{IsHeadError, IfNoWorksheet};
 ghost use Rattle.xlsx_cells.specs.SheetPart.{EntersData, OpenDataFails};
 ghost use Rattle.part_events.specs.Reading.{ReadsPart, open_elements};
 ghost use Rattle.cell_styles.specs.StyleMap.{is_explicit};
@@ -345,6 +346,10 @@ pub fn open_data<P: Package>(
         IfErr result (LeavesPackage (event_count old.parts path.now) Io old new) }
     ensures err { IfErr result
         (OpenDataFails path.now (P.state «package».old) (P.state «package».new)) }
+    ensures lacks { let old = P.state «package».old in
+        let new = P.state «package».new in
+        let all = event_count old.parts path.now in
+        old.is_told ≡ true → IfErr result (IfNoWorksheet (CountsUp all old.taken new.taken)) }
     ensures kind { IfErr result IsHeadError }
 {
     if !package.open(path)? {

@@ -1,6 +1,6 @@
 -- The worksheets of an open workbook, listed.
 use Rattle.std.specs.Prelude.{◌≡◌, ◌⊎◌, ◌++◌, ℕ, List, [], ◌∷◌, Bool, true, false, Option, String}
-use Rattle.std.specs.Prelude.{string_bytes}
+use Rattle.std.specs.Prelude.{string_bytes, min, ◌+◌, ◌-◌, ◌^◌, ◌≤◌}
 use Rattle.std.specs.List.{sum_by}
 use Rattle.std.specs.declared.alloc.Global.{Global}
 use Rattle.part_events.specs.Package.{Part}
@@ -12,7 +12,7 @@ use Rattle.xlsx_error.specs.declared.error.XlsxError.TheVariants.{OutOfMemory, I
 use Rattle.xlsx_values.specs.Value.{Grounds}
 use Rattle.xlsx_cells.specs.CellsReader.{values_alone}
 use Rattle.xlsx_workbook.specs.declared.sheet.Sheet.{Sheet}
-use Rattle.xlsx_core.specs.SheetReading.{placed_events}
+use Rattle.xlsx_core.specs.SheetReading.{placed_events, data_events}
 use Rattle.xlsx_core.specs.Worksheets.{ReadsValues, RangeCause}
 
 -- a sheet's name, and the range of values of the first sheet of this name; `place` tells where the
@@ -44,6 +44,17 @@ AreListed grounds header place parts (sheet ∷ sheets) listed =
 abbrev pub listed_events : (List ℕ → Option (List ℕ)) → List Part → List Sheet → ℕ
 listed_events place parts sheets =
     sum_by (λ (sheet : Sheet). placed_events (place (string_bytes sheet.name)) parts) sheets
+
+-- how many events stand up to the ends of the data of the sheets that are listed
+abbrev pub listed_data :
+    (List ℕ → Option (List ℕ)) → List Part → List (String Global × Range Data) → ℕ
+listed_data place parts listed =
+    sum_by (λ (own : String Global × Range Data). data_events (place (string_bytes own.0)) parts)
+    listed
+
+-- a count of 64 bits rose by so many at least, up to its end
+abbrev pub CountsAtLeast : ℕ → ℕ → ℕ → Type 0
+CountsAtLeast least old new = min (old + least) (2 ^ 64 - 1) ≤ new
 
 -- nothing is listed where a range is refused so
 abbrev pub ends_listing : XlsxError → Bool

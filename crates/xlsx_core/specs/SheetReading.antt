@@ -1,13 +1,13 @@
 -- The reading of one sheet of a workbook that opens.
 use Rattle.std.specs.Prelude.{◌≡◌, ◌⊎◌, ℕ, List, [], ◌∷◌, true, if◌then◌else◌, Option, Some}
 use Rattle.std.specs.Prelude.{None, Bool, map, length, option_and_then, string_bytes, IsSomeAnd}
-use Rattle.std.specs.Prelude.{String, ◌+◌, ◌≤◌}
+use Rattle.std.specs.Prelude.{String, ◌+◌, ◌≤◌, codes, Result, OnOk}
 use Rattle.std.specs.Option.{option_map_or}
 use Rattle.std.specs.Str.{bytes_eq}
 use Rattle.std.specs.declared.alloc.Global.{Global}
 use Rattle.part_events.specs.Event.{Event}
 use Rattle.part_events.specs.Nesting.{whole}
-use Rattle.part_events.specs.Package.{Part, PackageState, part_of}
+use Rattle.part_events.specs.Package.{Part, PackageState, CountsUp, part_of}
 use Rattle.cell_data.specs.CellValue.{CellValue, value_of_data, value_of_data_ref}
 use Rattle.cell_refs.specs.Positions.{last_of_each}
 use Rattle.cell_data.specs.Range.{cells_of}
@@ -31,6 +31,7 @@ use Rattle.xlsx_workbook.specs.Sheets.{PlacedSheet}
 use Rattle.xlsx_open.specs.Opening.{Opening, OpensAs, IsOpeningError, OpeningCause, TakesOpening}
 use Rattle.xlsx_core.specs.declared.sheet_reading.SheetReading.{SheetReading}
 use Rattle.xlsx_sections.specs.Failing.{FailsBy}
+use Rattle.xlsx_sections.specs.SectionEvents.{section_events}
 
 -- where the part of the first sheet of this name is
 abbrev pub path_named : List ℕ → List PlacedSheet → Option (List ℕ)
@@ -45,6 +46,17 @@ events_at path parts = option_and_then (part_of parts) path
 -- how many events it has
 abbrev pub placed_events : Option (List ℕ) → List Part → ℕ
 placed_events path parts = option_map_or length (events_at path parts) 0
+
+-- how many of them stand up to the end of the sheet's data, with that end; all where there is none
+abbrev pub data_events : Option (List ℕ) → List Part → ℕ
+data_events path parts =
+    option_map_or (section_events (codes "sheetData")) (events_at path parts) 0
+
+-- a call that isn't refused takes so many events
+abbrev pub TakesExactly :
+    {A E : Type 0} → ℕ → Result A E → PackageState → PackageState → Type 0
+TakesExactly count result old new =
+    old.is_told ≡ true → OnOk result (CountsUp count old.taken new.taken)
 
 -- what stands in the part of the first sheet of this name
 abbrev pub events_named : List ℕ → List PlacedSheet → List Part → Option (List Event)

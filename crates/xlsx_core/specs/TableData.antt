@@ -20,7 +20,7 @@ use Rattle.xlsx_values.specs.Value.{Grounds}
 use Rattle.xlsx_cells.specs.CellsReader.{values_alone}
 use Rattle.xlsx_cells.specs.Sheet.{with_texts}
 use Rattle.xlsx_tables.specs.Tables.{SheetTable, table_of_sheet}
-use Rattle.xlsx_core.specs.SheetReading.{pairs_by, placed_events}
+use Rattle.xlsx_core.specs.SheetReading.{pairs_by, placed_events, data_events}
 use Rattle.xlsx_core.specs.TableList.{loaded_tables}
 use Rattle.xlsx_core.specs.Worksheets.{below_header, ReadsUsed, RangeFails, IsRangeError}
 use Rattle.xlsx_core.specs.Worksheets.{path_of, grounds_of_book}
@@ -50,6 +50,17 @@ abbrev pub table_data_events : {P : Type 0} → Xlsx P → List ℕ → List Par
 table_data_events xlsx name parts =
     option_map_or
     (λ (own : SheetTable). area_events own.table.area (path_of xlsx own.sheet) parts)
+    (table_of_book xlsx name) 0
+
+-- and how many it takes where it isn't refused: those up to the end of the sheet's data
+abbrev pub area_data_events : Option Dimensions → Option (List ℕ) → List Part → ℕ
+area_data_events None path parts = 0
+area_data_events (Some area) path parts = data_events path parts
+
+abbrev pub table_ends : {P : Type 0} → Xlsx P → List ℕ → List Part → ℕ
+table_ends xlsx name parts =
+    option_map_or
+    (λ (own : SheetTable). area_data_events own.table.area (path_of xlsx own.sheet) parts)
     (table_of_book xlsx name) 0
 
 -- what is kept of a table while its data are read

@@ -1,16 +1,18 @@
 ghost use Rattle.std.specs.Prelude.{◌≡◌, true, false, option_map, IfOk, IfErr, IsSomeAnd};
 ghost use Rattle.std.specs.Prelude.{length, map, string_bytes, slice_get, Some, None};
-ghost use Rattle.part_events.specs.Package.{Uses};
+ghost use Rattle.part_events.specs.Package.{Uses, CountsUp};
 ghost use Rattle.xlsx_error.specs.declared.error.XlsxError.TheVariants.{Io};
 ghost use Rattle.xlsx_values.specs.Book.{grounds_of};
 ghost use Rattle.xlsx_cells.specs.SheetPart.{EntersData, value_entries, formula_entries};
 ghost use Rattle.xlsx_cells.specs.SheetPart.{LieInSheet};
 ghost use Rattle.xlsx_cells.specs.CellsReader.{values_alone};
 ghost use Rattle.xlsx_cells.specs.Ends.{reads_children};
+ghost use Rattle.xlsx_cells.specs.Head.{IfNoWorksheet};
 ghost use Rattle.xlsx_cells.specs.Stream.{stream};
 ghost use Rattle.xlsx_core.specs.Merges.{IsIndexError};
 ghost use Rattle.xlsx_core.specs.Opened.{path_listed, path_lent};
 ghost use Rattle.xlsx_core.specs.SheetReading.{events_at, placed_events, grounds_with};
+ghost use Rattle.xlsx_core.specs.SheetReading.{data_events, TakesExactly};
 ghost use Rattle.xlsx_core.specs.SheetReading.{PlacedHeadFails, PlacedSheetFails};
 ghost use Rattle.xlsx_core.specs.SheetReading.{IsPlacedHeadError, IsPlacedError};
 ghost use Rattle.xlsx_core.specs.Worksheets.{HoldsWanted, IsStyleRangeError, AnswersCells};
@@ -76,6 +78,10 @@ pub fn open_placed<P: Package>(
         EntersData there entered.1 old (stream (P.state «package».new) entered.0))) }
     ensures err { IfErr result (PlacedHeadFails name.now (path_lent path.entry)
         (P.state «package».old) (P.state «package».new)) }
+    ensures lacks { let old = P.state «package».old in
+        let new = P.state «package».new in
+        let all = placed_events (path_lent path.entry) old.parts in
+        old.is_told ≡ true → IfErr result (IfNoWorksheet (CountsUp all old.taken new.taken)) }
     ensures kind { IfErr result (IsPlacedHeadError name.now) }
 {
     if let Some(path) = path {
@@ -98,6 +104,9 @@ pub fn read_placed<P: Package>(
     ensures uses { let old = P.state «package».old in
         let new = P.state «package».new in
         Uses (placed_events (path_lent path.entry) old.parts) Io result old new }
+    ensures to_end { let old = P.state «package».old in
+        let count = data_events (path_lent path.entry) old.parts in
+        TakesExactly count result old (P.state «package».new) }
     ensures inside { IfOk result (λ cells.
         LieInSheet cells.values.items cells.formulas.items cells.style_ids.items) }
     ensures reads { let old = P.state «package».old in
@@ -111,6 +120,10 @@ pub fn read_placed<P: Package>(
     ensures err { IfErr result (PlacedSheetFails name.now asked.entry.wants
         (grounds_of asked.entry.book) (path_lent path.entry) (P.state «package».old)
         (P.state «package».new)) }
+    ensures lacks { let old = P.state «package».old in
+        let new = P.state «package».new in
+        let all = placed_events (path_lent path.entry) old.parts in
+        old.is_told ≡ true → IfErr result (IfNoWorksheet (CountsUp all old.taken new.taken)) }
     ensures kind { IfErr result (IsPlacedError name.now) }
     ensures plain { reads_children asked.entry.wants ≡ false →
         IfErr result (IsStyleRangeError name.now) }
@@ -152,6 +165,9 @@ pub fn read_range<P: Package>(
     ensures uses { let old = P.state «package».old in
         let new = P.state «package».new in
         Uses (placed_events (path_lent path.entry) old.parts) Io result old new }
+    ensures to_end { let old = P.state «package».old in
+        let count = data_events (path_lent path.entry) old.parts in
+        TakesExactly count result old (P.state «package».new) }
     ensures inside { IfOk result (λ cells.
         LieInSheet cells.values.items cells.formulas.items cells.style_ids.items) }
     ensures reads { let old = P.state «package».old in
@@ -191,6 +207,9 @@ pub fn read_values<P: Package>(
     ensures uses { let old = P.state «package».old in
         let new = P.state «package».new in
         Uses (placed_events (path_lent path.entry) old.parts) Io result old new }
+    ensures to_end { let old = P.state «package».old in
+        let count = data_events (path_lent path.entry) old.parts in
+        TakesExactly count result old (P.state «package».new) }
     ensures reads { let old = P.state «package».old in
         let path = path_lent path.entry in
         old.is_told ≡ true → IfOk result

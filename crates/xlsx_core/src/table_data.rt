@@ -10,6 +10,8 @@ ghost use Rattle.xlsx_core.specs.TableData.{first_named, table_of_book, area_of_
 ghost use Rattle.xlsx_core.specs.TableData.{IsCut, IsOfTable, ReadsValuesIn, ReadsPlacesIn};
 ghost use Rattle.xlsx_core.specs.TableData.{AreaFails, TableDataFails, IsTableDataError};
 ghost use Rattle.xlsx_core.specs.TableData.{LacksTable, area_events, table_data_events};
+ghost use Rattle.xlsx_core.specs.TableData.{area_data_events, table_ends};
+ghost use Rattle.xlsx_core.specs.SheetReading.{TakesExactly};
 ghost use Rattle.xlsx_core.specs.TableList.{table_held, tables_held, loaded_tables};
 ghost use Rattle.xlsx_core.specs.Worksheets.{path_of, grounds_of_book, KeepsWorkbook, IsRangeError};
 ghost use Rattle.xlsx_workbook.specs.declared.sheet.Sheet.{Sheet};
@@ -98,6 +100,9 @@ impl<P: Package> Xlsx<P> {
             let new = P.state self.new.package in
             let most = area_events area (path_of self.old sheet.now) old.parts in
             Uses most Io result old new }
+        ensures to_end { let old = P.state self.old.package in
+            let count = area_data_events area (path_of self.old sheet.now) old.parts in
+            TakesExactly count result old (P.state self.new.package) }
         ensures rest { KeepsWorkbook self.old self.new }
         ensures unread { area ≡ None →
             P.state self.new.package ≡ P.state self.old.package }
@@ -127,6 +132,9 @@ impl<P: Package> Xlsx<P> {
             let new = P.state self.new.package in
             let most = area_events area (path_of self.old sheet.now) old.parts in
             Uses most Io result old new }
+        ensures to_end { let old = P.state self.old.package in
+            let count = area_data_events area (path_of self.old sheet.now) old.parts in
+            TakesExactly count result old (P.state self.new.package) }
         ensures rest { KeepsWorkbook self.old self.new }
         ensures unread { area ≡ None →
             P.state self.new.package ≡ P.state self.old.package }
@@ -160,6 +168,9 @@ impl<P: Package> Xlsx<P> {
             let new = P.state self.new.package in
             let most = table_data_events self.old table_name.now old.parts in
             Uses most Io result old new }
+        ensures to_end { let old = P.state self.old.package in
+            let count = table_ends self.old table_name.now old.parts in
+            TakesExactly count result old (P.state self.new.package) }
         ensures rest { KeepsWorkbook self.old self.new }
         ensures unread { area_of_book self.old table_name.now ≡ None →
             P.state self.new.package ≡ P.state self.old.package }
@@ -188,6 +199,9 @@ impl<P: Package> Xlsx<P> {
             let new = P.state self.new.package in
             let most = table_data_events self.old table_name.now old.parts in
             Uses most Io result old new }
+        ensures to_end { let old = P.state self.old.package in
+            let count = table_ends self.old table_name.now old.parts in
+            TakesExactly count result old (P.state self.new.package) }
         ensures rest { KeepsWorkbook self.old self.new }
         ensures unread { area_of_book self.old table_name.now ≡ None →
             P.state self.new.package ≡ P.state self.old.package }

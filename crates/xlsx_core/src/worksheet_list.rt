@@ -1,8 +1,8 @@
 ghost use Rattle.std.specs.Prelude.{◌≡◌, ℕ, List, true, IfOk, OnOk, IfErr, MatchOption};
-ghost use Rattle.std.specs.Prelude.{if◌then◌else◌, Some};
+ghost use Rattle.std.specs.Prelude.{if◌then◌else◌, Some, IfSome};
 ghost use Rattle.std.specs.BTreeMap.{get_by_text};
 ghost use Rattle.std.specs.Str.{bytes_eq};
-ghost use Rattle.part_events.specs.Package.{Uses};
+ghost use Rattle.part_events.specs.Package.{Uses, CountsUp};
 ghost use Rattle.xlsx_error.specs.declared.error.XlsxError.TheVariants.{Io};
 ghost use Rattle.xlsx_sections.specs.Failing.{SoundFails};
 ghost use Rattle.xlsx_workbook.specs.KeptContents.{path_kept};
@@ -10,7 +10,8 @@ ghost use Rattle.xlsx_values.specs.Book.{grounds_of};
 ghost use Rattle.xlsx_cells.specs.CellsReader.{values_alone};
 ghost use Rattle.xlsx_core.specs.Opened.{path_listed, path_lent};
 ghost use Rattle.xlsx_core.specs.Listing.{AreListed, IsPutBehind, ends_listing, listed_events};
-ghost use Rattle.xlsx_core.specs.SheetReading.{placed_events};
+ghost use Rattle.xlsx_core.specs.Listing.{listed_data, CountsAtLeast};
+ghost use Rattle.xlsx_core.specs.SheetReading.{placed_events, data_events};
 ghost use Rattle.xlsx_core.specs.Worksheets.{ReadsValues, RangeCause, KeepsWorkbook};
 ghost use Rattle.xlsx_core.specs.Worksheets.{grounds_of_book, path_of};
 
@@ -87,6 +88,11 @@ fn range_or_none<P: Package>(
     ensures uses { let old = P.state «package».old in
         let new = P.state «package».new in
         Uses (placed_events (path_lent path.entry) old.parts) Io result old new }
+    ensures to_end { let old = P.state «package».old in
+        let new = P.state «package».new in
+        let count = data_events (path_lent path.entry) old.parts in
+        old.is_told ≡ true → IfOk result (λ found.
+        IfSome found (λ range. CountsUp count old.taken new.taken)) }
     ensures reads { let old = P.state «package».old in
         let grounds = grounds_of asked.entry.book in
         let path = path_lent path.entry in
@@ -136,6 +142,11 @@ fn ranges_listed<P: Package>(
         let new = P.state «package».new in
         let place = λ (name : List ℕ). path_listed name sheets.now paths.now in
         Uses (listed_events place old.parts sheets.now) Io result old new }
+    ensures to_end { let old = P.state «package».old in
+        let new = P.state «package».new in
+        let place = λ (name : List ℕ). path_listed name sheets.now paths.now in
+        old.is_told ≡ true → IfOk result (λ listed.
+        CountsAtLeast (listed_data place old.parts listed.items) old.taken new.taken) }
     ensures lists { let old = P.state «package».old in
         let place = λ (name : List ℕ). path_listed name sheets.now paths.now in
         old.is_told ≡ true → IfOk result (λ listed. AreListed (grounds_of asked.entry.book)
@@ -163,6 +174,10 @@ impl<P: Package> Xlsx<P> {
             let new = P.state self.new.package in
             let sheets = self.old.metadata.sheets.items in
             Uses (listed_events (path_of self.old) old.parts sheets) Io result old new }
+        ensures to_end { let old = P.state self.old.package in
+            let new = P.state self.new.package in
+            old.is_told ≡ true → IfOk result (λ listed. let place = path_of self.old in
+            CountsAtLeast (listed_data place old.parts listed.items) old.taken new.taken) }
         ensures rest { KeepsWorkbook self.old self.new }
         ensures lists { let old = P.state self.old.package in
             old.is_told ≡ true → IfOk result (λ listed. AreListed (grounds_of_book self.old)

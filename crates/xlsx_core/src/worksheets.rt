@@ -8,6 +8,7 @@ ghost use Rattle.xlsx_cells.specs.Ends.{reads_children};
 ghost use Rattle.xlsx_cells.specs.SheetPart.{value_entries, formula_entries, LieInSheet};
 ghost use Rattle.xlsx_cells.specs.Stream.{stream, IsStreaming};
 ghost use Rattle.xlsx_core.specs.SheetReading.{all_wanted, events_at, placed_events};
+ghost use Rattle.xlsx_core.specs.SheetReading.{data_events, TakesExactly};
 ghost use Rattle.xlsx_core.specs.SheetReading.{PlacedSheetFails, PlacedHeadFails};
 ghost use Rattle.xlsx_core.specs.SheetReading.{IsPlacedHeadError, IsPlacedError, ReadsPlaced};
 ghost use Rattle.xlsx_core.specs.Worksheets.{path_of, grounds_of_book, KeepsWorkbook, HoldsWanted};
@@ -37,6 +38,9 @@ impl<P: Package> Xlsx<P> {
         ensures uses { let old = P.state self.old.package in
             let new = P.state self.new.package in
             Uses (placed_events (path_of self.old name.now) old.parts) Io result old new }
+        ensures to_end { let old = P.state self.old.package in
+            let count = data_events (path_of self.old name.now) old.parts in
+            TakesExactly count result old (P.state self.new.package) }
         ensures rest { KeepsWorkbook self.old self.new }
         ensures inside { IfOk result (λ cells.
             LieInSheet cells.values.items cells.formulas.items cells.style_ids.items) }
@@ -116,6 +120,9 @@ impl<P: Package> Xlsx<P> {
         ensures uses { let old = P.state self.old.package in
             let new = P.state self.new.package in
             Uses (placed_events (path_of self.old name.now) old.parts) Io result old new }
+        ensures to_end { let old = P.state self.old.package in
+            let count = data_events (path_of self.old name.now) old.parts in
+            TakesExactly count result old (P.state self.new.package) }
         ensures rest { KeepsWorkbook self.old self.new }
         ensures inside { IfOk result (λ cells.
             LieInSheet cells.values.items cells.formulas.items cells.style_ids.items) }
@@ -146,6 +153,9 @@ impl<P: Package> Xlsx<P> {
         ensures uses { let old = P.state self.old.package in
             let new = P.state self.new.package in
             Uses (placed_events (path_of self.old name.now) old.parts) Io result old new }
+        ensures to_end { let old = P.state self.old.package in
+            let count = data_events (path_of self.old name.now) old.parts in
+            TakesExactly count result old (P.state self.new.package) }
         ensures rest { KeepsWorkbook self.old self.new }
         ensures reads { let old = P.state self.old.package in
             let path = path_of self.old name.now in
@@ -172,6 +182,9 @@ impl<P: Package> Xlsx<P> {
         ensures uses { let old = P.state self.old.package in
             let new = P.state self.new.package in
             Uses (placed_events (path_of self.old name.now) old.parts) Io result old new }
+        ensures to_end { let old = P.state self.old.package in
+            let count = data_events (path_of self.old name.now) old.parts in
+            TakesExactly count result old (P.state self.new.package) }
         ensures rest { KeepsWorkbook self.old self.new }
         ensures reads { let old = P.state self.old.package in
             let path = path_of self.old name.now in
@@ -200,6 +213,9 @@ impl<P: Package> Xlsx<P> {
         ensures uses { let old = P.state self.old.package in
             let new = P.state self.new.package in
             Uses (placed_events (path_of self.old name.now) old.parts) Io result old new }
+        ensures to_end { let old = P.state self.old.package in
+            let count = data_events (path_of self.old name.now) old.parts in
+            TakesExactly count result old (P.state self.new.package) }
         ensures rest { KeepsWorkbook self.old self.new }
         ensures reads { let old = P.state self.old.package in
             old.is_told ≡ true → IfOk result
@@ -229,6 +245,9 @@ impl<P: Package> Xlsx<P> {
         ensures uses { let old = P.state self.old.package in
             let new = P.state self.new.package in
             Uses (placed_events (path_of self.old name.now) old.parts) Io result old new }
+        ensures to_end { let old = P.state self.old.package in
+            let count = data_events (path_of self.old name.now) old.parts in
+            TakesExactly count result old (P.state self.new.package) }
         ensures rest { KeepsWorkbook self.old self.new }
         ensures reads { let old = P.state self.old.package in
             old.is_told ≡ true → IfOk result (ReadsStyles (palette_of_book self.old)

@@ -1,6 +1,6 @@
 -- What the program does with its words: it prints a page, or runs a command.
 use Rattle.std.specs.Prelude.{◌≡◌, ℕ, List, [], ◌∷◌, ◌++◌, Result, Ok, Err, Option, Some, None}
-use Rattle.std.specs.Prelude.{codes, ◌⊎◌, IfSome, Bool, ◌||◌, is_some}
+use Rattle.std.specs.Prelude.{codes, if◌then◌else◌, ◌⊎◌, IfSome, Bool, ◌||◌, is_some}
 use Rattle.std.specs.Str.{bytes_eq}
 use Rattle.xlsx_commands.specs.Command.{command_of}
 use Rattle.xlsx_commands.specs.Status.{status_of, error_text}

@@ -2,6 +2,7 @@ use Rattle.std.proofs.Common.{[], codes}
 use Rattle.xlsx_sections.specs.PartSection.{always}
 use Rattle.xlsx_parts.proofs.SoundParts.{no_lacking_cause, no_whole_cause}
 use Rattle.xlsx_areas.specs.MergedCells.{merges_in}
+use Rattle.xlsx_areas.proofs.SoundMerges.{no_regions_cause}
 use Rattle.xlsx_areas.proofs.laws.merges_have_no_cause_of_a_refusal.Goals as goal
 
 pub returns-clause-merges : goal.returns-clause-merges
@@ -11,3 +12,7 @@ returns-clause-merges c = λ events areas error says cause.
 pub returns-clause-regions : goal.returns-clause-regions
 returns-clause-regions c = λ events areas error says cause.
     no_whole_cause merges_in events error areas says cause
+
+pub returns-clause-all : goal.returns-clause-all
+returns-clause-all c = λ parts sheets found error says cause.
+    no_regions_cause parts sheets found error says cause

@@ -1,11 +1,12 @@
-use Rattle.std.proofs.Common.{◌≡◌, ◌∷◌, ◌∙◌, false, true, sym, ap}
+use Rattle.std.proofs.Common.{◌≡◌, ◌∷◌, ◌∙◌, false, true, sym, ap, length}
 use Rattle.std.proofs.lemmas.Result.{err_from_is_err_and}
 use Rattle.part_events.specs.Event.{Event, event_of}
-use Rattle.part_events.specs.Reading.{reading, StepsAhead, ahead}
+use Rattle.part_events.specs.Reading.{reading, StepsAhead, ahead, events_of}
 use Rattle.part_events.proofs.Onward.{whole_at_end, reads_further}
+use Rattle.xlsx_sections.proofs.ElementsRead.{at_end}
 use Rattle.xlsx_cells.specs.Head.{dimensions_at, starts_data, other_name}
 use Rattle.xlsx_cells.proofs.HeadRead.{head_refused, head_ends, dimensions_refused, no_data}
-use Rattle.xlsx_cells.proofs.HeadRead.{sound_kept, other_kept}
+use Rattle.xlsx_cells.proofs.HeadRead.{sound_kept, other_kept, start_tells, tells_with}
 use Rattle.xlsx_cells.proofs.head.enter_data.Goals as goal
 
 pub returns-in_err-take-clause-err : goal.returns-in_err-take-clause-err
@@ -42,3 +43,23 @@ returns-clause-err g c =
       sound_kept keeps steps.0,
       other_kept keeps steps.0,
     ))
+
+pub returns-in_err-take-clause-lacks : goal.returns-in_err-take-clause-lacks
+returns-in_err-take-clause-lacks g c = λ told.
+    let old = reading (g.P.Package.state c.args.«package».now) c.args.cursor.now in
+    let new = reading (g.P.Package.state c.next.new.«package») c.next.new.self in
+    let p = err_from_is_err_and c.from_residual-in_err-take.result
+    c.from_residual-in_err-take.ensures.1 in
+    rw (p.1, p.2)
+    (start_tells (new.at ≡ length (events_of old)) (dimensions_at (event_of c.event-event.result))
+    c.in_err-take.field-0.0 c.in_err-take.ensures.err)
+
+pub returns-clause-lacks : goal.returns-clause-lacks
+returns-clause-lacks g c = λ told.
+    let mid = reading (g.P.Package.state c.events.«package») c.events.cursor in
+    let new = reading (g.P.Package.state c.next.new.«package») c.next.new.self in
+    let now = c.events.invariant in
+    let steps : StepsAhead false mid new =
+    rw c.if-branch.false at (c.in_ok-next.ensures.ahead (now.reads.moves.parts.is_told ∙ told)) in
+    tells_with c.lacks_data.result
+    (at_end {new = new} (reads_further now.reads c.in_ok-next.ensures.reads) steps.1 told)

@@ -1,7 +1,6 @@
-use Rattle.std.proofs.Common.{◌≡◌, ℕ, true, sym, ◌∙◌, subst}
+use Rattle.std.proofs.Common.{◌≡◌, ℕ, suc, true, sym, ◌∙◌, ap, subst}
 use Rattle.std.proofs.lemmas.Result.{err_from_is_err_and}
-use Rattle.part_events.specs.Walk.{is_closed_ahead}
-use Rattle.xlsx_sections.specs.Elements.{KeepsElements}
+use Rattle.xlsx_sections.specs.Elements.{KeepsElements, ReachesEnd}
 use Rattle.xlsx_values.specs.Book.{grounds_of}
 use Rattle.xlsx_cells.specs.Marks.{is_cell}
 use Rattle.xlsx_cells.specs.Position.{NoCell}
@@ -76,8 +75,8 @@ cells-preserved g c =
           takes);
     }
 
-pub returns-clause-closed : goal.returns-clause-closed
-returns-clause-closed g c = λ told.
+pub returns-clause-ends : goal.returns-clause-ends
+returns-clause-ends g c = λ told.
     let old = stream (g.P.Package.state c.args.package.now) c.args.sheet.now in
     let mid = stream (g.P.Package.state c.cells.package) c.cells.sheet in
     let now = c.cells.invariant in
@@ -87,8 +86,13 @@ returns-clause-closed g c = λ told.
     let ends : EndsData NoCell been.before mid new = rw c.in_default.is at
     (c.in_ok-found.ensures.takes (now.keeps.section.reads.moves.parts.is_told ∙ told) been.before
     been.earlier been.stands) now.going.done in
-    sym (now.keeps.section.closed told)
-    ∙ subst (λ (n : ℕ). is_closed_ahead n mid.reading ≡ true) now.base ends.closed
+    let own : ReachesEnd old.base mid.reading new.reading =
+    subst (λ (n : ℕ). ReachesEnd n mid.reading new.reading) now.base
+    (record { closed = ends.closed; behind = ends.left; ends = ends.ends }) in record {
+      closed = sym (now.keeps.section.closed told) ∙ own.closed;
+      behind = sym (now.keeps.behind told) ∙ own.behind;
+      ends = own.ends ∙ ap suc (now.keeps.section.last told);
+    }
 
 pub returns-clause-values : goal.returns-clause-values
 returns-clause-values g c = λ told wanted.

@@ -1,11 +1,13 @@
 use Rattle.std.proofs.Common.{◌≡◌, true, ◌∙◌, sym, subst}
+use Rattle.std.proofs.lemmas.Result.{err_from_is_err_and}
 use Rattle.part_events.specs.Package.{Opens}
 use Rattle.part_events.specs.Reading.{reading}
 use Rattle.part_events.specs.declared.cursor.Cursor.{Cursor}
 use Rattle.xlsx_sections.proofs.SectionsRead.{section_entered}
 use Rattle.xlsx_cells.specs.SheetPart.{EntersData}
 use Rattle.xlsx_cells.specs.Stream.{Stream}
-use Rattle.xlsx_cells.proofs.SheetEntered.{data_entered}
+use Rattle.xlsx_cells.proofs.HeadRead.{tells_weaker}
+use Rattle.xlsx_cells.proofs.SheetEntered.{data_entered, part_taken}
 use Rattle.xlsx_cells.proofs.sheet_cursor.open_data.Goals as goal
 
 pub returns-clause-enters : goal.returns-clause-enters
@@ -37,3 +39,13 @@ returns-clause-enters g c =
     c.new-sheet.ensures.done c.new-sheet.ensures.failed
     (λ told. (opening told).past) (λ told. entered.ensures.reads.stays.part (still told))
     (λ told. entered.ensures.dimensions (still told)))
+
+pub returns-in_err-dimensions-clause-lacks : goal.returns-in_err-dimensions-clause-lacks
+returns-in_err-dimensions-clause-lacks g c = λ told.
+    let p = err_from_is_err_and c.from_residual-in_err-dimensions.result
+    c.from_residual-in_err-dimensions.ensures.1 in
+    rw (p.1, p.2)
+    (tells_weaker c.in_err-dimensions.field-0.0
+    (part_taken c.if-not-branch.false c.in_ok-open.ensures.counts c.in_ok-open.ensures.opens
+    c.new-cursor.ensures.start c.in_err-dimensions.ensures.reads.moves told)
+    (c.in_err-dimensions.ensures.lacks (c.open.ensures.keeps.is_told ∙ told)))

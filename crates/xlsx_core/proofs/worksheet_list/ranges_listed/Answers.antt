@@ -1,17 +1,18 @@
 use Rattle.std.proofs.Common.{◌≡◌, ◌∷◌, ◌+◌, ℕ, List, [], drop, refl, ◌∙◌, subst}
 use Rattle.std.proofs.Common.{append-nil, string_bytes, arith, Option}
-use Rattle.std.specs.Prelude.{MatchOption}
+use Rattle.std.specs.Prelude.{MatchOption, IfSome}
 use Rattle.std.proofs.lemmas.List.{drop_all}
 use Rattle.std.proofs.lemmas.Result.{err_from_is_err_and}
-use Rattle.part_events.specs.Package.{Part}
+use Rattle.part_events.specs.Package.{Part, CountsUp}
 use Rattle.part_events.proofs.Uses.{same_further}
 use Rattle.xlsx_error.specs.declared.error.XlsxError.{XlsxError}
 use Rattle.xlsx_values.specs.Book.{grounds_of}
 use Rattle.xlsx_cells.specs.CellsReader.{values_alone}
 use Rattle.xlsx_core.specs.Listing.{AreListed, IsPutBehind, listed_events}
 use Rattle.xlsx_core.specs.Opened.{path_listed, path_lent}
-use Rattle.xlsx_core.specs.SheetReading.{placed_events}
+use Rattle.xlsx_core.specs.SheetReading.{placed_events, data_events}
 use Rattle.xlsx_core.specs.Worksheets.{ReadsValues, RangeCause}
+use Rattle.xlsx_core.proofs.DataTaken.{listed_more}
 use Rattle.xlsx_core.proofs.SheetsListed.{listed_further, drop_from}
 use Rattle.xlsx_core.proofs.TakenOnce.{part_listed, leaves_listed, leaves_behind}
 use Rattle.xlsx_core.proofs.worksheet_list.ranges_listed.Goals as goal
@@ -49,6 +50,15 @@ sheets-preserved g c =
           (drop c.sheets.sheet-index sheets) (drop (c.sheets.sheet-index + 1) sheets)
           (old.taken + listed_events place old.parts sheets) path named front now.keeps.parts
           (now.taken told) (own.uses.taken (now.keeps.is_told ∙ told));
+      ends = λ told.
+          let counts_at = λ (path : Option (List ℕ)) (parts : List Part).
+          IfSome range (λ own. CountsUp (data_events path parts) mid.taken new.taken) in
+          listed_more place old.parts name range old.taken mid.taken new.taken
+          c.sheets.listed.items c.put_behind.new.listed.items (now.ends told) own.uses.forward
+          (subst (counts_at (place name)) now.keeps.parts
+          (subst (λ (there : Option (List ℕ)). counts_at there mid.parts) path
+          (own.to_end (now.keeps.is_told ∙ told))))
+          c.in_ok-put_behind.ensures;
       listed = λ told.
           let read : reads_at name (place name) old.parts =
           subst (reads_at name (place name)) now.keeps.parts

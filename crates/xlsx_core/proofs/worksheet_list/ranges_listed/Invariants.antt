@@ -3,7 +3,7 @@ use Rattle.part_events.specs.Package.{SameParts, NeverFalls}
 use Rattle.cell_data.specs.declared.range.Range.{Range}
 use Rattle.cell_data.specs.declared.value.Data.{Data}
 use Rattle.xlsx_values.specs.Book.{grounds_of}
-use Rattle.xlsx_core.specs.Listing.{AreListed, listed_events}
+use Rattle.xlsx_core.specs.Listing.{AreListed, listed_events, listed_data, CountsAtLeast}
 use Rattle.xlsx_core.specs.Opened.{path_listed}
 use Rattle.xlsx_core.proofs.worksheet_list.ranges_listed.Given as goal
 
@@ -19,6 +19,8 @@ invariant-sheets g l =
       taken : old.is_told ≡ true →
           now.taken + listed_events place old.parts (drop l.sheet-index l.fn.sheets)
           ≤ old.taken + listed_events place old.parts l.fn.sheets;
+      ends : old.is_told ≡ true →
+          CountsAtLeast (listed_data place old.parts l.listed.items) old.taken now.taken;
       listed : old.is_told ≡ true → (others : List (String Global × Range Data)) →
           AreListed (grounds_of l.asked.book) l.header_row place old.parts
           (drop l.sheet-index l.fn.sheets) others →

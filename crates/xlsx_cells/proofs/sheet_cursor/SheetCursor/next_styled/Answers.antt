@@ -93,6 +93,6 @@ returns-clause-takes g c = λ told before earlier kept going.
     let now = c.cells.invariant in
     let been = now.skipped told before earlier kept in
     unstyled_ends c.args.style_count before earlier old mid new been
-    (rw now.base (now.keeps.behind told))
+    (rw now.base (now.keeps.behind told)) (rw now.base (now.keeps.section.last told))
     (rw c.in_default.is at (c.in_ok-read.ensures.takes (now.keeps.section.reads.moves.parts.is_told
     ∙ told) (behind_marks been.front.passed before) earlier been.stands) now.going.done)

@@ -1,0 +1,18 @@
+use Rattle.std.proofs.Common.{[], codes}
+use Rattle.part_events.specs.Package.{part_of}
+use Rattle.xlsx_sections.specs.PartSection.{always}
+use Rattle.xlsx_parts.proofs.SoundParts.{no_said_cause}
+use Rattle.xlsx_relationships.specs.LinkTargets.{link_targets_in}
+use Rattle.xlsx_relationships.specs.Paths.{relationships_beside}
+use Rattle.xlsx_relationships.specs.RelatedParts.{all_lead_to}
+use Rattle.xlsx_areas.proofs.laws.targets_have_no_cause_of_a_refusal.Goals as goal
+
+pub returns-clause-related : goal.returns-clause-related
+returns-clause-related c = λ parts wanted path found error says cause.
+    no_said_cause (codes "Relationships") (always (codes "Relationships")) []
+    (all_lead_to path wanted) (part_of parts (relationships_beside path)) error found says cause
+
+pub returns-clause-links : goal.returns-clause-links
+returns-clause-links c = λ parts path found error says cause.
+    no_said_cause (codes "Relationships") (always (codes "Relationships")) [] link_targets_in
+    (part_of parts (relationships_beside path)) error found says cause

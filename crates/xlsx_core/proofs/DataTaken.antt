@@ -1,0 +1,117 @@
+-- The part of a sheet is read up to the end of the sheet's data.
+use Rattle.std.proofs.Common.{◌≡◌, ◌+◌, ℕ, suc, List, [], ◌∷◌, ◌++◌, length, Option, Some, None}
+use Rattle.std.proofs.Common.{Result, Ok, Err, true, String, Global, ◌∙◌, ap, inl, inr, arith, codes}
+use Rattle.std.proofs.Common.{string_bytes}
+use Rattle.std.specs.Prelude.{IsSomeAnd, OnOk, option_map, MatchOption, IfSome}
+use Rattle.std.specs.List.{sum_by}
+use Rattle.std.specs.Option.{option_map_or}
+use Rattle.std.proofs.lemmas.List.Sums.{sum_by_push}
+use Rattle.cell_data.specs.declared.range.Range.{Range}
+use Rattle.cell_data.specs.declared.value.Data.{Data}
+use Rattle.cell_refs.specs.declared.dimensions.Dimensions.{Dimensions}
+use Rattle.part_events.specs.Event.{Event}
+use Rattle.part_events.specs.Package.{Part, PackageState, NeverFalls, CountsUp}
+use Rattle.part_events.specs.Reading.{Reading, ReadsPart, events_of}
+use Rattle.part_events.specs.Walk.{section_end}
+use Rattle.xlsx_error.specs.declared.error.XlsxError.{XlsxError}
+use Rattle.xlsx_error.specs.declared.error.XlsxError.TheVariants.{Io, NotAWorksheet}
+use Rattle.xlsx_sections.specs.Elements.{ReachesEnd}
+use Rattle.xlsx_sections.specs.PartSection.{PartSection, section_in, section_from, last_of}
+use Rattle.xlsx_sections.specs.SectionEvents.{section_events}
+use Rattle.xlsx_values.specs.Value.{Grounds}
+use Rattle.xlsx_cells.specs.SheetPart.{EntersData, SheetPartCause, DataCause}
+use Rattle.xlsx_cells.specs.Stream.{Stream}
+use Rattle.xlsx_cells.specs.declared.children.Wants.{Wants}
+use Rattle.xlsx_core.specs.Listing.{IsPutBehind, CountsAtLeast, listed_data}
+use Rattle.xlsx_core.specs.SheetReading.{PlacedCause, TakesExactly, data_events, events_at}
+use Rattle.xlsx_core.specs.SheetReading.{placed_events}
+
+-- a part whose data were entered has so many events up to their end
+data_size : (path : List ℕ) (area : Dimensions) (old : PackageState) (mid : Stream)
+    → EntersData path area old mid → old.is_told ≡ true
+    → data_events (Some path) old.parts ≡ suc (section_end mid.base mid.reading)
+data_size path area old mid enters told =
+    ap (λ (part : Option (List Event)). option_map_or (section_events (codes "sheetData")) part 0)
+    (enters.part told)
+    ∙ ap (λ (found : Option PartSection). option_map_or (λ (s : PartSection). suc (last_of s)) found
+    (length (events_of mid.reading))) (enters.section told)
+
+-- entering the data and reading them to their end takes these
+path_taken : {A : Type 0} (result : Result A XlsxError) (path : List ℕ) (area : Dimensions)
+    (old : PackageState) (mid : Stream) (new : Reading) → EntersData path area old mid
+    → ReadsPart Io result mid.reading new
+    → (mid.reading.source.is_told ≡ true → OnOk result (ReachesEnd mid.base mid.reading new))
+    → TakesExactly (data_events (Some path) old.parts) result old new.source
+path_taken (Ok value) path area old mid new enters reads ends = λ told.
+    let reaches = ends (enters.parts.is_told ∙ told) in
+    omega (
+      arith,
+      data_size path area old mid enters told,
+      enters.begins,
+      reads.moves.forward,
+      reads.moves.taken,
+      reaches.ends,
+    )
+path_taken (Err error) path area old mid new enters reads ends = λ told. tt
+
+-- the same at a path that there may be
+pub data_taken : {A : Type 0} (result : Result A XlsxError) (path : Option (List ℕ))
+    (area : Dimensions) (old : PackageState) (mid : Stream) (new : Reading)
+    → IsSomeAnd path (λ there. EntersData there area old mid)
+    → ReadsPart Io result mid.reading new
+    → (mid.reading.source.is_told ≡ true → OnOk result (ReachesEnd mid.base mid.reading new))
+    → TakesExactly (data_events path old.parts) result old new.source
+data_taken result None area old mid new is reads ends = absurd is
+data_taken result (Some path) area old mid new enters reads ends =
+    path_taken result path area old mid new enters reads ends
+
+-- ---- a part that is no worksheet
+
+never_told : (wants : Wants) (grounds : Grounds) (found : Option PartSection)
+    (other : String Global)
+    → IsSomeAnd found (λ s. DataCause wants grounds s (NotAWorksheet other)) → ⊥
+never_told wants grounds None other cause = cause
+never_told wants grounds (Some s) other cause = cause
+
+events_lacking : (wants : Wants) (grounds : Grounds) (found : Option (List Event))
+    (other : String Global)
+    → IsSomeAnd found (λ events. SheetPartCause wants grounds events (NotAWorksheet other))
+    → option_map_or (section_events (codes "sheetData")) found 0 ≡ option_map_or length found 0
+events_lacking wants grounds None other cause = absurd cause
+events_lacking wants grounds (Some events) other (inl head) =
+    ap (λ (ahead : Option (List Event)). option_map_or (λ (s : PartSection). suc (last_of s))
+    (option_map (section_from events) ahead) (length events)) head.1
+events_lacking wants grounds (Some events) other (inr data) =
+    absurd (never_told wants grounds (section_in (codes "sheetData") events) other data)
+
+-- it has no end of data, so all of its events count
+pub lacking_events : (name : List ℕ) (wants : Wants) (grounds : Grounds)
+    (path : Option (List ℕ)) (parts : List Part) (other : String Global)
+    → PlacedCause name path (SheetPartCause wants grounds) parts (NotAWorksheet other)
+    → data_events path parts ≡ placed_events path parts
+lacking_events name wants grounds path parts other cause =
+    events_lacking wants grounds (events_at path parts) other cause
+
+-- ---- all sheets
+
+-- one sheet more
+pub listed_more : (place : List ℕ → Option (List ℕ)) (parts : List Part) (name : List ℕ)
+    (range : Option (Range Data)) (old mid new : ℕ) (listed now : List (String Global × Range Data))
+    → CountsAtLeast (listed_data place parts listed) old mid
+    → NeverFalls mid new
+    → IfSome range (λ own. CountsUp (data_events (place name) parts) mid new)
+    → MatchOption range (now ≡ listed) (IsPutBehind name listed now)
+    → CountsAtLeast (listed_data place parts now) old new
+listed_more place parts name None old mid new listed now least falls counts same =
+    let all = ap (listed_data place parts) same in
+    omega (arith, least, falls, all)
+listed_more place parts name (Some range) old mid new listed now least falls counts put =
+    let (own, named, is) = put in
+    let count : String Global × Range Data → ℕ =
+    λ other. data_events (place (string_bytes other.0)) parts in
+    let all : listed_data place parts now ≡ listed_data place parts listed
+    + data_events (place name) parts =
+    ap (listed_data place parts) is ∙ (sum_by_push count listed (own, range)
+    ∙ ap (λ (text : List ℕ). listed_data place parts listed + data_events (place text) parts) named)
+    in
+    omega (arith, least, counts, all)
