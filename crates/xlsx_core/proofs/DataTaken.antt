@@ -81,8 +81,8 @@ events_lacking wants grounds None other cause = absurd cause
 events_lacking wants grounds (Some events) other (inl head) =
     ap (λ (ahead : Option (List Event)). option_map_or (λ (s : PartSection). suc (last_of s))
     (option_map (section_from events) ahead) (length events)) head.1
-events_lacking wants grounds (Some events) other (inr data) =
-    absurd (never_told wants grounds (section_in (codes "sheetData") events) other data)
+events_lacking wants grounds (Some events) other (inr other_cause) =
+    absurd (never_told wants grounds (section_in (codes "sheetData") events) other other_cause)
 
 -- it has no end of data, so all of its events count
 pub lacking_events : (name : List ℕ) (wants : Wants) (grounds : Grounds)

@@ -4,7 +4,7 @@ use Rattle.xlsx_values.specs.Book.{grounds_of}
 use Rattle.xlsx_values.specs.Value.{Grounds}
 use Rattle.xlsx_workbook.specs.declared.paths.KeptPath.{KeptPath}
 use Rattle.xlsx_workbook.specs.declared.sheet.Sheet.{Sheet}
-use Rattle.xlsx_core.specs.Listing.{AreListed}
+use Rattle.xlsx_core.specs.Listing.{AreListed, CountsAtLeast, listed_data}
 use Rattle.xlsx_core.specs.Opened.{path_listed}
 use Rattle.xlsx_core.specs.Worksheets.{path_of}
 use Rattle.xlsx_core.proofs.xlsx.Xlsx.worksheets.Goals as goal
@@ -23,3 +23,16 @@ returns-clause-lists g c = λ told.
     (subst (λ (paths : List KeptPath). IfOk made (λ listed. AreListed own xlsx.header_row
     (λ (name : List ℕ). path_listed name c.deref.result.now paths) parts c.deref.result.now
     listed.items)) c.deref-2.ensures.value (c.ranges_listed.ensures.lists told)))
+
+pub returns-clause-to_end : goal.returns-clause-to_end
+returns-clause-to_end g c = λ told.
+    let xlsx = c.args.self.now in
+    let old = g.P.Package.state xlsx.package in
+    let new = g.P.Package.state c.ranges_listed.new.package in
+    let made = c.ranges_listed.result in
+    subst (λ (sheets : List Sheet). IfOk made (λ listed. CountsAtLeast (listed_data
+    (λ (name : List ℕ). path_listed name sheets xlsx.paths.items) old.parts listed.items)
+    old.taken new.taken)) c.deref.ensures.value
+    (subst (λ (paths : List KeptPath). IfOk made (λ listed. CountsAtLeast (listed_data
+    (λ (name : List ℕ). path_listed name c.deref.result.now paths) old.parts listed.items)
+    old.taken new.taken)) c.deref-2.ensures.value (c.ranges_listed.ensures.to_end told))
