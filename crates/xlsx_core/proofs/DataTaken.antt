@@ -1,9 +1,8 @@
 -- The part of a sheet is read up to the end of the sheet's data.
-use Rattle.std.proofs.Common.{◌≡◌, ◌+◌, ℕ, suc, List, [], ◌∷◌, ◌++◌, length, Option, Some, None}
+use Rattle.std.proofs.Common.{◌≡◌, ◌+◌, ℕ, suc, List, length, Option, Some, None}
 use Rattle.std.proofs.Common.{Result, Ok, Err, true, String, Global, ◌∙◌, ap, inl, inr, arith, codes}
 use Rattle.std.proofs.Common.{string_bytes}
 use Rattle.std.specs.Prelude.{IsSomeAnd, OnOk, option_map, MatchOption, IfSome}
-use Rattle.std.specs.List.{sum_by}
 use Rattle.std.specs.Option.{option_map_or}
 use Rattle.std.proofs.lemmas.List.Sums.{sum_by_push}
 use Rattle.cell_data.specs.declared.range.Range.{Range}

@@ -1,4 +1,4 @@
-use Rattle.std.proofs.Common.{◌≡◌, ℕ, suc, true, sym, ◌∙◌, ap, subst}
+use Rattle.std.proofs.Common.{ℕ, suc, sym, ◌∙◌, ap, subst}
 use Rattle.std.proofs.lemmas.Result.{err_from_is_err_and}
 use Rattle.xlsx_sections.specs.Elements.{KeepsElements, ReachesEnd}
 use Rattle.xlsx_values.specs.Book.{grounds_of}
