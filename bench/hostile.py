@@ -1,20 +1,19 @@
 #!/usr/bin/env python3
-"""Runs the program on package texts of about a megabyte that ask for much memory, with the address
-space that ./xlsx gives it, and prints what each took (docs/PERFORMANCE.md). None may end otherwise
-than with its lines or with the status of want of memory."""
+"""Runs ./xlsx on package texts of about a megabyte that ask for much memory, and prints what each
+took (docs/PERFORMANCE.md). None may end by a signal."""
 
 import argparse
 import os
-import shlex
+import shutil
 import tempfile
 
 from cells import FRAME, cell_events, text_child
 from measure import (
     OFFICE,
-    add_program,
+    TOP,
+    build,
     end,
     mib,
-    program_of,
     ran,
     relationships,
     start,
@@ -26,9 +25,12 @@ from measure import (
 LONG, SHORT = 500_000, 150_000
 SHEETS, STYLES, CELLS, DERIVED = 13_000, 13_000, 7_000, 6_000
 
-# The MiB of address space that ./xlsx gives the program.
+# The MiB of address space that ./xlsx gives the program where it isn't told otherwise.
 GIVEN = 4096
 OUT_OF_MEMORY = 8
+
+# The least status by which a shell tells of a signal.
+SIGNAL = 128
 
 
 def element(name, attributes="", *inside):
@@ -120,7 +122,8 @@ PACKAGES = [
 
 # Texts that are JSON and no package.
 TEXTS = [
-    ("objects inside one another", '{"":' * 250_000 + "1" + "}" * 250_000),
+    ("objects that nest too deep", '{"":' * 250_000 + "1" + "}" * 250_000),
+    ("objects inside one another", "[" + ",".join(['{"":' * 120 + "1" + "}" * 120] * 2_000) + "]"),
     ("objects side by side", "[" + ",".join(['{"":1}'] * 160_000) + "]"),
     ("events of one word", '{"version":1,"parts":[{"name":"p","events":['
         + ",".join(['["o"]'] * 180_000) + "]}]}"),
@@ -147,13 +150,12 @@ def inputs(path):
         yield name, "sheets"
 
 
-def row_of(program, name, words, path, limits):
+def row_of(name, words, path, limits):
     cells = [name, f"{os.path.getsize(path):,}"]
     for limit in limits:
-        bound = f"ulimit -v {limit * 1024}; " if limit else ""
-        script = f"{bound}exec {shlex.quote(program)} {words}"
-        ended, run = ran(["/bin/sh", "-c", script], path, stderr=os.devnull)
-        assert ended >= 0, f"{name}: ended by signal {-ended}"
+        given = [shutil.which("env"), f"XLSX_MEMORY={limit}", str(TOP / "xlsx"), *words.split()]
+        ended, run = ran(given, path, stderr=os.devnull)
+        assert 0 <= ended < SIGNAL, f"{name}: ended by a signal, with {ended}"
         cells += ["out of memory" if ended == OUT_OF_MEMORY else str(ended)]
         cells += [f"{run.seconds:.1f}", mib(run.peak)]
     return cells
@@ -161,21 +163,20 @@ def row_of(program, name, words, path, limits):
 
 def main():
     parser = argparse.ArgumentParser(description=__doc__)
-    add_program(parser)
     parser.add_argument(
         "--unbound",
         action="store_true",
         help="measure without a limit, too: it takes up to 7 GiB",
     )
     asked = parser.parse_args()
-    program = program_of(asked)
+    build()
     limits = [GIVEN, 0] if asked.unbound else [GIVEN]
     head = ["named often", "bytes"]
     for limit in limits:
         head += [f"within {limit} MiB" if limit else "unbound", "seconds", "peak MiB"]
     with tempfile.TemporaryDirectory() as folder:
         path = os.path.join(folder, "package.json")
-        rows = [row_of(program, *one, path, limits) for one in inputs(path)]
+        rows = [row_of(*one, path, limits) for one in inputs(path)]
     table(head, rows)
 
 

@@ -17,6 +17,8 @@ SAMPLES = TOP / "samples"
 
 # The words of each command, the workbook that it is run on, and the file of its lines.
 COMMANDS = [
+    (["sheets"], "chart_sheet", "chart_sheet.sheets"),
+    (["names"], "chart_sheet", "chart_sheet.names"),
     (["csv", "libreoffice"], "libreoffice", "libreoffice.csv"),
     (["merges", "S"], "tables_links_and_merges", "tables_links_and_merges.merges"),
     (["links", "S"], "tables_links_and_merges", "tables_links_and_merges.links"),

@@ -51,6 +51,19 @@ def chart_sheet():
         yield line(f"A{row}", f"n:{number}")
 
 
+def sheets():
+    """Of each its name, its type and its state."""
+    yield "Data\tworksheet\tvisible\n"
+    yield "Chart\tchartsheet\tvisible\n"
+    yield "More\tworksheet\tvisible\n"
+
+
+def names():
+    """In the order in which XlsxWriter writes them, which is that of their names."""
+    yield "Local\t1&2\n"
+    yield "Total\tSUM(Data!$A$1:$A$3)\n"
+
+
 def shared_formulas():
     for row in range(1, 6):
         yield line(f"A{row}", f"n:{row * 10}")
@@ -202,6 +215,8 @@ LINES = {
     "rich_text": rich_text(),
     "inline_strings": inline_strings(),
     "chart_sheet": chart_sheet(),
+    "chart_sheet.names": names(),
+    "chart_sheet.sheets": sheets(),
     "shared_formulas": shared_formulas(),
     "pivot_table.pivot": rows_of_pivot(),
     "pivot_table.pivots": ["Report\tSold & paid\n"],

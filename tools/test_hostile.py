@@ -5,7 +5,9 @@ import subprocess
 import unittest
 
 from noted import SHEET_NAME, STRINGS_NAME, package_with, refused, told, with_data
+from test_pivots import DEFINITIONS, PARTS, RECORDS, ROWS
 from test_program import BUILDS, OUT
+from test_tables import NUT, RELATED, TABLE_NAME, table
 
 MOST = 2**64 - 1
 STYLES_NAME = "xl/styles.xml"
@@ -18,7 +20,7 @@ def one_cell(attributes, inside):
 
 TEXT = with_data(one_cell(' t="str"', "<v>x</v>"))
 NUMBER = "A1\tn:1\t-\t-\n"
-MANY = f'count="{MOST}" uniqueCount="{MOST}"'
+MANY = f'count="{MOST}" uniqueCount="{MOST}" recordCount="{MOST}"'
 
 # Each list of a styles part, of which the counts are wrong, and a style that fills a cell.
 COUNTED = (
@@ -164,14 +166,49 @@ CASES = [
 ]
 
 
+def counted(part, *names):
+    """A part in which the elements of these names have counts past all numbers."""
+    name, markup = part
+    for element in names:
+        markup = markup.replace(f"<{element}", f"<{element} {MANY}")
+    return name, markup
+
+
+MERGED = (
+    SHEET_NAME,
+    '<worksheet><sheetData/><mergeCells><mergeCell ref="A1:XFD1048576"/></mergeCells></worksheet>',
+)
+TABLE = [RELATED, counted((TABLE_NAME, table("", "A1:B1048576")), "tableColumns"), NUT]
+PIVOT = [
+    *PARTS,
+    counted(DEFINITIONS, "pivotCacheDefinition", "cacheFields", "sharedItems"),
+    counted(RECORDS, "pivotCacheRecords"),
+]
+
+# The words of a command, the parts before those of the smallest workbook, and the lines.
+LISTS = [
+    (["merges", "S"], [counted(MERGED, "mergeCells")], "A1:XFD1048576\n"),
+    (["tables"], TABLE, "T1\tS\tA2:B1048576\tName\tQty\n"),
+    (["table", "T1"], TABLE, "A2\ts:nut\nB2\tn:3\n"),
+    (["pivots"], PIVOT, "S\tP1\n"),
+    (["pivot", "S", "P1"], PIVOT, ROWS),
+]
+
+
 class Hostile(unittest.TestCase):
+    def check(self, words, parts, wanted, shown):
+        package = package_with(*parts)
+        for build in BUILDS:
+            ran = subprocess.run([OUT / build, *words], input=package, capture_output=True)
+            self.assertIn((ran.returncode, ran.stdout, ran.stderr), told(wanted), shown)
+
     def test_hostile_sheets_are_listed_or_refused(self):
         for shown, parts, wanted in CASES:
-            package = package_with(*parts)
-            for build in BUILDS:
-                words = [OUT / build, "cells", "S"]
-                ran = subprocess.run(words, input=package, capture_output=True)
-                self.assertIn((ran.returncode, ran.stdout, ran.stderr), told(wanted), shown)
+            self.check(["cells", "S"], parts, wanted, shown)
+
+    def test_lists_go_by_no_count(self):
+        for words, parts, lines in LISTS:
+            self.check(words, parts, lines, words)
 
 
 if __name__ == "__main__":

@@ -20,6 +20,8 @@ WORKBOOKS = sorted(SAMPLES.glob("*.xlsx"))
 # What prints the lines of each file of lines, of the workbook that it is named by.
 LINES = {
     "chart_sheet": ["cells", "Data"],
+    "chart_sheet.names": ["names"],
+    "chart_sheet.sheets": ["sheets"],
     "dates_1900": ["cells", "Dates"],
     "dates_1904": ["cells", "Dates"],
     "inline_strings": ["cells", "S"],

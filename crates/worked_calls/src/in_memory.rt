@@ -10,7 +10,7 @@ use cell_data::CellFormat;
 use cell_styles::Style;
 use part_events::{MemoryPackage, StreamError, XlReader};
 use std::alloc::Global;
-use xlsx_core::{Xlsx, XlsxCellReader, XlsxError};
+use xlsx_core::{PivotCacheIter, PivotTables, Xlsx, XlsxCellReader, XlsxError};
 
 /// A reader of the part of this name, or None where there is none. It is never refused.
 pub fn part_in_memory<'a>(
@@ -46,4 +46,28 @@ pub fn sheet_in_memory<'a>(
     ensures { IfErr result (λ error. error ≡ Io → ⊥) }
 {
     xlsx.worksheet_cells_reader(name)
+}
+
+/// The rows of the cache whose definitions and records are the parts of these names.
+pub fn rows_in_memory<'a>(
+    alloc: Global,
+    package: &'a mut MemoryPackage,
+    definitions: &str,
+    records: &str,
+) -> Result<PivotCacheIter<'a, MemoryPackage>, XlsxError>
+    ensures { IfErr result (λ error. error ≡ Io → ⊥) }
+{
+    PivotCacheIter::open(alloc, package, definitions, records)
+}
+
+/// The rows of the cache of the first of these pivot tables that has this name on this sheet.
+pub fn pivot_rows_in_memory<'a>(
+    xlsx: &'a mut Xlsx<MemoryPackage>,
+    pivots: &PivotTables,
+    sheet: &str,
+    name: &str,
+) -> Result<PivotCacheIter<'a, MemoryPackage>, XlsxError>
+    ensures { IfErr result (λ error. error ≡ Io → ⊥) }
+{
+    xlsx.pivot_table_data(pivots, sheet, name)
 }

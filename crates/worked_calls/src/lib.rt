@@ -8,7 +8,9 @@ mod taking;
 mod whole_cells;
 
 pub use counting::formula_count;
-pub use in_memory::{cells_in_memory, part_in_memory, sheet_in_memory};
+pub use in_memory::{
+    cells_in_memory, part_in_memory, pivot_rows_in_memory, rows_in_memory, sheet_in_memory,
+};
 pub use taking::{first_error, formulas_taken, two_taken};
 pub use whole_cells::full_cells;
 

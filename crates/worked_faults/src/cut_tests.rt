@@ -10,9 +10,10 @@ use test_packages::events_of;
 use test_tables::{assert_text, cases, cut};
 use xlsx_core::{OpenFailure, Xlsx};
 
-/// What is asked of a workbook, and of which of its parts; the section of the part that is read,
-/// where there is one; what is answered in front of its start, also where no start stands there;
-/// and the listed elements, each with what its lack of an end is told by where that isn't its name.
+/// What is asked of a workbook, and of which of its parts; the section of the part, or the element
+/// in it, from whose end on the answer is whole, where there is one; what is answered in front of
+/// that end where no listed element is open, also where no start stands there; and the listed
+/// elements, each with what its lack of an end is told by where that isn't its name.
 /// `whole` is the answer of the whole part, `good` any that is no refusal, `!` an element that is
 /// skipped, and `*` one that is skipped behind its first event, but for joined texts.
 const CUTS: &str = r#"
@@ -88,15 +89,9 @@ extras merges
 = good
 = mergeCells=
 
-extras lenient
+extras lenient regions
 = xl/worksheets/sheet1.xml
-=
-= good
-=
-
-extras regions
-= xl/worksheets/sheet1.xml
-=
+= mergeCells
 = good
 =
 
@@ -120,7 +115,7 @@ extras tables data
 
 extras properties
 = docProps/core.xml
-=
+= creator
 = good
 =
 
@@ -144,7 +139,7 @@ extras pivots rows
 
 extras fields
 = xl/pivotCache/pivotCacheDefinition1.xml
-=
+= cacheFields
 = good
 = cacheField
 

@@ -152,6 +152,14 @@ fn push_table_answer(
     push_table(out, xlsx.table_by_name_ref("T1"))
 }
 
+/// Appends the regions that are loaded.
+fn push_regions(out: &mut String, xlsx: &mut Xlsx<FailingPackage>) -> Result<(), Fail> {
+    if let Err(error) = xlsx.load_merged_regions() {
+        return Ok(write!(out, "Err({error:?});")?);
+    }
+    Ok(write!(out, "{:?};", xlsx.merged_regions())?)
+}
+
 fn push_merge_answer(
     out: &mut String,
     xlsx: &mut Xlsx<FailingPackage>,
@@ -163,7 +171,7 @@ fn push_merge_answer(
         MergeCall::MergeCellsBySheetId => push(out, xlsx.merge_cells_by_sheet_id(0)),
         MergeCall::WorksheetMergeCells => push(out, xlsx.worksheet_merge_cells(sheet).transpose()),
         MergeCall::WorksheetMergeCellsAt => push(out, xlsx.worksheet_merge_cells_at(0).transpose()),
-        MergeCall::LoadMergedRegions => push(out, xlsx.load_merged_regions()),
+        MergeCall::LoadMergedRegions => push_regions(out, xlsx),
     }
 }
 

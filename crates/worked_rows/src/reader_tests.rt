@@ -632,6 +632,11 @@ fn a_fault_of_the_package_is_told_once(rt: HostRuntime) -> Result<(), Fail> {
         let mut package = FailingPackage::new(package_of(alloc, &[SHEET])?, calls);
         let found = told(alloc, &mut package, "value value value")?;
         assert!(rt; found.as_str() == wanted, "call {number}: {found}");
+        if number < 11 {
+            assert!(rt; package.faults() == 1, "call {number}");
+            let again = told(alloc, &mut package, "value value value")?;
+            assert_text(&again, "(0,0 s:nut)..", "behind the failure")?;
+        }
     }
     Ok(())
 }
