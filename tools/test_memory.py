@@ -1,9 +1,11 @@
 """Tries that taking cells asks for no memory where nothing of a cell has to be kept: numbers,
-places of shared strings and truth values, and formulas of a group that are told by their index.
+places of shared strings and truth values, and formulas of a group that are told by their index; and
+that a theme which finds no memory isn't told as the default one.
 
 A program of its own makes five readers and takes the first cells of each, so that their buffers
 stand. What comes next is the step that is tried. Then it allocates until the allocation fails that
-`rt try --fail-alloc` was told: how many came before says how many the step asked for.
+`rt try --fail-alloc` was told: how many came before says how many the step asked for. A theme is
+read behind so many allocations that the failing one stands before, in or behind its reading.
 """
 
 import pathlib
@@ -19,8 +21,11 @@ FAILING = 1000
 ROWS = 40
 # How many cells each reader takes before.
 FIRST = 6
-# Nothing, the rest by the four calls without texts, and the rest by the call with texts, too.
-STEPS = ("0", "1", "2")
+# How many texts are made before a theme is read.
+BEFORE = range(FAILING - 100, FAILING)
+# Nothing, the rest by the four calls without texts, and the rest by the call with texts, too; and a
+# theme.
+STEPS = ("0", "1", "2", *(f"t{before}" for before in BEFORE))
 
 PLAIN = (
     '<row><c><v>-1.50</v></c><c t=\\"s\\" s=\\"1\\"><v>0</v></c>'
@@ -28,8 +33,10 @@ PLAIN = (
 )
 MASTER = '<c><f t=\\"shared\\" si=\\"0\\" ref=\\"A1:A50\\">B1</f><v>1</v></c>'
 DERIVED = '<row><c><f t=\\"shared\\" si=\\"0\\"/><v>1</v></c></row>'
+THEME = "<clrScheme>" + 5 * '<accent1><srgbClr val=\\"112233\\"/></accent1>' + "</clrScheme>"
 
-PROGRAM = """//! Takes cells, and then allocates until an allocation fails.
+PROGRAM = """//! Takes cells, and then allocates until an allocation fails; or reads a theme behind
+//! allocations.
 #![tactic(auto)]
 
 use cell_data::CellFormat;
@@ -41,6 +48,7 @@ use std::process::ExitCode;
 use test_packages::{SHEET_NAME, package_of, sheet_part};
 use xlsx_cells::XlsxCellReader;
 use xlsx_error::XlsxError;
+use xlsx_theme::read_theme;
 
 const FORMATS: [CellFormat; 2] = [CellFormat::Other, CellFormat::DateTime];
 
@@ -121,6 +129,24 @@ fn counts(alloc: Global, step: &str) -> Result<(usize, usize), XlsxError> {
     Ok((taken, allocations(alloc)))
 }
 
+/// How many colors a theme has that is read behind so many allocations, and 1 where they are told
+/// as the default theme's.
+fn theme(alloc: Global, before: &str) -> Result<(usize, usize), XlsxError> {
+    let mut package = package_of(alloc, &[("theme", "@THEME@")])?;
+    for _ in 0..before.parse::<usize>().unwrap_or(0) {
+        let _text = String::from_str(alloc, "x")?;
+    }
+    let theme = read_theme(alloc, &mut package, "theme")?;
+    Ok((theme.colors.len(), theme.defaulted as usize))
+}
+
+fn told(alloc: Global, step: &str) -> Result<(usize, usize), XlsxError> {
+    match step.strip_prefix('t') {
+        Some(before) => theme(alloc, before),
+        None => counts(alloc, step),
+    }
+}
+
 /// The step is the program's first word.
 fn step_of(rt: &(impl Env + Alloc<A = Global>)) -> Option<String> {
     let mut words = env::args(rt).ok()?;
@@ -132,8 +158,8 @@ fn main(rt: HostRuntime) -> ExitCode {
     let Some(step) = step_of(&rt) else {
         return ExitCode::FAILURE;
     };
-    if let Ok((taken, left)) = counts(rt.alloc(), &step) {
-        if println!(rt; "{taken} {left}").is_ok() {
+    if let Ok((first, second)) = told(rt.alloc(), &step) {
+        if println!(rt; "{first} {second}").is_ok() {
             return ExitCode::SUCCESS;
         }
     }
@@ -146,10 +172,11 @@ def write_program(top):
     """Puts the program and the crates below it there, and answers its folder."""
     text = PROGRAM.replace("@ROWS@", str(ROWS)).replace("@FIRST@", str(FIRST))
     text = text.replace("@FAILING@", str(FAILING))
-    for name, data in (("PLAIN", PLAIN), ("MASTER", MASTER), ("DERIVED", DERIVED)):
+    markup = {"PLAIN": PLAIN, "MASTER": MASTER, "DERIVED": DERIVED, "THEME": THEME}
+    for name, data in markup.items():
         text = text.replace(f"@{name}@", data)
     shutil.copytree(TOP / "crates", top / "crates", ignore=shutil.ignore_patterns("out"))
-    needs = "cell_data cell_styles part_events test_packages xlsx_cells xlsx_error"
+    needs = "cell_data cell_styles part_events test_packages xlsx_cells xlsx_error xlsx_theme"
     crates = (TOP / "crates.txt").read_text(encoding="utf-8") + f"takes_cells: {needs}\n"
     (top / "crates.txt").write_text(crates, encoding="utf-8")
     own = top / "crates" / "takes_cells"
@@ -159,7 +186,7 @@ def write_program(top):
 
 
 def told_by_steps(top):
-    """For each step how many cells were taken, and how many allocations came before one failed."""
+    """The two numbers of each step, but for those that found no memory."""
     own = write_program(top)
     cases = top / "cases"
     cases.mkdir()
@@ -174,23 +201,33 @@ def told_by_steps(top):
         text=True,
     )
     found = re.findall(r"^== (\w+)\n(\d+) (\d+)$", done.stdout, re.M)
-    if done.returncode or len(found) != len(STEPS):
+    if done.returncode or not found:
         raise AssertionError(done.stdout + done.stderr)
-    return {step: (int(taken), int(left)) for step, taken, left in found}
+    return {step: (int(first), int(second)) for step, first, second in found}
 
 
 class Memory(unittest.TestCase):
-    def test_plain_cells_ask_for_no_memory(self):
+    @classmethod
+    def setUpClass(cls):
         with tempfile.TemporaryDirectory() as folder:
-            told = told_by_steps(pathlib.Path(folder))
-        first, left = told["0"]
+            cls.told = told_by_steps(pathlib.Path(folder))
+
+    def test_plain_cells_ask_for_no_memory(self):
+        """By how many cells were taken, and how many allocations came before one failed."""
+        first, left = self.told["0"]
         self.assertEqual(first, 5 * FIRST)
         plain = 2 * 3 * ROWS + 2 * ROWS + (ROWS + 1)
-        self.assertEqual(told["1"], (plain + FIRST, left))
+        self.assertEqual(self.told["1"], (plain + FIRST, left))
         # A formula that is written out does.
-        taken, fewer = told["2"]
+        taken, fewer = self.told["2"]
         self.assertEqual(taken, plain + ROWS + 1)
         self.assertLess(fewer, left)
+
+    def test_want_of_memory_is_no_default_theme(self):
+        themes = [self.told.get(f"t{before}") for before in BEFORE]
+        # The first is read before an allocation fails, and the last isn't.
+        self.assertEqual((themes[0], themes[-1]), ((5, 0), None))
+        self.assertEqual(set(themes), {(5, 0), None})
 
 
 if __name__ == "__main__":

@@ -137,6 +137,12 @@ CACHES = [
     ("a field without a name", field(ITEMS, ""), "<pivotCacheRecords/>", "\n"),
     ("a field with a formula", field(ITEMS, ' name="A" formula="B"'), with_records("<r/>"), "\n\n"),
     ("a grouped field", field(ITEMS + "<g><groupItems/></g>"), with_records("<r/>"), "\n\n"),
+    (
+        "a grouped field whose groups have items",
+        field(ITEMS + '<g><groupItems><s v="a"/></groupItems></g>'),
+        with_records("<r/>"),
+        "\n\n",
+    ),
     ("a name with a reference", field("", ' name="a&amp;b"'), with_records(""), "s:a&b\n"),
     (
         "items at depth 1 of the first alone",

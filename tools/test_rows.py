@@ -5,6 +5,7 @@ import io
 import subprocess
 import unittest
 
+from fixtures import SALES, package_text
 from noted import (
     RELATIONSHIPS,
     ROOT,
@@ -126,6 +127,8 @@ class Rows(unittest.TestCase):
         data = cell("A1", "45292", ' s="1"') + cell("B1", "0.5", ' s="2"')
         package = package_with((SHEET_NAME, with_data(data)), STYLES)
         self.check(package, ["csv", "S"], "45292,0.5\n", "a date and a duration")
+        wanted = "Date,Amount, Total\n45292,10.5,10.5\n45293,4,14.5\n"
+        self.check(package_text(SALES), ["csv", "Sales"], wanted, "the shipped package")
 
     def test_rows_are_read_back(self):
         rows = [["a,b", 'say "x"', " c "], ["", "a\nb", "=A1"], ["it's", "", "1;2"]]
@@ -174,8 +177,24 @@ class Rows(unittest.TestCase):
         for ref in ("A1:XFD1026", "A1:Q1048576"):
             package = package_with(RELATED, (TABLE_NAME, table("", ref)), empty)
             self.check(package, ["csv-table", "T1"], TOO_LARGE, ref)
+        part = table('headerRowCount="0"', "A1:XFD1025")
+        package = package_with(RELATED, (TABLE_NAME, part), empty)
+        self.check(package, ["csv-table", "T1"], TOO_LARGE, "an area without headers")
         package = package_with(RELATED, (TABLE_NAME, table("", "A1:XFD1026")), BROKEN)
         self.check(package, ["csv-table", "T1"], NO_TRUTH, "a sheet that is refused")
+
+    def test_a_table_of_the_most_cells_is_written(self):
+        package = package_with(RELATED, (TABLE_NAME, table("", "A1:XFD1025")), NUT)
+        blanks = "," * 16_381
+        rows = [f"Name,Qty,{blanks}\n", f"nut,3,{blanks}\n", *([f",,{blanks}\n"] * 1_023)]
+        wanted = 0, "".join(rows).encode(), b""
+        for build in BUILDS:
+            ran = subprocess.run(
+                [OUT / build, "csv-table", "T1"], input=package, capture_output=True
+            )
+            # Not by `assertEqual`, which would print the rows.
+            answer = ran.returncode, ran.stdout, ran.stderr
+            self.assertTrue(answer == wanted, (build, answer[0], answer[1][:40], answer[2]))
 
     def test_rows_need_a_table(self):
         package = package_with(RELATED, (TABLE_NAME, table()), NUT)

@@ -7,6 +7,7 @@ ghost use Rattle.xlsx_cells.specs.Stream.{IsStreaming};
 
 use crate::answers::{assert_answer, push_value};
 use cell_data::{Cell, CellFormat, DataRef};
+use cell_refs::Dimensions;
 use cell_styles::Style;
 use part_events::{FailingPackage, Package, XlReader};
 use std::alloc::Global;
@@ -128,7 +129,12 @@ fn push_value_and_metadata(
     match found {
         Ok(Some(cell)) => {
             push_placed(out, alloc, strings, cell.pos, cell.value)?;
-            push_metadata(out, cell.formula)?;
+            // What is told is the copy's.
+            let copy = match cell.formula {
+                Some(own) => Some(own.clone_in(alloc)?),
+                None => None,
+            };
+            push_metadata(out, copy)?;
         }
         Ok(None) => out.push_str(".")?,
         Err(error) => write!(out, "{error:?};")?,
@@ -312,6 +318,11 @@ the same, asked for formulas
 = <c><f t="shared" si="0"><!nbsp></f><v>1</v></c>
 = formula formula formula
 = Xml(Entity { at: 4 });Failed;Failed;
+
+what stands in a formula is no child of its cell
+= <c><f><v>2</v><q/></f></c>
+= value value
+= (0,0 Empty).
 "#;
 
 #[test]
@@ -356,6 +367,21 @@ a value with its style id keeps none
 = <c r="A1"><f t="shared" ref="A1:A3" si="0">B1</f></c><c r="A2"><f t="shared" ref="A2:A3" si="0">C9</f></c><c r="A3"><f t="shared" si="0"/></c>
 = value+style value+style value+formula
 = (0,0 Empty style 0)(1,0 Empty style 0)(2,0 Empty -)
+
+a formula, and behind it a value with its formula
+= <row r="1"><c r="A1"><f t="shared" ref="A1:A2" si="0">B1</f><v>1</v></c></row><row><c><f t="shared" si="0"/></c></row>
+= formula value+formula
+= (0,0 =B1)(1,0 Empty =B2)
+
+a value, and 0 without a style id
+= <row r="1"><c r="A1"><f t="shared" ref="A1:A2" si="0">B1</f><v>1</v></c></row><row><c><f t="shared" si="0"/></c></row>
+= value+style
+= (0,0 n:1 style 0)
+
+no style id
+= <row r="1"><c r="A1"><f t="shared" ref="A1:A2" si="0">B1</f><v>1</v></c></row><row><c><f t="shared" si="0"/></c></row>
+= style
+= .
 
 a style id keeps none
 = <c r="A1" s="1"><f t="shared" ref="A1:A2" si="0">B1</f></c><c r="A2"><f t="shared" si="0"/></c>
@@ -479,6 +505,27 @@ fn calls_are_mixed(rt: HostRuntime) -> Result<(), Fail> {
         let mut package = package_of(alloc, &[(SHEET_NAME, sheet.as_str())])?;
         let found = told(alloc, &mut package, calls)?;
         assert_answer(&rt, found.as_str(), wanted, shown);
+    }
+    Ok(())
+}
+
+#[test]
+fn formulas_tell_their_group_and_equal_their_copies(rt: HostRuntime) -> Result<(), Fail> {
+    let alloc = rt.alloc();
+    let own = XlsxFormulaMetadata::Normal {
+        formula: String::from_str(alloc, "B1")?,
+    };
+    let master = XlsxFormulaMetadata::Shared {
+        shared_index: 7,
+        range: Some(Dimensions::default()),
+        formula: String::from_str(alloc, "B1")?,
+    };
+    let derived = XlsxFormulaMetadata::SharedDerived { shared_index: 8 };
+    let other = XlsxFormulaMetadata::SharedDerived { shared_index: 7 };
+    for (formula, group) in [(own, None), (master, Some(7)), (derived, Some(8))] {
+        assert!(rt; formula.shared_index() == group);
+        assert!(rt; formula.clone_in(alloc)? == formula);
+        assert!(rt; formula != other);
     }
     Ok(())
 }

@@ -6,6 +6,7 @@ use cell_data::{Cell, CellErrorType, Data, Decimal, ExcelDateTime, ExcelDateTime
 use cell_refs::{MAX_COLUMNS, MAX_ROWS};
 use csv::{ReaderBuilder, StringRecord};
 use std::alloc::{AllocError, Global};
+use std::process::Abort;
 use std::test::Fail;
 use test_tables::assert_text;
 use xlsx_rows::{CsvError, push_field, rows_csv};
@@ -99,6 +100,21 @@ fn rows_have_a_field_for_each_column(rt: HostRuntime) -> Result<(), Fail> {
     Ok(())
 }
 
+/// A reader gives these records of two fields back, and no further one.
+fn assert_read(rt: &impl Abort, alloc: Global, text: &[u8], wanted: &[(&str, &str)]) {
+    let mut reader = ReaderBuilder::new()
+        .has_headers(false)
+        .from_reader(alloc, text);
+    let mut row = StringRecord::new(alloc);
+    for (first, second) in wanted {
+        assert!(rt; reader.read_record(&mut row).unwrap_or(false));
+        assert!(rt; row.len() == 2);
+        assert!(rt; row.get(0) == Some(*first));
+        assert!(rt; row.get(1) == Some(*second));
+    }
+    assert!(rt; !reader.read_record(&mut row).unwrap_or(true));
+}
+
 #[test]
 fn a_reader_gives_the_rows_back(rt: HostRuntime) -> Result<(), Fail> {
     let alloc = rt.alloc();
@@ -108,18 +124,10 @@ fn a_reader_gives_the_rows_back(rt: HostRuntime) -> Result<(), Fail> {
         Cell::new((1, 1), number("1")),
     ];
     let range = Range::from_sparse(alloc, Vec::from_array(alloc, cells)?, Data::Empty)?;
-    let text = rows_csv(alloc, None, &range)?;
+    let rows = rows_csv(alloc, None, &range)?;
     let wanted = "\"a,b\",\"say \"\"x\"\"\"\n,1\n";
-    assert_text(std::str::from_utf8(&text)?, wanted, "rows")?;
-    let mut reader = ReaderBuilder::new()
-        .has_headers(false)
-        .from_reader(alloc, text.as_slice());
-    let mut row = StringRecord::new(alloc);
-    for wanted in [("a,b", "say \"x\""), ("", "1")] {
-        assert!(rt; reader.read_record(&mut row).is_ok());
-        assert!(rt; row.get(0) == Some(wanted.0));
-        assert!(rt; row.get(1) == Some(wanted.1));
-    }
+    assert_text(std::str::from_utf8(&rows)?, wanted, "rows")?;
+    assert_read(&rt, alloc, &rows, &[("a,b", "say \"x\""), ("", "1")]);
     Ok(())
 }
 
@@ -138,6 +146,22 @@ fn a_header_stands_before_the_rows(rt: HostRuntime) -> Result<(), Fail> {
     let table = used.range((1, 0), (2, 1));
     let rows = rows_csv(alloc, Some(&header), &table)?;
     assert_text(std::str::from_utf8(&rows)?, "Name,Qty\nnut,3\n,\n", "rows")?;
+    assert_read(
+        &rt,
+        alloc,
+        &rows,
+        &[("Name", "Qty"), ("nut", "3"), ("", "")],
+    );
+    Ok(())
+}
+
+#[test]
+fn a_header_stands_alone_where_no_row_is(rt: HostRuntime) -> Result<(), Fail> {
+    let alloc = rt.alloc();
+    let header = [
+        String::from_str(alloc, "Name")?,
+        String::from_str(alloc, "Qty")?,
+    ];
     let none = Range::from_sparse(alloc, Vec::new(alloc), Data::Empty)?;
     let names = rows_csv(alloc, Some(&header), &none)?;
     assert_text(std::str::from_utf8(&names)?, "Name,Qty\n", "rows")?;

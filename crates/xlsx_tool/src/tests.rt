@@ -248,32 +248,34 @@ fn a_failing_source_is_told(rt: HostRuntime) -> Result<(), Fail> {
     Ok(())
 }
 
+/// How a run ends whose sink took this front of its lines.
+fn cut_off(alloc: Global, front: &[u8]) -> Result<String, Fail> {
+    ended(alloc, &Err(ToolError::WriteFault), front)
+}
+
 #[test]
 fn a_full_or_failing_sink_has_a_front_of_the_lines(rt: HostRuntime) -> Result<(), Fail> {
     let alloc = rt.alloc();
     let input = package_of(alloc, NUTS)?;
-    for room in 0..NUTS_LINES.len() {
-        let setting = Setting { room, ..EASY };
-        let told = run_on(alloc, "cells S", input.as_bytes(), setting)?;
-        let wanted = ended(
-            alloc,
-            &Err(ToolError::WriteFault),
-            &NUTS_LINES.as_bytes()[..room],
-        )?;
-        assert_text(&told, &wanted, "a full sink")?;
+    for (words, lines, front) in [
+        ("cells S", NUTS_LINES, "A1\ts:n"),
+        ("csv S", "nut,NUT\n", "nut,NU"),
+    ] {
+        for room in 0..lines.len() {
+            let setting = Setting { room, ..EASY };
+            let told = run_on(alloc, words, input.as_bytes(), setting)?;
+            let wanted = cut_off(alloc, &lines.as_bytes()[..room])?;
+            assert_text(&told, &wanted, "a full sink")?;
+        }
+        let setting = Setting {
+            piece: 3,
+            failing_write: Some(2),
+            ..EASY
+        };
+        let told = run_on(alloc, words, input.as_bytes(), setting)?;
+        let wanted = cut_off(alloc, front.as_bytes())?;
+        assert_text(&told, &wanted, "a failing sink")?;
     }
-    let setting = Setting {
-        piece: 10,
-        failing_write: Some(2),
-        ..EASY
-    };
-    let told = run_on(alloc, "cells S", input.as_bytes(), setting)?;
-    let wanted = ended(
-        alloc,
-        &Err(ToolError::WriteFault),
-        &NUTS_LINES.as_bytes()[..20],
-    )?;
-    assert_text(&told, &wanted, "a failing sink")?;
     Ok(())
 }
 
