@@ -1,0 +1,9 @@
+//! Cells of a worksheet in the order of positions, kept by rows.
+//!
+//! A position is a pair of a row and a column, each counted from 0, as in `(0, 2)` for `C1`.
+#![tactic(auto)]
+
+mod row;
+mod sorted;
+
+pub use sorted::SortedCells;

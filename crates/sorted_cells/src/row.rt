@@ -1,0 +1,41 @@
+//! The rows of a list of cells, each with the place of its first cell.
+ghost use Rattle.std.specs.Prelude.{◌≡◌, OnOk, OnErr};
+ghost use Rattle.sorted_cells.specs.Rows.{is_last, with_row};
+
+use std::alloc::AllocError;
+
+/// A row, and the place of its first cell among the cells of all rows.
+#[derive(Clone, Copy, Debug, PartialEq, Eq)]
+pub struct Row {
+    pub number: u32,
+    pub first: usize,
+}
+
+/// A cell of a row.
+#[derive(Drop)]
+pub struct ColumnCell<T> {
+    pub column: u32,
+    pub val: T,
+}
+
+/// Whether the last row has this number.
+fn is_last(rows: &[Row], number: u32) -> bool
+    ensures { result ≡ is_last number rows.now }
+{
+    match rows.split_last() {
+        Some((last, _)) => last.number == number,
+        None => false,
+    }
+}
+
+/// Puts a row behind the others, unless the last one has its number.
+pub fn begin_row(rows: &mut Vec<Row>, number: u32, first: usize) -> Result<(), AllocError>
+    ensures ok { OnOk result (rows.new.items ≡ with_row number first rows.old.items) }
+    ensures err { OnErr result (rows.new.items ≡ rows.old.items) }
+{
+    if is_last(rows, number) {
+        return Ok(());
+    }
+    rows.push(Row { number, first })?;
+    Ok(())
+}

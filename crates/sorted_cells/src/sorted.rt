@@ -1,0 +1,75 @@
+ghost use Rattle.std.specs.Prelude.{IsTrue, length};
+ghost use Rattle.sorted_cells.specs.Rows.{are_rows, numbers_rise, cells_by};
+ghost use Rattle.cell_refs.specs.Positions.{is_rising};
+
+use crate::row::{ColumnCell, Row, begin_row};
+use std::alloc::{AllocError, Global};
+
+/// Cells of a worksheet in the order of their positions, row by row: a list of rows, and one of
+/// columns and values.
+///
+/// A cell takes the memory of its column and its value, and a row with cells that of its number and
+/// a place.
+#[derive(Drop)]
+pub struct SortedCells<T> {
+    rows: Vec<Row>,
+    cells: Vec<ColumnCell<T>>,
+    ghost shared: { IsTrue (are_rows 0 rows.items (length cells.items)) },
+    ghost numbers: { IsTrue (numbers_rise rows.items) },
+    ghost rising: { IsTrue (is_rising (cells_by rows.items cells.items)) },
+}
+
+impl<T> SortedCells<T> {
+    ghost use Rattle.std.specs.Prelude.{◌≡◌, ◌++◌, ◌∷◌, [], ◌==◌, length, true, OnOk, OnErr};
+    ghost use Rattle.cell_refs.specs.Positions.{position_cmp};
+    ghost use Rattle.sorted_cells.specs.Kept.{cells_in};
+    ghost use Rattle.sorted_cells.specs.Last.{last_key, comes_after};
+
+    /// No cells.
+    pub fn new(alloc: Global) -> SortedCells<T>
+        ensures { cells_in result ≡ [] }
+    {
+        SortedCells {
+            rows: Vec::new(alloc),
+            cells: Vec::new(alloc),
+        }
+    }
+
+    /// How many cells there are.
+    pub fn len(&self) -> usize
+        ensures { result ≡ length (cells_in self.now) }
+    {
+        self.cells.len()
+    }
+
+    /// Whether there is no cell.
+    pub fn is_empty(&self) -> bool
+        ensures { result ≡ (length (cells_in self.now) == 0) }
+    {
+        self.cells.is_empty()
+    }
+
+    /// The row and the column of the last cell, counted from 0; none without a cell.
+    pub fn last_position(&self) -> Option<(u32, u32)>
+        ensures { result ≡ last_key (cells_in self.now) }
+    {
+        let (row, _) = self.rows.split_last()?;
+        let (cell, _) = self.cells.split_last()?;
+        Some((row.number, cell.column))
+    }
+
+    /// Puts a cell behind the others, where its position, a row and a column counted from 0, comes
+    /// after theirs. Where memory is lacking, the cells stay as they were.
+    pub fn push(&mut self, pos: (u32, u32), val: T) -> Result<(), AllocError>
+    where
+        T: Drop,
+        requires { comes_after position_cmp (last_key (cells_in self.old)) pos ≡ true }
+        ensures ok { OnOk result (cells_in self.new ≡ cells_in self.old ++ (pos, val) ∷ []) }
+        ensures err { OnErr result (cells_in self.new ≡ cells_in self.old) }
+    {
+        self.cells.reserve(1)?;
+        begin_row(&mut self.rows, pos.0, self.cells.len())?;
+        self.cells.push(ColumnCell { column: pos.1, val })?;
+        Ok(())
+    }
+}
