@@ -1,2 +1,4 @@
+pub mod Finding
 pub mod Orders
+pub mod Parts
 pub mod Pushing

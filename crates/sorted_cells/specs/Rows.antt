@@ -1,6 +1,6 @@
 -- Cells kept by rows, as pairs of a position and a value. Each row has the place of its first cell
 -- in one list of the cells of all rows.
-use Rattle.std.specs.Prelude.{ℕ, ◌+◌, ◌-◌, List, [], ◌∷◌, ◌++◌, length, map, take, drop}
+use Rattle.std.specs.Prelude.{ℕ, zero, suc, ◌+◌, ◌-◌, List, [], ◌∷◌, ◌++◌, length, map, take, drop}
 use Rattle.std.specs.Prelude.{Bool, false, ◌&&◌, ◌==◌, nat_le, nat_lt, if◌then◌else◌}
 use Rattle.std.specs.FinMap.{is_sorted}
 use Rattle.std.specs.Ordering.{nat_cmp}
@@ -39,6 +39,26 @@ row_place row = (row.number, row.first)
 -- each row's number is greater than that of the row before it
 abbrev pub numbers_rise : List Row → Bool
 numbers_rise rows = is_sorted nat_cmp (map row_place rows)
+
+-- the place behind the cells of a row, where these rows stand behind it and there are so many cells
+abbrev pub rows_end : List Row → ℕ → ℕ
+rows_end [] count = count
+rows_end (next ∷ rows) count = next.first
+
+-- the cells of one of the rows, counted from 0
+abbrev pub part_of : {X : Type 0} → ℕ → List Row → List (ColumnCell X) → List (ColumnCell X)
+part_of k [] cells = []
+part_of zero (own ∷ rows) cells = take (row_size own.first rows (length cells)) cells
+part_of (suc k) (own ∷ rows) cells =
+    part_of k rows (drop (row_size own.first rows (length cells)) cells)
+
+-- a cell as its column and its value
+abbrev pub column_entry : {X : Type 0} → ColumnCell X → ℕ × X
+column_entry cell = (cell.column, cell.val)
+
+-- each cell's column is greater than that of the cell before it
+abbrev pub columns_rise : {X : Type 0} → List (ColumnCell X) → Bool
+columns_rise cells = is_sorted nat_cmp (map column_entry cells)
 
 -- the last row has this number
 abbrev pub is_last : ℕ → List Row → Bool

@@ -1,6 +1,9 @@
 //! The rows of a list of cells, each with the place of its first cell.
-ghost use Rattle.std.specs.Prelude.{◌≡◌, OnOk, OnErr};
-ghost use Rattle.sorted_cells.specs.Rows.{is_last, with_row};
+ghost use Rattle.std.specs.Prelude.{◌≡◌, true, map, OnOk, OnErr};
+ghost use Rattle.std.specs.FinMap.{find};
+ghost use Rattle.std.specs.Option.{option_copied};
+ghost use Rattle.std.specs.Ordering.{nat_cmp};
+ghost use Rattle.sorted_cells.specs.Rows.{is_last, with_row, column_entry, columns_rise};
 
 use std::alloc::AllocError;
 
@@ -38,4 +41,15 @@ pub fn begin_row(rows: &mut Vec<Row>, number: u32, first: usize) -> Result<(), A
     }
     rows.push(Row { number, first })?;
     Ok(())
+}
+
+/// The value of a row's cell in this column.
+pub fn value_in<T>(cells: &[ColumnCell<T>], column: u32) -> Option<&T>
+    requires { columns_rise cells.now ≡ true }
+    ensures { option_copied result ≡ find nat_cmp column (map column_entry cells.now) }
+{
+    match cells.binary_search_by_key(&column, |cell| cell.column) {
+        Ok(place) => Some(&cells[place].val),
+        Err(_) => None,
+    }
 }

@@ -2,7 +2,7 @@ ghost use Rattle.std.specs.Prelude.{IsTrue, length};
 ghost use Rattle.sorted_cells.specs.Rows.{are_rows, numbers_rise, cells_by};
 ghost use Rattle.cell_refs.specs.Positions.{is_rising};
 
-use crate::row::{ColumnCell, Row, begin_row};
+use crate::row::{ColumnCell, Row, begin_row, value_in};
 use std::alloc::{AllocError, Global};
 
 /// Cells of a worksheet in the order of their positions, row by row: a list of rows, and one of
@@ -21,7 +21,11 @@ pub struct SortedCells<T> {
 
 impl<T> SortedCells<T> {
     ghost use Rattle.std.specs.Prelude.{◌≡◌, ◌++◌, ◌∷◌, [], ◌==◌, length, true, OnOk, OnErr};
+    ghost use Rattle.std.specs.Prelude.{◌+◌, ◌<◌, drop};
+    ghost use Rattle.std.specs.FinMap.{find};
+    ghost use Rattle.std.specs.Option.{option_copied};
     ghost use Rattle.cell_refs.specs.Positions.{position_cmp};
+    ghost use Rattle.sorted_cells.specs.Rows.{part_of, rows_end};
     ghost use Rattle.sorted_cells.specs.Kept.{cells_in};
     ghost use Rattle.sorted_cells.specs.Last.{last_key, comes_after};
 
@@ -71,5 +75,37 @@ impl<T> SortedCells<T> {
         begin_row(&mut self.rows, pos.0, self.cells.len())?;
         self.cells.push(ColumnCell { column: pos.1, val })?;
         Ok(())
+    }
+
+    /// The place behind the cells of this row, by its place in the list of rows.
+    fn row_end(&self, row: usize) -> usize
+        requires { row < length self.now.rows.items }
+        ensures { result ≡ rows_end (drop (row + 1) self.now.rows.items)
+            (length self.now.cells.items) }
+    {
+        match self.rows.get(row + 1) {
+            Some(next) => next.first,
+            None => self.cells.len(),
+        }
+    }
+
+    /// The cells of this row, by its place in the list of rows.
+    fn row_cells(&self, row: usize) -> &[ColumnCell<T>]
+        requires { row < length self.now.rows.items }
+        ensures { result.now ≡ part_of row self.now.rows.items self.now.cells.items }
+    {
+        let first = self.rows[row].first;
+        let end = self.row_end(row);
+        &self.cells[first..end]
+    }
+
+    /// The value of the cell at a row and a column, counted from 0; none where there is no cell.
+    pub fn get(&self, pos: (u32, u32)) -> Option<&T>
+        ensures { option_copied result ≡ find position_cmp pos (cells_in self.now) }
+    {
+        match self.rows.binary_search_by_key(&pos.0, |row| row.number) {
+            Ok(row) => value_in(self.row_cells(row), pos.1),
+            Err(_) => None,
+        }
     }
 }
