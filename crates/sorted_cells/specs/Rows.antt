@@ -32,6 +32,11 @@ are_rows place (own ∷ rows) left =
     ((own.first == place) && nat_lt 0 size)
     && (nat_le size left && are_rows (place + size) rows (left - size))
 
+-- the place of the first cell of these rows
+abbrev pub first_place : List Row → ℕ
+first_place [] = 0
+first_place (own ∷ rows) = own.first
+
 -- a row as its number and the place of its first cell
 abbrev pub row_place : Row → ℕ × ℕ
 row_place row = (row.number, row.first)

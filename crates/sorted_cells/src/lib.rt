@@ -3,7 +3,9 @@
 //! A position is a pair of a row and a column, each counted from 0, as in `(0, 2)` for `C1`.
 #![tactic(auto)]
 
+mod placed_cells;
 mod row;
 mod sorted;
 
+pub use placed_cells::PlacedCells;
 pub use sorted::SortedCells;

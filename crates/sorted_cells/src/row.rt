@@ -1,9 +1,10 @@
 //! The rows of a list of cells, each with the place of its first cell.
-ghost use Rattle.std.specs.Prelude.{◌≡◌, true, map, OnOk, OnErr};
+ghost use Rattle.std.specs.Prelude.{◌≡◌, ◌∷◌, true, map, OnOk, OnErr};
 ghost use Rattle.std.specs.FinMap.{find};
 ghost use Rattle.std.specs.Option.{option_copied};
 ghost use Rattle.std.specs.Ordering.{nat_cmp};
 ghost use Rattle.sorted_cells.specs.Rows.{is_last, with_row, column_entry, columns_rise};
+ghost use Rattle.sorted_cells.specs.Rows.{are_rows, row_size};
 
 use std::alloc::AllocError;
 
@@ -19,6 +20,18 @@ pub struct Row {
 pub struct ColumnCell<T> {
     pub column: u32,
     pub val: T,
+}
+
+/// How many of the cells from its first one on are those of the row, before the cells of the rows
+/// behind it.
+pub fn row_size(row: &Row, rows: &[Row], left: usize) -> usize
+    requires { are_rows row.now.first (row.now ∷ rows.now) left ≡ true }
+    ensures { result ≡ row_size row.now.first rows.now left }
+{
+    match rows.first() {
+        Some(next) => next.first - row.first,
+        None => left,
+    }
 }
 
 /// Whether the last row has this number.

@@ -2,6 +2,7 @@ ghost use Rattle.std.specs.Prelude.{IsTrue, length};
 ghost use Rattle.sorted_cells.specs.Rows.{are_rows, numbers_rise, cells_by};
 ghost use Rattle.cell_refs.specs.Positions.{is_rising};
 
+use crate::placed_cells::PlacedCells;
 use crate::row::{ColumnCell, Row, begin_row, value_in};
 use std::alloc::{AllocError, Global};
 
@@ -27,6 +28,7 @@ impl<T> SortedCells<T> {
     ghost use Rattle.cell_refs.specs.Positions.{position_cmp};
     ghost use Rattle.sorted_cells.specs.Rows.{part_of, rows_end};
     ghost use Rattle.sorted_cells.specs.Kept.{cells_in};
+    ghost use Rattle.sorted_cells.specs.Placed.{placed_left};
     ghost use Rattle.sorted_cells.specs.Last.{last_key, comes_after};
 
     /// No cells.
@@ -107,5 +109,13 @@ impl<T> SortedCells<T> {
             Ok(row) => value_in(self.row_cells(row), pos.1),
             Err(_) => None,
         }
+    }
+
+    /// The cells with their positions, row by row.
+    pub fn iter(&self) -> PlacedCells<'_, T>
+        ensures cells { placed_left result ≡ cells_in self.now }
+        ensures rising { is_rising (cells_in self.now) ≡ true }
+    {
+        PlacedCells::new(&self.rows, &self.cells)
     }
 }

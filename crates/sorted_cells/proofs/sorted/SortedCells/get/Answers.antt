@@ -1,9 +1,8 @@
-use Rattle.std.proofs.Common.{rules, ◌≡◌, ◌∙◌, sym, ap, map}
+use Rattle.std.proofs.Common.{rules, ◌∙◌, sym, ap, map}
 use Rattle.std.proofs.lemmas.List.Sorted.{answers_always}
 use Rattle.std.specs.FinMap.{find}
 use Rattle.std.specs.Ordering.{nat_cmp}
 use Rattle.sorted_cells.specs.declared.row.Row.{Row}
-use Rattle.sorted_cells.specs.declared.row.ColumnCell.{ColumnCell}
 use Rattle.sorted_cells.specs.Rows.{column_entry, columns_rise}
 use Rattle.sorted_cells.proofs.Parts.{part_rises, found_in_row, found_in_no_row}
 use Rattle.sorted_cells.proofs.sorted.SortedCells.get.Goals as goal

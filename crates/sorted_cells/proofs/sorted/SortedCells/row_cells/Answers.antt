@@ -1,4 +1,4 @@
-use Rattle.std.proofs.Common.{◌≡◌, ◌∙◌, sym, ap, arith, ◌-◌, take, drop, List, length}
+use Rattle.std.proofs.Common.{◌∙◌, sym, ap, arith, ◌-◌, take, drop, List, length}
 use Rattle.sorted_cells.specs.declared.row.ColumnCell.{ColumnCell}
 use Rattle.sorted_cells.proofs.Parts.{row_part}
 use Rattle.sorted_cells.proofs.sorted.SortedCells.row_cells.Goals as goal
