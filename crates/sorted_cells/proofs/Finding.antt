@@ -70,7 +70,7 @@ module _ {E K X : Type 0} (cmp : K → K → Ordering) (total : IsTotalOrder cmp
       behind_first p es k d
       (and_both (is_lt (cmp p (entry e).0)) (below_all cmp p (map entry es)) below).1 (omega arith)
 
-  rising_at : (es : List E) (i j : ℕ) (d : E) → is_sorted cmp (map entry es) ≡ true → i < j →
+  pub rising_at : (es : List E) (i j : ℕ) (d : E) → is_sorted cmp (map entry es) ≡ true → i < j →
       j < length es → cmp (entry (get_or es i d)).0 (entry (get_or es j d)).0 ≡ Less
   rising_at [] i j d sorted before within = absurd (omega arith)
   rising_at (e ∷ es) i zero d sorted before within = absurd (omega arith)

@@ -1,6 +1,6 @@
 -- Entries in the order of their keys.
-use Rattle.std.proofs.Common.{◌≡◌, ℕ, Bool, true, false, ◌&&◌}
-use Rattle.std.proofs.Common.{List, [], ◌∷◌, ◌++◌, Some, refl, ap, ◌∙◌}
+use Rattle.std.proofs.Common.{◌≡◌, ℕ, Bool, true, false, ◌&&◌, T}
+use Rattle.std.proofs.Common.{List, [], ◌∷◌, ◌++◌, Some, refl, sym, ap, ◌∙◌, subst}
 use Rattle.std.specs.declared.cmp.Ordering.{Ordering}
 use Rattle.std.specs.declared.cmp.Ordering.TheVariants.{Less, Equal, Greater}
 use Rattle.std.specs.Cmp.{IsTotalOrder}
@@ -27,6 +27,13 @@ position_same a b same =
     let row : a.0 ≡ b.0 = nat_cmp-IsAntisymmetric a.0 b.0 rows in
     let column : a.1 ≡ b.1 = nat_cmp-IsAntisymmetric a.1 b.1 columns in
     ap (λ (r : ℕ). (r, a.1)) row ∙ ap (λ (k : ℕ). (b.0, k)) column
+
+pub to_T : (b : Bool) → b ≡ true → T b
+to_T b yields = subst T (sym yields) tt
+
+pub from_T : (b : Bool) → T b → b ≡ true
+from_T true holds = refl
+from_T false holds = absurd holds
 
 pub and_both : (a b : Bool) → (a && b) ≡ true → (a ≡ true) × (b ≡ true)
 and_both true b both = (refl, both)
@@ -82,3 +89,18 @@ module _ {K X : Type 0} where
         and_from (below_all cmp e.0 (f ∷ es ++ (k, v) ∷ []))
         (is_sorted cmp (f ∷ es ++ (k, v) ∷ [])) (below_push e.0 f es k v parts.0 after)
         (sorted_push (f ∷ es) k v parts.1 after)
+
+pub sorted_parts : {K X : Type 0} (cmp : K → K → Ordering) (es fs : List (K × X)) →
+    is_sorted cmp (es ++ fs) ≡ true → (is_sorted cmp es ≡ true) × (is_sorted cmp fs ≡ true)
+sorted_parts cmp [] fs sorted = (refl, sorted)
+sorted_parts {K} {X} cmp (e ∷ es) fs sorted =
+    let (below, rest) = and_both (below_all cmp e.0 (es ++ fs)) (is_sorted cmp (es ++ fs)) sorted in
+    let (front, back) = sorted_parts cmp es fs rest in
+    (ap (λ (t : Bool). t && is_sorted cmp es) (below_front e.0 es fs below) ∙ front, back)
+  where
+    below_front : (x : K) (es fs : List (K × X)) → below_all cmp x (es ++ fs) ≡ true →
+        below_all cmp x es ≡ true
+    below_front x [] fs below = refl
+    below_front x (e ∷ es) fs below =
+        let (first, rest) = and_both (is_lt (cmp x e.0)) (below_all cmp x (es ++ fs)) below in
+        ap (λ (t : Bool). t && below_all cmp x es) first ∙ below_front x es fs rest

@@ -5,7 +5,7 @@ use Rattle.std.proofs.Common.{Option, refl, sym, ap, ◌∙◌, subst, arith, ad
 use Rattle.std.specs.declared.cmp.Ordering.{Ordering}
 use Rattle.std.specs.declared.cmp.Ordering.TheVariants.{Less, Equal, Greater}
 use Rattle.std.specs.Cmp.{tied_itself}
-use Rattle.std.specs.FinMap.{find, is_sorted, nat_cmp-IsAntisymmetric}
+use Rattle.std.specs.FinMap.{find, nat_cmp-IsAntisymmetric}
 use Rattle.std.specs.FinMap.Entries.{below_all}
 use Rattle.std.specs.List.Sorted.{IsBinarySearchResult}
 use Rattle.std.specs.Option.{option_or}
@@ -18,7 +18,7 @@ use Rattle.sorted_cells.specs.declared.row.ColumnCell.{ColumnCell}
 use Rattle.sorted_cells.specs.Rows.{row_entry, row_size, cells_by, are_rows, row_place}
 use Rattle.sorted_cells.specs.Rows.{numbers_rise, rows_end, part_of, column_entry, columns_rise}
 use Rattle.sorted_cells.proofs.Finding.{found_in_two, none_behind, not_searched}
-use Rattle.sorted_cells.proofs.Orders.{and_both, less_from}
+use Rattle.sorted_cells.proofs.Orders.{and_both, less_from, sorted_parts}
 use Rattle.sorted_cells.proofs.Pushing.{shared, rest_shared}
 
 tied_row : (a b c d : ℕ) → nat_cmp a b ≡ Equal →
@@ -194,21 +194,6 @@ module _ {X : Type 0} where
       turned a b less =
           ap is_eq (nat_cmp_total.antisymm b a
           ∙ ap ordering_reverse less)
-
-  sorted_parts : {K : Type 0} (cmp : K → K → Ordering) (es fs : List (K × X)) →
-      is_sorted cmp (es ++ fs) ≡ true → (is_sorted cmp es ≡ true) × (is_sorted cmp fs ≡ true)
-  sorted_parts cmp [] fs sorted = (refl, sorted)
-  sorted_parts {K} cmp (e ∷ es) fs sorted =
-      let (below, rest) = and_both (below_all cmp e.0 (es ++ fs)) (is_sorted cmp (es ++ fs)) sorted in
-      let (front, back) = sorted_parts cmp es fs rest in
-      (ap (λ (t : Bool). t && is_sorted cmp es) (below_front e.0 es fs below) ∙ front, back)
-    where
-      below_front : (x : K) (es fs : List (K × X)) → below_all cmp x (es ++ fs) ≡ true →
-          below_all cmp x es ≡ true
-      below_front x [] fs below = refl
-      below_front x (e ∷ es) fs below =
-          let (first, rest) = and_both (is_lt (cmp x e.0)) (below_all cmp x (es ++ fs)) below in
-          ap (λ (t : Bool). t && below_all cmp x es) first ∙ below_front x es fs rest
 
   -- within a row positions rise as their columns do
   below_by_column : (number column : ℕ) (cells : List (ColumnCell X)) →

@@ -2,3 +2,4 @@ pub mod Kept
 pub mod Last
 pub mod Placed
 pub mod Rows
+pub mod Thinned

@@ -45,7 +45,7 @@ row_place row = (row.number, row.first)
 abbrev pub numbers_rise : List Row → Bool
 numbers_rise rows = is_sorted nat_cmp (map row_place rows)
 
--- the place behind the cells of a row, where these rows stand behind it and there are so many cells
+-- the place of the first cell of these rows; that behind all cells, of so many, without a row
 abbrev pub rows_end : List Row → ℕ → ℕ
 rows_end [] count = count
 rows_end (next ∷ rows) count = next.first

@@ -3,6 +3,7 @@
 //! A position is a pair of a row and a column, each counted from 0, as in `(0, 2)` for `C1`.
 #![tactic(auto)]
 
+mod keeping;
 mod placed_cells;
 mod row;
 mod sorted;

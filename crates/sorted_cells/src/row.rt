@@ -1,10 +1,10 @@
 //! The rows of a list of cells, each with the place of its first cell.
-ghost use Rattle.std.specs.Prelude.{◌≡◌, ◌∷◌, true, map, OnOk, OnErr};
+ghost use Rattle.std.specs.Prelude.{◌≡◌, ◌∷◌, true, map, drop, OnOk, OnErr};
 ghost use Rattle.std.specs.FinMap.{find};
 ghost use Rattle.std.specs.Option.{option_copied};
 ghost use Rattle.std.specs.Ordering.{nat_cmp};
 ghost use Rattle.sorted_cells.specs.Rows.{is_last, with_row, column_entry, columns_rise};
-ghost use Rattle.sorted_cells.specs.Rows.{are_rows, row_size};
+ghost use Rattle.sorted_cells.specs.Rows.{are_rows, row_size, rows_end};
 
 use std::alloc::AllocError;
 
@@ -31,6 +31,17 @@ pub fn row_size(row: &Row, rows: &[Row], left: usize) -> usize
     match rows.first() {
         Some(next) => next.first - row.first,
         None => left,
+    }
+}
+
+/// The place of the first cell of these rows from this one on, of so many cells; that behind all
+/// cells where there is no such row.
+pub fn rows_end(rows: &[Row], row: usize, count: usize) -> usize
+    ensures { result ≡ rows_end (drop row rows.now) count }
+{
+    match rows.get(row) {
+        Some(next) => next.first,
+        None => count,
     }
 }
 

@@ -2,8 +2,9 @@ ghost use Rattle.std.specs.Prelude.{IsTrue, length};
 ghost use Rattle.sorted_cells.specs.Rows.{are_rows, numbers_rise, cells_by};
 ghost use Rattle.cell_refs.specs.Positions.{is_rising};
 
+use crate::keeping::{cut_before, cut_behind, is_between, keep_columns};
 use crate::placed_cells::PlacedCells;
-use crate::row::{ColumnCell, Row, begin_row, value_in};
+use crate::row::{ColumnCell, Row, begin_row, rows_end, value_in};
 use std::alloc::{AllocError, Global};
 
 /// Cells of a worksheet in the order of their positions, row by row: a list of rows, and one of
@@ -24,8 +25,9 @@ impl<T> SortedCells<T> {
     ghost use Rattle.std.specs.Prelude.{◌≡◌, ◌++◌, ◌∷◌, [], ◌==◌, length, true, OnOk, OnErr};
     ghost use Rattle.std.specs.Prelude.{◌+◌, ◌<◌, drop};
     ghost use Rattle.std.specs.FinMap.{find};
+    ghost use Rattle.std.specs.List.{filter};
     ghost use Rattle.std.specs.Option.{option_copied};
-    ghost use Rattle.cell_refs.specs.Positions.{position_cmp};
+    ghost use Rattle.cell_refs.specs.Positions.{position_cmp, is_in_area};
     ghost use Rattle.sorted_cells.specs.Rows.{part_of, rows_end};
     ghost use Rattle.sorted_cells.specs.Kept.{cells_in};
     ghost use Rattle.sorted_cells.specs.Placed.{placed_left};
@@ -79,25 +81,13 @@ impl<T> SortedCells<T> {
         Ok(())
     }
 
-    /// The place behind the cells of this row, by its place in the list of rows.
-    fn row_end(&self, row: usize) -> usize
-        requires { row < length self.now.rows.items }
-        ensures { result ≡ rows_end (drop (row + 1) self.now.rows.items)
-            (length self.now.cells.items) }
-    {
-        match self.rows.get(row + 1) {
-            Some(next) => next.first,
-            None => self.cells.len(),
-        }
-    }
-
     /// The cells of this row, by its place in the list of rows.
     fn row_cells(&self, row: usize) -> &[ColumnCell<T>]
         requires { row < length self.now.rows.items }
         ensures { result.now ≡ part_of row self.now.rows.items self.now.cells.items }
     {
         let first = self.rows[row].first;
-        let end = self.row_end(row);
+        let end = rows_end(&self.rows, row + 1, self.cells.len());
         &self.cells[first..end]
     }
 
@@ -117,5 +107,25 @@ impl<T> SortedCells<T> {
         ensures rising { is_rising (cells_in self.now) ≡ true }
     {
         PlacedCells::new(&self.rows, &self.cells)
+    }
+
+    /// The cells between a first and a last position, rows and columns counted from 0: each of them
+    /// has a row between theirs and a column between theirs. It takes no memory.
+    pub fn keep_area(self, start: (u32, u32), end: (u32, u32)) -> SortedCells<T>
+    where
+        T: Drop,
+        ensures { cells_in result ≡ filter
+            (λ cell. is_in_area (record { start = start; end = end }) cell.0) (cells_in self) }
+    {
+        let SortedCells {
+            mut rows,
+            mut cells,
+            ..
+        } = self;
+        cut_behind(&mut rows, &mut cells, end.0);
+        cut_before(&mut rows, &mut cells, start.0);
+        keep_columns(&mut rows, &cells, start.1, end.1);
+        cells.retain(|cell| is_between(start.1, end.1, cell.column));
+        SortedCells { rows, cells }
     }
 }
