@@ -17,6 +17,7 @@ use Rattle.std.proofs.lemmas.List.Elements.{filter-append}
 use Rattle.std.specs.List.Sorted.{IsPartitionedBy, IsPartitionPoint}
 use Rattle.sorted_cells.specs.declared.row.Row.{Row}
 use Rattle.sorted_cells.specs.declared.row.ColumnCell.{ColumnCell}
+use Rattle.sorted_cells.specs.Cut.{AreLeft}
 use Rattle.sorted_cells.specs.Rows.{row_entry, row_size, cells_by, are_rows, row_place}
 use Rattle.sorted_cells.specs.Rows.{numbers_rise, rows_end, first_place}
 use Rattle.sorted_cells.proofs.Finding.{rising_at}
@@ -302,13 +303,6 @@ parted_before first rows rise i j d before within passes =
     numbers_order rows i j d rise before within in
     grind (arith, nat_tests, order, passes)
 
--- rows and cells that are left, which stand from a place on
-pub record AreLeft {X : Type 0} (p : ℕ → Bool) (place : ℕ) (rows left : List Row)
-    (cells others : List (ColumnCell X)) : Type 0 where
-  pub shared : are_rows place left (length others) ≡ true
-  pub numbers : numbers_rise left ≡ true
-  pub is : cells_by left others ≡ filter (λ (e : (ℕ × ℕ) × X). p e.0.0) (cells_by rows cells)
-
 -- what a search for the place of the cut says
 abbrev pub Parts : (Row → Bool) → List Row → ℕ → Type 0
 Parts p rows k =
@@ -340,7 +334,7 @@ module _ {X : Type 0} (k end : ℕ) (rows seen left : List Row) (cells others : 
         record {
           shared = cut.front;
           numbers = (numbers_cut k rows rise).0;
-          is = front_passes (λ n. nat_le n last) 0 k rows cells end end cut
+          cells_are = front_passes (λ n. nat_le n last) 0 k rows cells end end cut
               (λ i d inside below. parted.0 i d (omega arith) below)
               (λ i d inside above. parted.1 i d above inside);
         } in
@@ -363,7 +357,7 @@ module _ {X : Type 0} (k end : ℕ) (rows seen left : List Row) (cells others : 
         record {
           shared = cut.back;
           numbers = (numbers_cut k rows rise).1;
-          is = back_passes (λ n. nat_le first n) 0 k rows cells end end cut
+          cells_are = back_passes (λ n. nat_le first n) 0 k rows cells end end cut
               (λ i d inside below. fails first (get_or rows i d).number
               (parted.0 i d (omega arith) below))
               (λ i d inside above. passes first (get_or rows i d).number
@@ -377,7 +371,7 @@ module _ {X : Type 0} (k end : ℕ) (rows seen left : List Row) (cells others : 
         record {
           shared = placed_first end left (length others) moved.shared;
           numbers = moved.numbers;
-          is = moved.is;
+          cells_are = moved.cells_are;
         }
       where
         fails : (a b : ℕ) → nat_lt b a ≡ true → nat_le a b ≡ false

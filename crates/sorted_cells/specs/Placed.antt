@@ -14,6 +14,11 @@ placed_left it = map (row_entry it.number) it.own.now ++ cells_by it.rows.now it
 abbrev pub given_cell : {X : Type 0} → (ℕ × ℕ) × Bor X → (ℕ × ℕ) × X
 given_cell cell = (cell.0, cell.1.now)
 
+-- the position of the first cell, if there is one
+abbrev pub first_position : {X : Type 0} → List ((ℕ × ℕ) × X) → Option (ℕ × ℕ)
+first_position [] = None
+first_position (cell ∷ cells) = Some cell.0
+
 -- the value of the first cell, where it stands at this position
 abbrev pub value_first : {X : Type 0} → ℕ × ℕ → List ((ℕ × ℕ) × X) → Option X
 value_first position [] = None

@@ -1,6 +1,6 @@
 //! The cells of an area alone, with their rows. It takes no memory.
 ghost use Rattle.std.specs.Prelude.{◌≡◌, ◌++◌, ◌∷◌, ◌+◌, ◌<◌, ◌≤◌, true, length, take, drop, nat_le};
-ghost use Rattle.std.specs.List.{filter};
+ghost use Rattle.sorted_cells.specs.Cut.{AreLeft};
 ghost use Rattle.sorted_cells.specs.Rows.{are_rows, numbers_rise, cells_by, rows_end, first_place};
 ghost use Rattle.sorted_cells.specs.Thinned.{is_between, cells_between, row_if, thinned};
 
@@ -26,10 +26,8 @@ fn drop_front<T: Drop>(list: &mut Vec<T>, count: usize)
 pub fn cut_behind<T: Drop>(rows: &mut Vec<Row>, cells: &mut Vec<ColumnCell<T>>, last: u32)
     requires shared { are_rows 0 rows.old.items (length cells.old.items) ≡ true }
     requires numbers { numbers_rise rows.old.items ≡ true }
-    ensures shared { are_rows 0 rows.new.items (length cells.new.items) ≡ true }
-    ensures numbers { numbers_rise rows.new.items ≡ true }
-    ensures cells { cells_by rows.new.items cells.new.items ≡ filter
-        (λ cell. nat_le cell.0.0 last) (cells_by rows.old.items cells.old.items) }
+    ensures { AreLeft (λ number. nat_le number last) 0 rows.old.items rows.new.items
+        cells.old.items cells.new.items }
 {
     let behind = rows.partition_point(|row| row.number <= last);
     cells.truncate(rows_end(rows, behind, cells.len()));
@@ -40,11 +38,8 @@ pub fn cut_behind<T: Drop>(rows: &mut Vec<Row>, cells: &mut Vec<ColumnCell<T>>, 
 pub fn cut_before<T: Drop>(rows: &mut Vec<Row>, cells: &mut Vec<ColumnCell<T>>, first: u32)
     requires shared { are_rows 0 rows.old.items (length cells.old.items) ≡ true }
     requires numbers { numbers_rise rows.old.items ≡ true }
-    ensures shared { are_rows (first_place rows.new.items) rows.new.items (length cells.new.items)
-        ≡ true }
-    ensures numbers { numbers_rise rows.new.items ≡ true }
-    ensures cells { cells_by rows.new.items cells.new.items ≡ filter
-        (λ cell. nat_le first cell.0.0) (cells_by rows.old.items cells.old.items) }
+    ensures { AreLeft (λ number. nat_le first number) (first_place rows.new.items) rows.old.items
+        rows.new.items cells.old.items cells.new.items }
 {
     let before = rows.partition_point(|row| row.number < first);
     drop_front(cells, rows_end(rows, before, cells.len()));

@@ -9,7 +9,7 @@ ghost use Rattle.sorted_cells.specs.Rows.{are_rows, row_size, rows_end};
 use std::alloc::AllocError;
 
 /// A row, and the place of its first cell among the cells of all rows.
-#[derive(Clone, Copy, Debug, PartialEq, Eq)]
+#[derive(Clone, Copy)]
 pub struct Row {
     pub number: u32,
     pub first: usize,

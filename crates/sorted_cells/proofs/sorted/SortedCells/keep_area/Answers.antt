@@ -20,8 +20,8 @@ invariant_of-result g c =
     let left =
     area_kept area c.args.self.rows.items c.cut_before.new.rows.items c.cut_behind.new.rows.items
     c.keep_columns.new.rows.items c.args.self.cells.items c.cut_before.new.cells.items
-    c.cut_behind.new.cells.items c.retain.new.self.items kept c.cut_behind.ensures.cells
-    c.cut_before.ensures.shared c.cut_before.ensures.numbers c.cut_before.ensures.cells
+    c.cut_behind.new.cells.items c.retain.new.self.items kept c.cut_behind.ensures.cells_are
+    c.cut_before.ensures.shared c.cut_before.ensures.numbers c.cut_before.ensures.cells_are
     (search rules) cells in
     record {
       shared = left.kept.shared;
@@ -43,7 +43,7 @@ returns g c =
     let left =
     area_kept area c.args.self.rows.items c.cut_before.new.rows.items c.cut_behind.new.rows.items
     c.keep_columns.new.rows.items c.args.self.cells.items c.cut_before.new.cells.items
-    c.cut_behind.new.cells.items c.retain.new.self.items kept c.cut_behind.ensures.cells
-    c.cut_before.ensures.shared c.cut_before.ensures.numbers c.cut_before.ensures.cells
+    c.cut_behind.new.cells.items c.retain.new.self.items kept c.cut_behind.ensures.cells_are
+    c.cut_before.ensures.shared c.cut_before.ensures.numbers c.cut_before.ensures.cells_are
     (search rules) cells in
     left.is
