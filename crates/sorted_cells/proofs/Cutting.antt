@@ -51,8 +51,8 @@ pub placed_first : (place : ℕ) (rows : List Row) (left : ℕ) → are_rows pla
     are_rows (first_place rows) rows left ≡ true
 placed_first place [] left are = are
 placed_first place (own ∷ rows) left are =
-    subst (λ (n : ℕ). are_rows n (own ∷ rows) left ≡ true) (sym (shared place own rows left are).first)
-    are
+    let all = shared place own rows left are in
+    subst (λ (n : ℕ). are_rows n (own ∷ rows) left ≡ true) (sym all.first) are
 
 first_end : (place : ℕ) (rows : List Row) (left : ℕ) → are_rows place rows left ≡ true →
     rows_end rows (place + left) ≡ place
@@ -128,8 +128,9 @@ module _ {X : Type 0} where
           ≡ cells_by (own ∷ take k rows) (take (size + others) cells)
           ++ cells_by (drop k rows) (drop (size + others) cells)
       whole row =
-          ap (λ (n : ℕ). map (row_entry own.number) (take n cells) ++ cells_by rows (drop n cells)) is
-          ∙ (ap (λ (rest : List ((ℕ × ℕ) × X)). map (row_entry own.number) (take size cells) ++ rest)
+          ap (λ (n : ℕ). map (row_entry own.number) (take n cells) ++ cells_by rows (drop n cells))
+          is
+          ∙ (ap (λ (es : List ((ℕ × ℕ) × X)). map (row_entry own.number) (take size cells) ++ es)
           cut.is
           ∙ (sym (append_assoc (map (row_entry own.number) (take size cells))
           (cells_by (take k rows) (take others (drop size cells)))
@@ -149,11 +150,13 @@ module _ {X : Type 0} where
 
   cut_rows : (place k : ℕ) (rows : List Row) (cells : List (ColumnCell X)) (end : ℕ) →
       are_rows place rows (length cells) ≡ true → k ≤ length rows →
-      rows_end (drop k rows) (place + length cells) ≡ end → IsCut place k rows cells end (end - place)
+      rows_end (drop k rows) (place + length cells) ≡ end →
+      IsCut place k rows cells end (end - place)
   cut_rows place zero rows cells end are within ends =
       let same : end ≡ place = sym ends ∙ first_end place rows (length cells) are in
       let none : 0 ≡ end - place = omega (arith, same) in
-      subst (λ (n : ℕ). IsCut place 0 rows cells end n) none (cut_none place rows cells end are same)
+      subst (λ (n : ℕ). IsCut place 0 rows cells end n) none
+      (cut_none place rows cells end are same)
   cut_rows place (suc k) [] cells end are within ends = absurd (omega arith)
   cut_rows place (suc k) (own ∷ rows) cells end are within ends =
       let all = shared place own rows (length cells) are in
@@ -271,7 +274,8 @@ numbers_order : (rows : List Row) (i j : ℕ) (d : Row) → numbers_rise rows �
 numbers_order rows i j d rise before within = elim (cases_lt i j) [
   | inl less ↦
       below (get_or rows i d).number (get_or rows j d).number
-      (rising_at nat_cmp nat_cmp_total nat_cmp-IsAntisymmetric row_place rows i j d rise less within)
+      (rising_at nat_cmp nat_cmp_total nat_cmp-IsAntisymmetric row_place rows i j d rise less
+      within)
   | inr more ↦
       let same : i ≡ j = omega arith in
       rw same (omega arith)
@@ -339,8 +343,8 @@ module _ {X : Type 0} (k end : ℕ) (rows seen left : List Row) (cells others : 
               (λ i d inside above. parted.1 i d above inside);
         } in
         subst (λ (rs : List Row). AreLeft (λ n. nat_le n last) 0 rows rs cells others) (sym left_is)
-        (subst (λ (cs : List (ColumnCell X)). AreLeft (λ n. nat_le n last) 0 rows (take k rows) cells
-        cs) (sym others_are) kept)
+        (subst (λ (cs : List (ColumnCell X)).
+        AreLeft (λ n. nat_le n last) 0 rows (take k rows) cells cs) (sym others_are) kept)
 
     -- the rows from the one with this number on
     pub left_back : (first : ℕ) → seen ≡ rows → left ≡ drop k rows → others ≡ drop end cells →

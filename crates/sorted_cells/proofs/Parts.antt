@@ -127,7 +127,8 @@ module _ {X : Type 0} where
 
   -- without the row there is no cell
   pub in_no_row : (p : ℕ × ℕ) (rows : List Row) (cells : List (ColumnCell X)) →
-      find nat_cmp p.0 (map row_place rows) ≡ None → find position_cmp p (cells_by rows cells) ≡ None
+      find nat_cmp p.0 (map row_place rows) ≡ None →
+      find position_cmp p (cells_by rows cells) ≡ None
   in_no_row p [] cells none = refl
   in_no_row p (own ∷ rows) cells none =
       let size : ℕ = row_size own.first rows (length cells) in

@@ -114,7 +114,8 @@ module _ {X : Type 0} where
       ≡ map (row_entry number) (take size cells) ++ cells_by rows (drop size cells) ++ entry ∷ []
   behind_first size number rows all cells cell entry within rest =
       ap (λ (taken : List (ColumnCell X)). map (row_entry number) taken
-      ++ cells_by all (drop size (cells ++ cell ∷ []))) (take-append-le size cells (cell ∷ []) within)
+      ++ cells_by all (drop size (cells ++ cell ∷ [])))
+      (take-append-le size cells (cell ∷ []) within)
       ∙ (ap (λ (left : List (ColumnCell X)). map (row_entry number) (take size cells)
       ++ cells_by all left) (drop-append-le size cells (cell ∷ []) within)
       ∙ (ap (λ (more : List ((ℕ × ℕ) × X)). map (row_entry number) (take size cells) ++ more) rest
@@ -224,7 +225,8 @@ started_rows place left (own ∷ []) new are first =
       first = all.first;
       filled = omega (arith, is, filled);
       within = omega (arith, is);
-      others = subst (λ (n : ℕ). are_rows (place + size) (new ∷ []) n ≡ true) one (one_row (place + size) new (omega (arith, is, first)));
+      others = subst (λ (n : ℕ). are_rows (place + size) (new ∷ []) n ≡ true) one
+          (one_row (place + size) new (omega (arith, is, first)));
     })
 started_rows place left (own ∷ next ∷ rows) new are first =
     let size : ℕ = next.first - own.first in

@@ -94,7 +94,8 @@ below_row_if k size own rows less below = by (size == 0)
         below_all nat_cmp k (map row_place (cond test [] (own ∷ []) ++ rows)) ≡ true
     by true = below
     by false =
-        and_from (is_lt (nat_cmp k own.number)) (below_all nat_cmp k (map row_place rows)) less below
+        and_from (is_lt (nat_cmp k own.number)) (below_all nat_cmp k (map row_place rows)) less
+        below
 
 rise_row_if : (size : ℕ) (own : Row) (rows : List Row) →
     below_all nat_cmp own.number (map row_place rows) ≡ true → numbers_rise rows ≡ true →
@@ -168,7 +169,8 @@ module _ {X : Type 0} (first last : ℕ) where
       (map (row_entry own.number) (take size cells)) (cells_by rows (drop size cells)))) in
       let whole = row_if_before place own.number front back rest behind.shared in
       subst (λ (cs : List (ColumnCell X)). AreRows place
-      (thinned first last place (own ∷ rows) cells) cs (entries_between (cells_by (own ∷ rows) cells)))
+      (thinned first last place (own ∷ rows) cells) cs
+      (entries_between (cells_by (own ∷ rows) cells)))
       (sym joined) (record { shared = whole.shared; is = whole.is ∙ entries })
 
   below_thinned : (k place : ℕ) (rows : List Row) (cells : List (ColumnCell X)) →
@@ -198,7 +200,7 @@ module _ {X : Type 0} (first last : ℕ) where
       (thinned_rise (place + left) rows (drop size cells) others)
 
   -- what a row leaves of the rows and the cells that are still to be counted
-  pub record IsStep (rows new whole : List Row) (at place count : ℕ) (others : List (ColumnCell X)) :
+  pub record IsStep (new whole : List Row) (at place count : ℕ) (others : List (ColumnCell X)) :
       Type 0 where
     pub shared :
         are_rows (first_place (drop (at + 1) new)) (drop (at + 1) new) (length others) ≡ true
@@ -215,7 +217,7 @@ module _ {X : Type 0} (first last : ℕ) where
       take count new
       ≡ take written rows ++ row_if size (record { number = row.number; first = place }) →
       drop (written + 1) new ≡ drop (written + 1) rows →
-      IsStep rows new whole at (place + size) count others
+      IsStep new whole at (place + size) count others
   counted_row rows new whole row at written count place size left own others split before are same
       own_is others_is size_is front back =
       let rest : List Row = drop (at + 1) rows in
@@ -238,7 +240,8 @@ module _ {X : Type 0} (first last : ℕ) where
       ≡ thinned first last place (row ∷ rest) left =
       ap (λ (cs : List (ColumnCell X)). row_if size new_row
       ++ thinned first last (place + size) rest cs) others_is
-      ∙ ap (λ (k : ℕ). row_if k new_row ++ thinned first last (place + k) rest (drop n left)) stays in
+      ∙ ap (λ (k : ℕ). row_if k new_row ++ thinned first last (place + k) rest (drop n left))
+      stays in
       record {
         shared = subst (λ (rs : List Row). are_rows (first_place rs) rs (length others) ≡ true)
             (sym behind) shared_rest;

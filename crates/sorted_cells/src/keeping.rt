@@ -1,7 +1,7 @@
 //! The cells of an area alone, with their rows. It takes no memory.
-ghost use Rattle.std.specs.Prelude.{◌≡◌, ◌++◌, ◌∷◌, ◌+◌, ◌<◌, ◌≤◌, true, length, take, drop, nat_le};
+ghost use Rattle.std.specs.Prelude.{◌≡◌, ◌++◌, ◌+◌, ◌<◌, ◌≤◌, true, length, take, drop, nat_le};
 ghost use Rattle.sorted_cells.specs.Cut.{AreLeft};
-ghost use Rattle.sorted_cells.specs.Rows.{are_rows, numbers_rise, cells_by, rows_end, first_place};
+ghost use Rattle.sorted_cells.specs.Rows.{are_rows, numbers_rise, first_place};
 ghost use Rattle.sorted_cells.specs.Thinned.{is_between, cells_between, row_if, thinned};
 
 use crate::row::{ColumnCell, Row, row_size, rows_end};
@@ -89,16 +89,11 @@ fn count_anew<T>(rows: &mut [Row], cells: &[ColumnCell<T>], first: u32, last: u3
         let (_, behind) = rows.split_at(at + 1);
         let (own, others) = left.split_at(row_size(&row, behind, left.len()));
         let size = count_between(own, first, last);
-        let Row { number, .. } = row;
-        written = write_row(
-            rows,
-            written,
-            Row {
-                number,
-                first: place,
-            },
-            size,
-        );
+        let counted = Row {
+            number: row.number,
+            first: place,
+        };
+        written = write_row(rows, written, counted, size);
         place += size;
         left = others;
     }

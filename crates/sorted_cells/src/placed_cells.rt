@@ -17,8 +17,8 @@ impl<'a, T> PlacedCells<'a, T> {
     ghost use Rattle.std.specs.Prelude.{◌≡◌, [], true, length};
     ghost use Rattle.std.specs.Option.{option_copied};
     ghost use Rattle.sorted_cells.specs.Rows.{are_rows, cells_by};
-    ghost use Rattle.sorted_cells.specs.Placed.{first_position, placed_left, value_first};
-    ghost use Rattle.sorted_cells.specs.Placed.{left_behind};
+    ghost use Rattle.sorted_cells.specs.Placed.{placed_left};
+    ghost use Rattle.sorted_cells.specs.Placed.{first_position, value_first, left_behind};
 
     /// The cells of these rows, of which none was taken yet.
     pub(crate) fn new(rows: &'a [Row], cells: &'a [ColumnCell<T>]) -> PlacedCells<'a, T>
@@ -52,8 +52,8 @@ impl<'a, T> PlacedCells<'a, T> {
         self.behind = behind;
     }
 
-    /// The row and the column of the next cell, counted from 0, which stays the next one; none where
-    /// all were taken.
+    /// The row and the column of the next cell, counted from 0, and it stays the next one; none
+    /// where all were taken.
     pub fn next_position(&self) -> Option<(u32, u32)>
         ensures { result ≡ first_position (placed_left self.now) }
     {

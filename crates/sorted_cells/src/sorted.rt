@@ -66,8 +66,19 @@ impl<T> SortedCells<T> {
         Some((row.number, cell.column))
     }
 
-    /// Puts a cell behind the others, where its position, a row and a column counted from 0, comes
-    /// after theirs. Where memory is lacking, the cells stay as they were.
+    /// Whether a position, a row and a column counted from 0, comes after those of all cells, so
+    /// that a cell can be put there.
+    pub fn comes_last(&self, pos: (u32, u32)) -> bool
+        ensures { result ≡ comes_after position_cmp (last_key (cells_in self.now)) pos }
+    {
+        match self.last_position() {
+            Some(last) => last < pos,
+            None => true,
+        }
+    }
+
+    /// Puts a cell behind the others, at a position, a row and a column counted from 0, that comes
+    /// after theirs. Where memory is wanting, the cells stay as they were.
     pub fn push(&mut self, pos: (u32, u32), val: T) -> Result<(), AllocError>
     where
         T: Drop,
