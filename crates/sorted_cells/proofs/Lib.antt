@@ -1,6 +1,7 @@
 pub mod CutAreas
 pub mod Cutting
 pub mod Finding
+pub mod Handing
 pub mod Orders
 pub mod Parts
 pub mod Placing

@@ -90,6 +90,18 @@ module _ {K X : Type 0} where
         (is_sorted cmp (f ∷ es ++ (k, v) ∷ [])) (below_push e.0 f es k v parts.0 after)
         (sorted_push (f ∷ es) k v parts.1 after)
 
+-- the last of some entries comes after those before it
+pub after_sorted : {K X : Type 0} (cmp : K → K → Ordering) (es : List (K × X)) (k : K) (v : X) →
+    is_sorted cmp (es ++ (k, v) ∷ []) ≡ true → comes_after cmp (last_key es) k ≡ true
+after_sorted cmp [] k v sorted = refl
+after_sorted cmp (e ∷ []) k v sorted =
+    (and_both (is_lt (cmp e.0 k)) true
+    (and_both (is_lt (cmp e.0 k) && true) true sorted).0).0
+after_sorted cmp (e ∷ f ∷ es) k v sorted =
+    after_sorted cmp (f ∷ es) k v
+    (and_both (below_all cmp e.0 (f ∷ es ++ (k, v) ∷ [])) (is_sorted cmp (f ∷ es ++ (k, v) ∷ []))
+    sorted).1
+
 pub sorted_parts : {K X : Type 0} (cmp : K → K → Ordering) (es fs : List (K × X)) →
     is_sorted cmp (es ++ fs) ≡ true → (is_sorted cmp es ≡ true) × (is_sorted cmp fs ≡ true)
 sorted_parts cmp [] fs sorted = (refl, sorted)

@@ -4,9 +4,11 @@
 #![tactic(auto)]
 
 mod keeping;
+mod owned_cells;
 mod placed_cells;
 mod row;
 mod sorted;
 
+pub use owned_cells::OwnedCells;
 pub use placed_cells::PlacedCells;
 pub use sorted::SortedCells;

@@ -3,6 +3,7 @@ ghost use Rattle.sorted_cells.specs.Rows.{are_rows, numbers_rise, cells_by};
 ghost use Rattle.cell_refs.specs.Positions.{is_rising};
 
 use crate::keeping::{cut_before, cut_behind, is_between, keep_columns};
+use crate::owned_cells::OwnedCells;
 use crate::placed_cells::PlacedCells;
 use crate::row::{ColumnCell, Row, begin_row, rows_end, value_in};
 use std::alloc::{AllocError, Global};
@@ -30,6 +31,7 @@ impl<T> SortedCells<T> {
     ghost use Rattle.cell_refs.specs.Positions.{position_cmp, is_in_area};
     ghost use Rattle.sorted_cells.specs.Rows.{part_of, rows_end};
     ghost use Rattle.sorted_cells.specs.Kept.{cells_in};
+    ghost use Rattle.sorted_cells.specs.Owned.{owned_left};
     ghost use Rattle.sorted_cells.specs.Placed.{placed_left};
     ghost use Rattle.sorted_cells.specs.Last.{last_key, comes_after};
 
@@ -118,6 +120,14 @@ impl<T> SortedCells<T> {
         ensures rising { is_rising (cells_in self.now) ≡ true }
     {
         PlacedCells::new(&self.rows, &self.cells)
+    }
+
+    /// The cells with their positions, row by row, each handed out.
+    pub fn into_iter(self) -> OwnedCells<T>
+        ensures cells { owned_left result ≡ cells_in self }
+        ensures rising { is_rising (cells_in self) ≡ true }
+    {
+        OwnedCells::new(self.rows, self.cells)
     }
 
     /// The cells between a first and a last position, rows and columns counted from 0: each of them

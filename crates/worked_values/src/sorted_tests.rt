@@ -39,6 +39,15 @@ fn shown(alloc: Global, cells: &SortedCells<u8>) -> Result<String, AllocError> {
     Ok(out)
 }
 
+/// The cells, each handed out.
+fn handed_out(alloc: Global, cells: SortedCells<u8>) -> Result<String, AllocError> {
+    let mut out = String::new(alloc);
+    for ((row, column), value) in cells.into_iter() {
+        write!(out, "{row} {column} {value};")?;
+    }
+    Ok(out)
+}
+
 #[test]
 fn cells_are_kept_by_rows(rt: HostRuntime) -> Result<(), Fail> {
     let alloc = rt.alloc();
@@ -54,6 +63,8 @@ fn cells_are_kept_by_rows(rt: HostRuntime) -> Result<(), Fail> {
         }
     }
     assert_text(&found, "1 0 1;1 2 2;3 1 3;4 0 4;4 2 5;", "each position")?;
+    let handed = handed_out(alloc, cells)?;
+    assert_text(&handed, "1 0 1;1 2 2;3 1 3;4 0 4;4 2 5;", "handed out")?;
     let none: SortedCells<u8> = SortedCells::new(alloc);
     assert!(rt; none.is_empty());
     assert!(rt; none.get((0, 0)) == None);
@@ -80,7 +91,11 @@ fn an_area_keeps_its_cells(rt: HostRuntime) -> Result<(), Fail> {
         left.push((2, 1), 6)?;
     }
     let told = shown(alloc, &left)?;
-    assert_text(&told, "1 0 1;2 1 6; 2 2 1", "a cell behind those of an area")?;
+    assert_text(
+        &told,
+        "1 0 1;2 1 6; 2 2 1",
+        "a cell behind those of an area",
+    )?;
     Ok(())
 }
 
