@@ -90,16 +90,17 @@ module _ {K X : Type 0} where
         (is_sorted cmp (f ∷ es ++ (k, v) ∷ [])) (below_push e.0 f es k v parts.0 after)
         (sorted_push (f ∷ es) k v parts.1 after)
 
--- the last of some entries comes after those before it
-pub after_sorted : {K X : Type 0} (cmp : K → K → Ordering) (es : List (K × X)) (k : K) (v : X) →
-    is_sorted cmp (es ++ (k, v) ∷ []) ≡ true → comes_after cmp (last_key es) k ≡ true
-after_sorted cmp [] k v sorted = refl
-after_sorted cmp (e ∷ []) k v sorted =
-    (and_both (is_lt (cmp e.0 k)) true
-    (and_both (is_lt (cmp e.0 k) && true) true sorted).0).0
-after_sorted cmp (e ∷ f ∷ es) k v sorted =
-    after_sorted cmp (f ∷ es) k v
-    (and_both (below_all cmp e.0 (f ∷ es ++ (k, v) ∷ [])) (is_sorted cmp (f ∷ es ++ (k, v) ∷ []))
+-- in order, an entry comes after those before it
+pub after_sorted : {K X : Type 0} (cmp : K → K → Ordering) (es : List (K × X)) (e : K × X)
+    (fs : List (K × X)) → is_sorted cmp (es ++ e ∷ fs) ≡ true →
+    comes_after cmp (last_key es) e.0 ≡ true
+after_sorted cmp [] e fs sorted = refl
+after_sorted cmp (d ∷ []) e fs sorted =
+    (and_both (is_lt (cmp d.0 e.0)) (below_all cmp d.0 fs)
+    (and_both (below_all cmp d.0 (e ∷ fs)) (is_sorted cmp (e ∷ fs)) sorted).0).0
+after_sorted cmp (d ∷ next ∷ es) e fs sorted =
+    after_sorted cmp (next ∷ es) e fs
+    (and_both (below_all cmp d.0 (next ∷ es ++ e ∷ fs)) (is_sorted cmp (next ∷ es ++ e ∷ fs))
     sorted).1
 
 pub sorted_parts : {K X : Type 0} (cmp : K → K → Ordering) (es fs : List (K × X)) →
