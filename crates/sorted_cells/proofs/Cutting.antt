@@ -120,9 +120,6 @@ module _ {X : Type 0} where
         is = whole row;
       }
     where
-      entries : List (ColumnCell X) → List ((ℕ × ℕ) × X)
-      entries cs = map (row_entry own.number) cs
-
       whole : row_size own.first (take k rows) (length (take (size + others) cells)) ≡ size →
           cells_by (own ∷ rows) cells
           ≡ cells_by (own ∷ take k rows) (take (size + others) cells)
