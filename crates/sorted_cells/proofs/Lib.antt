@@ -6,4 +6,5 @@ pub mod Orders
 pub mod Parts
 pub mod Placing
 pub mod Pushing
+pub mod Rising
 pub mod Thinning
