@@ -1,5 +1,5 @@
-//! What values are: tests of decimals, number formats, ranges, styles and their lines by their
-//! public calls.
+//! What values are: tests of decimals, number formats, cells kept by rows, ranges, styles and their
+//! lines by their public calls.
 #![tactic(auto)]
 
 #[cfg(test)]
@@ -12,6 +12,8 @@ mod listing_tests;
 mod range_tests;
 #[cfg(test)]
 mod row_tests;
+#[cfg(test)]
+mod sorted_tests;
 #[cfg(test)]
 mod style_tests;
 #[cfg(test)]

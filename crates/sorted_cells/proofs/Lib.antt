@@ -1,0 +1,10 @@
+pub mod CutAreas
+pub mod Cutting
+pub mod Finding
+pub mod Handing
+pub mod Orders
+pub mod Parts
+pub mod Placing
+pub mod Pushing
+pub mod Rising
+pub mod Thinning
