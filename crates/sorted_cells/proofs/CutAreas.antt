@@ -8,7 +8,7 @@ use Rattle.cell_refs.specs.Positions.{position_cmp, is_rising, is_in_area}
 use Rattle.cell_refs.specs.declared.dimensions.Dimensions.{Dimensions}
 use Rattle.sorted_cells.specs.declared.row.Row.{Row}
 use Rattle.sorted_cells.specs.declared.row.ColumnCell.{ColumnCell}
-use Rattle.sorted_cells.specs.Rows.{cells_by, are_rows, numbers_rise, first_place}
+use Rattle.sorted_cells.specs.Rows.{cells_by, are_rows, numbers_rise, first_of_rows}
 use Rattle.sorted_cells.specs.Thinned.{is_between, cells_between, thinned}
 use Rattle.sorted_cells.proofs.Orders.{to_T, from_T}
 use Rattle.sorted_cells.proofs.Pushing.{AreKept}
@@ -62,7 +62,7 @@ module _ {X : Type 0} (area : Dimensions) where
       (cells others_before others_behind others : List (ColumnCell X)) → AreKept rows cells →
       cells_by behind others_behind
       ≡ filter (λ (e : (ℕ × ℕ) × X). nat_le e.0.0 area.end.0) (cells_by rows cells) →
-      are_rows (first_place before) before (length others_before) ≡ true →
+      are_rows (first_of_rows before) before (length others_before) ≡ true →
       numbers_rise before ≡ true →
       cells_by before others_before
       ≡ filter (λ (e : (ℕ × ℕ) × X). nat_le area.start.0 e.0.0) (cells_by behind others_behind) →
@@ -72,7 +72,7 @@ module _ {X : Type 0} (area : Dimensions) where
   area_kept rows before behind left cells others_before others_behind others kept below are rise
       above left_is others_is =
       let thin =
-      thinned_cells area.start.1 area.end.1 (first_place before) 0 before others_before are in
+      thinned_cells area.start.1 area.end.1 (first_of_rows before) 0 before others_before are in
       let whole : cells_by before others_before ≡ in_rows (cells_by rows cells) =
       above ∙ ap (filter (λ (e : (ℕ × ℕ) × X). nat_le area.start.0 e.0.0)) below in
       let is : cells_by (thinned area.start.1 area.end.1 0 before others_before)

@@ -19,7 +19,7 @@ use Rattle.sorted_cells.specs.declared.row.Row.{Row}
 use Rattle.sorted_cells.specs.declared.row.ColumnCell.{ColumnCell}
 use Rattle.sorted_cells.specs.Cut.{AreLeft}
 use Rattle.sorted_cells.specs.Rows.{row_entry, row_size, cells_by, are_rows, row_place}
-use Rattle.sorted_cells.specs.Rows.{numbers_rise, rows_end, first_place}
+use Rattle.sorted_cells.specs.Rows.{numbers_rise, rows_end, first_of_rows}
 use Rattle.sorted_cells.proofs.Finding.{rising_at}
 use Rattle.sorted_cells.proofs.Orders.{sorted_parts}
 use Rattle.sorted_cells.proofs.Pushing.{Shared, shared, share, rest_shared, no_left}
@@ -48,7 +48,7 @@ size_cut own [] left (suc k) place size others is are =
 size_cut own (next ∷ rows) left (suc k) place size others is are = is
 
 pub placed_first : (place : ℕ) (rows : List Row) (left : ℕ) → are_rows place rows left ≡ true →
-    are_rows (first_place rows) rows left ≡ true
+    are_rows (first_of_rows rows) rows left ≡ true
 placed_first place [] left are = are
 placed_first place (own ∷ rows) left are =
     let all = shared place own rows left are in
@@ -348,7 +348,7 @@ module _ {X : Type 0} (k end : ℕ) (rows seen left : List Row) (cells others : 
         are_rows 0 rows (length cells) ≡ true → numbers_rise rows ≡ true → k ≤ length rows →
         Parts (λ (row : Row). nat_lt row.number first) seen k →
         end ≡ rows_end (drop k rows) (length cells) →
-        AreLeft (λ n. nat_le first n) (first_place left) rows left cells others
+        AreLeft (λ n. nat_le first n) (first_of_rows left) rows left cells others
     left_back first same left_is others_are are rise within parts ends =
         let cut : IsCut 0 k rows cells end end = cut_at are within ends in
         let parted =

@@ -4,7 +4,7 @@ use Rattle.std.proofs.Common.{map, take, drop, refl, sym, ap, ◌∙◌, subst, 
 use Rattle.std.proofs.lemmas.List.{drop-drop, length-drop}
 use Rattle.sorted_cells.specs.declared.row.Row.{Row}
 use Rattle.sorted_cells.specs.declared.row.ColumnCell.{ColumnCell}
-use Rattle.sorted_cells.specs.Rows.{row_entry, row_size, cells_by, are_rows, first_place}
+use Rattle.sorted_cells.specs.Rows.{row_entry, row_size, cells_by, are_rows, first_of_rows}
 use Rattle.sorted_cells.proofs.Cutting.{placed_first}
 use Rattle.sorted_cells.proofs.Pushing.{shared, rest_shared}
 
@@ -15,7 +15,7 @@ module _ {X : Type 0} where
     pub within : size ≤ length cells
     pub behind : at + 1 ≤ length rows
     pub shared :
-        are_rows (first_place (drop (at + 1) rows)) (drop (at + 1) rows) (length (drop size cells))
+        are_rows (first_of_rows (drop (at + 1) rows)) (drop (at + 1) rows) (length (drop size cells))
         ≡ true
     pub is :
         map (row_entry row.number) (take size cells)
@@ -24,13 +24,13 @@ module _ {X : Type 0} where
 
   entered_next : (number at : ℕ) (rows : List Row) (row : Row) (others : List Row)
       (cells : List (ColumnCell X)) → drop at rows ≡ row ∷ others →
-      are_rows (first_place (drop at rows)) (drop at rows) (length cells) ≡ true →
+      are_rows (first_of_rows (drop at rows)) (drop at rows) (length cells) ≡ true →
       IsEntered number 0 (row_size row.first others (length cells)) at rows row cells
   entered_next number at rows row others cells split are =
       let size : ℕ = row_size row.first others (length cells) in
       let all =
       shared row.first row others (length cells)
-      (subst (λ (rs : List Row). are_rows (first_place rs) rs (length cells) ≡ true) split are) in
+      (subst (λ (rs : List Row). are_rows (first_of_rows rs) rs (length cells) ≡ true) split are) in
       let rest : drop (at + 1) rows ≡ others =
       sym (drop-drop 1 at rows) ∙ ap (λ (rs : List Row). drop 1 rs) split in
       let some : length rows - at ≡ length (row ∷ others) =
@@ -40,7 +40,7 @@ module _ {X : Type 0} where
         behind = omega (arith, some);
         shared =
             subst
-            (λ (rs : List Row). are_rows (first_place rs) rs (length (drop size cells)) ≡ true)
+            (λ (rs : List Row). are_rows (first_of_rows rs) rs (length (drop size cells)) ≡ true)
             (sym rest)
             (placed_first (row.first + size) others (length (drop size cells))
             (rest_shared row.first row others cells all));
@@ -52,7 +52,7 @@ module _ {X : Type 0} where
 
   pub entered : (number own size at : ℕ) (rows : List Row) (row : Row) (others : List Row)
       (cells : List (ColumnCell X)) → own ≤ 0 → drop at rows ≡ row ∷ others →
-      are_rows (first_place (drop at rows)) (drop at rows) (length (drop own cells)) ≡ true →
+      are_rows (first_of_rows (drop at rows)) (drop at rows) (length (drop own cells)) ≡ true →
       size ≡ row_size row.first others (length cells) →
       IsEntered number own size at rows row cells
   entered number zero size at rows row others cells none split are is =

@@ -16,7 +16,7 @@ use Rattle.cell_refs.specs.Positions.{position_cmp, is_rising}
 use Rattle.sorted_cells.specs.declared.row.Row.{Row}
 use Rattle.sorted_cells.specs.declared.row.ColumnCell.{ColumnCell}
 use Rattle.sorted_cells.specs.Rows.{row_entry, row_size, cells_by, are_rows, row_place}
-use Rattle.sorted_cells.specs.Rows.{numbers_rise, rows_end, part_of, column_entry, columns_rise}
+use Rattle.sorted_cells.specs.Rows.{numbers_rise, rows_end, cells_of_row, column_entry, columns_rise}
 use Rattle.sorted_cells.proofs.Finding.{found_in_two, none_behind, not_searched}
 use Rattle.sorted_cells.proofs.Orders.{and_both, less_from, sorted_parts}
 use Rattle.sorted_cells.proofs.Pushing.{shared, rest_shared}
@@ -37,7 +37,7 @@ module _ {X : Type 0} where
     pub from : place ≤ first
     pub rises : first < end
     pub within : end ≤ place + length cells
-    pub is : part_of k rows cells ≡ take (end - first) (drop (first - place) cells)
+    pub is : cells_of_row k rows cells ≡ take (end - first) (drop (first - place) cells)
 
   first_part : (place : ℕ) (own : Row) (rows : List Row) (cells : List (ColumnCell X)) →
       are_rows place (own ∷ rows) (length cells) ≡ true →
@@ -151,7 +151,7 @@ module _ {X : Type 0} where
   pub in_row : (k : ℕ) (p : ℕ × ℕ) (rows : List Row) (cells : List (ColumnCell X)) (d : Row) →
       numbers_rise rows ≡ true → k < length rows → nat_cmp p.0 (get_or rows k d).number ≡ Equal →
       find position_cmp p (cells_by rows cells)
-      ≡ find nat_cmp p.1 (map column_entry (part_of k rows cells))
+      ≡ find nat_cmp p.1 (map column_entry (cells_of_row k rows cells))
   in_row k p [] cells d rise within at = absurd (omega arith)
   in_row zero p (own ∷ rows) cells d rise within at =
       let (below, rest) =
@@ -218,7 +218,7 @@ module _ {X : Type 0} where
       (rises_by_column number cells)
 
   pub part_rises : (k : ℕ) (rows : List Row) (cells : List (ColumnCell X)) →
-      is_rising (cells_by rows cells) ≡ true → columns_rise (part_of k rows cells) ≡ true
+      is_rising (cells_by rows cells) ≡ true → columns_rise (cells_of_row k rows cells) ≡ true
   part_rises k [] cells rising = refl
   part_rises zero (own ∷ rows) cells rising =
       let size : ℕ = row_size own.first rows (length cells) in
@@ -236,7 +236,7 @@ pub record RowPart {X : Type 0} (k : ℕ) (rows : List Row) (cells : List (Colum
     (first end : ℕ) : Type 0 where
   pub rises : first < end
   pub within : end ≤ length cells
-  pub is : part_of k rows cells ≡ take (end - first) (drop first cells)
+  pub is : cells_of_row k rows cells ≡ take (end - first) (drop first cells)
 
 pub row_part : {X : Type 0} (k : ℕ) (rows : List Row) (cells : List (ColumnCell X)) (row : Row)
     (end : ℕ) → are_rows 0 rows (length cells) ≡ true → k < length rows → row ≡ get_or rows k row →
@@ -262,7 +262,7 @@ pub found_in_row : {X : Type 0} (p : ℕ × ℕ) (rows seen : List Row) (cells :
     (k : ℕ) → seen ≡ rows → numbers_rise rows ≡ true → k < length seen →
     ((d : Row) → nat_cmp (get_or seen k d).number p.0 ≡ Equal) →
     find position_cmp p (cells_by rows cells)
-    ≡ find nat_cmp p.1 (map column_entry (part_of k rows cells))
+    ≡ find nat_cmp p.1 (map column_entry (cells_of_row k rows cells))
 found_in_row p rows seen cells k same rise within at =
     let d : Row = record { number = 0; first = 0 } in
     let number : (get_or seen k d).number ≡ p.0 =

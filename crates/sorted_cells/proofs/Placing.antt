@@ -5,7 +5,7 @@ use Rattle.std.specs.Prelude.{slice_get}
 use Rattle.sorted_cells.specs.declared.row.Row.{Row}
 use Rattle.sorted_cells.specs.declared.row.ColumnCell.{ColumnCell}
 use Rattle.sorted_cells.specs.Placed.{first_position}
-use Rattle.sorted_cells.specs.Rows.{row_entry, row_size, cells_by, are_rows, first_place}
+use Rattle.sorted_cells.specs.Rows.{row_entry, row_size, cells_by, are_rows, first_of_rows}
 use Rattle.sorted_cells.proofs.Pushing.{shared}
 
 module _ {X : Type 0} where
@@ -20,7 +20,7 @@ module _ {X : Type 0} where
   pub first_behind : (number : ℕ) (own : List (ColumnCell X)) (rows : List Row)
       (behind : List (ColumnCell X)) (row : Row) (cell : ColumnCell X) → slice_get own 0 ≡ None →
       slice_get rows 0 ≡ Some row → slice_get behind 0 ≡ Some cell →
-      are_rows (first_place rows) rows (length behind) ≡ true →
+      are_rows (first_of_rows rows) rows (length behind) ≡ true →
       first_position (map (row_entry number) own ++ cells_by rows behind)
       ≡ Some (row.number, cell.column)
   first_behind number (other ∷ own) rows behind row cell none row_is cell_is are = absurd (cc)

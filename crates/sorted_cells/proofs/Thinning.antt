@@ -13,7 +13,7 @@ use Rattle.std.proofs.lemmas.List.Elements.{filter-append}
 use Rattle.sorted_cells.specs.declared.row.Row.{Row}
 use Rattle.sorted_cells.specs.declared.row.ColumnCell.{ColumnCell}
 use Rattle.sorted_cells.specs.Rows.{row_entry, row_size, cells_by, are_rows, row_place}
-use Rattle.sorted_cells.specs.Rows.{numbers_rise, first_place}
+use Rattle.sorted_cells.specs.Rows.{numbers_rise, first_of_rows}
 use Rattle.sorted_cells.specs.Thinned.{is_between, cells_between, row_if, thinned}
 use Rattle.sorted_cells.proofs.Cutting.{placed_first}
 use Rattle.sorted_cells.proofs.Orders.{and_both, and_from}
@@ -109,10 +109,10 @@ rise_row_if size own rows below rise = by (size == 0)
 
 -- the rows from one on
 pub row_here : (rows : List Row) (at left : ℕ) (d : Row) → at < length rows →
-    are_rows (first_place (drop at rows)) (drop at rows) left ≡ true →
+    are_rows (first_of_rows (drop at rows)) (drop at rows) left ≡ true →
     are_rows (get_or rows at d).first (get_or rows at d ∷ drop (at + 1) rows) left ≡ true
 row_here rows at left d within are =
-    subst (λ (rs : List Row). are_rows (first_place rs) rs left ≡ true) (drop_more rows at d within)
+    subst (λ (rs : List Row). are_rows (first_of_rows rs) rs left ≡ true) (drop_more rows at d within)
     are
 
 module _ {X : Type 0} (first last : ℕ) where
@@ -203,13 +203,13 @@ module _ {X : Type 0} (first last : ℕ) where
   pub record IsStep (new whole : List Row) (at place count : ℕ) (others : List (ColumnCell X)) :
       Type 0 where
     pub shared :
-        are_rows (first_place (drop (at + 1) new)) (drop (at + 1) new) (length others) ≡ true
+        are_rows (first_of_rows (drop (at + 1) new)) (drop (at + 1) new) (length others) ≡ true
     pub same :
         take count new ++ thinned first last place (drop (at + 1) new) others ≡ whole
 
   pub counted_row : (rows new whole : List Row) (row : Row) (at written count place size : ℕ)
       (left own others : List (ColumnCell X)) → drop at rows ≡ row ∷ drop (at + 1) rows →
-      written ≤ at → are_rows (first_place (drop at rows)) (drop at rows) (length left) ≡ true →
+      written ≤ at → are_rows (first_of_rows (drop at rows)) (drop at rows) (length left) ≡ true →
       take written rows ++ thinned first last place (drop at rows) left ≡ whole →
       own ≡ take (row_size row.first (drop (at + 1) rows) (length left)) left →
       others ≡ drop (row_size row.first (drop (at + 1) rows) (length left)) left →
@@ -224,12 +224,12 @@ module _ {X : Type 0} (first last : ℕ) where
       let n : ℕ = row_size row.first rest (length left) in
       let all =
       shared row.first row rest (length left)
-      (subst (λ (rs : List Row). are_rows (first_place rs) rs (length left) ≡ true) split are) in
+      (subst (λ (rs : List Row). are_rows (first_of_rows rs) rs (length left) ≡ true) split are) in
       let behind : drop (at + 1) new ≡ rest =
       passed_rows new ∙ (ap (λ (rs : List Row). drop (at - written) rs) back
       ∙ sym (passed_rows rows)) in
-      let shared_rest : are_rows (first_place rest) rest (length others) ≡ true =
-      subst (λ (cs : List (ColumnCell X)). are_rows (first_place rest) rest (length cs) ≡ true)
+      let shared_rest : are_rows (first_of_rows rest) rest (length others) ≡ true =
+      subst (λ (cs : List (ColumnCell X)). are_rows (first_of_rows rest) rest (length cs) ≡ true)
       (sym others_is)
       (placed_first (row.first + n) rest (length (drop n left))
       (rest_shared row.first row rest left all)) in
@@ -243,7 +243,7 @@ module _ {X : Type 0} (first last : ℕ) where
       ∙ ap (λ (k : ℕ). row_if k new_row ++ thinned first last (place + k) rest (drop n left))
       stays in
       record {
-        shared = subst (λ (rs : List Row). are_rows (first_place rs) rs (length others) ≡ true)
+        shared = subst (λ (rs : List Row). are_rows (first_of_rows rs) rs (length others) ≡ true)
             (sym behind) shared_rest;
         same =
             ap (λ (rs : List Row). take count new ++ thinned first last (place + size) rs others)

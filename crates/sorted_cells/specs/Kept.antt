@@ -4,5 +4,5 @@ use Rattle.sorted_cells.specs.Rows.{cells_by}
 use Rattle.sorted_cells.specs.declared.sorted.SortedCells.{SortedCells}
 
 -- the cells with their positions, in the order of positions
-abbrev pub cells_in : {X : Type 0} → SortedCells X → List ((ℕ × ℕ) × X)
-cells_in sorted = cells_by sorted.rows.items sorted.cells.items
+abbrev pub kept_cells : {X : Type 0} → SortedCells X → List ((ℕ × ℕ) × X)
+kept_cells sorted = cells_by sorted.rows.items sorted.cells.items

@@ -33,9 +33,9 @@ are_rows place (own ∷ rows) left =
     && (nat_le size left && are_rows (place + size) rows (left - size))
 
 -- the place of the first cell of these rows
-abbrev pub first_place : List Row → ℕ
-first_place [] = 0
-first_place (own ∷ rows) = own.first
+abbrev pub first_of_rows : List Row → ℕ
+first_of_rows [] = 0
+first_of_rows (own ∷ rows) = own.first
 
 -- a row as its number and the place of its first cell
 abbrev pub row_place : Row → ℕ × ℕ
@@ -51,11 +51,11 @@ rows_end [] count = count
 rows_end (next ∷ rows) count = next.first
 
 -- the cells of one of the rows, counted from 0
-abbrev pub part_of : {X : Type 0} → ℕ → List Row → List (ColumnCell X) → List (ColumnCell X)
-part_of k [] cells = []
-part_of zero (own ∷ rows) cells = take (row_size own.first rows (length cells)) cells
-part_of (suc k) (own ∷ rows) cells =
-    part_of k rows (drop (row_size own.first rows (length cells)) cells)
+abbrev pub cells_of_row : {X : Type 0} → ℕ → List Row → List (ColumnCell X) → List (ColumnCell X)
+cells_of_row k [] cells = []
+cells_of_row zero (own ∷ rows) cells = take (row_size own.first rows (length cells)) cells
+cells_of_row (suc k) (own ∷ rows) cells =
+    cells_of_row k rows (drop (row_size own.first rows (length cells)) cells)
 
 -- a cell as its column and its value
 abbrev pub column_entry : {X : Type 0} → ColumnCell X → ℕ × X

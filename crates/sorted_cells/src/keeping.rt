@@ -1,7 +1,7 @@
 //! The cells of an area alone, with their rows. It takes no memory.
 ghost use Rattle.std.specs.Prelude.{◌≡◌, ◌++◌, ◌+◌, ◌<◌, ◌≤◌, true, length, take, drop, nat_le};
 ghost use Rattle.sorted_cells.specs.Cut.{AreLeft};
-ghost use Rattle.sorted_cells.specs.Rows.{are_rows, numbers_rise, first_place};
+ghost use Rattle.sorted_cells.specs.Rows.{are_rows, numbers_rise, first_of_rows};
 ghost use Rattle.sorted_cells.specs.Thinned.{is_between, cells_between, row_if, thinned};
 
 use crate::row::{ColumnCell, Row, row_size, rows_end};
@@ -38,7 +38,7 @@ pub fn cut_behind<T: Drop>(rows: &mut Vec<Row>, cells: &mut Vec<ColumnCell<T>>, 
 pub fn cut_before<T: Drop>(rows: &mut Vec<Row>, cells: &mut Vec<ColumnCell<T>>, first: u32)
     requires shared { are_rows 0 rows.old.items (length cells.old.items) ≡ true }
     requires numbers { numbers_rise rows.old.items ≡ true }
-    ensures { AreLeft (λ number. nat_le first number) (first_place rows.new.items) rows.old.items
+    ensures { AreLeft (λ number. nat_le first number) (first_of_rows rows.new.items) rows.old.items
         rows.new.items cells.old.items cells.new.items }
 {
     let before = rows.partition_point(|row| row.number < first);
@@ -78,7 +78,7 @@ fn write_row(rows: &mut [Row], written: usize, row: Row, size: usize) -> usize
 /// Counts the places of the rows for the cells with columns between these alone, and tells how many
 /// rows have one: they stand first.
 fn count_anew<T>(rows: &mut [Row], cells: &[ColumnCell<T>], first: u32, last: u32) -> usize
-    requires { are_rows (first_place rows.old) rows.old (length cells.now) ≡ true }
+    requires { are_rows (first_of_rows rows.old) rows.old (length cells.now) ≡ true }
     ensures { take result rows.new ≡ thinned first last 0 rows.old cells.now }
 {
     let mut written = 0;
@@ -103,7 +103,7 @@ fn count_anew<T>(rows: &mut [Row], cells: &[ColumnCell<T>], first: u32, last: u3
 /// Leaves the rows that have a cell with a column between these, with their places among such cells
 /// alone.
 pub fn keep_columns<T>(rows: &mut Vec<Row>, cells: &[ColumnCell<T>], first: u32, last: u32)
-    requires { are_rows (first_place rows.old.items) rows.old.items (length cells.now) ≡ true }
+    requires { are_rows (first_of_rows rows.old.items) rows.old.items (length cells.now) ≡ true }
     ensures { rows.new.items ≡ thinned first last 0 rows.old.items cells.now }
 {
     let left = count_anew(rows, cells, first, last);

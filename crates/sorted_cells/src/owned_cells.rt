@@ -1,6 +1,6 @@
 ghost use Rattle.std.specs.Prelude.{IsTrue, ◌≤◌, length, drop};
 ghost use Rattle.std.specs.Vec.Iter.{into_iter_items};
-ghost use Rattle.sorted_cells.specs.Rows.{are_rows, first_place};
+ghost use Rattle.sorted_cells.specs.Rows.{are_rows, first_of_rows};
 
 use crate::row::{ColumnCell, Row, row_size};
 use std::alloc::Global;
@@ -16,7 +16,7 @@ pub struct OwnedCells<T> {
     cells: IntoIter<ColumnCell<T>, Global>,
     ghost within: { own ≤ length (into_iter_items cells) },
     ghost behind: { entered ≤ length rows.items },
-    ghost shared: { IsTrue (are_rows (first_place (drop entered rows.items))
+    ghost shared: { IsTrue (are_rows (first_of_rows (drop entered rows.items))
         (drop entered rows.items) (length (drop own (into_iter_items cells)))) },
 }
 

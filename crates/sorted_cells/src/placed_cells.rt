@@ -1,5 +1,5 @@
 ghost use Rattle.std.specs.Prelude.{IsTrue, length};
-ghost use Rattle.sorted_cells.specs.Rows.{are_rows, first_place};
+ghost use Rattle.sorted_cells.specs.Rows.{are_rows, first_of_rows};
 
 use crate::row::{ColumnCell, Row, row_size};
 
@@ -10,7 +10,7 @@ pub struct PlacedCells<'a, T> {
     own: &'a [ColumnCell<T>],
     rows: &'a [Row],
     behind: &'a [ColumnCell<T>],
-    ghost shared: { IsTrue (are_rows (first_place rows.now) rows.now (length behind.now)) },
+    ghost shared: { IsTrue (are_rows (first_of_rows rows.now) rows.now (length behind.now)) },
 }
 
 impl<'a, T> PlacedCells<'a, T> {

@@ -29,15 +29,15 @@ impl<T> SortedCells<T> {
     ghost use Rattle.std.specs.List.{filter};
     ghost use Rattle.std.specs.Option.{option_copied};
     ghost use Rattle.cell_refs.specs.Positions.{position_cmp, is_in_area};
-    ghost use Rattle.sorted_cells.specs.Rows.{part_of, rows_end};
-    ghost use Rattle.sorted_cells.specs.Kept.{cells_in};
+    ghost use Rattle.sorted_cells.specs.Rows.{cells_of_row, rows_end};
+    ghost use Rattle.sorted_cells.specs.Kept.{kept_cells};
     ghost use Rattle.sorted_cells.specs.Owned.{owned_left};
     ghost use Rattle.sorted_cells.specs.Placed.{placed_left};
     ghost use Rattle.sorted_cells.specs.Last.{last_key, comes_after};
 
     /// No cells.
     pub fn new(alloc: Global) -> SortedCells<T>
-        ensures { cells_in result ≡ [] }
+        ensures { kept_cells result ≡ [] }
     {
         SortedCells {
             rows: Vec::new(alloc),
@@ -47,21 +47,21 @@ impl<T> SortedCells<T> {
 
     /// How many cells there are.
     pub fn len(&self) -> usize
-        ensures { result ≡ length (cells_in self.now) }
+        ensures { result ≡ length (kept_cells self.now) }
     {
         self.cells.len()
     }
 
     /// Whether there is no cell.
     pub fn is_empty(&self) -> bool
-        ensures { result ≡ (length (cells_in self.now) == 0) }
+        ensures { result ≡ (length (kept_cells self.now) == 0) }
     {
         self.cells.is_empty()
     }
 
     /// The row and the column of the last cell, counted from 0; none without a cell.
     pub fn last_position(&self) -> Option<(u32, u32)>
-        ensures { result ≡ last_key (cells_in self.now) }
+        ensures { result ≡ last_key (kept_cells self.now) }
     {
         let (row, _) = self.rows.split_last()?;
         let (cell, _) = self.cells.split_last()?;
@@ -71,7 +71,7 @@ impl<T> SortedCells<T> {
     /// Whether a position, a row and a column counted from 0, comes after those of all cells, so
     /// that a cell can be put there.
     pub fn comes_last(&self, pos: (u32, u32)) -> bool
-        ensures { result ≡ comes_after position_cmp (last_key (cells_in self.now)) pos }
+        ensures { result ≡ comes_after position_cmp (last_key (kept_cells self.now)) pos }
     {
         match self.last_position() {
             Some(last) => last < pos,
@@ -84,9 +84,9 @@ impl<T> SortedCells<T> {
     pub fn push(&mut self, pos: (u32, u32), val: T) -> Result<(), AllocError>
     where
         T: Drop,
-        requires { comes_after position_cmp (last_key (cells_in self.old)) pos ≡ true }
-        ensures ok { OnOk result (cells_in self.new ≡ cells_in self.old ++ (pos, val) ∷ []) }
-        ensures err { OnErr result (cells_in self.new ≡ cells_in self.old) }
+        requires { comes_after position_cmp (last_key (kept_cells self.old)) pos ≡ true }
+        ensures ok { OnOk result (kept_cells self.new ≡ kept_cells self.old ++ (pos, val) ∷ []) }
+        ensures err { OnErr result (kept_cells self.new ≡ kept_cells self.old) }
     {
         self.cells.reserve(1)?;
         begin_row(&mut self.rows, pos.0, self.cells.len())?;
@@ -97,7 +97,7 @@ impl<T> SortedCells<T> {
     /// The cells of this row, by its place in the list of rows.
     fn row_cells(&self, row: usize) -> &[ColumnCell<T>]
         requires { row < length self.now.rows.items }
-        ensures { result.now ≡ part_of row self.now.rows.items self.now.cells.items }
+        ensures { result.now ≡ cells_of_row row self.now.rows.items self.now.cells.items }
     {
         let first = self.rows[row].first;
         let end = rows_end(&self.rows, row + 1, self.cells.len());
@@ -106,7 +106,7 @@ impl<T> SortedCells<T> {
 
     /// The value of the cell at a row and a column, counted from 0; none where there is no cell.
     pub fn get(&self, pos: (u32, u32)) -> Option<&T>
-        ensures { option_copied result ≡ find position_cmp pos (cells_in self.now) }
+        ensures { option_copied result ≡ find position_cmp pos (kept_cells self.now) }
     {
         match self.rows.binary_search_by_key(&pos.0, |row| row.number) {
             Ok(row) => value_in(self.row_cells(row), pos.1),
@@ -116,16 +116,16 @@ impl<T> SortedCells<T> {
 
     /// The cells with their positions, row by row.
     pub fn iter(&self) -> PlacedCells<'_, T>
-        ensures cells { placed_left result ≡ cells_in self.now }
-        ensures rising { is_rising (cells_in self.now) ≡ true }
+        ensures cells { placed_left result ≡ kept_cells self.now }
+        ensures rising { is_rising (kept_cells self.now) ≡ true }
     {
         PlacedCells::new(&self.rows, &self.cells)
     }
 
     /// The cells with their positions, row by row, each handed out.
     pub fn into_iter(self) -> OwnedCells<T>
-        ensures cells { owned_left result ≡ cells_in self }
-        ensures rising { is_rising (cells_in self) ≡ true }
+        ensures cells { owned_left result ≡ kept_cells self }
+        ensures rising { is_rising (kept_cells self) ≡ true }
     {
         OwnedCells::new(self.rows, self.cells)
     }
@@ -135,8 +135,8 @@ impl<T> SortedCells<T> {
     pub fn keep_area(self, start: (u32, u32), end: (u32, u32)) -> SortedCells<T>
     where
         T: Drop,
-        ensures { cells_in result ≡ filter
-            (λ cell. is_in_area (record { start = start; end = end }) cell.0) (cells_in self) }
+        ensures { kept_cells result ≡ filter
+            (λ cell. is_in_area (record { start = start; end = end }) cell.0) (kept_cells self) }
     {
         let SortedCells {
             mut rows,

@@ -81,7 +81,8 @@ no_target_cause : (parts : List Part) (wanted : List ℕ) (single : Single) (pat
 no_target_cause parts wanted single path own error says (inl (inl lacks)) =
     let part = part_of parts (relationships_beside path) in
     let said = section_said (codes "Relationships") (single_target_in wanted single) in
-    let there = and_then_from said part (Some own) (one_said (target_beside parts wanted single path) own says) in
+    let there = and_then_from said part (Some own)
+    (one_said (target_beside parts wanted single path) own says) in
     not_absent parts (relationships_beside path) error there.0 there.1 lacks
 no_target_cause parts wanted single path own error says (inl (inr cause)) =
     absent_or_refused single wanted (part_of parts (relationships_beside path)) (Some own) error
