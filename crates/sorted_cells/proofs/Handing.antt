@@ -15,8 +15,8 @@ module _ {X : Type 0} where
     pub within : size ≤ length cells
     pub behind : at + 1 ≤ length rows
     pub shared :
-        are_rows (first_of_rows (drop (at + 1) rows)) (drop (at + 1) rows) (length (drop size cells))
-        ≡ true
+        are_rows (first_of_rows (drop (at + 1) rows)) (drop (at + 1) rows)
+        (length (drop size cells)) ≡ true
     pub is :
         map (row_entry row.number) (take size cells)
         ++ cells_by (drop (at + 1) rows) (drop size cells)

@@ -16,7 +16,8 @@ use Rattle.cell_refs.specs.Positions.{position_cmp, is_rising}
 use Rattle.sorted_cells.specs.declared.row.Row.{Row}
 use Rattle.sorted_cells.specs.declared.row.ColumnCell.{ColumnCell}
 use Rattle.sorted_cells.specs.Rows.{row_entry, row_size, cells_by, are_rows, row_place}
-use Rattle.sorted_cells.specs.Rows.{numbers_rise, rows_end, cells_of_row, column_entry, columns_rise}
+use Rattle.sorted_cells.specs.Rows.{numbers_rise, rows_end, cells_of_row, column_entry}
+use Rattle.sorted_cells.specs.Rows.{columns_rise}
 use Rattle.sorted_cells.proofs.Finding.{found_in_two, none_behind, not_searched}
 use Rattle.sorted_cells.proofs.Orders.{and_both, less_from, sorted_parts}
 use Rattle.sorted_cells.proofs.Pushing.{shared, rest_shared}

@@ -112,8 +112,8 @@ pub row_here : (rows : List Row) (at left : ℕ) (d : Row) → at < length rows 
     are_rows (first_of_rows (drop at rows)) (drop at rows) left ≡ true →
     are_rows (get_or rows at d).first (get_or rows at d ∷ drop (at + 1) rows) left ≡ true
 row_here rows at left d within are =
-    subst (λ (rs : List Row). are_rows (first_of_rows rs) rs left ≡ true) (drop_more rows at d within)
-    are
+    subst (λ (rs : List Row). are_rows (first_of_rows rs) rs left ≡ true)
+    (drop_more rows at d within) are
 
 module _ {X : Type 0} (first last : ℕ) where
   abbrev pub entries_between : List ((ℕ × ℕ) × X) → List ((ℕ × ℕ) × X)
