@@ -211,6 +211,12 @@ LINKS = [
         to("u"),
     ),
     (
+        "the last of 300,000 of one id",
+        targets(*[f'Id="a" {LINK} Target="t"'] * 299_999, f'Id="a" {LINK} Target="u"'),
+        BY_ID,
+        to("u"),
+    ),
+    (
         "another type is none",
         targets(f'Id="a" {LINK} Target="t"', f'Id="a" Type="{TYPES}table" Target="&bogus;"'),
         BY_ID,

@@ -40,6 +40,10 @@ def absent(name):
     return refused(f"File not found '{name}'")
 
 
+def not_found(name):
+    return refused(f"Pivot Table '{name}' was not found on worksheet")
+
+
 def ended(section):
     return refused(f"Unexpected end of xml, expecting '</{section}>'")
 
@@ -108,7 +112,8 @@ CASES = [
     ("a target beside the sheet", RELATED, pair("pivotTable", "p.xml"), absent("p.xml")),
 ]
 
-# What is told where each part is left out, and where it ends before each of its events.
+# What is told where each part is left out, and where it ends before each of its events. Where none
+# is listed, the rows of one are refused.
 WITHOUT = [
     (RELATED, "", ended("Relationships")),
     (PIVOT, absent(PIVOT[0]), ended("pivotTableDefinition")),
@@ -241,8 +246,7 @@ class Pivots(unittest.TestCase):
     def test_pivot_tables_go_by_the_names_of_their_sheets_and_their_own(self):
         package = package_with(*PARTS, DEFINITIONS, RECORDS)
         for sheet, name in (("T", "P1"), ("s", "P1"), ("S", "P2"), ("S", "p1"), ("S", "")):
-            wanted = refused(f"Pivot Table '{name}' was not found on worksheet")
-            self.check(package, wanted, (sheet, name), ["pivot", sheet, name])
+            self.check(package, not_found(name), (sheet, name), ["pivot", sheet, name])
 
     def test_the_parts_of_a_cache_are_left_out_or_cut(self):
         parts = [DEFINITIONS, RECORDS]
@@ -260,10 +264,14 @@ class Pivots(unittest.TestCase):
 
     def test_each_part_of_a_pivot_table_is_left_out_or_cut(self):
         for part, wanted, cut in WITHOUT:
-            self.check(package_with(*(own for own in PARTS if own != part)), wanted, part[0])
+            others = [own for own in [*PARTS, DEFINITIONS, RECORDS] if own != part]
+            package = package_with(*others)
+            self.check(package, wanted, part[0])
+            self.check_rows(package, wanted or not_found("P1"), part[0])
             for count in range(len(events_of(part[1]))):
-                others = [own for own in PARTS if own != part]
-                self.check(package_cut(part, count, *others), cut, (part[0], count))
+                package = package_cut(part, count, *others)
+                self.check(package, cut, (part[0], count))
+                self.check_rows(package, cut, (part[0], count))
 
     def test_pivot_tables_read_no_sheet_and_no_cache(self):
         broken = (SHEET_NAME, with_data('<c r="!" t="x"><v>1</v></c>'))

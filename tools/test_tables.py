@@ -3,8 +3,8 @@
 import subprocess
 import unittest
 
-from noted import RELATIONSHIPS, ROOT, SHEET_NAME, TYPES, WORKBOOK, package_of, package_with
-from noted import refused, related, told, with_data
+from noted import RELATIONSHIPS, ROOT, SHEET_NAME, WORKBOOK, events_of, package_cut, package_of
+from noted import package_with, refused, related, told, with_data
 from test_program import BUILDS, OUT
 
 RELATED_NAME = "xl/worksheets/_rels/sheet1.xml.rels"
@@ -70,11 +70,17 @@ class Tables(unittest.TestCase):
             wanted = refused(f"Table '{name}' not found")
             self.check(package, ["table", name], wanted, name)
 
-    def test_a_table_that_is_not_there_is_passed_over(self):
-        package = package_with(RELATED, NUT)
-        self.check(package, ["tables"], "", "no part of the table")
-        self.check(package_with(NUT), ["tables"], "", "no relationships")
-        self.check(package_with(NUT), ["table", "T1"], refused("Table 'T1' not found"), "none")
+    def test_each_part_of_a_table_is_left_out_or_cut(self):
+        for part, ended in ((RELATED, "Relationships"), ((TABLE_NAME, table()), "Table")):
+            others = [own for own in (RELATED, (TABLE_NAME, table()), NUT) if own != part]
+            package = package_with(*others)
+            self.check(package, ["tables"], "", part[0])
+            self.check(package, ["table", "T1"], refused("Table 'T1' not found"), part[0])
+            wanted = refused(f"Unexpected end of xml, expecting '</{ended}>'")
+            for count in range(len(events_of(part[1]))):
+                package = package_cut(part, count, *others)
+                for words in (["tables"], ["table", "T1"]):
+                    self.check(package, words, wanted, (part[0], count, words))
 
     def test_tables_read_no_sheet(self):
         broken = (SHEET_NAME, with_data('<c r="!" t="x"><v>1</v></c>'))

@@ -3,7 +3,6 @@
 use cell_data::Data;
 use part_events::Package;
 use std::alloc::Global;
-use std::process::Abort;
 use std::test::Fail;
 use test_packages::package_of;
 use test_tables::{assert_text, cases, cut};
@@ -22,9 +21,6 @@ const FIELDS: &str =
 /// Two records of these.
 const ROWS: &str =
     r#"<pivotCacheRecords><r><x v="1"/><n v="3"/></r><r><x v="0"/><n v="2.50"/></r></pivotCacheRecords>"#;
-
-/// What they tell.
-const TOLD: &str = "s:Kind s:Qty ;s:bolt i:3 ;s:nut n:2.5 ;";
 
 /// A part of definitions, and its fields, each with its items, or why they can't be taken.
 const FIELD_CASES: &str = r#"
@@ -287,5 +283,41 @@ fn rows_are_collected(rt: HostRuntime) -> Result<(), Fail> {
     let rows = PivotCacheIter::open(alloc, &mut package, DEFINITIONS, RECORDS)?;
     let rows: Vec<Result<Vec<Data>, XlsxError>> = rows.collect(alloc)?;
     assert!(rt; rows.len() == 3);
+    Ok(())
+}
+
+/// What the iterator over the rows of these records gives in five calls.
+fn five_told(alloc: Global, markup: &str) -> Result<String, Fail> {
+    let mut package = package_of(alloc, &[(DEFINITIONS, FIELDS), (RECORDS, markup)])?;
+    let mut rows = PivotCacheIter::open(alloc, &mut package, DEFINITIONS, RECORDS)?;
+    let mut out = String::new(alloc);
+    for _ in 0..5 {
+        match rows.next() {
+            Some(row) => push_row(&mut out, row)?,
+            None => out.push_str(".")?,
+        }
+    }
+    Ok(out)
+}
+
+/// Records, and what five calls give.
+const ENDS: &str = r#"
+<pivotCacheRecords><r><x v="1"/><n v="3"/></r><r><x v="0"/><n v="2.50"/></r></pivotCacheRecords>
+= s:Kind s:Qty ;s:bolt i:3 ;s:nut n:2.5 ;..
+
+<pivotCacheRecords><r/></pivotCacheRecords><r/><pivotCacheRecords><r/></pivotCacheRecords>
+= s:Kind s:Qty ;;...
+
+<pivotCacheRecords><r><x v="2"/></r><r/><r/><r/></pivotCacheRecords>
+= s:Kind s:Qty ;Unexpected("pivot cache item index out of range")...
+"#;
+
+#[test]
+fn no_row_comes_behind_the_end_or_a_refusal(rt: HostRuntime) -> Result<(), Fail> {
+    for case in cases(ENDS) {
+        let (markup, given) = cut(case);
+        let told = five_told(rt.alloc(), markup)?;
+        assert_text(&told, given, markup)?;
+    }
     Ok(())
 }
