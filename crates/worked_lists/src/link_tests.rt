@@ -1,12 +1,14 @@
-//! The hyperlinks of sheets, by both calls that read them.
+//! The hyperlinks of sheets, by each of the calls that read them.
 
 use crate::opening::opened;
-use part_events::{MemoryPackage, Package};
+use part_events::{MemoryPackage, Package, PartEvent, XlReader};
 use std::alloc::Global;
+use std::collections::BTreeMap;
 use std::test::Fail;
 use test_packages::{Part, RELATIONSHIPS, ROOT, SHEET_NAME, WORKBOOK, WORKBOOK_NAME, package_of};
 use test_tables::{assert_text, cases, cut};
-use xlsx_core::{Hyperlink, Xlsx};
+use xlsx_areas::read_hyperlinks;
+use xlsx_core::{Hyperlink, Xlsx, XlsxError};
 
 /// The name of the part of the sheet's relationships.
 const BESIDE: &str = "xl/worksheets/_rels/sheet1.xml.rels";
@@ -238,6 +240,54 @@ fn links_are_read_and_refused(rt: HostRuntime) -> Result<(), Fail> {
         assert_links(alloc, sheet, links)?;
     }
     assert_links(alloc, ESCAPES.0, ESCAPES.1)
+}
+
+/// The links in the section with which a part of this markup begins, where `rId9` leads to
+/// `https://example.com`.
+fn links_in(alloc: Global, markup: &str) -> Result<Vec<Hyperlink>, XlsxError> {
+    let mut targets = BTreeMap::new(alloc);
+    let target = String::from_str(alloc, "https://example.com")?;
+    targets.insert(String::from_str(alloc, "rId9")?, target)?;
+    let mut package = package_of(alloc, &[(SHEET_NAME, markup)])?;
+    let Some(mut xml) = XlReader::open(alloc, &mut package, SHEET_NAME)? else {
+        return Err(XlsxError::Failed);
+    };
+    if xml.next()? {
+        if let PartEvent::Start(_) = xml.event() {
+            return read_hyperlinks(&mut xml, &targets);
+        }
+    }
+    Err(XlsxError::Failed)
+}
+
+/// A section of hyperlinks, and its links or why they are not read.
+const SECTIONS: &str = r#"
+<hyperlinks><hyperlink ref="A2" r:id="rId9" tooltip="a&amp;b"/><hyperlink ref="B2:B3" location="S!A1" display="go"/><hyperlink location="x"/></hyperlinks>
+= (1,0)-(1,0) =https://example.com - - =a&b;(1,1)-(2,1) - =S!A1 =go -;
+
+<hyperlinks><hyperlink ref="A1" r:id="rId1"/></hyperlinks><hyperlink ref="A0"/>
+= (0,0)-(0,0) - - - -;
+
+<hyperlinks><hyperlink ref="A1"/>
+= XmlEof("hyperlinks")
+
+<hyperlinks><hyperlink ref="A1" tooltip="&bogus;"/></hyperlinks>
+= Xml(Entity { at: 1 })
+"#;
+
+#[test]
+fn sections_of_links_are_read_and_refused(rt: HostRuntime) -> Result<(), Fail> {
+    let alloc = rt.alloc();
+    for case in cases(SECTIONS) {
+        let (markup, wanted) = cut(case);
+        let mut told = String::new(alloc);
+        match links_in(alloc, markup) {
+            Ok(links) => push_links(&mut told, &links)?,
+            Err(error) => write!(told, "{error:?}")?,
+        }
+        assert_text(&told, wanted, markup)?;
+    }
+    Ok(())
 }
 
 /// A link whose Id is `a`, and one whose Id is empty.

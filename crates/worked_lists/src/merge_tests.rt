@@ -2,14 +2,15 @@
 
 use crate::opening::opened;
 use cell_refs::Dimensions;
-use part_events::{FailingPackage, Package};
+use part_events::{FailingPackage, Package, PartEvent, XlReader};
 use std::alloc::Global;
 use std::test::Fail;
 use test_packages::{
     Part, RELATIONSHIPS, ROOT, SHEET_NAME, WORKBOOK, WORKBOOK_NAME, package_of, package_with,
 };
 use test_tables::{assert_text, cases, cut};
-use xlsx_core::Xlsx;
+use xlsx_areas::read_merge_cells;
+use xlsx_core::{Xlsx, XlsxError};
 
 fn push_areas(out: &mut String, areas: &[Dimensions]) -> Result<(), Fail> {
     for area in areas {
@@ -83,7 +84,7 @@ fn regions_told<P: Package>(alloc: Global, xlsx: &mut Xlsx<P>) -> Result<String,
 /// What stands in a sheet's part, its merged cells, those where a faulty section counts for none,
 /// and the regions.
 const CASES: &str = r#"
-<worksheet><sheetData/><mergeCells><mergeCell ref="A5:B6"/><mergeCell ref="D1"/></mergeCells></worksheet>
+<worksheet><sheetData><row r="2"><c r="A2" t="str"><v>nut</v></c><c r="B2"><v>3</v></c></row></sheetData><mergeCells><mergeCell ref="A5:B6"/><mergeCell ref="D1"/></mergeCells><hyperlinks><hyperlink ref="A2" r:id="rId9" tooltip="a&amp;b"/><hyperlink ref="B2:B3" location="S!A1" display="go"/><hyperlink location="x"/></hyperlinks></worksheet>
 = (4,0)-(5,1)(0,3)-(0,3)
 = (4,0)-(5,1)(0,3)-(0,3)
 = S(4,0)-(5,1)S(0,3)-(0,3)
@@ -232,6 +233,50 @@ fn merged_cells_are_read_and_refused(rt: HostRuntime) -> Result<(), Fail> {
         assert_text(&told, lenient, sheet)?;
         let told = regions_told(alloc, &mut xlsx)?;
         assert_text(&told, regions, sheet)?;
+    }
+    Ok(())
+}
+
+/// The areas in the section with which a part of this markup begins.
+fn areas_in(alloc: Global, markup: &str) -> Result<Vec<Dimensions>, XlsxError> {
+    let mut package = package_of(alloc, &[(SHEET_NAME, markup)])?;
+    let Some(mut xml) = XlReader::open(alloc, &mut package, SHEET_NAME)? else {
+        return Err(XlsxError::Failed);
+    };
+    if xml.next()? {
+        if let PartEvent::Start(_) = xml.event() {
+            return read_merge_cells(&mut xml);
+        }
+    }
+    Err(XlsxError::Failed)
+}
+
+/// A section of merged cells, and its areas or why they are not read.
+const SECTIONS: &str = r#"
+<mergeCells><mergeCell ref="A5:B6"/><mergeCell ref="D1"/></mergeCells>
+= (4,0)-(5,1)(0,3)-(0,3)
+
+<mergeCells><mergeCell ref="A1"/></mergeCells><mergeCell ref="A0"/>
+= (0,0)-(0,0)
+
+<mergeCells><mergeCell ref="A1"/>
+= XmlEof("")
+
+<mergeCells><mergeCell ref="A0"/></mergeCells>
+= RangeWithoutRowComponent
+"#;
+
+#[test]
+fn sections_of_merged_cells_are_read_and_refused(rt: HostRuntime) -> Result<(), Fail> {
+    let alloc = rt.alloc();
+    for case in cases(SECTIONS) {
+        let (markup, wanted) = cut(case);
+        let mut told = String::new(alloc);
+        match areas_in(alloc, markup) {
+            Ok(areas) => push_areas(&mut told, &areas)?,
+            Err(error) => write!(told, "{error:?}")?,
+        }
+        assert_text(&told, wanted, markup)?;
     }
     Ok(())
 }
