@@ -130,6 +130,14 @@ docProps/core.xml
 = <a><creator>x
 =
 
+docProps/app.xml
+= <a><Company>x</Company><Manager>y
+= company=x;
+
+docProps/app.xml
+= <a><Company>x</Company><Manager>y</Manager>
+= company=x;manager=y;
+
 docProps/core.xml
 = <a><creator><!data></creator></a>
 =
@@ -171,6 +179,10 @@ docProps/custom.xml
 = B:2;
 
 docProps/custom.xml
+= <p><property name="A"><v><property name="B">x</property></v></property></p>
+= B:x;
+
+docProps/custom.xml
 = <p><property name="a&amp;b"><v>1</v></property></p>
 = a&b:1;
 
@@ -189,6 +201,18 @@ docProps/custom.xml
 docProps/custom.xml
 = <p><property x></property></p>
 = XmlAttr(ExpectedEq(1))
+
+docProps/custom.xml
+= <p><property name="A"><v>1</v></property><property name="B"><v>2
+= A:1;
+
+docProps/custom.xml
+= <p><property name="A"><v>1</v></property><property name="B"><v>2</v>
+= A:1;
+
+docProps/custom.xml
+= <p><property name="A"><v>1</v></property>
+= A:1;
 
 docProps/custom.xml
 = <p></q>
