@@ -198,6 +198,11 @@ fn header_row(row: &str) -> HeaderRow {
 
 /// A sheet, the header row, and the data of its table, also with shared strings by their places.
 const SHEETS: &str = r#"
+<worksheet><sheetData><row r="2"><c r="A2" t="str"><v>nut</v></c><c r="B2"><v>3</v></c></row></sheetData><mergeCells><mergeCell ref="A5:B6"/><mergeCell ref="D1"/></mergeCells><hyperlinks><hyperlink ref="A2" r:id="rId9" tooltip="a&amp;b"/><hyperlink ref="B2:B3" location="S!A1" display="go"/><hyperlink location="x"/></hyperlinks></worksheet>
+= first
+= T1 S(1,0)-(2,1) Name Qty; 1,0=nut 1,1=3
+=  1,0=nut 1,1=3
+
 <worksheet><sheetData><c r="A2" t="s"><v>0</v></c><c r="A3"><v>1</v></c><c r="A2" t="s"><v>0</v></c><c r="A3"><v>2</v></c><c r="A4"><v>4</v></c><c r="C2"><v>5</v></c></sheetData></worksheet>
 = first
 = T1 S(1,0)-(2,1) Name Qty; 1,0=red 2,0=2

@@ -1,23 +1,30 @@
 //! The tables of sheets, by the parts that their relationships lead to.
 
-use part_events::MemoryPackage;
+use cell_refs::Dimensions;
+use part_events::{MemoryPackage, XlReader};
 use std::alloc::Global;
 use std::test::Fail;
 use test_packages::{Part, SHEET_NAME, package_of};
 use test_tables::{assert_text, cases, cut};
-use xlsx_tables::{LoadedTable, read_sheet_tables};
+use xlsx_error::XlsxError;
+use xlsx_tables::{TablePart, read_sheet_tables, read_table_part};
 
 /// A table: its name, its area and its columns.
-fn push_table(out: &mut String, table: &LoadedTable) -> Result<(), Fail> {
-    out.push_str(table.name())?;
-    match table.area() {
+fn push_table(
+    out: &mut String,
+    name: &str,
+    area: Option<Dimensions>,
+    columns: &[String],
+) -> Result<(), Fail> {
+    out.push_str(name)?;
+    match area {
         Some(area) => {
             let (start, end) = (area.start, area.end);
             write!(out, "({},{})-({},{})", start.0, start.1, end.0, end.1)?;
         }
         None => out.push_str("-")?,
     }
-    for column in table.columns() {
+    for column in columns {
         write!(out, " {column}")?;
     }
     Ok(out.push_str(";")?)
@@ -33,7 +40,26 @@ fn tables_told(alloc: Global, package: MemoryPackage) -> Result<String, Fail> {
         return Ok(out);
     }
     for table in &tables {
-        push_table(&mut out, table)?;
+        push_table(&mut out, table.name(), table.area(), table.columns())?;
+    }
+    Ok(out)
+}
+
+/// The table of a part of this markup, by a reader that took nothing of it.
+fn table_in(alloc: Global, markup: &str) -> Result<TablePart, XlsxError> {
+    let mut package = package_of(alloc, &[(TABLE_NAME, markup)])?;
+    match XlReader::open(alloc, &mut package, TABLE_NAME)? {
+        Some(mut xml) => read_table_part(&mut xml),
+        None => Err(XlsxError::Failed),
+    }
+}
+
+/// The same as a text, or why it is not read.
+fn part_told(alloc: Global, markup: &str) -> Result<String, Fail> {
+    let mut out = String::new(alloc);
+    match table_in(alloc, markup) {
+        Ok(part) => push_table(&mut out, &part.display_name, part.area, &part.columns)?,
+        Err(error) => write!(out, "{error:?}")?,
     }
     Ok(out)
 }
@@ -290,6 +316,8 @@ fn table_parts_are_read_and_refused(rt: HostRuntime) -> Result<(), Fail> {
         let (table, tables) = cut(case);
         let parts = [ONE_TABLE, (TABLE_NAME, table)];
         let told = tables_told(alloc, package_of(alloc, &parts)?)?;
+        assert_text(&told, tables, table)?;
+        let told = part_told(alloc, table)?;
         assert_text(&told, tables, table)?;
     }
     Ok(())
