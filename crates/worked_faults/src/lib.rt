@@ -1,5 +1,6 @@
 //! What calls that read a package answer where it fails, where it is cut, and where it tells no
-//! content: tests over two workbooks, one of sales and one with lists around its cells.
+//! content, and the rows of its pivot table: tests over two workbooks, one of sales and one with
+//! lists around its cells.
 #![tactic(auto)]
 
 #[cfg(test)]
@@ -10,6 +11,8 @@ mod calls;
 mod cut_tests;
 #[cfg(test)]
 mod fault_tests;
+#[cfg(test)]
+mod pivot_tests;
 #[cfg(test)]
 mod quiet_tests;
 #[cfg(test)]
