@@ -270,11 +270,15 @@ class TablesOfSheets:
         yield "xl/_rels/workbook.xml.rels", relationships(sheets)
         yield "xl/workbook.xml", self.workbook(count)
 
+    def related(self, number):
+        """The Id of the relationship to the part of a sheet."""
+        return f"rId{number}"
+
     def workbook(self, count):
         yield start("workbook")
         yield start("sheets")
         for number in range(1, count + 1):
-            own = f' name="Sheet {number}" sheetId="{number}" r:id="rId{number}"'
+            own = f' name="Sheet {number}" sheetId="{number}" r:id="{self.related(number)}"'
             yield from element("sheet", own)
         yield end("sheets")
         yield end("workbook")
@@ -293,6 +297,27 @@ class TablesOfSheets:
     def lines(self, count):
         for number in range(1, count + 1):
             yield f"T{number}\tSheet {number}\tA2:C9\tOne\tTwo\tThree\n"
+
+
+class SheetsOfOnePart(TablesOfSheets):
+    """Sheets of one part, which has as many relationships, none of them to a table."""
+
+    def frame(self, count):
+        yield OFFICE
+        target = [("worksheet", "worksheets/sheet1.xml")]
+        yield "xl/_rels/workbook.xml.rels", relationships(target)
+        yield "xl/workbook.xml", self.workbook(count)
+
+    def related(self, number):
+        return "rId1"
+
+    def parts(self, count):
+        links = relationships(("hyperlink", "t") for _ in range(count))
+        yield "xl/worksheets/_rels/sheet1.xml.rels", links
+        yield "xl/worksheets/sheet1.xml", sheet_part(rows_of(1))
+
+    def lines(self, count):
+        return ()
 
 
 class PivotsOfSheets(TablesOfSheets):
@@ -314,6 +339,7 @@ LISTS = {
     "tables": Tables,
     "tables_of_sheets": TablesOfSheets,
     "pivots_of_sheets": PivotsOfSheets,
+    "sheets_of_one_part": SheetsOfOnePart,
     "pivot": PivotRecords,
 }
 
