@@ -7,20 +7,19 @@ use Rattle.std.specs.declared.cmp.Ordering.{Ordering}
 use Rattle.std.specs.declared.cmp.Ordering.TheVariants.{Less, Equal, Greater}
 use Rattle.std.specs.FinMap.{empty, from_entries, entries, put, entries-insert, len-entries}
 use Rattle.std.specs.FinMap.{len-empty}
-use Rattle.std.specs.FinMap.Entries.{by_order, is_sorted-where_key}
+use Rattle.std.specs.FinMap.Entries.{by_order}
 use Rattle.std.specs.List.{list_all, filter}
 use Rattle.std.proofs.lemmas.Bool.Decides.{nat_tests}
 use Rattle.std.proofs.lemmas.List.{reverse-append}
 use Rattle.std.proofs.lemmas.List.Folds.{list_all-append}
 use Rattle.cell_refs.specs.declared.dimensions.Dimensions.{Dimensions}
 use Rattle.cell_data.specs.declared.cell.Cell.{Cell}
-use Rattle.cell_data.specs.Cells.{cell_entry, placed_cells, IsInSheet}
+use Rattle.cell_data.specs.Cells.{placed_cells, IsInSheet, IsPlacedInSheet, AreInSheet}
 use Rattle.cell_refs.specs.Positions.{position_cmp, last_of_each, area_with, least_area, is_in_area}
 use Rattle.cell_refs.specs.Positions.{is_in_bounds, lie_inside, is_sheet_area, are_sheet_bounds}
 use Rattle.cell_refs.specs.Positions.{lie_from}
 use Rattle.cell_data.specs.Range.{start_of}
-use Rattle.cell_refs.specs.Positions.{is_rising}
-use Rattle.cell_data.proofs.Placing.{position_total, and_both, to_T, from_T}
+use Rattle.cell_refs.proofs.PositionOrder.{position_total, and_both}
 
 both_orders : (a b : Bool) → (a && b) ≡ (b && (a && true))
 both_orders true true = refl
@@ -134,13 +133,20 @@ sheet_with k (Some area) row column sheet =
     grind (arith, nat_tests, top, bottom, left, right)
 
 -- cells of a sheet have an area of the sheet
-pub sheet_bounds : {X : Type 0} (cells : List (Cell X)) → All IsInSheet cells →
-    are_sheet_bounds (least_area (placed_cells cells)) ≡ true
+pub sheet_bounds : {X : Type 0} (cells : List ((ℕ × ℕ) × X)) → AreInSheet cells →
+    are_sheet_bounds (least_area cells) ≡ true
 sheet_bounds [] inside = refl
 sheet_bounds (cell ∷ cells) inside =
     let first = inside 0 cell (omega arith) in
-    sheet_with cell.pos (least_area (placed_cells cells)) first.0 first.1
+    sheet_with cell.0 (least_area cells) first.0 first.1
     (sheet_bounds cells (λ k d below. inside (suc k) d (omega arith)))
+
+pub placed_in_sheet : {X : Type 0} (cells : List (Cell X)) → All IsInSheet cells →
+    AreInSheet (placed_cells cells)
+placed_in_sheet [] inside k d below = absurd (omega arith)
+placed_in_sheet (cell ∷ cells) inside zero d below = inside 0 cell (omega arith)
+placed_in_sheet (cell ∷ cells) inside (suc k) d below =
+    placed_in_sheet cells (λ n other within. inside (suc n) other (omega arith)) k d (omega arith)
 
 from_start : (bounds : Option Dimensions) (k : ℕ × ℕ) → is_in_bounds bounds k ≡ true →
     (nat_le (start_of bounds).0 k.0 && nat_le (start_of bounds).1 k.1) ≡ true
@@ -161,7 +167,7 @@ lie_from_start bounds cells inside =
     (λ k. nat_le (start_of bounds).0 k.0 && nat_le (start_of bounds).1 k.1) cells
     (from_start bounds) inside
 
-filter_all : {X : Type 0} (p : ℕ × ℕ → Bool) (cells : List ((ℕ × ℕ) × X)) →
+pub filter_all : {X : Type 0} (p : ℕ × ℕ → Bool) (cells : List ((ℕ × ℕ) × X)) →
     list_all (λ cell. p cell.0) (filter (λ cell. p cell.0) cells) ≡ true
 filter_all p [] = refl
 filter_all p (e ∷ es) = filter_from p e es (p e.0) refl (filter_all p es)
@@ -174,42 +180,6 @@ filter_all p (e ∷ es) = filter_from p e es (p e.0) refl (filter_all p es)
     filter_from p e es true own rest =
         ap (λ t. t && list_all (λ cell. p cell.0) (filter (λ cell. p cell.0) es)) own ∙ rest
     filter_from p e es false own rest = rest
-
-placed_filter : {X : Type 0} (p : ℕ × ℕ → Bool) (cells : List (Cell X)) →
-    placed_cells (filter (λ cell. p cell.pos) cells) ≡ filter (λ cell. p cell.0)
-    (placed_cells cells)
-placed_filter p [] = refl
-placed_filter p (c ∷ cs) = placed_from p c cs (p c.pos) (placed_filter p cs)
-  where
-    placed_from : {X : Type 0} (p : ℕ × ℕ → Bool) (c : Cell X) (cs : List (Cell X)) (test : Bool) →
-        placed_cells (filter (λ cell. p cell.pos) cs) ≡ filter (λ cell. p cell.0)
-        (placed_cells cs) →
-        placed_cells
-        (cond test (c ∷ filter (λ cell. p cell.pos) cs) (filter (λ cell. p cell.pos) cs))
-        ≡ cond test (cell_entry c ∷ filter (λ cell. p cell.0) (placed_cells cs))
-        (filter (λ cell. p cell.0) (placed_cells cs))
-    placed_from p c cs true rest = ap (λ es. cell_entry c ∷ es) rest
-    placed_from p c cs false rest = rest
-
--- the cells of an area
-pub record Selects {X : Type 0} (area : Dimensions) (cells kept : List (Cell X)) : Type 0 where
-  pub keeps : placed_cells kept ≡ filter (λ cell. is_in_area area cell.0) (placed_cells cells)
-  pub rising : is_rising (placed_cells kept) ≡ true
-  pub inside : lie_inside (Some area) (placed_cells kept) ≡ true
-
-pub selected : {X : Type 0} (area : Dimensions) (cells kept : List (Cell X)) →
-    is_rising (placed_cells cells) ≡ true → kept ≡ filter (λ cell. is_in_area area cell.pos) cells →
-    Selects area cells kept
-selected area cells kept rising is =
-    let same : placed_cells kept ≡ filter (λ cell. is_in_area area cell.0) (placed_cells cells) =
-    ap placed_cells is ∙ placed_filter (is_in_area area) cells in
-    record {
-      keeps = same;
-      rising = ap is_rising same
-          ∙ from_T _
-          (is_sorted-where_key position_cmp (is_in_area area) (placed_cells cells) (to_T _ rising));
-      inside = ap (lie_inside (Some area)) same ∙ filter_all (is_in_area area) (placed_cells cells);
-    }
 
 pub area_on_sheet : (area : Dimensions) → area.start.0 ≤ area.end.0 → area.start.1 ≤ area.end.1 →
     area.end.0 < 1048576 → area.end.1 < 16384 → is_sheet_area area ≡ true
@@ -233,21 +203,20 @@ in_sheet (Some area) k limits inside =
     and_both (nat_le area.start.1 area.end.1) (nat_lt area.end.1 16384) in_columns in
     (grind (arith, nat_tests, bottom, last_row), grind (arith, nat_tests, right, last_column))
 
-used_at : {X : Type 0} (bounds : Option Dimensions) (cells : List (Cell X)) →
-    are_sheet_bounds bounds ≡ true → lie_inside bounds (placed_cells cells) ≡ true →
-    (k : ℕ) (d : Cell X) → k < length cells → IsInSheet (get_or cells k d)
+used_at : {X : Type 0} (bounds : Option Dimensions) (cells : List ((ℕ × ℕ) × X)) →
+    are_sheet_bounds bounds ≡ true → lie_inside bounds cells ≡ true →
+    (k : ℕ) (d : (ℕ × ℕ) × X) → k < length cells → IsPlacedInSheet (get_or cells k d)
 used_at bounds [] limits inside k d below = absurd (omega arith)
 used_at bounds (cell ∷ cells) limits inside zero d below =
     let (own, others) =
-    and_both (is_in_bounds bounds cell.pos) (lie_inside bounds (placed_cells cells)) inside in
-    in_sheet bounds cell.pos limits own
+    and_both (is_in_bounds bounds cell.0) (lie_inside bounds cells) inside in
+    in_sheet bounds cell.0 limits own
 used_at bounds (cell ∷ cells) limits inside (suc k) d below =
     let (own, others) =
-    and_both (is_in_bounds bounds cell.pos) (lie_inside bounds (placed_cells cells)) inside in
+    and_both (is_in_bounds bounds cell.0) (lie_inside bounds cells) inside in
     used_at bounds cells limits others k d (omega arith)
 
 -- cells of an area of a sheet lie on the sheet
-pub used_in_sheet : {X : Type 0} (bounds : Option Dimensions) (cells : List (Cell X)) →
-    are_sheet_bounds bounds ≡ true → lie_inside bounds (placed_cells cells) ≡ true →
-    All IsInSheet cells
+pub used_in_sheet : {X : Type 0} (bounds : Option Dimensions) (cells : List ((ℕ × ℕ) × X)) →
+    are_sheet_bounds bounds ≡ true → lie_inside bounds cells ≡ true → AreInSheet cells
 used_in_sheet bounds cells limits inside = λ k d below. used_at bounds cells limits inside k d below

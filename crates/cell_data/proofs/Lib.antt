@@ -1,6 +1,6 @@
 pub mod Areas
 pub mod Equalities
-pub mod Finding
 pub mod Formats
+pub mod LeastAreas
 pub mod Placing
 pub mod Splitting

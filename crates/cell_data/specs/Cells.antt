@@ -1,5 +1,5 @@
 -- Cells as pairs of a position and a value.
-use Rattle.std.specs.Prelude.{ℕ, ◌<◌, List, map}
+use Rattle.std.specs.Prelude.{ℕ, ◌<◌, List, map, All}
 use Rattle.cell_refs.specs.declared.TheConstants.{MAX_ROWS, MAX_COLUMNS}
 use Rattle.cell_data.specs.declared.cell.Cell.{Cell}
 
@@ -11,3 +11,11 @@ placed_cells cells = map cell_entry cells
 
 abbrev pub IsInSheet : {X : Type 0} → Cell X → Type 0
 IsInSheet cell = (cell.pos.0 < MAX_ROWS) × (cell.pos.1 < MAX_COLUMNS)
+
+-- a cell as such a pair lies in a worksheet
+abbrev pub IsPlacedInSheet : {X : Type 0} → (ℕ × ℕ) × X → Type 0
+IsPlacedInSheet cell = (cell.0.0 < MAX_ROWS) × (cell.0.1 < MAX_COLUMNS)
+
+-- each of them does
+abbrev pub AreInSheet : {X : Type 0} → List ((ℕ × ℕ) × X) → Type 0
+AreInSheet cells = All IsPlacedInSheet cells

@@ -7,11 +7,11 @@ use Rattle.std.specs.FinMap.{find}
 use Rattle.std.specs.Option.{unwrap_or}
 use Rattle.cell_refs.specs.declared.dimensions.Dimensions.{Dimensions}
 use Rattle.cell_data.specs.declared.range.Range.{Range}
-use Rattle.cell_data.specs.Cells.{placed_cells}
 use Rattle.cell_refs.specs.Positions.{position_cmp, is_in_bounds}
+use Rattle.sorted_cells.specs.Kept.{kept_cells}
 
 abbrev pub cells_of : {X : Type 0} → Range X → List ((ℕ × ℕ) × X)
-cells_of range = placed_cells range.cells.items
+cells_of range = kept_cells range.cells
 
 abbrev pub bounds_of : {X : Type 0} → Range X → Option Dimensions
 bounds_of range = range.bounds

@@ -8,7 +8,7 @@ use Rattle.cell_data.specs.declared.range_iterators.UsedCells.{UsedCells}
 use Rattle.cell_data.specs.declared.range_iterators.Cells.{Cells}
 use Rattle.cell_data.specs.declared.range_iterators.RowCells.{RowCells}
 use Rattle.cell_data.specs.declared.range_iterators.Rows.{Rows}
-use Rattle.cell_data.specs.Cells.{placed_cells}
+use Rattle.sorted_cells.specs.Placed.{placed_left}
 use Rattle.cell_data.specs.Range.{cells_of, bounds_of, start_of, width_of, height_of, filled}
 
 -- a used cell
@@ -42,7 +42,7 @@ row_items range =
 
 -- what an iterator has left to give
 abbrev pub used_left : {X : Type 0} → UsedCells X → List (ℕ × ℕ × X)
-used_left it = map (used_item it.start) (placed_cells it.left.now)
+used_left it = map (used_item it.start) (placed_left it.left)
 
 abbrev pub cells_left : {X : Type 0} → Cells X → List (ℕ × ℕ × X)
 cells_left it =

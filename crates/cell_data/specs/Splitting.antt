@@ -1,16 +1,15 @@
 -- Cells in the order of positions, split at one: the cell that stands there, if one does, and those
 -- behind it.
-use Rattle.std.specs.Prelude.{◌≡◌, ℕ, true, All, List, [], ◌∷◌, ◌++◌, Option, Some, None}
+use Rattle.std.specs.Prelude.{◌≡◌, ℕ, true, List, [], ◌∷◌, ◌++◌, Option, Some, None}
 use Rattle.std.specs.Ordering.{is_le}
 use Rattle.std.specs.FinMap.Entries.{below_all}
 use Rattle.cell_refs.specs.Positions.{position_cmp, is_rising}
-use Rattle.cell_data.specs.Cells.{placed_cells, IsInSheet}
-use Rattle.cell_data.specs.declared.cell.Cell.{Cell}
+use Rattle.cell_data.specs.Cells.{AreInSheet}
 
 -- cells row by row, on a sheet
-pub record AreInOrder {X : Type 0} (cells : List (Cell X)) : Type 0 where
-  pub rising : is_rising (placed_cells cells) ≡ true
-  pub sheet : All IsInSheet cells
+pub record AreInOrder {X : Type 0} (cells : List ((ℕ × ℕ) × X)) : Type 0 where
+  pub rising : is_rising cells ≡ true
+  pub sheet : AreInSheet cells
 
 -- no cell stands before the position
 abbrev pub StandsFirst : {X : Type 0} → ℕ × ℕ → List ((ℕ × ℕ) × X) → Type 0
@@ -24,8 +23,8 @@ given position (Some value) = (position, value) ∷ []
 
 -- the cell at the position and the ones behind it
 pub record Splits
-    {X : Type 0} (position : ℕ × ℕ) (cells : List (Cell X)) (value : Option X)
-    (behind : List (Cell X)) : Type 0 where
-  pub whole : placed_cells cells ≡ given position value ++ placed_cells behind
-  pub below : below_all position_cmp position (placed_cells behind) ≡ true
+    {X : Type 0} (position : ℕ × ℕ) (cells : List ((ℕ × ℕ) × X)) (value : Option X)
+    (behind : List ((ℕ × ℕ) × X)) : Type 0 where
+  pub whole : cells ≡ given position value ++ behind
+  pub below : below_all position_cmp position behind ≡ true
   pub order : AreInOrder behind

@@ -1,16 +1,17 @@
 //! What the cells of a workbook hold: values, number formats, ranges.
 #![tactic(auto)]
 
+mod area;
 mod cell;
 mod equality;
 mod format;
+mod gathered;
 mod range;
 mod range_iterators;
-mod sparse;
-mod split;
 mod table;
 mod value;
 
+pub use area::least_area;
 pub use cell::Cell;
 pub use decimals::Decimal;
 pub use equality::{
@@ -19,10 +20,9 @@ pub use equality::{
 pub use format::{
     CellFormat, builtin_format_by_id, builtin_format_code_by_id, detect_custom_number_format,
 };
+pub use gathered::GatheredCells;
 pub use range::Range;
 pub use range_iterators::{Cells, RowCells, Rows, UsedCells};
-pub use sparse::in_order;
-pub use split::split_at_position;
 pub use table::Table;
 pub use value::{
     CellErrorType, Data, DataRef, ExcelDateTime, ExcelDateTimeType, HeaderRow, UnknownCellError,

@@ -2,11 +2,14 @@ ghost use Rattle.std.specs.Prelude.{◌≡◌, IsTrue};
 ghost use Rattle.cell_data.specs.Cells.{placed_cells};
 ghost use Rattle.cell_refs.specs.Positions.{is_rising, lie_inside, are_sheet_bounds};
 ghost use Rattle.cell_refs.specs.Positions.{is_in_area};
+ghost use Rattle.sorted_cells.specs.Kept.{kept_cells};
 
+use crate::area::least_area;
 use crate::cell::Cell;
+use crate::gathered::gathered;
 use crate::range_iterators::{Cells, Rows, UsedCells};
-use crate::sparse::{in_order, least_area, value_of};
 use cell_refs::{Dimensions, MAX_COLUMNS, MAX_ROWS};
+use sorted_cells::{PlacedCells, SortedCells};
 use std::alloc::{AllocError, Global};
 
 /// An area of a sheet and its used cells, with a value that every other cell of the area has.
@@ -14,11 +17,10 @@ use std::alloc::{AllocError, Global};
 /// It takes memory by the number of its used cells, whatever its area.
 #[derive(Drop)]
 pub struct Range<T> {
-    cells: Vec<Cell<T>>,
+    cells: SortedCells<T>,
     bounds: Option<Dimensions>,
     blank: T,
-    ghost rising: { IsTrue (is_rising (placed_cells cells.items)) },
-    ghost inside: { IsTrue (lie_inside bounds (placed_cells cells.items)) },
+    ghost inside: { IsTrue (lie_inside bounds (kept_cells cells)) },
     ghost limits: { IsTrue (are_sheet_bounds bounds) },
 }
 
@@ -31,6 +33,7 @@ fn is_between(start: (u32, u32), end: (u32, u32), pos: (u32, u32)) -> bool
 
 impl<T> Range<T> {
     ghost use Rattle.std.specs.Prelude.{◌≡◌, ◌+◌, ◌-◌, ◌<◌, is_none, IfOk, IfSome, All, true};
+    ghost use Rattle.std.specs.Prelude.{length};
     ghost use Rattle.std.specs.FinMap.{find};
     ghost use Rattle.std.specs.Option.{option_map, option_copied, unwrap_or};
     ghost use Rattle.cell_data.specs.Range.{cells_of, bounds_of, blank_of, width_of, height_of};
@@ -41,7 +44,8 @@ impl<T> Range<T> {
     ghost use Rattle.std.specs.List.{filter};
     ghost use Rattle.cell_data.specs.Range.{start_of};
     ghost use Rattle.cell_refs.specs.Positions.{lie_from};
-    ghost use Rattle.cell_data.specs.Cells.{IsInSheet};
+    ghost use Rattle.cell_data.specs.Cells.{IsInSheet, AreInSheet};
+    ghost use Rattle.sorted_cells.specs.Placed.{placed_left};
     ghost use Rattle.cell_refs.specs.Positions.{position_cmp, last_of_each, least_area};
     ghost use Rattle.cell_refs.specs.Positions.{is_in_bounds};
 
@@ -57,13 +61,24 @@ impl<T> Range<T> {
             (λ range. bounds_of range ≡ least_area (placed_cells cells.items)) }
         ensures blank { IfOk result (λ range. blank_of range ≡ blank) }
     {
+        let cells = gathered(alloc, cells)?.into_sorted(alloc)?;
         let bounds = least_area(&cells);
-        let cells = in_order(alloc, cells)?;
-        Ok(Range {
+        Ok(Range::in_area(cells, bounds, blank))
+    }
+
+    /// The range of these cells in an area that has them all, on a sheet.
+    pub fn in_area(cells: SortedCells<T>, bounds: Option<Dimensions>, blank: T) -> Range<T>
+        requires inside { lie_inside bounds (kept_cells cells) ≡ true }
+        requires sheet { are_sheet_bounds bounds ≡ true }
+        ensures cells { cells_of result ≡ kept_cells cells }
+        ensures bounds { bounds_of result ≡ bounds }
+        ensures blank { blank_of result ≡ blank }
+    {
+        Range {
             cells,
             bounds,
             blank,
-        })
+        }
     }
 
     /// The first row and the first column, counted from 0, or none where there is no cell.
@@ -146,7 +161,7 @@ impl<T> Range<T> {
         ensures { result.now ≡
             unwrap_or (find position_cmp pos (cells_of self.now)) (blank_of self.now) }
     {
-        value_of(&self.cells, pos).unwrap_or(&self.blank)
+        self.cells.get(pos).unwrap_or(&self.blank)
     }
 
     /// The value at a row and a column, counted from 0 on the sheet; none outside the area.
@@ -179,15 +194,23 @@ impl<T> Range<T> {
         Some(self.filled(pos))
     }
 
-    /// The used cells with their positions on the sheet, row by row.
-    pub fn used(&self) -> &[Cell<T>]
-        ensures cells { placed_cells result.now ≡ cells_of self.now }
-        ensures rising { is_rising (placed_cells result.now) ≡ true }
-        ensures sheet { All IsInSheet result.now }
-        ensures from { IsTrue (lie_from (start_of (bounds_of self.now)) (placed_cells result.now)) }
-        ensures inside { IsTrue (lie_inside (bounds_of self.now) (placed_cells result.now)) }
+    /// The used cells with their positions on the sheet, a row and a column counted from 0, row by
+    /// row.
+    pub fn used(&self) -> PlacedCells<'_, T>
+        ensures cells { placed_left result ≡ cells_of self.now }
+        ensures rising { is_rising (cells_of self.now) ≡ true }
+        ensures sheet { AreInSheet (cells_of self.now) }
+        ensures from { IsTrue (lie_from (start_of (bounds_of self.now)) (cells_of self.now)) }
+        ensures inside { IsTrue (lie_inside (bounds_of self.now) (cells_of self.now)) }
     {
-        &self.cells
+        self.cells.iter()
+    }
+
+    /// How many used cells there are.
+    pub fn used_count(&self) -> usize
+        ensures { result ≡ length (cells_of self.now) }
+    {
+        self.cells.len()
     }
 
     /// How many cells the area has.
@@ -247,13 +270,12 @@ impl<T> Range<T> {
         ensures blank { blank_of result ≡ blank_of self }
     {
         let Range {
-            mut cells,
+            cells,
             blank,
             ..
         } = self;
-        cells.retain(|cell| is_between(start, end, cell.pos));
         Range {
-            cells,
+            cells: cells.keep_area(start, end),
             bounds: Some(Dimensions { start, end }),
             blank,
         }

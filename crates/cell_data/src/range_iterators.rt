@@ -1,18 +1,18 @@
 ghost use Rattle.std.specs.Prelude.{◌≡◌, ◌<◌, IsTrue};
-ghost use Rattle.cell_data.specs.Cells.{placed_cells};
 ghost use Rattle.cell_refs.specs.Positions.{lie_from};
 ghost use Rattle.cell_data.specs.Range.{bounds_of, height_of};
+ghost use Rattle.sorted_cells.specs.Placed.{placed_left};
 
-use crate::cell::Cell;
 use crate::range::Range;
+use sorted_cells::PlacedCells;
 
 /// The used cells of a range, row by row: the row and the column, counted from the first ones of
 /// the area, and the value.
 #[derive(Drop)]
 pub struct UsedCells<'a, T> {
-    left: &'a [Cell<T>],
+    left: PlacedCells<'a, T>,
     start: (u32, u32),
-    ghost behind: { IsTrue (lie_from start (placed_cells left.now)) },
+    ghost behind: { IsTrue (lie_from start (placed_left left)) },
 }
 
 impl<'a, T> UsedCells<'a, T> {
@@ -40,11 +40,10 @@ impl<'a, T> Iterator for UsedCells<'a, T> {
     ghost remaining = { item_count used_left };
 
     fn next(&mut self) -> Option<Self::Item> {
-        let (first, left) = self.left.split_first()?;
-        self.left = left;
-        let row = first.pos.0 - self.start.0;
-        let column = first.pos.1 - self.start.1;
-        Some((row as usize, column as usize, &first.val))
+        let (pos, val) = self.left.next()?;
+        let row = pos.0 - self.start.0;
+        let column = pos.1 - self.start.1;
+        Some((row as usize, column as usize, val))
     }
 }
 

@@ -19,8 +19,9 @@ use Rattle.cell_refs.specs.declared.TheConstants.{MAX_ROWS, MAX_COLUMNS}
 use Rattle.std.proofs.lemmas.List.Elements.{All-head, All-push, All-same}
 use Rattle.cell_data.specs.Cells.{cell_entry, placed_cells, IsInSheet}
 use Rattle.cell_data.specs.declared.cell.Cell.{Cell}
-use Rattle.cell_data.proofs.Placing.{position_total, position_same, and_both, to_T, from_T}
-use Rattle.cell_data.proofs.Placing.{less_from, found_in_two}
+use Rattle.cell_refs.proofs.PositionOrder.{position_total, position_same, and_both, to_T, from_T}
+use Rattle.cell_data.proofs.Placing.{found_in_two}
+use Rattle.cell_refs.proofs.PositionOrder.{less_from}
 use Rattle.cell_data.proofs.Splitting.{below_cons, past, at_first}
 use Rattle.cell_data.specs.Splitting.{AreInOrder, StandsFirst, given, Splits}
 use Rattle.cell_data.specs.CellValue.{CellValue, nothing, value_of_data}

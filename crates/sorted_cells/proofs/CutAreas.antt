@@ -10,7 +10,7 @@ use Rattle.sorted_cells.specs.declared.row.Row.{Row}
 use Rattle.sorted_cells.specs.declared.row.ColumnCell.{ColumnCell}
 use Rattle.sorted_cells.specs.Rows.{cells_by, are_rows, numbers_rise, first_of_rows}
 use Rattle.sorted_cells.specs.Thinned.{is_between, cells_between, thinned}
-use Rattle.sorted_cells.proofs.Orders.{to_T, from_T}
+use Rattle.cell_refs.proofs.PositionOrder.{to_T, from_T}
 use Rattle.sorted_cells.proofs.Pushing.{AreKept}
 use Rattle.sorted_cells.proofs.Thinning.{thinned_cells, thinned_rise}
 

@@ -11,7 +11,7 @@ use Rattle.std.specs.List.Sorted.{IsBinarySearchResult, IsNonDecreasingBy}
 use Rattle.std.specs.Ordering.{ordering_reverse, ordering_index, is_eq, is_lt, eq_by_cmp}
 use Rattle.std.specs.Option.{option_or}
 use Rattle.std.proofs.lemmas.Bool.{cases_lt}
-use Rattle.sorted_cells.proofs.Orders.{and_both, less_from}
+use Rattle.cell_refs.proofs.PositionOrder.{and_both, less_from}
 
 reversed_eq : (o : Ordering) → is_eq (ordering_reverse o) ≡ is_eq o
 reversed_eq Less = refl

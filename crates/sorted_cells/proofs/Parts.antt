@@ -19,7 +19,8 @@ use Rattle.sorted_cells.specs.Rows.{row_entry, row_size, cells_by, are_rows, row
 use Rattle.sorted_cells.specs.Rows.{numbers_rise, rows_end, cells_of_row, column_entry}
 use Rattle.sorted_cells.specs.Rows.{columns_rise}
 use Rattle.sorted_cells.proofs.Finding.{found_in_two, none_behind, not_searched}
-use Rattle.sorted_cells.proofs.Orders.{and_both, less_from, sorted_parts}
+use Rattle.sorted_cells.proofs.Orders.{sorted_parts}
+use Rattle.cell_refs.proofs.PositionOrder.{and_both, less_from}
 use Rattle.sorted_cells.proofs.Pushing.{shared, rest_shared}
 
 tied_row : (a b c d : ℕ) → nat_cmp a b ≡ Equal →

@@ -19,8 +19,8 @@ use Rattle.sorted_cells.specs.declared.row.ColumnCell.{ColumnCell}
 use Rattle.sorted_cells.specs.Last.{last_key, comes_after}
 use Rattle.sorted_cells.specs.Rows.{row_entry, row_size, cells_by, are_rows, row_place}
 use Rattle.sorted_cells.specs.Rows.{numbers_rise, is_last, with_row}
-use Rattle.sorted_cells.proofs.Orders.{and_both, and_from, last_push, last_append, sorted_push}
-use Rattle.sorted_cells.proofs.Orders.{position_total}
+use Rattle.sorted_cells.proofs.Orders.{last_push, last_append, sorted_push}
+use Rattle.cell_refs.proofs.PositionOrder.{and_both, and_from, position_total}
 
 -- rows that share so many cells: the first begins at the place and has a cell, but no more than
 -- there are, and the others share the rest

@@ -16,7 +16,7 @@ use Rattle.sorted_cells.specs.Rows.{row_entry, row_size, cells_by, are_rows, row
 use Rattle.sorted_cells.specs.Rows.{numbers_rise, first_of_rows}
 use Rattle.sorted_cells.specs.Thinned.{is_between, cells_between, row_if, thinned}
 use Rattle.sorted_cells.proofs.Cutting.{placed_first}
-use Rattle.sorted_cells.proofs.Orders.{and_both, and_from}
+use Rattle.cell_refs.proofs.PositionOrder.{and_both, and_from}
 use Rattle.sorted_cells.proofs.Pushing.{shared, share, rest_shared, no_left}
 
 -- the first row has so many cells where the others begin behind them

@@ -24,6 +24,7 @@ pub struct SortedCells<T> {
 
 impl<T> SortedCells<T> {
     ghost use Rattle.std.specs.Prelude.{◌≡◌, ◌++◌, ◌∷◌, [], ◌==◌, length, true, OnOk, OnErr};
+    ghost use Rattle.std.specs.Prelude.{IfOk};
     ghost use Rattle.std.specs.Prelude.{◌+◌, ◌<◌, drop};
     ghost use Rattle.std.specs.FinMap.{find};
     ghost use Rattle.std.specs.List.{filter};
@@ -43,6 +44,16 @@ impl<T> SortedCells<T> {
             rows: Vec::new(alloc),
             cells: Vec::new(alloc),
         }
+    }
+
+    /// No cells, with room for so many.
+    pub fn with_capacity(alloc: Global, count: usize) -> Result<SortedCells<T>, AllocError>
+        ensures { IfOk result (λ sorted. kept_cells sorted ≡ []) }
+    {
+        Ok(SortedCells {
+            rows: Vec::new(alloc),
+            cells: Vec::with_capacity(alloc, count)?,
+        })
     }
 
     /// How many cells there are.

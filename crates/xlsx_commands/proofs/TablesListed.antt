@@ -7,7 +7,7 @@ use Rattle.std.proofs.lemmas.Bool.Decides.{nat_tests}
 use Rattle.cell_refs.specs.Positions.{are_sheet_bounds}
 use Rattle.cell_refs.specs.declared.TheConstants.{MAX_ROWS, MAX_COLUMNS}
 use Rattle.cell_refs.specs.declared.dimensions.Dimensions.{Dimensions}
-use Rattle.cell_data.proofs.Placing.{and_both}
+use Rattle.cell_refs.proofs.PositionOrder.{and_both}
 use Rattle.list_lines.specs.Lines.{LiesInWorksheet, table_line}
 use Rattle.cell_data.specs.declared.value.HeaderRow.TheVariants.{FirstNonEmptyRow}
 use Rattle.part_events.specs.Memory.{Contents}

@@ -6,15 +6,12 @@ use Rattle.std.specs.declared.cmp.Ordering.TheVariants.{Less, Equal, Greater}
 use Rattle.std.specs.FinMap.{empty, from_entries, entries, put, entries-insert}
 use Rattle.std.specs.FinMap.Entries.{by_order}
 use Rattle.std.proofs.lemmas.List.{reverse-append, map-append}
-use Rattle.cell_data.proofs.Placing.{position_total, nothing_last}
+use Rattle.cell_data.proofs.Placing.{none_placed}
+use Rattle.cell_refs.proofs.PositionOrder.{position_total}
 use Rattle.cell_data.specs.Cells.{placed_cells}
 use Rattle.cell_refs.specs.Positions.{position_cmp, last_of_each}
 use Rattle.cell_data.specs.declared.cell.Cell.{Cell}
 use Rattle.xlsx_core.specs.SheetReading.{with_meaning}
-
-pub none_placed : {X : Type 0} → entries (empty {X = X} {R = position_cmp}) ≡ []
-unfolding last_of_each
-none_placed {X} = nothing_last {X = X}
 
 module _ {X Y : Type 0} (f : X → Y) where
   mapped_by_order : (o : Ordering) (a b c : List ((ℕ × ℕ) × X)) →

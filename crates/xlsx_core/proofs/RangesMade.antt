@@ -12,7 +12,7 @@ use Rattle.cell_refs.specs.Positions.{last_of_each, least_area, area_with, is_in
 use Rattle.cell_refs.specs.Positions.{lie_inside}
 use Rattle.cell_data.specs.Range.{cells_of, bounds_of, blank_of}
 use Rattle.cell_data.proofs.Areas.{all_wider, last_inside}
-use Rattle.cell_data.proofs.Placing.{and_both}
+use Rattle.cell_refs.proofs.PositionOrder.{and_both}
 use Rattle.cell_data.specs.declared.cell.Cell.{Cell}
 use Rattle.cell_data.specs.declared.range.Range.{Range}
 use Rattle.cell_data.specs.declared.value.HeaderRow.{HeaderRow}

@@ -14,7 +14,8 @@ use Rattle.cell_data.specs.declared.range.Range.{Range}
 use Rattle.cell_data.specs.declared.value.HeaderRow.{HeaderRow}
 use Rattle.cell_data.specs.declared.value.HeaderRow.TheVariants.{FirstNonEmptyRow, Row}
 use Rattle.cell_data.proofs.Areas.{all_wider, last_inside, sheet_bounds, used_in_sheet}
-use Rattle.cell_data.proofs.Placing.{and_both, last_rising, rising_last}
+use Rattle.cell_data.proofs.Placing.{last_rising, rising_last}
+use Rattle.cell_refs.proofs.PositionOrder.{and_both}
 use Rattle.xlsx_core.specs.SheetReading.{with_meaning}
 use Rattle.xlsx_core.specs.Worksheets.{from_row, below_header, header_area, IsRangeOf}
 use Rattle.xlsx_core.proofs.LastOfEach.{last_mapped, mapped_cells}

@@ -16,7 +16,7 @@ use Rattle.cell_refs.specs.declared.dimensions.Dimensions.{Dimensions}
 use Rattle.cell_data.specs.Cells.{placed_cells}
 use Rattle.cell_data.specs.Splitting.{AreInOrder, StandsFirst, given, Splits}
 use Rattle.cell_data.specs.declared.cell.Cell.{Cell}
-use Rattle.cell_data.proofs.Placing.{and_both}
+use Rattle.cell_refs.proofs.PositionOrder.{and_both}
 use Rattle.cell_data.proofs.Splitting.{past, at_first}
 use Rattle.xlsx_rows.specs.RowSteps.{AreLeftFrom}
 

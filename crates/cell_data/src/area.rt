@@ -1,0 +1,33 @@
+//! The area that cells have.
+ghost use Rattle.std.specs.Prelude.{◌≡◌};
+ghost use Rattle.cell_refs.specs.Positions.{area_with, least_area};
+ghost use Rattle.sorted_cells.specs.Kept.{kept_cells};
+
+use cell_refs::Dimensions;
+use sorted_cells::SortedCells;
+
+fn area_with(pos: (u32, u32), area: Option<Dimensions>) -> Dimensions
+    ensures { result ≡ area_with pos area }
+{
+    let Some(Dimensions { start, end }) = area else {
+        return Dimensions {
+            start: pos,
+            end: pos,
+        };
+    };
+    Dimensions {
+        start: (pos.0.min(start.0), pos.1.min(start.1)),
+        end: (pos.0.max(end.0), pos.1.max(end.1)),
+    }
+}
+
+/// The least area that has these cells, with rows and columns counted from 0; none without a cell.
+pub fn least_area<T>(cells: &SortedCells<T>) -> Option<Dimensions>
+    ensures { result ≡ least_area (kept_cells cells.now) }
+{
+    let mut area = None;
+    for (pos, _) in cells.iter() {
+        area = Some(area_with(pos, area));
+    }
+    area
+}
