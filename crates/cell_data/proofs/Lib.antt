@@ -2,5 +2,6 @@ pub mod Areas
 pub mod Equalities
 pub mod Formats
 pub mod LeastAreas
+pub mod Passing
 pub mod Placing
 pub mod Splitting

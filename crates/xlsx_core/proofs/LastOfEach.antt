@@ -8,9 +8,7 @@ use Rattle.std.specs.FinMap.Entries.{by_order}
 use Rattle.std.proofs.lemmas.List.{reverse-append, map-append}
 use Rattle.cell_data.proofs.Placing.{none_placed}
 use Rattle.cell_refs.proofs.PositionOrder.{position_total}
-use Rattle.cell_data.specs.Cells.{placed_cells}
 use Rattle.cell_refs.specs.Positions.{position_cmp, last_of_each}
-use Rattle.cell_data.specs.declared.cell.Cell.{Cell}
 use Rattle.xlsx_core.specs.SheetReading.{with_meaning}
 
 module _ {X Y : Type 0} (f : X → Y) where
@@ -61,10 +59,3 @@ module _ {X Y : Type 0} (f : X → Y) where
       ap (λ (back : List ((ℕ × ℕ) × Y)). entries (from_entries {R = position_cmp} back))
       (mapped_reverse es)
       ∙ mapped_entries (reverse es)
-
-  pub mapped_cells : (cells : List (Cell X)) →
-      map (λ (own : Cell X). (own.pos, f own.val)) cells
-      ≡ map (with_meaning f) (placed_cells cells)
-  mapped_cells [] = refl
-  mapped_cells (cell ∷ cells) =
-      ap (λ (rest : List ((ℕ × ℕ) × Y)). (cell.pos, f cell.val) ∷ rest) (mapped_cells cells)

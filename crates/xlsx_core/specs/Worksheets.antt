@@ -1,8 +1,10 @@
 -- What single calls on the worksheets of an open workbook answer.
+use Rattle.std.specs.Prelude.{◌-◌}
 use Rattle.std.specs.Prelude.{◌≡◌, ◌⊎◌, ⊤, ℕ, List, [], true, nat_le, Option, Some, None, Ok}
 use Rattle.std.specs.Prelude.{map, IsSome, IsSomeAnd, codes, string_bytes, String}
 use Rattle.std.specs.List.{filter}
 use Rattle.std.specs.declared.alloc.Global.{Global}
+use Rattle.cell_refs.specs.declared.TheConstants.{MAX_ROWS, MAX_COLUMNS}
 use Rattle.cell_refs.specs.declared.dimensions.Dimensions.{Dimensions}
 use Rattle.part_events.specs.Event.{Event}
 use Rattle.part_events.specs.Nesting.{whole}
@@ -13,7 +15,6 @@ use Rattle.cell_data.specs.Range.{cells_of, bounds_of, blank_of}
 use Rattle.xlsx_error.specs.declared.error.XlsxError.{XlsxError}
 use Rattle.xlsx_error.specs.declared.error.XlsxError.TheVariants.{OutOfMemory, Io, NotAWorksheet}
 use Rattle.xlsx_error.specs.declared.error.XlsxError.TheVariants.{WorksheetNotFound}
-use Rattle.cell_data.specs.declared.cell.Cell.{Cell}
 use Rattle.cell_data.specs.declared.range.Range.{Range}
 use Rattle.cell_data.specs.declared.value.Data.{Data}
 use Rattle.cell_data.specs.declared.value.DataRef.{DataRef}
@@ -140,19 +141,6 @@ abbrev pub AnswersFormulas : List Event → List ((ℕ × ℕ) × List ℕ) → 
 AnswersFormulas events formulas =
     HasFormulas events formulas ⊎ (IsNoWorksheet events × (formulas ≡ []))
 
--- cells as pairs of a position and what they hold
-abbrev pub data_entry : Cell Data → (ℕ × ℕ) × CellValue
-data_entry own = (own.pos, value_of_data own.val)
-
-abbrev pub data_entries : List (Cell Data) → List ((ℕ × ℕ) × CellValue)
-data_entries cells = map data_entry cells
-
-abbrev pub text_entry : Cell (String Global) → (ℕ × ℕ) × List ℕ
-text_entry own = (own.pos, string_bytes own.val)
-
-abbrev pub text_entries : List (Cell (String Global)) → List ((ℕ × ℕ) × List ℕ)
-text_entries cells = map text_entry cells
-
 -- what stands in a row from this one on
 abbrev pub from_row : {X : Type 0} → ℕ → List ((ℕ × ℕ) × X) → List ((ℕ × ℕ) × X)
 from_row row cells = filter (λ cell. nat_le row cell.0.0) cells
@@ -161,6 +149,12 @@ from_row row cells = filter (λ cell. nat_le row cell.0.0) cells
 abbrev pub below_header : {X : Type 0} → HeaderRow → List ((ℕ × ℕ) × X) → List ((ℕ × ℕ) × X)
 below_header FirstNonEmptyRow cells = cells
 below_header (Row row) cells = from_row row cells
+
+-- where cells of a worksheet count under a header row
+abbrev pub area_below : HeaderRow → Dimensions
+area_below FirstNonEmptyRow =
+    record { start = (0, 0); end = (MAX_ROWS - 1, MAX_COLUMNS - 1) }
+area_below (Row row) = record { start = (row, 0); end = (MAX_ROWS - 1, MAX_COLUMNS - 1) }
 
 -- the area with another first row
 abbrev pub area_from : ℕ → Option Dimensions → Option Dimensions

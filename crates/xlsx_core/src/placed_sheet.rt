@@ -3,6 +3,7 @@ ghost use Rattle.std.specs.Prelude.{length, map, string_bytes, slice_get, Some, 
 ghost use Rattle.part_events.specs.Package.{Uses, CountsUp};
 ghost use Rattle.xlsx_error.specs.declared.error.XlsxError.TheVariants.{Io};
 ghost use Rattle.xlsx_values.specs.Book.{grounds_of};
+ghost use Rattle.cell_data.specs.Gathered.{cells_gathered};
 ghost use Rattle.xlsx_cells.specs.SheetPart.{EntersData, value_entries, formula_entries};
 ghost use Rattle.xlsx_cells.specs.SheetPart.{LieInSheet};
 ghost use Rattle.xlsx_cells.specs.CellsReader.{values_alone};
@@ -108,15 +109,17 @@ pub fn read_placed<P: Package>(
         let count = data_events (path_lent path.entry) old.parts in
         TakesExactly count result old (P.state «package».new) }
     ensures inside { IfOk result (λ cells.
-        LieInSheet cells.values.items cells.formulas.items cells.style_ids.items) }
+        LieInSheet (cells_gathered cells.values) (cells_gathered cells.formulas)
+            cells.style_ids.items) }
     ensures reads { let old = P.state «package».old in
         let wants = asked.entry.wants in
         let grounds = grounds_of asked.entry.book in
         let path = path_lent path.entry in
         let count = asked.entry.style_count in
         old.is_told ≡ true → IfOk result (λ cells. IsSomeAnd (events_at path old.parts)
-        (λ events. HoldsWanted wants grounds count events (value_entries cells.values.items)
-        (formula_entries cells.formulas.items) cells.style_ids.items)) }
+        (λ events. let values = value_entries (cells_gathered cells.values) in
+        HoldsWanted wants grounds count events values
+        (formula_entries (cells_gathered cells.formulas)) cells.style_ids.items)) }
     ensures err { IfErr result (PlacedSheetFails name.now asked.entry.wants
         (grounds_of asked.entry.book) (path_lent path.entry) (P.state «package».old)
         (P.state «package».new)) }
@@ -169,15 +172,16 @@ pub fn read_range<P: Package>(
         let count = data_events (path_lent path.entry) old.parts in
         TakesExactly count result old (P.state «package».new) }
     ensures inside { IfOk result (λ cells.
-        LieInSheet cells.values.items cells.formulas.items cells.style_ids.items) }
+        LieInSheet (cells_gathered cells.values) (cells_gathered cells.formulas)
+            cells.style_ids.items) }
     ensures reads { let old = P.state «package».old in
         let wants = asked.entry.wants in
         let grounds = grounds_of asked.entry.book in
         let path = path_lent path.entry in
         let count = asked.entry.style_count in
         old.is_told ≡ true → IfOk result (λ cells. IsSomeAnd (events_at path old.parts)
-        (AnswersCells wants grounds count (value_entries cells.values.items)
-        (formula_entries cells.formulas.items) cells.style_ids.items)) }
+        (AnswersCells wants grounds count (value_entries (cells_gathered cells.values))
+        (formula_entries (cells_gathered cells.formulas)) cells.style_ids.items)) }
     ensures err { IfErr result (RangeFails name.now asked.entry.wants
         (grounds_of asked.entry.book) (path_lent path.entry) (P.state «package».old)
         (P.state «package».new)) }
@@ -185,11 +189,7 @@ pub fn read_range<P: Package>(
 {
     match read_placed(alloc, package, path, name, asked) {
         Ok(cells) => Ok(cells),
-        Err(XlsxError::NotAWorksheet(_)) => Ok(SheetCells {
-            values: Vec::new(alloc),
-            formulas: Vec::new(alloc),
-            style_ids: Vec::new(alloc),
-        }),
+        Err(XlsxError::NotAWorksheet(_)) => Ok(SheetCells::new(alloc)),
         Err(error) => Err(error),
     }
 }

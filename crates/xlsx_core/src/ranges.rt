@@ -1,59 +1,64 @@
 ghost use Rattle.std.specs.Prelude.{◌≡◌, List, length, filter, map, string_bytes, IfOk, All};
-ghost use Rattle.cell_data.specs.Cells.{IsInSheet, placed_cells};
+ghost use Rattle.std.specs.Prelude.{true, Some};
+ghost use Rattle.cell_refs.specs.Positions.{lie_inside};
+ghost use Rattle.cell_data.specs.CellValue.{value_of_data};
+ghost use Rattle.cell_data.specs.Cells.{AreInSheet};
+ghost use Rattle.cell_data.specs.Gathered.{cells_gathered};
 ghost use Rattle.cell_data.specs.declared.value.HeaderRow.TheVariants.{FirstNonEmptyRow};
+ghost use Rattle.sorted_cells.specs.Kept.{kept_cells};
 ghost use Rattle.cell_styles.specs.StyleMap.{StyledCell, IsOnSheet, is_explicit, styles_of};
 ghost use Rattle.xlsx_cells.specs.Sheet.{with_texts};
 ghost use Rattle.xlsx_cells.specs.SheetPart.{value_entries, formula_entries, LieInSheet};
 ghost use Rattle.xlsx_core.specs.Worksheets.{IsRangeFrom, IsValueRange, IsPlaceRange};
-ghost use Rattle.xlsx_core.specs.Worksheets.{IsFormulaRange, data_entries, text_entries};
+ghost use Rattle.xlsx_core.specs.Worksheets.{IsFormulaRange, header_area, area_below};
+ghost use Rattle.xlsx_core.specs.SheetReading.{with_meaning};
 
 use crate::sheet_reading::SheetReading;
-use crate::standing::{below_header, last_below};
-use cell_data::{Cell, Data, DataRef, HeaderRow, Range};
+use crate::standing::last_below;
+use cell_data::{Data, DataRef, GatheredCells, HeaderRow, Range, least_area};
+use cell_refs::Dimensions;
 use cell_styles::{Style, StyleRange, copied_palette};
+use sorted_cells::SortedCells;
 use std::alloc::{AllocError, Global};
 use xlsx_cells::SheetCells;
 use xlsx_formulas::CellFormula;
 use xlsx_values::to_data;
 
-/// The range of the cells from the header row on, which begins with that row where it has a cell.
-fn range_below<T: Drop>(
-    alloc: Global,
-    cells: Vec<Cell<T>>,
-    header_row: HeaderRow,
-    blank: T,
-) -> Result<Range<T>, AllocError>
-    requires { All IsInSheet cells.items }
-    ensures { IfOk result (IsRangeFrom header_row (placed_cells cells.items) blank) }
+/// The area with the header row as its first one, where a row is set.
+fn header_area(header_row: HeaderRow, area: Option<Dimensions>) -> Option<Dimensions>
+    ensures { result ≡ header_area header_row area }
 {
-    let cells = below_header(cells, header_row);
-    let range = Range::from_sparse(alloc, cells, blank)?;
     let HeaderRow::Row(first) = header_row else {
-        return Ok(range);
+        return area;
     };
-    let Some(start) = range.start() else {
-        return Ok(range);
-    };
-    let Some(end) = range.end() else {
-        return Ok(range);
-    };
-    Ok(range.range((first, start.1), end))
+    let Dimensions { start, end } = area?;
+    Some(Dimensions {
+        start: (first, start.1),
+        end,
+    })
+}
+
+/// The range of cells from the header row on, which begins with that row where there is a cell.
+fn range_of<T>(cells: SortedCells<T>, header_row: HeaderRow, blank: T) -> Range<T>
+    requires { lie_inside (Some (area_below header_row)) (kept_cells cells) ≡ true }
+    ensures { IsRangeFrom header_row (kept_cells cells) blank result }
+{
+    let area = header_area(header_row, least_area(&cells));
+    Range::in_area(cells, area, blank)
 }
 
 /// The cells with the texts of shared strings in place of their places.
 fn with_texts(
     alloc: Global,
-    cells: Vec<Cell<DataRef>>,
+    cells: SortedCells<DataRef>,
     strings: &[String],
-) -> Result<Vec<Cell<Data>>, AllocError>
-    requires { All IsInSheet cells.items }
-    ensures texts { IfOk result (λ own. data_entries own.items
-        ≡ with_texts (map string_bytes strings.now) (value_entries cells.items)) }
-    ensures inside { IfOk result (λ own. All IsInSheet own.items) }
+) -> Result<SortedCells<Data>, AllocError>
+    ensures { IfOk result (λ own. map (with_meaning value_of_data) (kept_cells own)
+        ≡ with_texts (map string_bytes strings.now) (value_entries (kept_cells cells))) }
 {
-    let mut own = Vec::with_capacity(alloc, cells.len())?;
-    'cells: for cell in cells {
-        own.push(Cell::new(cell.pos, to_data(alloc, cell.val, strings)?))?;
+    let mut own = SortedCells::with_capacity(alloc, cells.len())?;
+    'cells: for (pos, val) in cells.into_iter() {
+        own.push(pos, to_data(alloc, val, strings)?)?;
     }
     Ok(own)
 }
@@ -62,43 +67,43 @@ fn with_texts(
 /// value in whose place a later one stands isn't copied.
 pub fn value_range(
     alloc: Global,
-    cells: Vec<Cell<DataRef>>,
+    cells: GatheredCells<DataRef>,
     strings: &[String],
     header_row: HeaderRow,
 ) -> Result<Range<Data>, AllocError>
-    requires { All IsInSheet cells.items }
+    requires { AreInSheet (cells_gathered cells) }
     ensures { IfOk result (IsValueRange header_row
-        (with_texts (map string_bytes strings.now) (value_entries cells.items))) }
+        (with_texts (map string_bytes strings.now) (value_entries (cells_gathered cells)))) }
 {
     let kept = last_below(alloc, cells, header_row)?;
     let own = with_texts(alloc, kept, strings)?;
-    range_below(alloc, own, header_row, Data::Empty)
+    Ok(range_of(own, header_row, Data::Empty))
 }
 
 /// The same, with shared strings by their places.
 pub fn place_range(
     alloc: Global,
-    cells: Vec<Cell<DataRef>>,
+    cells: GatheredCells<DataRef>,
     header_row: HeaderRow,
 ) -> Result<Range<DataRef>, AllocError>
-    requires { All IsInSheet cells.items }
-    ensures { IfOk result (IsPlaceRange header_row (value_entries cells.items)) }
+    requires { AreInSheet (cells_gathered cells) }
+    ensures { IfOk result (IsPlaceRange header_row (value_entries (cells_gathered cells))) }
 {
-    range_below(alloc, cells, header_row, DataRef::Empty)
+    let kept = last_below(alloc, cells, header_row)?;
+    Ok(range_of(kept, header_row, DataRef::Empty))
 }
 
 /// The cells with the texts of their formulas.
 fn written_out(
     alloc: Global,
-    cells: Vec<Cell<CellFormula>>,
-) -> Result<Vec<Cell<String>>, AllocError>
-    requires { All IsInSheet cells.items }
-    ensures texts { IfOk result (λ own. text_entries own.items ≡ formula_entries cells.items) }
-    ensures inside { IfOk result (λ own. All IsInSheet own.items) }
+    cells: SortedCells<CellFormula>,
+) -> Result<SortedCells<String>, AllocError>
+    ensures { IfOk result (λ own. map (with_meaning string_bytes) (kept_cells own)
+        ≡ formula_entries (kept_cells cells)) }
 {
-    let mut own = Vec::with_capacity(alloc, cells.len())?;
-    'cells: for cell in cells {
-        own.push(Cell::new(cell.pos, cell.val.into_text(alloc)?))?;
+    let mut own = SortedCells::with_capacity(alloc, cells.len())?;
+    'cells: for (pos, val) in cells.into_iter() {
+        own.push(pos, val.into_text(alloc)?)?;
     }
     Ok(own)
 }
@@ -106,14 +111,14 @@ fn written_out(
 /// The range of the formulas. One in whose place a later one stands isn't written out.
 pub fn formula_range(
     alloc: Global,
-    cells: Vec<Cell<CellFormula>>,
+    cells: GatheredCells<CellFormula>,
 ) -> Result<Range<String>, AllocError>
-    requires { All IsInSheet cells.items }
-    ensures { IfOk result (IsFormulaRange (formula_entries cells.items)) }
+    requires { AreInSheet (cells_gathered cells) }
+    ensures { IfOk result (IsFormulaRange (formula_entries (cells_gathered cells))) }
 {
     let kept = last_below(alloc, cells, HeaderRow::FirstNonEmptyRow)?;
     let own = written_out(alloc, kept)?;
-    range_below(alloc, own, HeaderRow::FirstNonEmptyRow, String::new(alloc))
+    Ok(range_of(own, HeaderRow::FirstNonEmptyRow, String::new(alloc)))
 }
 
 /// The styles of the entries, each a row, a column and a style id, over these styles. Entries that
@@ -156,12 +161,13 @@ pub fn ranges_of(
     strings: &[String],
     styles: Vec<Style>,
 ) -> Result<SheetReading, AllocError>
-    requires { LieInSheet cells.values.items cells.formulas.items cells.style_ids.items }
-    ensures values { IfOk result (λ found. IsValueRange FirstNonEmptyRow
-        (with_texts (map string_bytes strings.now) (value_entries cells.values.items))
+    requires { LieInSheet (cells_gathered cells.values) (cells_gathered cells.formulas)
+        cells.style_ids.items }
+    ensures values { IfOk result (λ found. let all = value_entries (cells_gathered cells.values) in
+        IsValueRange FirstNonEmptyRow (with_texts (map string_bytes strings.now) all)
         found.values) }
     ensures formulas { IfOk result (λ found.
-        IsFormulaRange (formula_entries cells.formulas.items) found.formulas) }
+        IsFormulaRange (formula_entries (cells_gathered cells.formulas)) found.formulas) }
     ensures styles { (all : List StyledCell) →
         cells.style_ids.items ≡ filter (is_explicit (length styles.items)) all →
         IfOk result (λ found. found.styles ≡ styles_of styles.items all) }

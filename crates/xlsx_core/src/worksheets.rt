@@ -5,6 +5,7 @@ ghost use Rattle.xlsx_error.specs.declared.error.XlsxError.TheVariants.{Io};
 ghost use Rattle.xlsx_cells.specs.CellsReader.{values_alone, formulas_alone, area_held, stream_by};
 ghost use Rattle.xlsx_cells.specs.CellsReader.{grounds_by, styles_held, styles_alone};
 ghost use Rattle.xlsx_cells.specs.Ends.{reads_children};
+ghost use Rattle.cell_data.specs.Gathered.{cells_gathered};
 ghost use Rattle.xlsx_cells.specs.SheetPart.{value_entries, formula_entries, LieInSheet};
 ghost use Rattle.xlsx_cells.specs.Stream.{stream, IsStreaming};
 ghost use Rattle.xlsx_core.specs.SheetReading.{all_wanted, events_at, placed_events};
@@ -43,14 +44,16 @@ impl<P: Package> Xlsx<P> {
             TakesExactly count result old (P.state self.new.package) }
         ensures rest { KeepsWorkbook self.old self.new }
         ensures inside { IfOk result (λ cells.
-            LieInSheet cells.values.items cells.formulas.items cells.style_ids.items) }
+            LieInSheet (cells_gathered cells.values) (cells_gathered cells.formulas)
+            cells.style_ids.items) }
         ensures reads { let old = P.state self.old.package in
             let path = path_of self.old name.now in
             let grounds = grounds_of_book self.old in
             let count = length (palette_of_book self.old) in
             old.is_told ≡ true → IfOk result (λ cells. IsSomeAnd (events_at path old.parts)
-            (λ events. HoldsWanted wants grounds count events (value_entries cells.values.items)
-            (formula_entries cells.formulas.items) cells.style_ids.items)) }
+            (λ events. let values = value_entries (cells_gathered cells.values) in
+            HoldsWanted wants grounds count events values
+            (formula_entries (cells_gathered cells.formulas)) cells.style_ids.items)) }
         ensures err { IfErr result (PlacedSheetFails name.now wants (grounds_of_book self.old)
             (path_of self.old name.now) (P.state self.old.package) (P.state self.new.package)) }
         ensures kind { IfErr result (IsPlacedError name.now) }
@@ -125,14 +128,15 @@ impl<P: Package> Xlsx<P> {
             TakesExactly count result old (P.state self.new.package) }
         ensures rest { KeepsWorkbook self.old self.new }
         ensures inside { IfOk result (λ cells.
-            LieInSheet cells.values.items cells.formulas.items cells.style_ids.items) }
+            LieInSheet (cells_gathered cells.values) (cells_gathered cells.formulas)
+            cells.style_ids.items) }
         ensures reads { let old = P.state self.old.package in
             let path = path_of self.old name.now in
             let grounds = grounds_of_book self.old in
             let count = length (palette_of_book self.old) in
             old.is_told ≡ true → IfOk result (λ cells. IsSomeAnd (events_at path old.parts)
-            (AnswersCells wants grounds count (value_entries cells.values.items)
-            (formula_entries cells.formulas.items) cells.style_ids.items)) }
+            (AnswersCells wants grounds count (value_entries (cells_gathered cells.values))
+            (formula_entries (cells_gathered cells.formulas)) cells.style_ids.items)) }
         ensures err { IfErr result (RangeFails name.now wants (grounds_of_book self.old)
             (path_of self.old name.now) (P.state self.old.package) (P.state self.new.package)) }
         ensures kind { IfErr result (IsRangeError name.now) }

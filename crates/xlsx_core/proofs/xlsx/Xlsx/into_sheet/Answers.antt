@@ -1,5 +1,6 @@
 use Rattle.std.proofs.Common.{◌≡◌, List, ◌∙◌, ap, subst, map, length, string_bytes, String, Global}
 use Rattle.std.specs.Prelude.{filter}
+use Rattle.cell_data.specs.Gathered.{cells_gathered}
 use Rattle.cell_data.specs.declared.value.HeaderRow.TheVariants.{FirstNonEmptyRow}
 use Rattle.cell_styles.specs.StyleMap.{StyledCell, is_explicit, styles_of}
 use Rattle.cell_styles.specs.declared.style.Style.{Style}
@@ -17,10 +18,10 @@ returns-in-Ok-ranges_of-clause-reads g c = λ told.
     let cells = c.in-Ok.cells in
     let own = c.in-Ok-ranges_of in
     let kept = c.in-Ok.ensures.rest.book.shared in
-    let values = value_entries cells.values.items in
+    let values = value_entries (cells_gathered cells.values) in
     held_at (grounds_of_book c.args.self) (palette_of_book c.args.self)
     (events_at (path_of c.args.self c.args.name.now) old.parts) values
-    (formula_entries cells.formulas.items) cells.style_ids.items own.ranges
+    (formula_entries (cells_gathered cells.formulas)) cells.style_ids.items own.ranges
     (c.in-Ok.ensures.reads told)
     (subst (λ (strings : List (String Global)). IsValueRange FirstNonEmptyRow
     (with_texts (map string_bytes strings) values) own.ranges.values)
