@@ -1,26 +1,29 @@
-use Rattle.std.proofs.Common.{[], ◌≡◌, ◌∙◌, List, ℕ, subst, string_bytes}
-use Rattle.std.specs.Prelude.{IfOk}
+use Rattle.std.proofs.Common.{[], ◌∙◌, ap, string_bytes, sym, Some}
+use Rattle.cell_refs.specs.Positions.{lie_inside}
+use Rattle.cell_data.specs.Gathered.{cells_gathered}
 use Rattle.cell_data.specs.declared.value.HeaderRow.TheVariants.{FirstNonEmptyRow}
-use Rattle.cell_refs.specs.Positions.{last_of_each}
+use Rattle.sorted_cells.specs.Kept.{kept_cells}
 use Rattle.xlsx_formulas.specs.Kept.{text_of_formula}
 use Rattle.xlsx_cells.specs.SheetPart.{formula_entries}
-use Rattle.xlsx_core.specs.Worksheets.{IsRangeOf, text_entries}
-use Rattle.xlsx_core.proofs.RangesMade.{meant_ranges}
-use Rattle.xlsx_core.proofs.StandingRanges.{last_cells_meant, standing_ranges}
+use Rattle.xlsx_core.specs.Worksheets.{area_below}
+use Rattle.xlsx_core.proofs.StandingRanges.{inside_meant, kept_below, last_meant, standing_range}
 use Rattle.xlsx_core.proofs.ranges.formula_range.Goals as goal
+
+pub range_of-requires : goal.range_of-requires
+range_of-requires c =
+    let area = area_below FirstNonEmptyRow in
+    sym (inside_meant string_bytes area (kept_cells c.in_ok-own.own))
+    ∙ ap (lie_inside (Some area)) c.in_ok-own.ensures
+    ∙ inside_meant text_of_formula area (kept_cells c.in_ok-kept.kept)
+    ∙ c.in_ok-kept.ensures.inside
 
 pub returns : goal.returns
 returns c =
-    let kept = c.in_ok-kept in
-    let own = c.in_ok-own in
-    let all = formula_entries c.args.cells.items in
-    let last : text_entries own.own.items ≡ last_of_each all =
-    own.ensures.texts
-    ∙ last_cells_meant text_of_formula FirstNonEmptyRow c.args.cells.items kept.kept.items
-    kept.ensures.last in
-    standing_ranges string_bytes FirstNonEmptyRow all (text_entries own.own.items) []
-    c.range_below.result last
-    (subst (λ (blank : List ℕ). IfOk c.range_below.result (IsRangeOf string_bytes FirstNonEmptyRow
-    (text_entries own.own.items) blank)) c.new.ensures.bytes
-    (meant_ranges string_bytes FirstNonEmptyRow own.own.items c.new.result
-    c.range_below.result c.range_below.ensures))
+    let header = FirstNonEmptyRow in
+    let all = cells_gathered c.args.cells in
+    let own = kept_cells c.in_ok-own.own in
+    standing_range string_bytes header (formula_entries all) own c.new.result []
+    c.range_of.result c.range_of.ensures (kept_below header own c.range_of.requires)
+    (c.in_ok-own.ensures ∙ ap formula_entries c.in_ok-kept.ensures.last
+    ∙ last_meant text_of_formula header all)
+    c.new.ensures.bytes

@@ -1,29 +1,38 @@
-use Rattle.std.proofs.Common.{◌≡◌, ◌∙◌, ap, map, string_bytes}
+use Rattle.std.proofs.Common.{◌≡◌, ◌∙◌, ap, map, refl, string_bytes, sym, true}
+use Rattle.cell_refs.specs.Positions.{last_of_each, lie_inside}
 use Rattle.cell_data.specs.CellValue.{nothing, value_of_data, value_of_data_ref}
+use Rattle.cell_data.specs.Gathered.{cells_gathered}
 use Rattle.cell_data.specs.declared.value.Data.TheVariants.{Empty}
-use Rattle.cell_refs.specs.Positions.{last_of_each}
+use Rattle.sorted_cells.specs.Kept.{kept_cells}
 use Rattle.xlsx_values.specs.Value.{resolved}
 use Rattle.xlsx_cells.specs.Sheet.{with_texts}
 use Rattle.xlsx_cells.specs.SheetPart.{value_entries}
-use Rattle.xlsx_core.specs.Worksheets.{below_header, data_entries}
-use Rattle.xlsx_core.proofs.RangesMade.{meant_ranges}
-use Rattle.xlsx_core.proofs.StandingRanges.{last_meant, last_cells_meant, standing_ranges}
+use Rattle.xlsx_core.specs.SheetReading.{with_meaning}
+use Rattle.xlsx_core.specs.Worksheets.{area_below, below_header}
+use Rattle.xlsx_core.proofs.StandingRanges.{inside_meant, kept_below, last_meant, standing_range}
 use Rattle.xlsx_core.proofs.ranges.value_range.Goals as goal
+
+pub range_of-requires : goal.range_of-requires
+range_of-requires c =
+    let area = area_below c.args.header_row in
+    let strings = map string_bytes c.args.strings.now in
+    let kept = kept_cells c.in_ok-kept.kept in
+    sym (inside_meant value_of_data area (kept_cells c.in_ok-own.own))
+    ∙ ap (lie_inside (Some area)) c.in_ok-own.ensures
+    ∙ inside_meant (resolved strings) area (value_entries kept)
+    ∙ inside_meant value_of_data_ref area kept ∙ c.in_ok-kept.ensures.inside
 
 pub returns : goal.returns
 returns c =
-    let kept = c.in_ok-kept in
-    let own = c.in_ok-own in
     let header = c.args.header_row in
     let strings = map string_bytes c.args.strings.now in
-    let all = value_entries c.args.cells.items in
-    let last : data_entries own.own.items
-    ≡ last_of_each (below_header header (with_texts strings all)) =
-    own.ensures.texts
-    ∙ ap (with_texts strings) (last_cells_meant value_of_data_ref header c.args.cells.items
-    kept.kept.items kept.ensures.last)
-    ∙ last_meant (resolved strings) header all in
-    standing_ranges value_of_data header (with_texts strings all) (data_entries own.own.items)
-    nothing c.range_below.result last
-    (meant_ranges value_of_data header own.own.items Empty c.range_below.result
-    c.range_below.ensures)
+    let all = cells_gathered c.args.cells in
+    let own = kept_cells c.in_ok-own.own in
+    let last : map (with_meaning value_of_data) own
+    ≡ last_of_each (below_header header (with_texts strings (value_entries all))) =
+    c.in_ok-own.ensures
+    ∙ ap (with_texts strings) (ap value_entries c.in_ok-kept.ensures.last
+    ∙ last_meant value_of_data_ref header all)
+    ∙ last_meant (resolved strings) header (value_entries all) in
+    standing_range value_of_data header (with_texts strings (value_entries all)) own Empty nothing
+    c.range_of.result c.range_of.ensures (kept_below header own c.range_of.requires) last refl

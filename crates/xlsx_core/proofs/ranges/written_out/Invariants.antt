@@ -1,12 +1,12 @@
-use Rattle.std.proofs.Common.{◌≡◌}
-use Rattle.std.specs.Prelude.{All}
-use Rattle.cell_data.specs.Cells.{IsInSheet}
+use Rattle.std.proofs.Common.{◌≡◌, ◌++◌, map, string_bytes}
+use Rattle.sorted_cells.specs.Kept.{kept_cells}
+use Rattle.sorted_cells.specs.Owned.{owned_left}
 use Rattle.xlsx_cells.specs.SheetPart.{formula_entries}
-use Rattle.xlsx_core.specs.Worksheets.{text_entries}
+use Rattle.xlsx_core.specs.SheetReading.{with_meaning}
 use Rattle.xlsx_core.proofs.ranges.written_out.Given as goal
 
 abbrev pub invariant-cells : goal.invariant-cells
 invariant-cells l = record {
-  texts : text_entries l.own.items ≡ formula_entries l.yielded;
-  inside : All IsInSheet l.own.items;
+  texts : map (with_meaning string_bytes) (kept_cells l.own) ≡ formula_entries l.yielded;
+  whole : l.yielded ++ owned_left l.cells-iterator ≡ kept_cells l.fn.cells;
 }
