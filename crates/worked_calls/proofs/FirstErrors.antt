@@ -1,6 +1,6 @@
 -- The first error among values that are taken one by one.
 use Rattle.std.proofs.Common.{◌≡◌, ◌∙◌, List, [], ◌∷◌, ◌++◌, None, Some, refl, sym, ap}
-use Rattle.std.proofs.Common.{true, false}
+use Rattle.std.proofs.Common.{true, false, map}
 use Rattle.std.specs.Prelude.{if◌then◌else◌}
 use Rattle.std.specs.List.{find}
 use Rattle.std.proofs.lemmas.List.{map-append}
@@ -12,20 +12,20 @@ use Rattle.xlsx_values.specs.Value.{Grounds}
 use Rattle.xlsx_cells.specs.CellsReader.{IsValued, values_alone}
 use Rattle.xlsx_cells.specs.Position.{NoCell}
 use Rattle.xlsx_cells.specs.Sheet.{answers_from, placed_value, values_in}
-use Rattle.xlsx_cells.specs.SheetPart.{value_entry, value_entries}
 use Rattle.xlsx_cells.specs.Stream.{Stream, TakesCell, EndsData, data_ahead, marks_ahead}
+use Rattle.xlsx_cells.specs.WholeReadings.{cell_value_entry}
 use Rattle.xlsx_cells.proofs.WholeReadings.{ValuesTaken, values_further, values_whole}
 use Rattle.worked_calls.specs.Taking.{IsFirstError, is_error, has_error}
 
 -- one cell more was taken
 pub values_and_one : {grounds : Grounds} {old mid new : Stream} (sound : List (Cell DataRef))
     (own : Cell DataRef)
-    → (been : ValuesTaken values_alone grounds old mid (value_entries sound))
+    → (been : ValuesTaken values_alone grounds old mid (map cell_value_entry sound))
     → TakesCell NoCell been.before been.earlier mid new (IsValued grounds own)
-    → ValuesTaken values_alone grounds old new (value_entries (sound ++ own ∷ []))
+    → ValuesTaken values_alone grounds old new (map cell_value_entry (sound ++ own ∷ []))
 values_and_one sound own been takes =
-    rw (map-append value_entry sound (own ∷ []))
-    (values_further (value_entry own) been takes
+    rw (map-append cell_value_entry sound (own ∷ []))
+    (values_further (cell_value_entry own) been takes
     (λ before element kept is. (is.placed, is.valued)))
 
 -- its value is no error either
@@ -36,11 +36,12 @@ none_further sound own none other = rw (find-append has_error sound (own ∷ [])
 
 -- none of the cells has an error, and so none of their values is one
 none_is_error : (cells : List (Cell DataRef)) → find has_error cells ≡ None
-    → find is_error (value_entries cells) ≡ None
+    → find is_error (map cell_value_entry cells) ≡ None
 none_is_error [] none = refl
 none_is_error (own ∷ others) none =
     elim (has_error own) as (λ b. (if b then Some own else find has_error others) ≡ None
-    → (if b then Some (value_entry own) else find is_error (value_entries others)) ≡ None) [
+    → (if b then Some (cell_value_entry own) else find is_error (map cell_value_entry others))
+    ≡ None) [
       | true ↦ λ never. absurd (cc)
       | false ↦ λ rest. none_is_error others rest
     ] none
@@ -48,24 +49,24 @@ none_is_error (own ∷ others) none =
 -- its value is one
 pub error_found : {grounds : Grounds} {old new : Stream} (sound : List (Cell DataRef))
     (own : Cell DataRef)
-    → ValuesTaken values_alone grounds old new (value_entries (sound ++ own ∷ []))
+    → ValuesTaken values_alone grounds old new (map cell_value_entry (sound ++ own ∷ []))
     → find has_error sound ≡ None → has_error own ≡ true
-    → IsFirstError (Some (value_entry own)) (values_in grounds (data_ahead old))
+    → IsFirstError (Some (cell_value_entry own)) (values_in grounds (data_ahead old))
 error_found {grounds = grounds} {new = new} sound own been none error =
     let others = answers_from (placed_value grounds) been.before (marks_ahead new) in (
-      value_entries sound,
+      map cell_value_entry sound,
       others,
       sym been.all
           ∙ ap (λ (values : List _). prepended values others)
-          (map-append value_entry sound (own ∷ [])),
+          (map-append cell_value_entry sound (own ∷ [])),
       none_is_error sound none,
       error,
     )
 
 -- no cell is left
 pub no_error_left : {grounds : Grounds} {old mid new : Stream} (sound : List (Cell DataRef))
-    → (been : ValuesTaken values_alone grounds old mid (value_entries sound))
+    → (been : ValuesTaken values_alone grounds old mid (map cell_value_entry sound))
     → find has_error sound ≡ None → EndsData NoCell been.before mid new
     → IsFirstError None (values_in grounds (data_ahead old))
 no_error_left sound been none ends =
-    (value_entries sound, values_whole been ends, none_is_error sound none)
+    (map cell_value_entry sound, values_whole been ends, none_is_error sound none)

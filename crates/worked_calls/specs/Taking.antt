@@ -15,8 +15,8 @@ use Rattle.xlsx_cells.specs.CellsReader.{values_and_formulas}
 use Rattle.xlsx_cells.specs.Marks.{Mark, cell, behind_marks}
 use Rattle.part_events.specs.Section.{Element}
 use Rattle.xlsx_cells.specs.Position.{NoCell}
-use Rattle.xlsx_cells.specs.SheetPart.{value_entry}
 use Rattle.xlsx_cells.specs.Stream.{Stream, TakesCell, EndsData, PassesCell, NextCellFails}
+use Rattle.xlsx_cells.specs.WholeReadings.{cell_value_entry}
 use Rattle.xlsx_cells.specs.declared.cell_records.XlsxCellFormula.{XlsxCellFormula}
 
 -- the value of a cell is an error
@@ -47,7 +47,7 @@ TakesThrough fact before earlier old (own ∷ others) new =
     (behind_formulas takes.kept earlier) mid others new
 
 abbrev pub has_error : Cell DataRef → Bool
-has_error own = is_error (value_entry own)
+has_error own = is_error (cell_value_entry own)
 
 -- cells without an error were taken, and then this one, which has one
 abbrev pub StopsAtError : Grounds → Stream → Stream → Cell DataRef → Type 0

@@ -6,9 +6,9 @@ ghost use Rattle.xlsx_cells.specs.CellsReader.{values_alone, values_and_formulas
 ghost use Rattle.xlsx_cells.specs.Marks.{Mark};
 ghost use Rattle.xlsx_cells.specs.Sheet.{values_in};
 ghost use Rattle.xlsx_cells.specs.Stream.{IsStreaming, IsGoing, StandsBehind, data_ahead};
-ghost use Rattle.xlsx_cells.specs.SheetPart.{value_entry, DataFails};
+ghost use Rattle.xlsx_cells.specs.SheetPart.{DataFails};
 ghost use Rattle.xlsx_cells.specs.CellsReader.{IsValuedFormula};
-ghost use Rattle.xlsx_cells.specs.WholeReadings.{TakesAll, formula_value_entry};
+ghost use Rattle.xlsx_cells.specs.WholeReadings.{TakesAll, cell_value_entry, formula_value_entry};
 ghost use Rattle.worked_calls.specs.Taking.{TakesBoth, LacksTwo, TwoFail, has_error, IsFirstError};
 ghost use Rattle.worked_calls.specs.Taking.{StopsAtError, FailsBeforeError};
 
@@ -59,7 +59,7 @@ pub fn first_error<P: Package>(
     requires fresh { StandsBehind [] [] (stream_by P.state reader.old) }
     ensures found { let old = stream_by P.state reader.old in
         old.reading.source.is_told ≡ true → IfOk result (λ found. IsFirstError
-        (option_map value_entry found) (values_in (grounds_by reader.old) (data_ahead old))) }
+        (option_map cell_value_entry found) (values_in (grounds_by reader.old) (data_ahead old))) }
     ensures stops { let old = stream_by P.state reader.old in
         let new = stream_by P.state reader.new in
         old.reading.source.is_told ≡ true → IfOk result (λ found.

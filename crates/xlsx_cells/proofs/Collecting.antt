@@ -11,7 +11,6 @@ use Rattle.part_events.specs.Walk.{section_ahead}
 use Rattle.xlsx_error.specs.declared.error.XlsxError.{XlsxError}
 use Rattle.xlsx_error.specs.declared.error.XlsxError.TheVariants.{Failed}
 use Rattle.cell_data.specs.CellValue.{CellValue, value_of_data_ref}
-use Rattle.cell_data.specs.declared.cell.Cell.{Cell}
 use Rattle.cell_data.specs.declared.value.DataRef.{DataRef}
 use Rattle.cell_styles.specs.StyleMap.{StyledCell, is_explicit}
 use Rattle.xlsx_sections.specs.Answers.{prepended}
@@ -273,8 +272,9 @@ no_entries entry [] is = refl
 no_entries entry (own ∷ cells) is = absurd (cc)
 
 -- what isn't wanted of one cell more leaves nothing
-pub unwanted_further : (wants : Wants) (count : ℕ) (values more_values : List (Cell DataRef))
-    (formulas more_formulas : List (Cell CellFormula)) (ids more_ids : List StyledCell)
+pub unwanted_further : (wants : Wants) (count : ℕ)
+    (values more_values : List ((ℕ × ℕ) × DataRef))
+    (formulas more_formulas : List ((ℕ × ℕ) × CellFormula)) (ids more_ids : List StyledCell)
     (read : WrittenCell) → LackUnwanted wants values formulas ids
     → LacksUnwantedText wants read
     → value_entries more_values

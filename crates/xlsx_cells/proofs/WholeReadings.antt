@@ -19,10 +19,10 @@ use Rattle.xlsx_cells.specs.Finding.{IsMarkRefused}
 use Rattle.xlsx_cells.specs.Marks.{Mark, cell, is_cell, marks, behind_marks}
 use Rattle.xlsx_cells.specs.Position.{cell_position, IsPlaced, NoCell}
 use Rattle.xlsx_cells.specs.Sheet.{answers_from, placed_value, values_in}
-use Rattle.xlsx_cells.specs.SheetPart.{value_entry, DataFails}
+use Rattle.xlsx_cells.specs.SheetPart.{DataFails}
 use Rattle.xlsx_cells.specs.Stream.{Stream, StandsBehind, TakesCell, EndsData, marks_ahead}
 use Rattle.xlsx_cells.specs.Stream.{data_ahead, IsGoing, IsCellRefused, NextCellFails, PassesCell}
-use Rattle.xlsx_cells.specs.WholeReadings.{TakesAll, formula_value_entry}
+use Rattle.xlsx_cells.specs.WholeReadings.{TakesAll, cell_value_entry, formula_value_entry}
 use Rattle.xlsx_cells.specs.declared.cell_records.XlsxCellFormula.{XlsxCellFormula}
 use Rattle.xlsx_cells.specs.declared.children.Wants.{Wants}
 use Rattle.xlsx_cells.proofs.Collecting.{answer_kept, answers_whole, answers_passed, no_answers}
@@ -180,15 +180,15 @@ pub same_readings : (grounds : Grounds) (before : List Mark) (earlier more : Lis
     → data_ahead one ≡ data_ahead two
     → TakesAll (λ kept. IsValued grounds) before earlier one cells
     → TakesAll (IsValuedFormula grounds) before more two records
-    → map value_entry cells ≡ map formula_value_entry records
+    → map cell_value_entry cells ≡ map formula_value_entry records
 same_readings grounds before earlier more one two cells records same first second =
-    let left = values_of_all grounds (λ kept. IsValued grounds) value_entry
+    let left = values_of_all grounds (λ kept. IsValued grounds) cell_value_entry
     (λ kept_before own passed element kept is. (is.placed, is.valued)) before earlier one cells
     first in
     let right = values_of_all grounds (IsValuedFormula grounds) formula_value_entry
     (λ kept_before own passed element kept is. (is.placed, is.valued)) before more two records
     second in
-    let both : Ok (map value_entry cells) ≡ Ok (map formula_value_entry records) =
+    let both : Ok (map cell_value_entry cells) ≡ Ok (map formula_value_entry records) =
     sym left
     ∙ ap (λ (inside : List Event). answers_from (placed_value grounds) before (marks inside)) same
     ∙ right in

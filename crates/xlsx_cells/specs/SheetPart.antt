@@ -7,8 +7,7 @@ use Rattle.part_events.specs.Nesting.{whole}
 use Rattle.part_events.specs.Package.{PackageState, SameParts, CountsUp, part_of, event_count}
 use Rattle.part_events.specs.Reading.{events_of}
 use Rattle.cell_data.specs.CellValue.{CellValue, value_of_data_ref}
-use Rattle.cell_data.specs.Cells.{IsInSheet}
-use Rattle.cell_data.specs.declared.cell.Cell.{Cell}
+use Rattle.cell_data.specs.Cells.{AreInSheet}
 use Rattle.xlsx_error.specs.declared.error.XlsxError.{XlsxError}
 use Rattle.cell_data.specs.declared.value.DataRef.{DataRef}
 use Rattle.cell_styles.specs.StyleMap.{StyledCell, IsOnSheet}
@@ -98,28 +97,29 @@ abbrev pub OpenDataFails : List ℕ → PackageState → PackageState → XlsxEr
 OpenDataFails path old new error =
     FailsBy (OptionalHeadCause (part_of old.parts path)) old new error
 
--- cells as pairs of a position and what they hold
-abbrev pub value_entry : Cell DataRef → (ℕ × ℕ) × CellValue
-value_entry own = (own.pos, value_of_data_ref own.val)
+-- positions and what their cells hold, as definitions see it
+abbrev pub value_entry : (ℕ × ℕ) × DataRef → (ℕ × ℕ) × CellValue
+value_entry own = (own.0, value_of_data_ref own.1)
 
-abbrev pub value_entries : List (Cell DataRef) → List ((ℕ × ℕ) × CellValue)
+abbrev pub value_entries : List ((ℕ × ℕ) × DataRef) → List ((ℕ × ℕ) × CellValue)
 value_entries cells = map value_entry cells
 
-abbrev pub formula_entry : Cell CellFormula → (ℕ × ℕ) × List ℕ
-formula_entry own = (own.pos, text_of_formula own.val)
+abbrev pub formula_entry : (ℕ × ℕ) × CellFormula → (ℕ × ℕ) × List ℕ
+formula_entry own = (own.0, text_of_formula own.1)
 
-abbrev pub formula_entries : List (Cell CellFormula) → List ((ℕ × ℕ) × List ℕ)
+abbrev pub formula_entries : List ((ℕ × ℕ) × CellFormula) → List ((ℕ × ℕ) × List ℕ)
 formula_entries cells = map formula_entry cells
 
 -- cells with values and formulas, and entries of styles, that lie in a worksheet
-abbrev pub LieInSheet : List (Cell DataRef) → List (Cell CellFormula) → List StyledCell → Type 0
+abbrev pub LieInSheet :
+    List ((ℕ × ℕ) × DataRef) → List ((ℕ × ℕ) × CellFormula) → List StyledCell → Type 0
 LieInSheet values formulas styled =
-    All IsInSheet values × All IsInSheet formulas × All IsOnSheet styled
+    AreInSheet values × AreInSheet formulas × All IsOnSheet styled
 
 -- what wasn't wanted of a sheet is empty
 pub record LackUnwanted
-    (wants : Wants) (valued : List (Cell DataRef)) (written : List (Cell CellFormula))
-    (styled : List StyledCell) : Type 0 where
+    (wants : Wants) (valued : List ((ℕ × ℕ) × DataRef))
+    (written : List ((ℕ × ℕ) × CellFormula)) (styled : List StyledCell) : Type 0 where
   pub values : wants.values ≡ false → valued ≡ []
   pub formulas : wants.formulas ≡ false → written ≡ []
   pub ids : wants.styles ≡ false → styled ≡ []

@@ -2,6 +2,8 @@
 use Rattle.std.specs.Prelude.{ℕ, List, [], ◌∷◌}
 use Rattle.part_events.specs.Section.{Element}
 use Rattle.cell_data.specs.CellValue.{CellValue, value_of_data_ref}
+use Rattle.cell_data.specs.declared.cell.Cell.{Cell}
+use Rattle.cell_data.specs.declared.value.DataRef.{DataRef}
 use Rattle.xlsx_formulas.specs.Formula.{FormulaText, behind_formulas}
 use Rattle.xlsx_cells.specs.Marks.{Mark, cell, behind_marks}
 use Rattle.xlsx_cells.specs.Position.{NoCell}
@@ -19,6 +21,10 @@ TakesAll fact before earlier old (own ∷ others) =
     × TakesAll fact (cell takes.element ∷ behind_marks takes.takes.front.passed before)
     (behind_formulas takes.kept earlier) new others
 
--- the position and the value of a cell that was taken with its formula
+-- the position and the value of a cell that was taken
+abbrev pub cell_value_entry : Cell DataRef → (ℕ × ℕ) × CellValue
+cell_value_entry own = (own.pos, value_of_data_ref own.val)
+
+-- and of one that was taken with its formula
 abbrev pub formula_value_entry : XlsxCellFormula → (ℕ × ℕ) × CellValue
 formula_value_entry own = (own.pos, value_of_data_ref own.value)

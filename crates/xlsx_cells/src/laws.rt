@@ -5,9 +5,8 @@ ghost use Rattle.xlsx_values.specs.Value.{Grounds};
 ghost use Rattle.xlsx_formulas.specs.Formula.{FormulaText};
 ghost use Rattle.xlsx_cells.specs.CellsReader.{IsValued, IsValuedFormula};
 ghost use Rattle.xlsx_cells.specs.Marks.{Mark};
-ghost use Rattle.xlsx_cells.specs.SheetPart.{value_entry};
 ghost use Rattle.xlsx_cells.specs.Stream.{Stream, data_ahead};
-ghost use Rattle.xlsx_cells.specs.WholeReadings.{TakesAll, formula_value_entry};
+ghost use Rattle.xlsx_cells.specs.WholeReadings.{TakesAll, cell_value_entry, formula_value_entry};
 ghost use Rattle.xlsx_cells.specs.declared.cell_records.XlsxCellFormula.{XlsxCellFormula};
 
 /// Whoever takes all cells that are left by `next_cell`, and whoever does by
@@ -18,5 +17,5 @@ pub fn readings_have_the_same_values()
         data_ahead one ≡ data_ahead two →
         TakesAll (λ kept. IsValued grounds) before earlier one cells →
         TakesAll (IsValuedFormula grounds) before more two records →
-        map value_entry cells ≡ map formula_value_entry records }
+        map cell_value_entry cells ≡ map formula_value_entry records }
 {}

@@ -4,7 +4,8 @@ ghost use Rattle.cell_refs.specs.declared.TheConstants.{MAX_ROWS, MAX_COLUMNS};
 ghost use Rattle.cell_data.specs.CellValue.{value_of_data_ref};
 ghost use Rattle.xlsx_cells.specs.Sheet.{used_values, used_formulas};
 ghost use Rattle.part_events.specs.Reading.{ReadsPart};
-ghost use Rattle.cell_data.specs.Cells.{IsInSheet};
+ghost use Rattle.cell_data.specs.Cells.{AreInSheet};
+ghost use Rattle.cell_data.specs.Gathered.{cells_gathered};
 ghost use Rattle.xlsx_error.specs.declared.error.XlsxError.TheVariants.{Io, OutOfMemory};
 ghost use Rattle.xlsx_sections.specs.Elements.{ReachesEnd};
 ghost use Rattle.cell_styles.specs.StyleMap.{IsOnSheet, is_explicit};
@@ -20,64 +21,80 @@ ghost use Rattle.xlsx_cells.specs.Stream.{stream, IsGoing, StandsBehind, data_ah
 use crate::cell_read::CellWithFormula;
 use crate::children::Asked;
 use crate::sheet_cursor::SheetCursor;
-use cell_data::{Cell, DataRef};
+use cell_data::{DataRef, GatheredCells};
 use part_events::Package;
 use std::alloc::Global;
 use xlsx_error::XlsxError;
 use xlsx_formulas::CellFormula;
 
 /// The cells of a sheet's data that hold something, in their order there.
-#[derive(Debug, Drop)]
+#[derive(Drop)]
 pub struct SheetCells {
     /// Those with a value, where values were asked for. Shared strings are told by their places.
-    pub values: Vec<Cell<DataRef>>,
+    pub values: GatheredCells<DataRef>,
     /// Those with a formula, where formulas were asked for. Derived ones aren't written out.
-    pub formulas: Vec<Cell<CellFormula>>,
+    pub formulas: GatheredCells<CellFormula>,
     /// The rows, the columns and the style ids of those whose id is above 0 and below the number of
     /// styles, where style ids were asked for.
     pub style_ids: Vec<(u32, u32, usize)>,
 }
 
+impl SheetCells {
+    /// No cells: nothing was read yet.
+    pub fn new(alloc: Global) -> SheetCells
+        ensures values { cells_gathered result.values ≡ [] }
+        ensures formulas { cells_gathered result.formulas ≡ [] }
+        ensures styles { result.style_ids.items ≡ [] }
+    {
+        SheetCells {
+            values: GatheredCells::new(alloc),
+            formulas: GatheredCells::new(alloc),
+            style_ids: Vec::new(alloc),
+        }
+    }
+}
+
 /// Keeps the value of a cell where it holds one.
 fn keep_value(
-    cells: &mut Vec<Cell<DataRef>>,
+    cells: &mut GatheredCells<DataRef>,
     pos: (u32, u32),
     value: DataRef,
 ) -> Result<(), XlsxError>
     requires row { pos.0 < MAX_ROWS }
     requires column { pos.1 < MAX_COLUMNS }
-    requires inside { All IsInSheet cells.old.items }
+    requires inside { AreInSheet (cells_gathered cells.old) }
     ensures value { let found = used_values ((pos, value_of_data_ref value) ∷ []) in
-        OnOk result (value_entries cells.new.items ≡ value_entries cells.old.items ++ found) }
-    ensures inside { OnOk result (All IsInSheet cells.new.items) }
+        OnOk result (value_entries (cells_gathered cells.new)
+        ≡ value_entries (cells_gathered cells.old) ++ found) }
+    ensures inside { OnOk result (AreInSheet (cells_gathered cells.new)) }
     ensures err { IfErr result (λ error. error ≡ OutOfMemory) }
 {
     if matches!(value, DataRef::Empty) {
         return Ok(());
     }
-    cells.push(Cell::new(pos, value))?;
+    cells.push(pos, value)?;
     Ok(())
 }
 
 /// Keeps the formula of a cell where it has one.
 fn keep_formula(
-    cells: &mut Vec<Cell<CellFormula>>,
+    cells: &mut GatheredCells<CellFormula>,
     pos: (u32, u32),
     formula: CellFormula,
 ) -> Result<(), XlsxError>
     requires row { pos.0 < MAX_ROWS }
     requires column { pos.1 < MAX_COLUMNS }
-    requires inside { All IsInSheet cells.old.items }
+    requires inside { AreInSheet (cells_gathered cells.old) }
     ensures formula { let found = used_formulas ((pos, text_of_formula formula) ∷ []) in
-        OnOk result
-        (formula_entries cells.new.items ≡ formula_entries cells.old.items ++ found) }
-    ensures inside { OnOk result (All IsInSheet cells.new.items) }
+        OnOk result (formula_entries (cells_gathered cells.new)
+        ≡ formula_entries (cells_gathered cells.old) ++ found) }
+    ensures inside { OnOk result (AreInSheet (cells_gathered cells.new)) }
     ensures err { IfErr result (λ error. error ≡ OutOfMemory) }
 {
     if formula.is_empty() {
         return Ok(());
     }
-    cells.push(Cell::new(pos, formula))?;
+    cells.push(pos, formula)?;
     Ok(())
 }
 
@@ -120,32 +137,28 @@ pub fn collect<P: Package>(
         let new = stream (P.state «package».new) sheet.new in
         old.reading.source.is_told ≡ true →
         OnOk result (ReachesEnd old.base old.reading new.reading) }
-    ensures inside { IfOk result (λ cells. LieInSheet cells.values.items cells.formulas.items
-        cells.style_ids.items) }
+    ensures inside { IfOk result (λ cells. LieInSheet (cells_gathered cells.values)
+        (cells_gathered cells.formulas) cells.style_ids.items) }
     ensures values { let old = stream (P.state «package».old) sheet.old in
         old.reading.source.is_told ≡ true → asked.entry.wants.values ≡ true →
         IfOk result (λ cells. HoldsValues (grounds_of asked.entry.book) (data_ahead old)
-        (value_entries cells.values.items)) }
+        (value_entries (cells_gathered cells.values))) }
     ensures formulas { let old = stream (P.state «package».old) sheet.old in
         old.reading.source.is_told ≡ true → asked.entry.wants.formulas ≡ true →
         IfOk result (λ cells. HoldsFormulas (data_ahead old)
-        (formula_entries cells.formulas.items)) }
+        (formula_entries (cells_gathered cells.formulas))) }
     ensures styles { let old = stream (P.state «package».old) sheet.old in
         old.reading.source.is_told ≡ true → asked.entry.wants.styles ≡ true → IfOk result (λ cells.
         HoldsIds asked.entry.style_count (data_ahead old) cells.style_ids.items) }
-    ensures unwanted { IfOk result (λ cells. LackUnwanted asked.entry.wants cells.values.items
-        cells.formulas.items cells.style_ids.items) }
+    ensures unwanted { IfOk result (λ cells. LackUnwanted asked.entry.wants
+        (cells_gathered cells.values) (cells_gathered cells.formulas) cells.style_ids.items) }
     ensures err { let old = stream (P.state «package».old) sheet.old in
         let new = stream (P.state «package».new) sheet.new in
         IfErr result (DataFails asked.entry.wants (grounds_of asked.entry.book) old new) }
     ensures kind { IfErr result IsCellError }
     ensures plain { reads_children asked.entry.wants ≡ false → IfErr result IsStyledError }
 {
-    let mut cells = SheetCells {
-        values: Vec::new(alloc),
-        formulas: Vec::new(alloc),
-        style_ids: Vec::new(alloc),
-    };
+    let mut cells = SheetCells::new(alloc);
     'cells: while let Some(found) = sheet.next_with_formula(package, asked)? {
         let CellWithFormula {
             pos,

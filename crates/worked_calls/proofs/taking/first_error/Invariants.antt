@@ -1,9 +1,9 @@
-use Rattle.std.proofs.Common.{◌≡◌, List, None, true}
+use Rattle.std.proofs.Common.{◌≡◌, List, None, map, true}
 use Rattle.std.specs.List.{find}
 use Rattle.cell_data.specs.declared.cell.Cell.{Cell}
 use Rattle.cell_data.specs.declared.value.DataRef.{DataRef}
 use Rattle.xlsx_cells.specs.CellsReader.{stream_by, grounds_by, IsValued, values_alone}
-use Rattle.xlsx_cells.specs.SheetPart.{value_entries}
+use Rattle.xlsx_cells.specs.WholeReadings.{cell_value_entry}
 use Rattle.xlsx_cells.proofs.WholeReadings.{TookValues}
 use Rattle.worked_calls.specs.Taking.{has_error}
 use Rattle.worked_calls.proofs.Through.{TookThrough}
@@ -17,7 +17,7 @@ invariant-cells g l =
     record {
       hold : grounds_by l.reader ≡ grounds;
       took : (sound : List (Cell DataRef)) × (find has_error sound ≡ None)
-          × TookValues values_alone grounds old now (value_entries sound)
+          × TookValues values_alone grounds old now (map cell_value_entry sound)
           × (old.reading.source.is_told ≡ true →
           TookThrough (λ kept. IsValued grounds) old now sound);
     }

@@ -1,5 +1,6 @@
 use Rattle.std.proofs.Common.{ℕ, suc, sym, ◌∙◌, ap, subst}
 use Rattle.std.proofs.lemmas.Result.{err_from_is_err_and}
+use Rattle.cell_data.specs.Gathered.{cells_gathered}
 use Rattle.xlsx_sections.specs.Elements.{KeepsElements, ReachesEnd}
 use Rattle.xlsx_values.specs.Book.{grounds_of}
 use Rattle.xlsx_cells.specs.Marks.{is_cell}
@@ -70,9 +71,9 @@ cells-preserved g c =
             c.in_ok-keep_id.ensures.id,
           )
           (collected_further wants grounds c.args.asked.style_count old mid new
-          (value_entries c.cells.cells.values.items)
-          (formula_entries c.cells.cells.formulas.items) c.cells.cells.style_ids.items read been
-          takes);
+          (value_entries (cells_gathered c.cells.cells.values))
+          (formula_entries (cells_gathered c.cells.cells.formulas)) c.cells.cells.style_ids.items
+          read been takes);
     }
 
 pub returns-clause-ends : goal.returns-clause-ends
@@ -108,8 +109,9 @@ returns-clause-values g c = λ told wanted.
     (c.in_ok-found.ensures.takes (now.keeps.section.reads.moves.parts.is_told ∙ told) been.before
     been.earlier been.stands) now.going.done in
     values_whole wants grounds c.args.asked.style_count old mid
-    (value_entries c.cells.cells.values.items) (formula_entries c.cells.cells.formulas.items)
-    c.cells.cells.style_ids.items been ends.rows wanted
+    (value_entries (cells_gathered c.cells.cells.values))
+    (formula_entries (cells_gathered c.cells.cells.formulas)) c.cells.cells.style_ids.items been
+    ends.rows wanted
 
 pub returns-clause-formulas : goal.returns-clause-formulas
 returns-clause-formulas g c = λ told wanted.
@@ -125,8 +127,9 @@ returns-clause-formulas g c = λ told wanted.
     (c.in_ok-found.ensures.takes (now.keeps.section.reads.moves.parts.is_told ∙ told) been.before
     been.earlier been.stands) now.going.done in
     formulas_whole wants grounds c.args.asked.style_count old mid
-    (value_entries c.cells.cells.values.items) (formula_entries c.cells.cells.formulas.items)
-    c.cells.cells.style_ids.items been ends.rows wanted
+    (value_entries (cells_gathered c.cells.cells.values))
+    (formula_entries (cells_gathered c.cells.cells.formulas)) c.cells.cells.style_ids.items been
+    ends.rows wanted
 
 pub returns-clause-styles : goal.returns-clause-styles
 returns-clause-styles g c = λ told wanted.
@@ -142,8 +145,9 @@ returns-clause-styles g c = λ told wanted.
     (c.in_ok-found.ensures.takes (now.keeps.section.reads.moves.parts.is_told ∙ told) been.before
     been.earlier been.stands) now.going.done in
     ids_whole wants grounds c.args.asked.style_count old mid
-    (value_entries c.cells.cells.values.items) (formula_entries c.cells.cells.formulas.items)
-    c.cells.cells.style_ids.items been ends.rows wanted
+    (value_entries (cells_gathered c.cells.cells.values))
+    (formula_entries (cells_gathered c.cells.cells.formulas)) c.cells.cells.style_ids.items been
+    ends.rows wanted
 
 pub returns-in_err-found-clause-kind : goal.returns-in_err-found-clause-kind
 returns-in_err-found-clause-kind g c =

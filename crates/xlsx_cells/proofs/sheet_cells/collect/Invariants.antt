@@ -1,6 +1,7 @@
 use Rattle.std.proofs.Common.{◌≡◌, true}
 use Rattle.std.specs.Prelude.{All}
-use Rattle.cell_data.specs.Cells.{IsInSheet}
+use Rattle.cell_data.specs.Cells.{AreInSheet}
+use Rattle.cell_data.specs.Gathered.{cells_gathered}
 use Rattle.cell_styles.specs.StyleMap.{IsOnSheet}
 use Rattle.xlsx_sections.specs.Elements.{KeepsElements}
 use Rattle.xlsx_values.specs.Book.{grounds_of}
@@ -18,15 +19,15 @@ invariant-cells g l =
       base : now.base ≡ old.base;
       keeps : KeepsElements is_cell old.base old.reading now.reading;
       going : IsGoing now;
-      values_inside : All IsInSheet l.cells.values.items;
-      formulas_inside : All IsInSheet l.cells.formulas.items;
+      values_inside : AreInSheet (cells_gathered l.cells.values);
+      formulas_inside : AreInSheet (cells_gathered l.cells.formulas);
       ids_inside : All IsOnSheet l.cells.style_ids.items;
-      unwanted : LackUnwanted l.asked.wants l.cells.values.items l.cells.formulas.items
-          l.cells.style_ids.items;
+      unwanted : LackUnwanted l.asked.wants (cells_gathered l.cells.values)
+          (cells_gathered l.cells.formulas) l.cells.style_ids.items;
       collected : old.reading.source.is_told ≡ true →
           HasCollected l.asked.wants (grounds_of l.asked.book) l.asked.style_count old now
-          (value_entries l.cells.values.items) (formula_entries l.cells.formulas.items)
-          l.cells.style_ids.items;
+          (value_entries (cells_gathered l.cells.values))
+          (formula_entries (cells_gathered l.cells.formulas)) l.cells.style_ids.items;
     }
 
 abbrev pub decreases-cells : goal.decreases-cells
