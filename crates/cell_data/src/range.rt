@@ -156,12 +156,20 @@ impl<T> Range<T> {
         }
     }
 
+    /// The value of the used cell at a row and a column, counted from 0 on the sheet; none where
+    /// there is no such cell.
+    pub fn used_value(&self, pos: (u32, u32)) -> Option<&T>
+        ensures { option_copied result ≡ find position_cmp pos (cells_of self.now) }
+    {
+        self.cells.get(pos)
+    }
+
     /// The value of the cell at a position, or else the blank.
     fn value_or_blank(&self, pos: (u32, u32)) -> &T
         ensures { result.now ≡
             unwrap_or (find position_cmp pos (cells_of self.now)) (blank_of self.now) }
     {
-        self.cells.get(pos).unwrap_or(&self.blank)
+        self.used_value(pos).unwrap_or(&self.blank)
     }
 
     /// The value at a row and a column, counted from 0 on the sheet; none outside the area.

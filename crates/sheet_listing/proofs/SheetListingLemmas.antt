@@ -2,7 +2,7 @@
 use Rattle.std.proofs.Common.{◌≡◌, ℕ, ◌+◌, ◌<◌, ◌≤◌, Bool, true, false, cond, ◌&&◌, ◌||◌}
 use Rattle.std.proofs.Common.{List, [], ◌∷◌, ◌++◌, length, Some, None, Option, refl, sym, ap, ◌∙◌}
 use Rattle.std.proofs.Common.{subst, arith, append_assoc, string_bytes}
-use Rattle.std.specs.Prelude.{map, is_some, String, MatchOption, ◌⊎◌, All}
+use Rattle.std.specs.Prelude.{map, is_some, String, MatchOption, ◌⊎◌}
 use Rattle.std.proofs.Common.{inl, inr}
 use Rattle.std.specs.declared.alloc.Global.{Global}
 use Rattle.std.specs.declared.cmp.Ordering.{Ordering}
@@ -13,28 +13,30 @@ use Rattle.std.specs.FinMap.{len-empty, get-entries, get-from_entries, entries_s
 use Rattle.std.specs.FinMap.Entries.{by_order, below_all, same_entries}
 use Rattle.std.specs.List.{flat_map}
 use Rattle.std.specs.Option.{option_map, option_or, unwrap_or}
-use Rattle.std.specs.Ordering.{is_lt, is_le, eq_by_cmp}
-use Rattle.std.proofs.lemmas.List.{append-nil, length-map, map-append}
+use Rattle.std.specs.Ordering.{is_lt, is_le, is_eq, eq_by_cmp}
+use Rattle.std.proofs.lemmas.List.{append-nil}
 use Rattle.cell_refs.specs.declared.TheConstants.{MAX_ROWS, MAX_COLUMNS}
-use Rattle.std.proofs.lemmas.List.Elements.{All-head, All-push, All-same}
-use Rattle.cell_data.specs.Cells.{cell_entry, placed_cells, IsInSheet}
-use Rattle.cell_data.specs.declared.cell.Cell.{Cell}
+use Rattle.std.proofs.lemmas.List.Elements.{All-map}
+use Rattle.cell_data.specs.Cells.{IsPlacedInSheet}
 use Rattle.cell_refs.proofs.PositionOrder.{position_total, position_same, and_both, to_T, from_T}
-use Rattle.cell_data.proofs.Placing.{found_in_two}
-use Rattle.cell_refs.proofs.PositionOrder.{less_from}
-use Rattle.cell_data.proofs.Splitting.{below_cons, past, at_first}
+use Rattle.sorted_cells.proofs.Finding.{found_in_two}
+use Rattle.sorted_cells.proofs.Orders.{after_sorted}
+use Rattle.sorted_cells.specs.Last.{last_key, comes_after}
+use Rattle.sorted_cells.specs.Placed.{first_position, value_first, left_behind}
+use Rattle.cell_data.proofs.Placing.{one_further}
+use Rattle.cell_data.proofs.Splitting.{below_cons, past, at_first, splits_at}
 use Rattle.cell_data.specs.Splitting.{AreInOrder, StandsFirst, given, Splits}
 use Rattle.cell_data.specs.CellValue.{CellValue, nothing, value_of_data}
-use Rattle.cell_refs.specs.Positions.{position_cmp}
+use Rattle.cell_refs.specs.Positions.{position_cmp, is_rising}
 use Rattle.cell_data.specs.declared.value.Data.{Data}
-use Rattle.cell_styles.specs.StyleItems.{styled_entry}
-use Rattle.cell_styles.specs.StyleMap.{StyledCell, IsOnSheet}
+use Rattle.cell_styles.specs.StyleItems.{styled_entry, RiseOnSheet}
+use Rattle.cell_styles.specs.StyleMap.{StyledCell}
 use Rattle.cell_styles.specs.declared.style.Style.{Style}
 use Rattle.sheet_listing.specs.SheetListing.{line_of, value_placed, formula_placed, id_placed, used}
 use Rattle.sheet_listing.specs.SheetListing.{lines_with, fill_field, cell_values, cell_formulas}
 use Rattle.sheet_listing.specs.SheetListing.{value_given, formula_given, id_given}
 use Rattle.sheet_listing.specs.SheetListing.{IsFirstOf, IsOfFirst}
-use Rattle.sheet_listing.specs.SheetListing.{StandsUpTo, IsEarlier, first_place}
+use Rattle.sheet_listing.specs.SheetListing.{StandsUpTo, IsEarlier}
 
 and_true : (b : Bool) → (b && true) ≡ b
 and_true true = refl
@@ -148,8 +150,9 @@ module _ {X Y Z : Type 0} where
       ≡ option_or (find position_cmp q (used vs))
       (option_or (find position_cmp q (used fs)) (find position_cmp q (used ds)))
   found_places q vs fs ds =
-      found_in_two q (used vs) (used fs ++ used ds)
-      ∙ ap (option_or (find position_cmp q (used vs))) (found_in_two q (used fs) (used ds))
+      found_in_two position_cmp q (used vs) (used fs ++ used ds)
+      ∙ ap (option_or (find position_cmp q (used vs)))
+      (found_in_two position_cmp q (used fs) (used ds))
 
   found_used : (p q : ℕ × ℕ) (v : Option X) (f : Option Y) (d : Option Z)
       (vs : List ((ℕ × ℕ) × X)) (fs : List ((ℕ × ℕ) × Y)) (ds : List ((ℕ × ℕ) × Z)) →
@@ -273,43 +276,63 @@ module _ {X Y : Type 0} (g : X → Y) where
   seen_below p [] = refl
   seen_below p (e ∷ es) = ap (λ t. is_lt (position_cmp p e.0) && t) (seen_below p es)
 
+  mapped : (test : Bool) (v : X) (o : Option X) →
+      cond test (Some (g v)) (option_map g o) ≡ option_map g (cond test (Some v) o)
+  mapped true v o = refl
+  mapped false v o = refl
+
+  seen_found : (p : ℕ × ℕ) (es : List ((ℕ × ℕ) × X)) →
+      find position_cmp p (seen es) ≡ option_map g (find position_cmp p es)
+  unfolding seen
+  seen_found p [] = refl
+  seen_found p (e ∷ es) =
+      ap (cond (eq_by_cmp position_cmp p e.0) (Some (g e.1))) (seen_found p es)
+      ∙ mapped (eq_by_cmp position_cmp p e.0) e.1 (find position_cmp p es)
+
+-- the formula of the used cell at a position
+pub formula_found : (p : ℕ × ℕ) (formulas : List ((ℕ × ℕ) × String Global))
+    (found : Option (String Global)) → found ≡ find position_cmp p formulas →
+    formula_given found ≡ formula_placed p (cell_formulas formulas)
+unfolding seen
+formula_found p formulas found same =
+    ap formula_given same ∙ ap (λ o. unwrap_or o []) (sym (seen_found string_bytes p formulas))
+
 -- the lines of cells that are left
 abbrev pub lines_left :
-    (ℕ × ℕ → Option Style) → List (Cell Data) → List (Cell (String Global)) → List (Cell ℕ) →
-    List ℕ
+    (ℕ × ℕ → Option Style) → List ((ℕ × ℕ) × Data) → List ((ℕ × ℕ) × String Global) →
+    List ((ℕ × ℕ) × ℕ) → List ℕ
 lines_left style values formulas ids =
-    lines_with style (cell_values (placed_cells values)) (cell_formulas (placed_cells formulas))
-    (placed_cells ids)
+    lines_with style (cell_values values) (cell_formulas formulas) ids
 
 cells_step : (style : ℕ × ℕ → Option Style) (p : ℕ × ℕ)
     (v : Option Data) (f : Option (String Global)) (d : Option ℕ)
-    (values vs : List (Cell Data)) (formulas fs : List (Cell (String Global)))
-    (ids ds : List (Cell ℕ)) →
+    (values vs : List ((ℕ × ℕ) × Data)) (formulas fs : List ((ℕ × ℕ) × String Global))
+    (ids ds : List ((ℕ × ℕ) × ℕ)) →
     Splits p values v vs → Splits p formulas f fs → Splits p ids d ds →
     lines_left style values formulas ids
     ≡ line_of p (value_given v) (formula_given f) (id_given d) (fill_field (style p))
     ++ lines_left style vs fs ds
 unfolding seen
 cells_step style p v f d values vs formulas fs ids ds splits_v splits_f splits_d =
-    let seen_v = ap cell_values splits_v.whole ∙ seen_given value_of_data p v (placed_cells vs) in
-    let seen_f = ap cell_formulas splits_f.whole ∙ seen_given string_bytes p f (placed_cells fs) in
+    let seen_v = ap cell_values splits_v.whole ∙ seen_given value_of_data p v vs in
+    let seen_f = ap cell_formulas splits_f.whole ∙ seen_given string_bytes p f fs in
     let seen_d = splits_d.whole in
     (λ i. lines_with style (seen_v i) (seen_f i) (seen_d i))
     ∙ listing_step style p (option_map value_of_data v) (option_map string_bytes f) d
-    (cell_values (placed_cells vs)) (cell_formulas (placed_cells fs)) (placed_cells ds)
-    (seen_below value_of_data p (placed_cells vs) ∙ splits_v.below)
-    (seen_below string_bytes p (placed_cells fs) ∙ splits_f.below) splits_d.below
+    (cell_values vs) (cell_formulas fs) ds (seen_below value_of_data p vs ∙ splits_v.below)
+    (seen_below string_bytes p fs ∙ splits_f.below) splits_d.below
 
-goes_on : (old new line rest left whole : List ℕ) → new ≡ old ++ line → left ≡ line ++ rest →
+-- a line is printed, and what is printed with the lines that are left stays the same
+pub goes_on : (old new line rest left whole : List ℕ) → new ≡ old ++ line → left ≡ line ++ rest →
     old ++ left ≡ whole → new ++ rest ≡ whole
 goes_on old new line rest left whole printed taken same =
     rw (printed, append_assoc, ← taken) same
 
--- what is printed with the lines that are left stays the same
+-- the same with the line of a position
 pub lines_on : (style : ℕ × ℕ → Option Style) (p : ℕ × ℕ)
     (v : Option Data) (f : Option (String Global)) (d : Option ℕ) (found : Option Style)
-    (values vs : List (Cell Data)) (formulas fs : List (Cell (String Global)))
-    (ids ds : List (Cell ℕ)) (old new whole : List ℕ) →
+    (values vs : List ((ℕ × ℕ) × Data)) (formulas fs : List ((ℕ × ℕ) × String Global))
+    (ids ds : List ((ℕ × ℕ) × ℕ)) (old new whole : List ℕ) →
     Splits p values v vs → Splits p formulas f fs → Splits p ids d ds → found ≡ style p →
     new ≡ old ++ line_of p (value_given v) (formula_given f) (id_given d) (fill_field found) →
     old ++ lines_left style values formulas ids ≡ whole →
@@ -335,7 +358,8 @@ nothing_listed style =
     ∙ len-empty position_cmp (Unit {0})))
 
 pub lines_end : (style : ℕ × ℕ → Option Style) (out whole : List ℕ)
-    (values : List (Cell Data)) (formulas : List (Cell (String Global))) (ids : List (Cell ℕ)) →
+    (values : List ((ℕ × ℕ) × Data)) (formulas : List ((ℕ × ℕ) × String Global))
+    (ids : List ((ℕ × ℕ) × ℕ)) →
     (values ≡ []) × (formulas ≡ []) × (ids ≡ []) →
     out ++ lines_left style values formulas ids ≡ whole →
     out ≡ whole
@@ -343,73 +367,57 @@ lines_end style out whole values formulas ids none same =
     sym (append-nil out) ∙ (ap (λ bytes. out ++ bytes) (sym (nothing_listed style))
     ∙ ((λ i. out ++ lines_left style (sym none.0 i) (sym none.1 i) (sym none.2 i)) ∙ same))
 
+-- a step takes the cell at the position, where no cell stands before it
+pub next_splits : {X : Type 0} (p : ℕ × ℕ) (v : Option X) (cells behind : List ((ℕ × ℕ) × X)) →
+    AreInOrder cells → StandsFirst p cells → v ≡ value_first p cells →
+    behind ≡ left_behind p cells → Splits p cells v behind
+next_splits p v cells behind order first value left =
+    subst (λ taken. Splits p cells taken behind) (sym value)
+    (subst (λ rest. Splits p cells (value_first p cells) rest) (sym left)
+    (splits_at p cells order first))
+
 module _ {X : Type 0} where
-  given_length : (p : ℕ × ℕ) (v : Option X) (behind : List ((ℕ × ℕ) × X)) →
-      length behind ≤ length (given p v ++ behind)
-  given_length p None behind = omega arith
-  given_length p (Some v) behind = omega arith
+  no_longer : (p : ℕ × ℕ) (cells : List ((ℕ × ℕ) × X)) →
+      length (left_behind p cells) ≤ length cells
+  no_longer p [] = omega arith
+  no_longer p (cell ∷ cells) = by_test (eq_by_cmp position_cmp p cell.0)
+    where
+      by_test : (test : Bool) →
+          length (cond test cells (cell ∷ cells)) ≤ length (cell ∷ cells)
+      by_test true = omega arith
+      by_test false = omega arith
 
-  no_longer : (p : ℕ × ℕ) (v : Option X) (cells behind : List (Cell X)) →
-      Splits p cells v behind → length behind ≤ length cells
-  no_longer p v cells behind splits =
-      omega (
-        arith,
-        given_length p v (placed_cells behind),
-        ap length splits.whole,
-        length-map cells cell_entry,
-        length-map behind cell_entry,
-      )
-
-  not_below : (p : ℕ × ℕ) (es : List ((ℕ × ℕ) × X)) → IsOfFirst p es →
-      below_all position_cmp p es ≡ true → ⊥
-  not_below p [] first below = first
-  not_below p (e ∷ es) first below =
-      let (own, others) =
-      and_both (is_lt (position_cmp p e.0)) (below_all position_cmp p es) below in
-      let tied : position_cmp p e.0 ≡ Equal =
-      ap (position_cmp p) first ∙ tied_itself position_total p in
-      let less = less_from _ own in
-      absurd (cc)
-
-  first_longer : (p : ℕ × ℕ) (v : Option X) (es behind : List ((ℕ × ℕ) × X)) →
-      IsOfFirst p es → es ≡ given p v ++ behind → below_all position_cmp p behind ≡ true →
-      length behind < length es
-  first_longer p None es behind first whole below =
-      absurd (not_below p behind (subst (IsOfFirst p) whole first) below)
-  first_longer p (Some v) es behind first whole below =
-      let lengths : length es ≡ length ((p, v) ∷ behind) = ap length whole in
-      omega arith
-
-  first_shorter : (p : ℕ × ℕ) (v : Option X) (cells behind : List (Cell X)) →
-      IsOfFirst p (placed_cells cells) → Splits p cells v behind → length behind < length cells
-  first_shorter p v cells behind first splits =
-      omega (
-        arith,
-        first_longer p v (placed_cells cells) (placed_cells behind) first splits.whole splits.below,
-        length-map cells cell_entry,
-        length-map behind cell_entry,
-      )
+  first_shorter : (p : ℕ × ℕ) (cells : List ((ℕ × ℕ) × X)) → IsOfFirst p cells →
+      length (left_behind p cells) < length cells
+  first_shorter p [] first = absurd first
+  first_shorter p (cell ∷ cells) first =
+      let at : eq_by_cmp position_cmp p cell.0 ≡ true =
+      ap is_eq (ap (position_cmp p) first ∙ tied_itself position_total p) in
+      omega (arith, ap (λ test. length (cond test cells (cell ∷ cells))) at)
 
 -- each step leaves fewer cells
-pub shorter : {X Y Z : Type 0} (p : ℕ × ℕ) (v : Option X) (f : Option Y) (d : Option Z)
-    (values vs : List (Cell X)) (formulas fs : List (Cell Y)) (ids ds : List (Cell Z)) →
-    IsFirstOf values formulas ids p →
-    Splits p values v vs → Splits p formulas f fs → Splits p ids d ds →
+pub shorter : {X Y Z : Type 0} (p : ℕ × ℕ) (values vs : List ((ℕ × ℕ) × X))
+    (formulas fs : List ((ℕ × ℕ) × Y)) (ids ds : List ((ℕ × ℕ) × Z)) →
+    IsFirstOf values formulas ids p → vs ≡ left_behind p values →
+    fs ≡ left_behind p formulas → ds ≡ left_behind p ids →
     length vs + length fs + length ds < length values + length formulas + length ids
-shorter p v f d values vs formulas fs ids ds first splits_v splits_f splits_d =
-    let in_values = no_longer p v values vs splits_v in
-    let in_formulas = no_longer p f formulas fs splits_f in
-    let in_ids = no_longer p d ids ds splits_d in
+shorter p values vs formulas fs ids ds first is_v is_f is_d =
+    let left_v = ap length is_v in
+    let left_f = ap length is_f in
+    let left_d = ap length is_d in
+    let in_values = no_longer p values in
+    let in_formulas = no_longer p formulas in
+    let in_ids = no_longer p ids in
     elim first.is_used [
       | inl of_values ↦
-          let fewer = first_shorter p v values vs of_values splits_v in
-          omega (arith, fewer, in_formulas, in_ids)
+          let fewer = first_shorter p values of_values in
+          omega (arith, left_v, left_f, left_d, fewer, in_formulas, in_ids)
       | inr (inl of_formulas) ↦
-          let fewer = first_shorter p f formulas fs of_formulas splits_f in
-          omega (arith, fewer, in_values, in_ids)
+          let fewer = first_shorter p formulas of_formulas in
+          omega (arith, left_v, left_f, left_d, fewer, in_values, in_ids)
       | inr (inr of_ids) ↦
-          let fewer = first_shorter p d ids ds of_ids splits_d in
-          omega (arith, fewer, in_values, in_formulas)
+          let fewer = first_shorter p ids of_ids in
+          omega (arith, left_v, left_f, left_d, fewer, in_values, in_formulas)
     ]
 
 -- ---- the first position of three lists
@@ -432,90 +440,91 @@ stands_before p b None le upto = tt
 stands_before p b (Some q) le upto = le_follows p b q le upto _ refl _ refl
 
 module _ {X : Type 0} where
-  stands_first : (p : ℕ × ℕ) (cells : List (Cell X)) → StandsUpTo p (first_place cells) →
-      StandsFirst p (placed_cells cells)
+  stands_first : (p : ℕ × ℕ) (cells : List ((ℕ × ℕ) × X)) →
+      StandsUpTo p (first_position cells) → StandsFirst p cells
   stands_first p [] upto = tt
   stands_first p (cell ∷ cells) upto = upto
 
-  no_cell : (cells : List (Cell X)) → first_place cells ≡ None → cells ≡ []
+  no_cell : (cells : List ((ℕ × ℕ) × X)) → first_position cells ≡ None → cells ≡ []
   no_cell [] none = refl
   no_cell (cell ∷ cells) none = absurd (cc)
 
-  first_is : (p : ℕ × ℕ) (cells : List (Cell X)) → first_place cells ≡ Some p →
-      IsOfFirst p (placed_cells cells)
+  first_is : (p : ℕ × ℕ) (cells : List ((ℕ × ℕ) × X)) → first_position cells ≡ Some p →
+      IsOfFirst p cells
   first_is p [] some = absurd (cc)
-  first_is p (cell ∷ cells) some = ap (λ place. unwrap_or place cell.pos) some
+  first_is p (cell ∷ cells) some = ap (λ place. unwrap_or place cell.0) some
 
-  first_in_sheet : (p : ℕ × ℕ) (cells : List (Cell X)) → AreInOrder cells →
-      first_place cells ≡ Some p → (p.0 < MAX_ROWS) × (p.1 < MAX_COLUMNS)
+  first_in_sheet : (p : ℕ × ℕ) (cells : List ((ℕ × ℕ) × X)) → AreInOrder cells →
+      first_position cells ≡ Some p → (p.0 < MAX_ROWS) × (p.1 < MAX_COLUMNS)
   first_in_sheet p [] order some = absurd (cc)
   first_in_sheet p (cell ∷ cells) order some =
-      subst (λ (q : ℕ × ℕ). (q.0 < MAX_ROWS) × (q.1 < MAX_COLUMNS)) (first_is p (cell ∷ cells) some)
-      (order.sheet 0 cell (omega arith))
+      subst (λ (q : ℕ × ℕ). (q.0 < MAX_ROWS) × (q.1 < MAX_COLUMNS))
+      (first_is p (cell ∷ cells) some) (order.sheet 0 cell (omega arith))
 
-module _ {X Y Z : Type 0} (values : List (Cell X)) (formulas : List (Cell Y)) (ids : List (Cell Z))
-  where
-    -- the first cell of some list stands at the position
-    abbrev BeginsAt : ℕ × ℕ → Type 0
-    BeginsAt p =
-        (first_place values ≡ Some p)
-        ⊎ ((first_place formulas ≡ Some p) ⊎ (first_place ids ≡ Some p))
+module _ {X Y Z : Type 0} (values : List ((ℕ × ℕ) × X)) (formulas : List ((ℕ × ℕ) × Y))
+    (ids : List ((ℕ × ℕ) × Z)) where
+  -- the first cell of some list stands at the position
+  abbrev BeginsAt : ℕ × ℕ → Type 0
+  BeginsAt p =
+      (first_position values ≡ Some p)
+      ⊎ ((first_position formulas ≡ Some p) ⊎ (first_position ids ≡ Some p))
 
-    first_of_lists : (p : ℕ × ℕ) → AreInOrder values → AreInOrder formulas → AreInOrder ids →
-        StandsUpTo p (first_place values) → StandsUpTo p (first_place formulas) →
-        StandsUpTo p (first_place ids) → BeginsAt p → IsFirstOf values formulas ids p
-    first_of_lists p in_values in_formulas in_ids upto_v upto_f upto_d begins =
-        let sheet : (p.0 < MAX_ROWS) × (p.1 < MAX_COLUMNS) = elim begins [
-          | inl of_values ↦ first_in_sheet p values in_values of_values
-          | inr (inl of_formulas) ↦ first_in_sheet p formulas in_formulas of_formulas
-          | inr (inr of_ids) ↦ first_in_sheet p ids in_ids of_ids
-        ] in
-        record {
-          in_rows = sheet.0;
-          in_columns = sheet.1;
-          before_values = stands_first p values upto_v;
-          before_formulas = stands_first p formulas upto_f;
-          before_ids = stands_first p ids upto_d;
-          is_used = elim begins [
-            | inl of_values ↦ inl (first_is p values of_values)
-            | inr (inl of_formulas) ↦ inr (inl (first_is p formulas of_formulas))
-            | inr (inr of_ids) ↦ inr (inr (first_is p ids of_ids))
-          ];
-        }
+  first_of_lists : (p : ℕ × ℕ) → AreInOrder values → AreInOrder formulas → AreInOrder ids →
+      StandsUpTo p (first_position values) → StandsUpTo p (first_position formulas) →
+      StandsUpTo p (first_position ids) → BeginsAt p → IsFirstOf values formulas ids p
+  first_of_lists p in_values in_formulas in_ids upto_v upto_f upto_d begins =
+      let sheet : (p.0 < MAX_ROWS) × (p.1 < MAX_COLUMNS) = elim begins [
+        | inl of_values ↦ first_in_sheet p values in_values of_values
+        | inr (inl of_formulas) ↦ first_in_sheet p formulas in_formulas of_formulas
+        | inr (inr of_ids) ↦ first_in_sheet p ids in_ids of_ids
+      ] in
+      record {
+        in_rows = sheet.0;
+        in_columns = sheet.1;
+        before_values = stands_first p values upto_v;
+        before_formulas = stands_first p formulas upto_f;
+        before_ids = stands_first p ids upto_d;
+        is_used = elim begins [
+          | inl of_values ↦ inl (first_is p values of_values)
+          | inr (inl of_formulas) ↦ inr (inl (first_is p formulas of_formulas))
+          | inr (inr of_ids) ↦ inr (inr (first_is p ids of_ids))
+        ];
+      }
 
-    first_found : (behind result : Option (ℕ × ℕ)) → AreInOrder values → AreInOrder formulas →
-        AreInOrder ids →
-        MatchOption behind ((first_place formulas ≡ None) × (first_place ids ≡ None))
-        (IsEarlier (first_place formulas) (first_place ids)) →
-        MatchOption result ((first_place values ≡ None) × (behind ≡ None))
-        (IsEarlier (first_place values) behind) →
-        MatchOption result ((values ≡ []) × (formulas ≡ []) × (ids ≡ []))
-        (IsFirstOf values formulas ids)
-    first_found None None in_values in_formulas in_ids later own =
-        (no_cell values own.0, no_cell formulas later.0, no_cell ids later.1)
-    first_found (Some b) None in_values in_formulas in_ids later own = absurd (cc)
-    first_found None (Some p) in_values in_formulas in_ids later own =
-        let begins : BeginsAt p = elim own.is_one [
-          | inl of_values ↦ inl of_values
-          | inr none ↦ absurd (cc)
-        ] in
-        first_of_lists p in_values in_formulas in_ids own.before_one
-        (subst (StandsUpTo p) (sym later.0) tt) (subst (StandsUpTo p) (sym later.1) tt) begins
-    first_found (Some b) (Some p) in_values in_formulas in_ids later own =
-        let begins : BeginsAt p = elim own.is_one [
-          | inl of_values ↦ inl of_values
-          | inr same ↦
-              inr (subst (λ q. (first_place formulas ≡ Some q) ⊎ (first_place ids ≡ Some q))
-              (ap (λ place. unwrap_or place b) same) later.is_one)
-        ] in
-        first_of_lists p in_values in_formulas in_ids own.before_one
-        (stands_before p b (first_place formulas) own.before_other later.before_one)
-        (stands_before p b (first_place ids) own.before_other later.before_other) begins
+  first_found : (behind result : Option (ℕ × ℕ)) → AreInOrder values → AreInOrder formulas →
+      AreInOrder ids →
+      MatchOption behind ((first_position formulas ≡ None) × (first_position ids ≡ None))
+      (IsEarlier (first_position formulas) (first_position ids)) →
+      MatchOption result ((first_position values ≡ None) × (behind ≡ None))
+      (IsEarlier (first_position values) behind) →
+      MatchOption result ((values ≡ []) × (formulas ≡ []) × (ids ≡ []))
+      (IsFirstOf values formulas ids)
+  first_found None None in_values in_formulas in_ids later own =
+      (no_cell values own.0, no_cell formulas later.0, no_cell ids later.1)
+  first_found (Some b) None in_values in_formulas in_ids later own = absurd (cc)
+  first_found None (Some p) in_values in_formulas in_ids later own =
+      let begins : BeginsAt p = elim own.is_one [
+        | inl of_values ↦ inl of_values
+        | inr none ↦ absurd (cc)
+      ] in
+      first_of_lists p in_values in_formulas in_ids own.before_one
+      (subst (StandsUpTo p) (sym later.0) tt) (subst (StandsUpTo p) (sym later.1) tt) begins
+  first_found (Some b) (Some p) in_values in_formulas in_ids later own =
+      let begins : BeginsAt p = elim own.is_one [
+        | inl of_values ↦ inl of_values
+        | inr same ↦
+            inr (subst (λ q. (first_position formulas ≡ Some q) ⊎ (first_position ids ≡ Some q))
+            (ap (λ place. unwrap_or place b) same) later.is_one)
+      ] in
+      first_of_lists p in_values in_formulas in_ids own.before_one
+      (stands_before p b (first_position formulas) own.before_other later.before_one)
+      (stands_before p b (first_position ids) own.before_other later.before_other) begins
 
 pub first_is_found : {X Y Z : Type 0}
-    (values : List (Cell X)) (formulas : List (Cell Y)) (ids : List (Cell Z))
+    (values : List ((ℕ × ℕ) × X)) (formulas : List ((ℕ × ℕ) × Y))
+    (ids : List ((ℕ × ℕ) × Z))
     (value formula id behind result : Option (ℕ × ℕ)) →
-    value ≡ first_place values → formula ≡ first_place formulas → id ≡ first_place ids →
+    value ≡ first_position values → formula ≡ first_position formulas → id ≡ first_position ids →
     AreInOrder values → AreInOrder formulas → AreInOrder ids →
     MatchOption behind ((formula ≡ None) × (id ≡ None)) (IsEarlier formula id) →
     MatchOption result ((value ≡ None) × (behind ≡ None)) (IsEarlier value behind) →
@@ -524,8 +533,8 @@ pub first_is_found : {X Y Z : Type 0}
 first_is_found values formulas ids value formula id behind result is_v is_f is_d in_values
     in_formulas in_ids later own =
     first_found values formulas ids behind result in_values in_formulas in_ids
-    (subst (λ f. MatchOption behind ((f ≡ None) × (first_place ids ≡ None))
-    (IsEarlier f (first_place ids))) is_f
+    (subst (λ f. MatchOption behind ((f ≡ None) × (first_position ids ≡ None))
+    (IsEarlier f (first_position ids))) is_f
     (subst (λ d. MatchOption behind ((formula ≡ None) × (d ≡ None)) (IsEarlier formula d)) is_d
     later))
     (subst (λ v. MatchOption result ((v ≡ None) × (behind ≡ None)) (IsEarlier v behind)) is_v own)
@@ -533,25 +542,28 @@ first_is_found values formulas ids value formula id behind result is_v is_f is_d
 -- ---- the styled positions
 
 -- one styled position more is listed
-pub styled_more : (cells after : List (Cell ℕ)) (cell : Cell ℕ) (item : StyledCell)
+pub styled_more : (cells after : List ((ℕ × ℕ) × ℕ)) (item : StyledCell)
     (left rest : List StyledCell) (whole : List ((ℕ × ℕ) × ℕ)) → left ≡ item ∷ rest →
-    after ≡ cells ++ cell ∷ [] → cell ≡ record { pos = (item.0, item.1); val = item.2 } →
-    placed_cells cells ++ map styled_entry left ≡ whole →
-    placed_cells after ++ map styled_entry rest ≡ whole
-styled_more cells after cell item left rest whole is more own same =
-    let placed : placed_cells after ≡ placed_cells cells ++ styled_entry item ∷ [] =
-    ap placed_cells more
-    ∙ (map-append cell_entry cells (cell ∷ [])
-    ∙ ap (λ cell. placed_cells cells ++ cell_entry cell ∷ []) own) in
-    ap (λ es. es ++ map styled_entry rest) placed
-    ∙ (append_assoc (placed_cells cells) (styled_entry item ∷ []) (map styled_entry rest)
-    ∙ (ap (λ es. placed_cells cells ++ map styled_entry es) (sym is) ∙ same))
+    after ≡ cells ++ styled_entry item ∷ [] → cells ++ map styled_entry left ≡ whole →
+    after ++ map styled_entry rest ≡ whole
+styled_more cells after item left rest whole is more same =
+    ap (λ es. es ++ map styled_entry rest) more
+    ∙ one_further cells (styled_entry item) (map styled_entry left) (map styled_entry rest) whole
+    (ap (map styled_entry) is) same
 
-pub in_sheet_more : (cells after : List (Cell ℕ)) (cell : Cell ℕ) (item : StyledCell)
-    (left rest : List StyledCell) → left ≡ item ∷ rest →
-    after ≡ cells ++ cell ∷ [] → cell ≡ record { pos = (item.0, item.1); val = item.2 } →
-    All IsInSheet cells → All IsOnSheet left → All IsInSheet after
-in_sheet_more cells after cell item left rest is more own before on_sheet =
-    let first = All-head IsOnSheet item rest (subst (All IsOnSheet) is on_sheet) in
-    All-same IsInSheet after (cells ++ cell ∷ []) more
-    (All-push IsInSheet cells cell before (subst IsInSheet (sym own) first))
+-- the next styled position comes after those before it
+pub styled_after : (cells : List ((ℕ × ℕ) × ℕ)) (item : StyledCell) (left rest : List StyledCell)
+    (whole : List ((ℕ × ℕ) × ℕ)) → left ≡ item ∷ rest → cells ++ map styled_entry left ≡ whole →
+    is_rising whole ≡ true →
+    comes_after position_cmp (last_key cells) (item.0, item.1) ≡ true
+styled_after cells item left rest whole is same rising =
+    after_sorted position_cmp cells (styled_entry item) (map styled_entry rest)
+    (ap (λ es. is_rising (cells ++ map styled_entry es)) (sym is) ∙ (ap is_rising same ∙ rising))
+
+-- styled positions that rise on a sheet are in order as entries
+pub styled_order : (cells : List ((ℕ × ℕ) × ℕ)) (styled : List StyledCell) →
+    cells ≡ map styled_entry styled → RiseOnSheet styled → AreInOrder cells
+styled_order cells styled is rise = subst AreInOrder (sym is) (record {
+  rising = rise.rising;
+  sheet = All-map IsPlacedInSheet styled_entry styled rise.sheet;
+})

@@ -14,11 +14,9 @@ use Rattle.cell_refs.specs.declared.TheConstants.{MAX_ROWS, MAX_COLUMNS}
 use Rattle.cell_data.specs.CellError.{cell_error_text}
 use Rattle.cell_data.specs.CellValue.{CellValue, nothing, integer, number, text, shared_text, truth}
 use Rattle.cell_data.specs.CellValue.{time, iso_time, failure, value_of_data}
-use Rattle.cell_data.specs.Cells.{placed_cells}
 use Rattle.cell_data.specs.Splitting.{StandsFirst}
 use Rattle.decimals.specs.Decimals.{printed}
 use Rattle.cell_refs.specs.Positions.{position_cmp}
-use Rattle.cell_data.specs.declared.cell.Cell.{Cell}
 use Rattle.cell_data.specs.declared.value.Data.{Data}
 use Rattle.cell_data.specs.declared.value.ExcelDateTimeType.{ExcelDateTimeType}
 use Rattle.cell_data.specs.declared.value.ExcelDateTimeType.TheVariants.{DateTime, TimeDelta}
@@ -190,11 +188,6 @@ pub record IsEarlier (one other : Option (ℕ × ℕ)) (position : ℕ × ℕ) :
   pub before_other : StandsUpTo position other
   pub is_one : (one ≡ Some position) ⊎ (other ≡ Some position)
 
--- where the first cell stands
-abbrev pub first_place : {X : Type 0} → List (Cell X) → Option (ℕ × ℕ)
-first_place [] = None
-first_place (cell ∷ cells) = Some cell.pos
-
 -- a position among those that the lists begin with
 abbrev pub IsOfSome :
     {X Y Z : Type 0} → ℕ × ℕ → List ((ℕ × ℕ) × X) → List ((ℕ × ℕ) × Y) → List ((ℕ × ℕ) × Z)
@@ -204,11 +197,11 @@ IsOfSome position values formulas ids =
 
 -- the first position that some list has
 pub record IsFirstOf
-    {X Y Z : Type 0} (values : List (Cell X)) (formulas : List (Cell Y)) (ids : List (Cell Z))
-    (position : ℕ × ℕ) : Type 0 where
+    {X Y Z : Type 0} (values : List ((ℕ × ℕ) × X)) (formulas : List ((ℕ × ℕ) × Y))
+    (ids : List ((ℕ × ℕ) × Z)) (position : ℕ × ℕ) : Type 0 where
   pub in_rows : position.0 < MAX_ROWS
   pub in_columns : position.1 < MAX_COLUMNS
-  pub before_values : StandsFirst position (placed_cells values)
-  pub before_formulas : StandsFirst position (placed_cells formulas)
-  pub before_ids : StandsFirst position (placed_cells ids)
-  pub is_used : IsOfSome position (placed_cells values) (placed_cells formulas) (placed_cells ids)
+  pub before_values : StandsFirst position values
+  pub before_formulas : StandsFirst position formulas
+  pub before_ids : StandsFirst position ids
+  pub is_used : IsOfSome position values formulas ids

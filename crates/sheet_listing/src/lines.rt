@@ -3,30 +3,32 @@ ghost use Rattle.std.specs.Prelude.{codes, string_bytes, nat_lt, option_and_then
 ghost use Rattle.std.specs.Fmt.{signed_decimal};
 ghost use Rattle.std.specs.Option.{option_copied};
 ghost use Rattle.cell_data.specs.CellValue.{value_of_data, time_value};
-ghost use Rattle.cell_data.specs.Cells.{placed_cells, IsInSheet};
+ghost use Rattle.cell_data.specs.Cells.{IsPlacedInSheet};
 ghost use Rattle.cell_data.specs.Range.{cells_of};
 ghost use Rattle.cell_data.specs.Splitting.{AreInOrder};
 ghost use Rattle.cell_refs.specs.Reference.{reference};
 ghost use Rattle.cell_styles.specs.Fill.{fill_color};
 ghost use Rattle.cell_styles.specs.StyleMap.{style_at};
 ghost use Rattle.escaped_text.specs.Escaped.{escaped};
+ghost use Rattle.sorted_cells.specs.Kept.{kept_cells};
+ghost use Rattle.sorted_cells.specs.Placed.{placed_left};
 ghost use Rattle.sheet_listing.specs.SheetListing.{kind_text, calendar_text, value_field};
 ghost use Rattle.sheet_listing.specs.SheetListing.{formula_field};
 ghost use Rattle.sheet_listing.specs.SheetListing.{field, line, line_of, listing};
 ghost use Rattle.sheet_listing.specs.SheetListing.{cell_values, cell_formulas};
 ghost use Rattle.sheet_listing.specs.SheetListing.{value_given, formula_given};
-ghost use Rattle.sheet_listing.specs.SheetListing.{IsFirstOf};
-ghost use Rattle.sheet_listing.specs.SheetListing.{IsEarlier, first_place};
+ghost use Rattle.sheet_listing.specs.SheetListing.{IsFirstOf, IsEarlier};
 ghost use Rattle.sheet_listing.specs.SheetListing.{shown_color, fill_shown, fill_field, id_given};
 ghost use Rattle.sheet_listing.specs.SheetListing.{lines_with, placed_ids};
 ghost use Rattle.sheet_listing.specs.SheetListing.{value_line, value_lines, row_line};
 ghost use Rattle.sheet_listing.specs.SheetListing.{further_fields};
 
-use cell_data::{Cell, Data, ExcelDateTime, ExcelDateTimeType, Range, split_at_position};
+use cell_data::{Data, ExcelDateTime, ExcelDateTimeType, Range};
 use cell_refs::{MAX_COLUMNS, MAX_ROWS, push_reference};
 use cell_styles::{Color, Fill, Style, StyleRange};
 use escaped_text::push_escaped;
 use itoa::Buffer;
+use sorted_cells::{PlacedCells, SortedCells};
 use std::alloc::{AllocError, Global};
 
 fn kind_text(kind: ExcelDateTimeType) -> &'static str
@@ -221,13 +223,13 @@ fn push_front(
     out.push_str("\t")
 }
 
-/// Appends the line of a cell's value.
-fn push_value_line(out: &mut String, cell: &Cell<Data>) -> Result<(), AllocError>
-    requires { IsInSheet cell.now }
-    ensures { let printed = value_line (cell.now.pos, value_of_data cell.now.val) in
+/// Appends the line of a cell's value, its position counted from 0.
+fn push_value_line(out: &mut String, position: (u32, u32), value: &Data) -> Result<(), AllocError>
+    requires { IsPlacedInSheet (position, value.now) }
+    ensures { let printed = value_line (position, value_of_data value.now) in
         OnOk result (string_bytes out.new ≡ string_bytes out.old ++ printed) }
 {
-    push_placed(out, cell.pos, Some(&cell.val))?;
+    push_placed(out, position, Some(value))?;
     out.push_str("\n")
 }
 
@@ -238,9 +240,8 @@ pub fn value_lines_of(alloc: Global, values: &Range<Data>) -> Result<String, All
         IfOk result (λ out. string_bytes out ≡ printed) }
 {
     let mut out = String::new(alloc);
-    let cells = values.used();
-    for cell in cells {
-        push_value_line(&mut out, cell)?;
+    for (position, value) in values.used() {
+        push_value_line(&mut out, position, value)?;
     }
     Ok(out)
 }
@@ -315,15 +316,6 @@ fn push_line(
     push_fields(out, position, value, formula, style)
 }
 
-fn first_place<T>(cells: &[Cell<T>]) -> Option<(u32, u32)>
-    ensures { result ≡ first_place cells.now }
-{
-    match cells.first() {
-        Some(cell) => Some(cell.pos),
-        None => None,
-    }
-}
-
 fn earlier(one: Option<(u32, u32)>, other: Option<(u32, u32)>) -> Option<(u32, u32)>
     ensures { MatchOption result ((one ≡ None) × (other ≡ None)) (IsEarlier one other) }
 {
@@ -336,58 +328,57 @@ fn earlier(one: Option<(u32, u32)>, other: Option<(u32, u32)>) -> Option<(u32, u
 
 /// The first position that some list has.
 fn first_position(
-    values: &[Cell<Data>],
-    formulas: &[Cell<String>],
-    ids: &[Cell<usize>],
+    values: &PlacedCells<'_, Data>,
+    formulas: &PlacedCells<'_, String>,
+    ids: &PlacedCells<'_, usize>,
 ) -> Option<(u32, u32)>
-    requires values { AreInOrder values.now }
-    requires formulas { AreInOrder formulas.now }
-    requires ids { AreInOrder ids.now }
-    ensures { MatchOption result ((values.now ≡ []) × (formulas.now ≡ []) × (ids.now ≡ []))
-        (IsFirstOf values.now formulas.now ids.now) }
+    requires values { AreInOrder (placed_left values.now) }
+    requires formulas { AreInOrder (placed_left formulas.now) }
+    requires ids { AreInOrder (placed_left ids.now) }
+    ensures { MatchOption result ((placed_left values.now ≡ [])
+        × (placed_left formulas.now ≡ []) × (placed_left ids.now ≡ []))
+        (IsFirstOf (placed_left values.now) (placed_left formulas.now) (placed_left ids.now)) }
 {
-    let behind_values = earlier(first_place(formulas), first_place(ids));
-    earlier(first_place(values), behind_values)
+    let behind_values = earlier(formulas.next_position(), ids.next_position());
+    earlier(values.next_position(), behind_values)
 }
 
 /// Appends the lines of the positions that some list has, row by row.
 fn push_lines(
     out: &mut String,
-    values: &[Cell<Data>],
-    formulas: &[Cell<String>],
-    ids: &[Cell<usize>],
+    values: PlacedCells<'_, Data>,
+    formulas: PlacedCells<'_, String>,
+    ids: PlacedCells<'_, usize>,
     styles: &StyleRange,
 ) -> Result<(), AllocError>
-    requires values { AreInOrder values.now }
-    requires formulas { AreInOrder formulas.now }
-    requires ids { AreInOrder ids.now }
-    ensures { let printed = lines_with (style_at styles.now) (cell_values (placed_cells values.now))
-        (cell_formulas (placed_cells formulas.now)) (placed_cells ids.now) in
+    requires values { AreInOrder (placed_left values) }
+    requires formulas { AreInOrder (placed_left formulas) }
+    requires ids { AreInOrder (placed_left ids) }
+    ensures { let printed = lines_with (style_at styles.now)
+        (cell_values (placed_left values.entry)) (cell_formulas (placed_left formulas.entry))
+        (placed_left ids.entry) in
         OnOk result (string_bytes out.new ≡ string_bytes out.old ++ printed) }
 {
     let mut values_left = values;
     let mut formulas_left = formulas;
     let mut ids_left = ids;
-    'positions: while let Some(position) = first_position(values_left, formulas_left, ids_left) {
-        let (value, values_behind) = split_at_position(values_left, position);
-        let (formula, formulas_behind) = split_at_position(formulas_left, position);
-        let (id, ids_behind) = split_at_position(ids_left, position);
+    'positions: while let Some(position) = first_position(&values_left, &formulas_left, &ids_left) {
+        let value = values_left.next_at(position);
+        let formula = formulas_left.next_at(position);
+        let id = ids_left.next_at(position);
         push_line(out, position, value, formula, id, styles.get(position))?;
-        values_left = values_behind;
-        formulas_left = formulas_behind;
-        ids_left = ids_behind;
     }
     Ok(())
 }
 
 /// The positions that have a style id above 0, with that id, row by row.
-pub fn styled_cells(alloc: Global, styles: &StyleRange) -> Result<Vec<Cell<usize>>, AllocError>
-    ensures cells { IfOk result (λ cells. placed_cells cells.items ≡ placed_ids styles.now) }
-    ensures order { IfOk result (λ cells. AreInOrder cells.items) }
+pub fn styled_cells(alloc: Global, styles: &StyleRange) -> Result<SortedCells<usize>, AllocError>
+    ensures cells { IfOk result (λ cells. kept_cells cells ≡ placed_ids styles.now) }
+    ensures order { IfOk result (λ cells. AreInOrder (kept_cells cells)) }
 {
-    let mut cells = Vec::new(alloc);
+    let mut cells = SortedCells::new(alloc);
     for (row, column, id) in styles.styled() {
-        cells.push(Cell::new((row, column), id))?;
+        cells.push((row, column), id)?;
     }
     Ok(cells)
 }
@@ -407,7 +398,7 @@ pub fn listing_of(
 {
     let ids = styled_cells(alloc, styles)?;
     let mut out = String::new(alloc);
-    push_lines(&mut out, values.used(), formulas.used(), &ids, styles)?;
+    push_lines(&mut out, values.used(), formulas.used(), ids.iter(), styles)?;
     Ok(out)
 }
 

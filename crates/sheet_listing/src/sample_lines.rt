@@ -1,11 +1,10 @@
 ghost use Rattle.std.specs.Prelude.{◌≡◌, ◌++◌, IfOk, OnOk, string_bytes};
-ghost use Rattle.cell_data.specs.Cells.{placed_cells};
 ghost use Rattle.cell_data.specs.Range.{cells_of};
 ghost use Rattle.sheet_listing.specs.SampleLines.{count_line, last_line, sample_lines};
 ghost use Rattle.sheet_listing.specs.SheetListing.{cell_values, cell_formulas, formula_placed};
 
 use crate::lines::styled_cells;
-use cell_data::{Cell, Data, Range};
+use cell_data::{Data, Range};
 use cell_styles::StyleRange;
 use escaped_text::push_escaped;
 use std::alloc::{AllocError, Global};
@@ -29,15 +28,13 @@ fn push_last(out: &mut String, row: u32, formula: &str) -> Result<(), AllocError
 }
 
 /// The formula at a row and a column, counted from 0; the empty text where there is none.
-fn formula_there(formulas: &[Cell<String>], position: (u32, u32)) -> &str
-    ensures { result.now ≡ formula_placed position (cell_formulas (placed_cells formulas.now)) }
+fn formula_there(formulas: &Range<String>, position: (u32, u32)) -> &str
+    ensures { result.now ≡ formula_placed position (cell_formulas (cells_of formulas.now)) }
 {
-    for cell in formulas {
-        if cell.pos == position {
-            return cell.val.as_str();
-        }
+    match formulas.used_value(position) {
+        Some(formula) => formula.as_str(),
+        None => "",
     }
-    ""
 }
 
 /// The lines of a sheet with so many rows: how many values, formulas, positions with a style id
@@ -57,10 +54,10 @@ pub fn sample_lines_of(
     let styled = styled_cells(alloc, styles)?.len();
     let last = (rows.saturating_sub(1), 1);
     let mut out = String::new(alloc);
-    push_count(&mut out, "cells", values.used().len())?;
-    push_count(&mut out, "formulas", formulas.used().len())?;
+    push_count(&mut out, "cells", values.used_count())?;
+    push_count(&mut out, "formulas", formulas.used_count())?;
     push_count(&mut out, "styled", styled)?;
     push_count(&mut out, "runs", styles.run_count())?;
-    push_last(&mut out, rows, formula_there(formulas.used(), last))?;
+    push_last(&mut out, rows, formula_there(formulas, last))?;
     Ok(out)
 }

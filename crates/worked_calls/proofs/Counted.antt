@@ -1,5 +1,5 @@
 -- The count of a sheet that was read, and why one isn't had.
-use Rattle.std.proofs.Common.{◌≡◌, ℕ, List, length, sym, ◌∙◌, ap, arith, refl}
+use Rattle.std.proofs.Common.{◌≡◌, ℕ, List, length, sym, ◌∙◌, arith, refl}
 use Rattle.std.specs.Prelude.{String, string_bytes}
 use Rattle.std.specs.declared.alloc.Global.{Global}
 use Rattle.std.proofs.lemmas.List.{length-map}
@@ -7,19 +7,15 @@ use Rattle.part_events.specs.Memory.{Contents, state_of}
 use Rattle.xlsx_error.specs.declared.error.XlsxError.{XlsxError}
 use Rattle.xlsx_error.specs.declared.error.XlsxError.TheVariants.{Io, OutOfMemory}
 use Rattle.xlsx_error.specs.declared.error.XlsxError.TheVariants.{WorksheetNotFound}
-use Rattle.cell_data.specs.Cells.{cell_entry, placed_cells}
 use Rattle.cell_data.specs.Range.{cells_of}
-use Rattle.cell_data.specs.declared.cell.Cell.{Cell}
 use Rattle.cell_data.specs.declared.range.Range.{Range}
 use Rattle.xlsx_core.specs.SheetReading.{formula_pairs, with_meaning, SheetFails}
 use Rattle.worked_calls.specs.Counting.{CountFails}
 
 -- there are as many formulas as used cells of their range
-pub counts : (range : Range (String Global)) (used : List (Cell (String Global)))
-    → placed_cells used ≡ cells_of range → length used ≡ length (formula_pairs range)
-counts range used same =
-    sym (length-map used cell_entry) ∙ ap length same
-    ∙ sym (length-map (cells_of range) (with_meaning string_bytes))
+pub counts : (range : Range (String Global)) (count : ℕ) → count ≡ length (cells_of range)
+    → count ≡ length (formula_pairs range)
+counts range count same = same ∙ sym (length-map (cells_of range) (with_meaning string_bytes))
 
 -- a package in memory has no faults
 pub count_fails : (name : List ℕ) (old new : Contents) (error : XlsxError)

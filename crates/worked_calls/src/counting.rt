@@ -15,7 +15,7 @@ pub fn formula_count(alloc: Global, package: MemoryPackage, name: &str) -> Resul
     let SheetAnswer { result, package } = read_sheet(alloc, package, name);
     drop(package);
     match result {
-        Ok(reading) => Ok(reading.formulas.used().len()),
+        Ok(reading) => Ok(reading.formulas.used_count()),
         Err(error) => Err(error),
     }
 }

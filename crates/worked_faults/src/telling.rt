@@ -34,24 +34,32 @@ fn push<T: Debug + Drop>(out: &mut String, answer: Result<T, XlsxError>) -> Resu
     Ok(write!(out, "{answer:?};")?)
 }
 
+/// Each used cell by its position and its value, as an answer.
+fn push_cells<T: Debug>(out: &mut String, range: &Range<T>) -> Result<(), Fail> {
+    for (position, value) in range.used() {
+        write!(out, "{position:?} {value:?},")?;
+    }
+    Ok(out.push_str(";")?)
+}
+
 fn push_used<T: Debug + Drop>(
     out: &mut String,
     answer: Result<Range<T>, XlsxError>,
 ) -> Result<(), Fail> {
-    Ok(match answer {
-        Ok(range) => write!(out, "{:?};", range.used())?,
-        Err(error) => write!(out, "Err({error:?});")?,
-    })
+    match answer {
+        Ok(range) => push_cells(out, &range),
+        Err(error) => Ok(write!(out, "Err({error:?});")?),
+    }
 }
 
 fn push_table<T: Debug + Drop>(
     out: &mut String,
     answer: Result<Table<T>, XlsxError>,
 ) -> Result<(), Fail> {
-    Ok(match answer {
-        Ok(table) => write!(out, "{:?};", table.data().used())?,
-        Err(error) => write!(out, "Err({error:?});")?,
-    })
+    match answer {
+        Ok(table) => push_cells(out, table.data()),
+        Err(error) => Ok(write!(out, "Err({error:?});")?),
+    }
 }
 
 fn push_worksheets(
@@ -61,7 +69,8 @@ fn push_worksheets(
     match answer {
         Ok(sheets) => {
             for (name, range) in &sheets {
-                write!(out, "{name} {:?};", range.used())?;
+                write!(out, "{name} ")?;
+                push_cells(out, range)?;
             }
         }
         Err(error) => write!(out, "Err({error:?});")?,

@@ -35,9 +35,9 @@ pub fn push_value(out: &mut String, value: &Data) -> Result<(), Fail> {
 
 /// The values of a range, each by its row and column.
 pub fn push_values(out: &mut String, range: &Range<Data>) -> Result<(), Fail> {
-    for cell in range.used() {
-        write!(out, "({},{} ", cell.pos.0, cell.pos.1)?;
-        push_value(out, &cell.val)?;
+    for (position, value) in range.used() {
+        write!(out, "({},{} ", position.0, position.1)?;
+        push_value(out, value)?;
         out.push_str(")")?;
     }
     Ok(())
@@ -45,8 +45,8 @@ pub fn push_values(out: &mut String, range: &Range<Data>) -> Result<(), Fail> {
 
 /// The formulas of a range, each by its row and column.
 pub fn push_formulas(out: &mut String, range: &Range<String>) -> Result<(), Fail> {
-    for cell in range.used() {
-        write!(out, "({},{} ={})", cell.pos.0, cell.pos.1, cell.val)?;
+    for (position, formula) in range.used() {
+        write!(out, "({},{} ={formula})", position.0, position.1)?;
     }
     Ok(())
 }

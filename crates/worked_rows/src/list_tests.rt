@@ -147,8 +147,8 @@ fn places_told<P: Package>(alloc: Global, xlsx: &mut Xlsx<P>) -> Result<String, 
 
 fn push_places(out: &mut String, range: &Range<DataRef>) -> Result<(), Fail> {
     push_area(out, range)?;
-    for cell in range.used() {
-        match &cell.val {
+    for (_, value) in range.used() {
+        match value {
             DataRef::Decimal(number) => number.push_to(out)?,
             DataRef::SharedString(place) => write!(out, "string {place}")?,
             other => write!(out, "{other:?}")?,

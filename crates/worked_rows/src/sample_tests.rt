@@ -27,7 +27,7 @@ fn shown(alloc: Global, reading: &SheetReading) -> Result<String, Fail> {
         formulas,
         styles,
     } = reading;
-    let (values, used) = (values.used().len(), formulas.used().len());
+    let (values, used) = (values.used_count(), formulas.used_count());
     let (styled, runs) = (styled_count(styles), styles.run_count());
     let Some(formula) = formulas.get_value((4, 1)) else {
         return Ok(format!(in alloc; "{values} {used} {styled} {runs}")?);

@@ -1,6 +1,6 @@
 //! The tables of an open workbook, and their data by their names.
 
-use cell_data::{Cell, Data, DataRef, HeaderRow};
+use cell_data::{Data, DataRef, HeaderRow, Range};
 use cell_refs::Dimensions;
 use part_events::{FailingPackage, MemoryPackage, Package};
 use std::alloc::Global;
@@ -60,10 +60,10 @@ fn tables_told<P: Package>(alloc: Global, xlsx: &mut Xlsx<P>) -> Result<String, 
     Ok(out)
 }
 
-fn push_values(out: &mut String, cells: &[Cell<Data>]) -> Result<(), Fail> {
-    for cell in cells {
-        write!(out, " {},{}=", cell.pos.0, cell.pos.1)?;
-        match &cell.val {
+fn push_values(out: &mut String, range: &Range<Data>) -> Result<(), Fail> {
+    for (position, value) in range.used() {
+        write!(out, " {},{}=", position.0, position.1)?;
+        match value {
             Data::Decimal(number) => number.push_to(out)?,
             Data::String(text) => out.push_str(text.as_str())?,
             other => write!(out, "{other:?}")?,
@@ -72,10 +72,10 @@ fn push_values(out: &mut String, cells: &[Cell<Data>]) -> Result<(), Fail> {
     Ok(())
 }
 
-fn push_places(out: &mut String, cells: &[Cell<DataRef>]) -> Result<(), Fail> {
-    for cell in cells {
-        write!(out, " {},{}=", cell.pos.0, cell.pos.1)?;
-        match &cell.val {
+fn push_places(out: &mut String, range: &Range<DataRef>) -> Result<(), Fail> {
+    for (position, value) in range.used() {
+        write!(out, " {},{}=", position.0, position.1)?;
+        match value {
             DataRef::SharedString(place) => write!(out, "#{place}")?,
             DataRef::Decimal(number) => number.push_to(out)?,
             DataRef::String(text) => out.push_str(text.as_str())?,
@@ -96,7 +96,7 @@ fn data_told<P: Package>(alloc: Global, xlsx: &mut Xlsx<P>, name: &str) -> Resul
             write!(out, "{} {}", table.name(), table.sheet_name())?;
             push_area(&mut out, table.data().bounds())?;
             push_columns(&mut out, table.columns())?;
-            push_values(&mut out, table.data().used())?;
+            push_values(&mut out, table.data())?;
         }
         Err(error) => write!(out, "{error:?}")?,
     }
@@ -110,7 +110,7 @@ fn places_told<P: Package>(alloc: Global, xlsx: &mut Xlsx<P>, name: &str) -> Res
         return Ok(out);
     }
     match xlsx.table_by_name_ref(name) {
-        Ok(table) => push_places(&mut out, table.data().used())?,
+        Ok(table) => push_places(&mut out, table.data())?,
         Err(error) => write!(out, "{error:?}")?,
     }
     Ok(out)

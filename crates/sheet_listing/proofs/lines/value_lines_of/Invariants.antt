@@ -1,9 +1,13 @@
-use Rattle.std.proofs.Common.{◌≡◌, ◌++◌, drop, string_bytes}
-use Rattle.cell_data.specs.Cells.{placed_cells}
+use Rattle.std.proofs.Common.{◌≡◌, ◌++◌, All, string_bytes}
+use Rattle.cell_data.specs.Cells.{IsPlacedInSheet}
+use Rattle.cell_data.specs.Range.{cells_of}
+use Rattle.sorted_cells.specs.Placed.{placed_left}
 use Rattle.sheet_listing.specs.SheetListing.{cell_values, value_lines}
 use Rattle.sheet_listing.proofs.lines.value_lines_of.Given as goal
 
-abbrev pub invariant-loop-cell : goal.invariant-loop-cell
-invariant-loop-cell l =
-    string_bytes l.out ++ value_lines (cell_values (placed_cells (drop l.cell-index l.cells)))
-    ≡ value_lines (cell_values (placed_cells l.cells))
+abbrev pub invariant-loop-position : goal.invariant-loop-position
+invariant-loop-position l = record {
+  printed : string_bytes l.out ++ value_lines (cell_values (placed_left l.position-iterator))
+      ≡ value_lines (cell_values (cells_of l.values));
+  sheet : All IsPlacedInSheet (placed_left l.position-iterator);
+}
