@@ -52,8 +52,30 @@ filter_alike p q (e ∷ es) alike inside =
     let test = alike e.0 own.0 own.1 in
     λ i. cond (test i) (e ∷ others i) (others i)
 
-sheet_area : Dimensions
+abbrev sheet_area : Dimensions
 sheet_area = record { start = (0, 0); end = (1048575, 16383) }
+
+below_sheet : (header : HeaderRow) (k : ℕ × ℕ) → is_in_area (area_below header) k ≡ true →
+    is_in_area sheet_area k ≡ true
+below_sheet FirstNonEmptyRow k inside = inside
+below_sheet (Row row) k inside =
+    let own = inside_below row k inside in
+    grind (arith, nat_tests, own.1, own.2)
+
+bounds_header : (row : ℕ) (bounds : Option Dimensions) → begins_by row bounds →
+    are_sheet_bounds bounds ≡ true → are_sheet_bounds (header_area (Row row) bounds) ≡ true
+bounds_header row None first limits = refl
+bounds_header row (Some area) first limits =
+    let (rows, columns) =
+    and_both (nat_le area.start.0 area.end.0 && nat_lt area.end.0 1048576)
+    (nat_le area.start.1 area.end.1 && nat_lt area.end.1 16384) limits in
+    let (rise, last) = and_both (nat_le area.start.0 area.end.0) (nat_lt area.end.0 1048576)
+    rows in
+    let begins : nat_le row area.end.0 ≡ true = grind (arith, nat_tests, first.0, first.1) in
+    ap (λ (t : Bool). (t && nat_lt area.end.0 1048576)
+    && (nat_le area.start.1 area.end.1 && nat_lt area.end.1 16384)) begins
+    ∙ ap (λ (t : Bool). t && (nat_le area.start.1 area.end.1 && nat_lt area.end.1 16384)) last
+    ∙ columns
 
 module _ {X : Type 0} where
   -- what stands at last lies in the sheet
@@ -96,13 +118,6 @@ module _ {X : Type 0} where
 
   -- ---- the range of cells that lie there
 
-  below_sheet : (header : HeaderRow) (k : ℕ × ℕ) → is_in_area (area_below header) k ≡ true →
-      is_in_area sheet_area k ≡ true
-  below_sheet FirstNonEmptyRow k inside = inside
-  below_sheet (Row row) k inside =
-      let own = inside_below row k inside in
-      grind (arith, nat_tests, own.1.0, own.1.1)
-
   kept_in_sheet : (header : HeaderRow) (cells : List ((ℕ × ℕ) × X)) →
       lie_inside (Some (area_below header)) cells ≡ true → AreInSheet cells
   kept_in_sheet header cells inside =
@@ -139,21 +154,6 @@ module _ {X : Type 0} where
   header_inside FirstNonEmptyRow cells inside = least_inside cells
   header_inside (Row row) cells inside =
       inside_header row (least_area cells) cells (begins row cells inside) (least_inside cells)
-
-  bounds_header : (row : ℕ) (bounds : Option Dimensions) → begins_by row bounds →
-      are_sheet_bounds bounds ≡ true → are_sheet_bounds (header_area (Row row) bounds) ≡ true
-  bounds_header row None first limits = refl
-  bounds_header row (Some area) first limits =
-      let (rows, columns) =
-      and_both (nat_le area.start.0 area.end.0 && nat_lt area.end.0 1048576)
-      (nat_le area.start.1 area.end.1 && nat_lt area.end.1 16384) limits in
-      let (rise, last) = and_both (nat_le area.start.0 area.end.0) (nat_lt area.end.0 1048576)
-      rows in
-      let begins : nat_le row area.end.0 ≡ true = grind (arith, nat_tests, first.0, first.1) in
-      ap (λ (t : Bool). (t && nat_lt area.end.0 1048576)
-      && (nat_le area.start.1 area.end.1 && nat_lt area.end.1 16384)) begins
-      ∙ ap (λ (t : Bool). t && (nat_le area.start.1 area.end.1 && nat_lt area.end.1 16384)) last
-      ∙ columns
 
   pub header_bounds : (header : HeaderRow) (cells : List ((ℕ × ℕ) × X)) →
       lie_inside (Some (area_below header)) cells ≡ true →

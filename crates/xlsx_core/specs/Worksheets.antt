@@ -10,7 +10,7 @@ use Rattle.part_events.specs.Event.{Event}
 use Rattle.part_events.specs.Nesting.{whole}
 use Rattle.part_events.specs.Package.{Part, PackageState}
 use Rattle.cell_data.specs.CellValue.{CellValue, nothing, value_of_data, value_of_data_ref}
-use Rattle.cell_refs.specs.Positions.{last_of_each, least_area}
+use Rattle.cell_refs.specs.Positions.{last_of_each, least_area, lie_inside}
 use Rattle.cell_data.specs.Range.{cells_of, bounds_of, blank_of}
 use Rattle.xlsx_error.specs.declared.error.XlsxError.{XlsxError}
 use Rattle.xlsx_error.specs.declared.error.XlsxError.TheVariants.{OutOfMemory, Io, NotAWorksheet}
@@ -155,6 +155,11 @@ abbrev pub area_below : HeaderRow → Dimensions
 area_below FirstNonEmptyRow =
     record { start = (0, 0); end = (MAX_ROWS - 1, MAX_COLUMNS - 1) }
 area_below (Row row) = record { start = (row, 0); end = (MAX_ROWS - 1, MAX_COLUMNS - 1) }
+
+-- other cells lie in the areas that cells lie in
+abbrev pub HaveSamePlaces : {X Y : Type 0} → List ((ℕ × ℕ) × X) → List ((ℕ × ℕ) × Y) → Type 0
+HaveSamePlaces cells others =
+    (area : Dimensions) → lie_inside (Some area) others ≡ lie_inside (Some area) cells
 
 -- the area with another first row
 abbrev pub area_from : ℕ → Option Dimensions → Option Dimensions

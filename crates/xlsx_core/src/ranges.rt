@@ -11,6 +11,7 @@ ghost use Rattle.xlsx_cells.specs.Sheet.{with_texts};
 ghost use Rattle.xlsx_cells.specs.SheetPart.{value_entries, formula_entries, LieInSheet};
 ghost use Rattle.xlsx_core.specs.Worksheets.{IsRangeFrom, IsValueRange, IsPlaceRange};
 ghost use Rattle.xlsx_core.specs.Worksheets.{IsFormulaRange, header_area, area_below};
+ghost use Rattle.xlsx_core.specs.Worksheets.{HaveSamePlaces};
 ghost use Rattle.xlsx_core.specs.SheetReading.{with_meaning};
 
 use crate::sheet_reading::SheetReading;
@@ -53,8 +54,9 @@ fn with_texts(
     cells: SortedCells<DataRef>,
     strings: &[String],
 ) -> Result<SortedCells<Data>, AllocError>
-    ensures { IfOk result (λ own. map (with_meaning value_of_data) (kept_cells own)
+    ensures texts { IfOk result (λ own. map (with_meaning value_of_data) (kept_cells own)
         ≡ with_texts (map string_bytes strings.now) (value_entries (kept_cells cells))) }
+    ensures places { IfOk result (λ own. HaveSamePlaces (kept_cells cells) (kept_cells own)) }
 {
     let mut own = SortedCells::with_capacity(alloc, cells.len())?;
     'cells: for (pos, val) in cells.into_iter() {
@@ -98,8 +100,9 @@ fn written_out(
     alloc: Global,
     cells: SortedCells<CellFormula>,
 ) -> Result<SortedCells<String>, AllocError>
-    ensures { IfOk result (λ own. map (with_meaning string_bytes) (kept_cells own)
+    ensures texts { IfOk result (λ own. map (with_meaning string_bytes) (kept_cells own)
         ≡ formula_entries (kept_cells cells)) }
+    ensures places { IfOk result (λ own. HaveSamePlaces (kept_cells cells) (kept_cells own)) }
 {
     let mut own = SortedCells::with_capacity(alloc, cells.len())?;
     'cells: for (pos, val) in cells.into_iter() {

@@ -1,29 +1,25 @@
-use Rattle.std.proofs.Common.{[], ◌∙◌, ap, string_bytes, sym, Some}
-use Rattle.cell_refs.specs.Positions.{lie_inside}
+use Rattle.std.proofs.Common.{[], ◌∙◌, ap, string_bytes}
 use Rattle.cell_data.specs.Gathered.{cells_gathered}
 use Rattle.cell_data.specs.declared.value.HeaderRow.TheVariants.{FirstNonEmptyRow}
 use Rattle.sorted_cells.specs.Kept.{kept_cells}
 use Rattle.xlsx_formulas.specs.Kept.{text_of_formula}
 use Rattle.xlsx_cells.specs.SheetPart.{formula_entries}
 use Rattle.xlsx_core.specs.Worksheets.{area_below}
-use Rattle.xlsx_core.proofs.StandingRanges.{inside_meant, kept_below, last_meant, standing_range}
+use Rattle.xlsx_core.proofs.StandingRanges.{kept_below, last_meant, standing_range}
 use Rattle.xlsx_core.proofs.ranges.formula_range.Goals as goal
 
 pub range_of-requires : goal.range_of-requires
 range_of-requires c =
-    let area = area_below FirstNonEmptyRow in
-    sym (inside_meant string_bytes area (kept_cells c.in_ok-own.own))
-    ∙ ap (lie_inside (Some area)) c.in_ok-own.ensures
-    ∙ inside_meant text_of_formula area (kept_cells c.in_ok-kept.kept)
-    ∙ c.in_ok-kept.ensures.inside
+    c.in_ok-own.ensures.places (area_below FirstNonEmptyRow) ∙ c.in_ok-kept.ensures.inside
 
 pub returns : goal.returns
 returns c =
-    let header = FirstNonEmptyRow in
     let all = cells_gathered c.args.cells in
     let own = kept_cells c.in_ok-own.own in
-    standing_range string_bytes header (formula_entries all) own c.new.result []
-    c.range_of.result c.range_of.ensures (kept_below header own c.range_of.requires)
-    (c.in_ok-own.ensures ∙ ap formula_entries c.in_ok-kept.ensures.last
-    ∙ last_meant text_of_formula header all)
+    standing_range string_bytes FirstNonEmptyRow (formula_entries all) own c.new.result []
+    c.range_of.result c.range_of.ensures
+    (kept_below FirstNonEmptyRow own (c.in_ok-own.ensures.places (area_below FirstNonEmptyRow)
+    ∙ c.in_ok-kept.ensures.inside))
+    (c.in_ok-own.ensures.texts ∙ ap formula_entries c.in_ok-kept.ensures.last
+    ∙ last_meant text_of_formula FirstNonEmptyRow all)
     c.new.ensures.bytes

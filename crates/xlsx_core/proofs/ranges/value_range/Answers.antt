@@ -1,5 +1,5 @@
-use Rattle.std.proofs.Common.{◌≡◌, ◌∙◌, ap, map, refl, string_bytes, sym, true}
-use Rattle.cell_refs.specs.Positions.{last_of_each, lie_inside}
+use Rattle.std.proofs.Common.{◌≡◌, ◌∙◌, ap, map, refl, string_bytes}
+use Rattle.cell_refs.specs.Positions.{last_of_each}
 use Rattle.cell_data.specs.CellValue.{nothing, value_of_data, value_of_data_ref}
 use Rattle.cell_data.specs.Gathered.{cells_gathered}
 use Rattle.cell_data.specs.declared.value.Data.TheVariants.{Empty}
@@ -9,18 +9,12 @@ use Rattle.xlsx_cells.specs.Sheet.{with_texts}
 use Rattle.xlsx_cells.specs.SheetPart.{value_entries}
 use Rattle.xlsx_core.specs.SheetReading.{with_meaning}
 use Rattle.xlsx_core.specs.Worksheets.{area_below, below_header}
-use Rattle.xlsx_core.proofs.StandingRanges.{inside_meant, kept_below, last_meant, standing_range}
+use Rattle.xlsx_core.proofs.StandingRanges.{kept_below, last_meant, standing_range}
 use Rattle.xlsx_core.proofs.ranges.value_range.Goals as goal
 
 pub range_of-requires : goal.range_of-requires
 range_of-requires c =
-    let area = area_below c.args.header_row in
-    let strings = map string_bytes c.args.strings.now in
-    let kept = kept_cells c.in_ok-kept.kept in
-    sym (inside_meant value_of_data area (kept_cells c.in_ok-own.own))
-    ∙ ap (lie_inside (Some area)) c.in_ok-own.ensures
-    ∙ inside_meant (resolved strings) area (value_entries kept)
-    ∙ inside_meant value_of_data_ref area kept ∙ c.in_ok-kept.ensures.inside
+    c.in_ok-own.ensures.places (area_below c.args.header_row) ∙ c.in_ok-kept.ensures.inside
 
 pub returns : goal.returns
 returns c =
@@ -30,9 +24,12 @@ returns c =
     let own = kept_cells c.in_ok-own.own in
     let last : map (with_meaning value_of_data) own
     ≡ last_of_each (below_header header (with_texts strings (value_entries all))) =
-    c.in_ok-own.ensures
+    c.in_ok-own.ensures.texts
     ∙ ap (with_texts strings) (ap value_entries c.in_ok-kept.ensures.last
     ∙ last_meant value_of_data_ref header all)
     ∙ last_meant (resolved strings) header (value_entries all) in
     standing_range value_of_data header (with_texts strings (value_entries all)) own Empty nothing
-    c.range_of.result c.range_of.ensures (kept_below header own c.range_of.requires) last refl
+    c.range_of.result c.range_of.ensures
+    (kept_below header own (c.in_ok-own.ensures.places (area_below header)
+    ∙ c.in_ok-kept.ensures.inside))
+    last refl

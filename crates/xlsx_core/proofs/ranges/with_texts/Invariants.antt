@@ -11,5 +11,5 @@ abbrev pub invariant-cells : goal.invariant-cells
 invariant-cells l = record {
   texts : map (with_meaning value_of_data) (kept_cells l.own)
       ≡ with_texts (map string_bytes l.strings) (value_entries l.yielded);
-  whole : l.yielded ++ owned_left l.cells-iterator ≡ kept_cells l.fn.cells;
+  whole : l.yielded ++ owned_left l.pos-iterator ≡ kept_cells l.fn.cells;
 }

@@ -8,5 +8,5 @@ use Rattle.xlsx_core.proofs.ranges.written_out.Given as goal
 abbrev pub invariant-cells : goal.invariant-cells
 invariant-cells l = record {
   texts : map (with_meaning string_bytes) (kept_cells l.own) ≡ formula_entries l.yielded;
-  whole : l.yielded ++ owned_left l.cells-iterator ≡ kept_cells l.fn.cells;
+  whole : l.yielded ++ owned_left l.pos-iterator ≡ kept_cells l.fn.cells;
 }

@@ -1,0 +1,37 @@
+use Rattle.std.proofs.Common.{rules, ◌≡◌, [], ◌++◌, ◌∙◌, ap, string_bytes, sym, Some, map}
+use Rattle.std.proofs.lemmas.List.{append-nil}
+use Rattle.cell_refs.specs.Positions.{lie_inside}
+use Rattle.cell_data.specs.CellValue.{value_of_data, value_of_data_ref}
+use Rattle.xlsx_values.specs.Value.{resolved}
+use Rattle.xlsx_cells.specs.SheetPart.{value_entries}
+use Rattle.sorted_cells.specs.Kept.{kept_cells}
+use Rattle.sorted_cells.specs.Last.{last_key}
+use Rattle.sorted_cells.specs.Owned.{owned_left}
+use Rattle.sorted_cells.proofs.Rising.{kept_rises}
+use Rattle.xlsx_core.proofs.StandingRanges.{follows, inside_meant, key_meant}
+use Rattle.xlsx_core.proofs.ranges.with_texts.Goals as goal
+
+pub push-requires : goal.push-requires
+push-requires c =
+    let own = kept_cells c.cells.own in
+    let front = c.cells.yielded in
+    let resolve = resolved (map string_bytes c.args.strings.now) in
+    let same : last_key own ≡ last_key front =
+    sym (key_meant value_of_data own) ∙ ap last_key c.cells.invariant.texts
+    ∙ key_meant resolve (value_entries front) ∙ key_meant value_of_data_ref front in
+    follows own front (c.in-Some.pos, c.in-Some.val) _ _ _ same c.in-Some.ensures.steps
+    c.cells.invariant.whole (kept_rises c.args.cells)
+
+pub returns-clause-places : goal.returns-clause-places
+returns-clause-places c = λ area.
+    let own = kept_cells c.cells.own in
+    let none : owned_left c.cells.pos-iterator ≡ [] =
+    search (rules, c.in-None.ensures.steps.0) in
+    let all : c.cells.yielded ≡ kept_cells c.args.cells =
+    sym (append-nil c.cells.yielded)
+    ∙ (ap (λ es. c.cells.yielded ++ es) (sym none) ∙ c.cells.invariant.whole) in
+    sym (inside_meant value_of_data area own) ∙ ap (lie_inside (Some area)) c.cells.invariant.texts
+    ∙ inside_meant (resolved (map string_bytes c.args.strings.now)) area
+    (value_entries c.cells.yielded)
+    ∙ inside_meant value_of_data_ref area c.cells.yielded
+    ∙ ap (lie_inside (Some area)) all
