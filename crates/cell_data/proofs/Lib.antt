@@ -1,4 +1,5 @@
 pub mod Areas
+pub mod CellSteps
 pub mod Equalities
 pub mod Formats
 pub mod LeastAreas

@@ -38,7 +38,7 @@ module _ {X : Type 0} where
   at_first p (Some v) es below =
       ap (λ t. cond t (Some v) (find position_cmp p es)) (ap is_eq (tied_itself position_total p))
 
-order_behind : {X : Type 0} (cell : (ℕ × ℕ) × X) (behind : List ((ℕ × ℕ) × X)) →
+pub order_behind : {X : Type 0} (cell : (ℕ × ℕ) × X) (behind : List ((ℕ × ℕ) × X)) →
     AreInOrder (cell ∷ behind) → AreInOrder behind
 order_behind cell behind order = record {
   rising = (and_both (below_all position_cmp cell.0 behind) (is_rising behind) order.rising).1;

@@ -1,6 +1,7 @@
 pub mod CellError
 pub mod CellValue
 pub mod Cells
+pub mod CellsLeft
 pub mod Gathered
 pub mod NumberFormat
 pub mod Range

@@ -61,10 +61,7 @@ impl<T> GatheredCells<T> {
 }
 
 /// The cells of a list, as they come.
-pub fn gathered<T: Drop>(
-    alloc: Global,
-    cells: Vec<Cell<T>>,
-) -> Result<GatheredCells<T>, AllocError>
+pub fn gathered<T: Drop>(alloc: Global, cells: Vec<Cell<T>>) -> Result<GatheredCells<T>, AllocError>
     ensures { IfOk result (λ all. cells_gathered all ≡ placed_cells cells.items) }
 {
     let mut all = GatheredCells::new(alloc);

@@ -37,7 +37,8 @@ impl<T> Range<T> {
     ghost use Rattle.std.specs.FinMap.{find};
     ghost use Rattle.std.specs.Option.{option_map, option_copied, unwrap_or};
     ghost use Rattle.cell_data.specs.Range.{cells_of, bounds_of, blank_of, width_of, height_of};
-    ghost use Rattle.cell_data.specs.Range.{value_at, filled, relative_value};
+    ghost use Rattle.cell_data.specs.Range.{value_at, relative_value};
+    ghost use Rattle.cell_data.specs.CellsLeft.{position_of};
     ghost use Rattle.cell_data.specs.RangeItems.{box_count, used_items, box_items, row_items};
     ghost use Rattle.cell_data.specs.RangeItems.{used_left, cells_left, rows_left};
     ghost use Rattle.std.specs.Prelude.{◌/◌, ◌%◌, ◌≤◌};
@@ -182,14 +183,33 @@ impl<T> Range<T> {
         Some(self.value_or_blank(pos))
     }
 
-    /// The value at a row and a column, counted from the first ones of the area.
-    pub(crate) fn filled(&self, pos: (usize, usize)) -> &T
-        requires row { pos.0 < height_of (bounds_of self.now) }
-        requires column { pos.1 < width_of (bounds_of self.now) }
-        ensures { result.now ≡ filled self.now pos }
+    /// The row on the sheet, counted from 0, of a row that is counted from the first one of the
+    /// area.
+    pub(crate) fn row_number(&self, row: usize) -> u32
+        requires { row < height_of (bounds_of self.now) }
+        ensures { result ≡ (start_of (bounds_of self.now)).0 + row }
     {
-        let (row, column) = self.start().unwrap();
-        self.value_or_blank((row + pos.0 as u32, column + pos.1 as u32))
+        let (first, _) = self.start().unwrap();
+        first + row as u32
+    }
+
+    /// The column on the sheet, counted from 0, of a column that is counted from the first one of
+    /// the area.
+    fn column_number(&self, column: usize) -> u32
+        requires { column < width_of (bounds_of self.now) }
+        ensures { result ≡ (start_of (bounds_of self.now)).1 + column }
+    {
+        let (_, first) = self.start().unwrap();
+        first + column as u32
+    }
+
+    /// The position on the sheet of a row and a column, counted from the first ones of the area.
+    pub(crate) fn position_of(&self, place: (usize, usize)) -> (u32, u32)
+        requires row { place.0 < height_of (bounds_of self.now) }
+        requires column { place.1 < width_of (bounds_of self.now) }
+        ensures { result ≡ position_of (bounds_of self.now) place }
+    {
+        (self.row_number(place.0), self.column_number(place.1))
     }
 
     /// The value at a row and a column, counted from the first ones of the area; none outside it.
@@ -199,7 +219,7 @@ impl<T> Range<T> {
         if pos.0 >= self.height() || pos.1 >= self.width() {
             return None;
         }
-        Some(self.filled(pos))
+        Some(self.value_or_blank(self.position_of(pos)))
     }
 
     /// The used cells with their positions on the sheet, a row and a column counted from 0, row by
@@ -277,11 +297,7 @@ impl<T> Range<T> {
         ensures bounds { bounds_of result ≡ Some (record { start = start; end = end }) }
         ensures blank { blank_of result ≡ blank_of self }
     {
-        let Range {
-            cells,
-            blank,
-            ..
-        } = self;
+        let Range { cells, blank, .. } = self;
         Range {
             cells: cells.keep_area(start, end),
             bounds: Some(Dimensions { start, end }),

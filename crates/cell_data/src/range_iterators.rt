@@ -1,10 +1,28 @@
-ghost use Rattle.std.specs.Prelude.{◌≡◌, ◌<◌, IsTrue};
+ghost use Rattle.std.specs.Prelude.{◌≡◌, ◌+◌, ◌<◌, ◌/◌, ◌%◌, IsTrue};
 ghost use Rattle.cell_refs.specs.Positions.{lie_from};
-ghost use Rattle.cell_data.specs.Range.{bounds_of, height_of};
+ghost use Rattle.cell_data.specs.CellsLeft.{AreLeftAt};
+ghost use Rattle.cell_data.specs.Range.{bounds_of, height_of, width_of, filled};
 ghost use Rattle.sorted_cells.specs.Placed.{placed_left};
 
 use crate::range::Range;
 use sorted_cells::PlacedCells;
+
+/// Takes the value at a place of the area, counted from its first row and column, from the cells
+/// that are left from there on.
+fn take_value<'a, T>(
+    range: &'a Range<T>,
+    left: &mut PlacedCells<'a, T>,
+    place: (usize, usize),
+) -> &'a T
+    requires row { place.0 < height_of (bounds_of range.now) }
+    requires column { place.1 < width_of (bounds_of range.now) }
+    requires left { AreLeftAt range.now place (placed_left left.old) }
+    ensures value { result.now ≡ filled range.now place }
+    ensures left { AreLeftAt range.now (place.0, place.1 + 1) (placed_left left.new) }
+{
+    left.next_at(range.position_of(place))
+        .unwrap_or(range.blank())
+}
 
 /// The used cells of a range, row by row: the row and the column, counted from the first ones of
 /// the area, and the value.
@@ -51,8 +69,12 @@ impl<'a, T> Iterator for UsedCells<'a, T> {
 /// ones of the area, and the value.
 #[derive(Drop)]
 pub struct Cells<'a, T> {
+    left: PlacedCells<'a, T>,
     range: &'a Range<T>,
     next: usize,
+    ghost from: { AreLeftAt range.now
+        (next / width_of (bounds_of range.now), next % width_of (bounds_of range.now))
+        (placed_left left) },
 }
 
 impl<'a, T> Cells<'a, T> {
@@ -62,7 +84,11 @@ impl<'a, T> Cells<'a, T> {
     pub fn new(range: &'a Range<T>) -> Cells<'a, T>
         ensures { cells_left result ≡ box_items range.now }
     {
-        Cells { range, next: 0 }
+        Cells {
+            left: range.used(),
+            range,
+            next: 0,
+        }
     }
 }
 
@@ -81,18 +107,21 @@ impl<'a, T> Iterator for Cells<'a, T> {
             return None;
         }
         let (row, column) = self.range.place_of(self.next);
+        let val = take_value(self.range, &mut self.left, (row, column));
         self.next += 1;
-        Some((row, column, self.range.filled((row, column))))
+        Some((row, column, val))
     }
 }
 
 /// The values of one row of the area of a range, from the first column to the last.
 #[derive(Drop)]
 pub struct RowCells<'a, T> {
+    left: PlacedCells<'a, T>,
     range: &'a Range<T>,
     row: usize,
     next: usize,
     ghost inside: { row < height_of (bounds_of range.now) },
+    ghost from: { AreLeftAt range.now (row, next) (placed_left left) },
 }
 
 impl<'a, T> Iterator for RowCells<'a, T> {
@@ -109,17 +138,19 @@ impl<'a, T> Iterator for RowCells<'a, T> {
         if self.next >= self.range.width() {
             return None;
         }
-        let column = self.next;
+        let val = take_value(self.range, &mut self.left, (self.row, self.next));
         self.next += 1;
-        Some(self.range.filled((self.row, column)))
+        Some(val)
     }
 }
 
 /// The rows of the area of a range, from the first to the last.
 #[derive(Drop)]
 pub struct Rows<'a, T> {
+    left: PlacedCells<'a, T>,
     range: &'a Range<T>,
     next: usize,
+    ghost from: { AreLeftAt range.now (next, 0) (placed_left left) },
 }
 
 impl<'a, T> Rows<'a, T> {
@@ -129,7 +160,11 @@ impl<'a, T> Rows<'a, T> {
     pub fn new(range: &'a Range<T>) -> Rows<'a, T>
         ensures { rows_left result ≡ row_items range.now }
     {
-        Rows { range, next: 0 }
+        Rows {
+            left: range.used(),
+            range,
+            next: 0,
+        }
     }
 }
 
@@ -148,8 +183,11 @@ impl<'a, T> Iterator for Rows<'a, T> {
             return None;
         }
         let row = self.next;
+        let left = self.left;
+        self.left.pass_row(self.range.row_number(row));
         self.next += 1;
         Some(RowCells {
+            left,
             range: self.range,
             row,
             next: 0,

@@ -4,6 +4,7 @@ pub mod Finding
 pub mod Handing
 pub mod Orders
 pub mod Parts
+pub mod Passing
 pub mod Placing
 pub mod Pushing
 pub mod Rising

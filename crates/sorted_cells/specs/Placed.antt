@@ -1,5 +1,5 @@
 -- What the iterator over placed cells gives.
-use Rattle.std.specs.Prelude.{ℕ, List, [], ◌∷◌, ◌++◌, map, Option, Some, None, if◌then◌else◌}
+use Rattle.std.specs.Prelude.{ℕ, List, [], ◌∷◌, ◌++◌, map, Option, Some, None, ◌==◌, if◌then◌else◌}
 use Rattle.std.specs.Borrow.{Bor}
 use Rattle.std.specs.Ordering.{eq_by_cmp}
 use Rattle.cell_refs.specs.Positions.{position_cmp}
@@ -30,3 +30,8 @@ abbrev pub left_behind : {X : Type 0} → ℕ × ℕ → List ((ℕ × ℕ) × X
 left_behind position [] = []
 left_behind position (cell ∷ cells) =
     if eq_by_cmp position_cmp position cell.0 then cells else cell ∷ cells
+
+-- the cells without those of this row that stand first
+abbrev pub past_row : {X : Type 0} → ℕ → List ((ℕ × ℕ) × X) → List ((ℕ × ℕ) × X)
+past_row row [] = []
+past_row row (cell ∷ cells) = if cell.0.0 == row then past_row row cells else cell ∷ cells

@@ -2,9 +2,9 @@ ghost use Rattle.std.specs.Prelude.{IsTrue, length};
 ghost use Rattle.sorted_cells.specs.Rows.{are_rows, first_of_rows};
 
 use crate::row::{ColumnCell, Row, row_size};
+use std::alloc::AllocError;
 
 /// Cells with their positions, a row and a column counted from 0, row by row.
-#[derive(Drop)]
 pub struct PlacedCells<'a, T> {
     number: u32,
     own: &'a [ColumnCell<T>],
@@ -18,7 +18,7 @@ impl<'a, T> PlacedCells<'a, T> {
     ghost use Rattle.std.specs.Option.{option_copied};
     ghost use Rattle.sorted_cells.specs.Rows.{are_rows, cells_by};
     ghost use Rattle.sorted_cells.specs.Placed.{placed_left};
-    ghost use Rattle.sorted_cells.specs.Placed.{first_position, value_first, left_behind};
+    ghost use Rattle.sorted_cells.specs.Placed.{first_position, value_first, left_behind, past_row};
 
     /// The cells of these rows, of which none was taken yet.
     pub(crate) fn new(rows: &'a [Row], cells: &'a [ColumnCell<T>]) -> PlacedCells<'a, T>
@@ -79,7 +79,32 @@ impl<'a, T> PlacedCells<'a, T> {
         self.own = own;
         Some(&cell.val)
     }
+
+    /// Takes the cells of this row, counted from 0, where they are the next ones.
+    pub fn pass_row(&mut self, row: u32)
+        ensures { placed_left self.new ≡ past_row row (placed_left self.old) }
+    {
+        self.enter_row();
+        'rows: while self.number == row && !self.own.is_empty() {
+            self.own = &[];
+            self.enter_row();
+        }
+    }
 }
+
+impl<'a, T> Clone for PlacedCells<'a, T> {
+    ghost use Rattle.std.specs.Prelude.{◌≡◌, ⊤};
+
+    ghost is_clone = { λ cells copy. copy ≡ cells };
+
+    ghost is_infallible = { λ _. ⊤ };
+
+    fn clone(&self) -> Result<PlacedCells<'a, T>, AllocError> {
+        Ok(*self)
+    }
+}
+
+impl<'a, T> Copy for PlacedCells<'a, T> {}
 
 impl<'a, T> Iterator for PlacedCells<'a, T> {
     ghost use Rattle.std.specs.Iterator.{YieldsFirstBy, item_count};

@@ -1,3 +1,2 @@
 mod RecordSteps
-mod CellSteps
 mod RowFields

@@ -1,77 +1,37 @@
-//! The rows of a range, in step with its used cells.
-ghost use Rattle.std.specs.Prelude.{◌≡◌, ◌≤◌, ◌<◌, ◌+◌, ◌++◌, ◌↔◌, ℕ, List, length, map};
+//! The rows of a range.
+ghost use Rattle.std.specs.Prelude.{◌≡◌, ◌<◌, ◌++◌, ◌↔◌, ℕ, List, length, map};
 ghost use Rattle.std.specs.Prelude.{OnOk, IfOk, IfSome, Some, Err};
 ghost use Rattle.std.specs.Option.{option_copied, option_map};
 ghost use Rattle.std.specs.List.{flat_map};
-ghost use Rattle.cell_refs.specs.declared.TheConstants.{MAX_ROWS, MAX_COLUMNS};
-ghost use Rattle.cell_data.specs.Range.{cells_of, bounds_of, width_of};
-ghost use Rattle.cell_data.specs.RangeItems.{box_count, row_values, row_items};
+ghost use Rattle.cell_data.specs.Range.{bounds_of, width_of};
+ghost use Rattle.cell_data.specs.RangeItems.{box_count, row_items, row_left};
 ghost use Rattle.xlsx_rows.specs.RowsText.{data_field, header_fields, header_text, record_text};
 ghost use Rattle.xlsx_rows.specs.RowsText.{rows_text};
-ghost use Rattle.xlsx_rows.specs.RowSteps.{IsBetweenRecords, WritesRecord, AreLeftFrom};
+ghost use Rattle.xlsx_rows.specs.RowSteps.{IsBetweenRecords, WritesRecord};
 ghost use Rattle.xlsx_rows.specs.declared.error.CsvError.TheVariants.{BoxTooLarge};
 
 use crate::error::CsvError;
 use crate::record::{end_record, write_header, write_value};
-use cell_data::{Cell, Data, Range, split_at_position};
-use cell_refs::{Dimensions, MAX_COLUMNS, MAX_ROWS};
+use cell_data::{Data, Range, RowCells};
 use csv::{Writer, WriterBuilder};
 use std::alloc::{AllocError, Global};
 
 /// The most cells of an area that is written.
 const MOST_CELLS: usize = 16_777_216;
 
-/// Writes a row, counted from the first one of the area, and hands on the cells behind it.
-fn write_row<'a>(
+/// Writes the values of a row that are left.
+fn write_row(
     writer: &mut Writer<Vec<u8>>,
     scratch: &mut String,
-    range: &Range<Data>,
-    area: Dimensions,
-    cells: &'a [Cell<Data>],
-    row: u32,
-) -> Result<&'a [Cell<Data>], AllocError>
-    requires bounds { bounds_of range.now ≡ Some area }
-    requires rows { area.start.0 + row ≤ area.end.0 }
-    requires in_rows { area.end.0 < MAX_ROWS }
-    requires columns { area.start.1 ≤ area.end.1 }
-    requires in_columns { area.end.1 < MAX_COLUMNS }
-    requires cells { AreLeftFrom area (area.start.0 + row, area.start.1) (cells_of range.now)
-        cells.now }
-    ensures text { OnOk result
-        (WritesRecord (map data_field (row_values range.now row 0)) writer.old writer.new) }
-    ensures left { IfOk result (λ left. AreLeftFrom area (area.start.0 + row + 1, area.start.1)
-        (cells_of range.now) left.now) }
-{
-    let mut left = cells;
-    'columns: for column in 0..area.end.1 - area.start.1 + 1 {
-        let position = (area.start.0 + row, area.start.1 + column);
-        let (value, behind) = split_at_position(left, position);
-        write_value(writer, scratch, value.unwrap_or(range.blank()))?;
-        left = behind;
-    }
-    end_record(writer)?;
-    Ok(left)
-}
-
-fn write_area(
-    writer: &mut Writer<Vec<u8>>,
-    scratch: &mut String,
-    range: &Range<Data>,
-    area: Dimensions,
+    row: RowCells<'_, Data>,
 ) -> Result<(), AllocError>
-    requires bounds { bounds_of range.now ≡ Some area }
-    requires rows { area.start.0 ≤ area.end.0 }
-    requires in_rows { area.end.0 < MAX_ROWS }
-    requires columns { area.start.1 ≤ area.end.1 }
-    requires in_columns { area.end.1 < MAX_COLUMNS }
-    ensures { OnOk result ((before : List ℕ) → IsBetweenRecords before writer.old
-        → IsBetweenRecords (before ++ flat_map record_text (row_items range.now)) writer.new) }
+    ensures { OnOk result
+        (WritesRecord (map data_field (row_left row.entry)) writer.old writer.new) }
 {
-    let mut left = range.used();
-    'rows: for row in 0..area.end.0 - area.start.0 + 1 {
-        left = write_row(writer, scratch, range, area, left, row)?;
+    for value in row {
+        write_value(writer, scratch, value)?;
     }
-    Ok(())
+    end_record(writer)
 }
 
 fn write_rows(
@@ -82,10 +42,10 @@ fn write_rows(
     ensures { OnOk result ((before : List ℕ) → IsBetweenRecords before writer.old
         → IsBetweenRecords (before ++ flat_map record_text (row_items range.now)) writer.new) }
 {
-    match range.bounds() {
-        Some(area) => write_area(writer, scratch, range, area),
-        None => Ok(()),
+    for row in range.rows() {
+        write_row(writer, scratch, row)?;
     }
+    Ok(())
 }
 
 fn names_given(header: Option<&[String]>) -> &[String]

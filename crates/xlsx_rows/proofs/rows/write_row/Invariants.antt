@@ -1,14 +1,13 @@
-use Rattle.std.proofs.Common.{ℕ, List, ◌+◌, map}
-use Rattle.cell_data.specs.Range.{cells_of}
+use Rattle.std.proofs.Common.{◌≡◌, ◌++◌, ℕ, List, map}
+use Rattle.cell_data.specs.RangeItems.{row_left}
 use Rattle.xlsx_rows.specs.RowsText.{data_field}
-use Rattle.xlsx_rows.specs.RowSteps.{IsInRecord, IsBetweenRecords, AreLeftFrom}
-use Rattle.xlsx_rows.proofs.RowFields.{first_values}
+use Rattle.xlsx_rows.specs.RowSteps.{IsInRecord, IsBetweenRecords}
+use Rattle.xlsx_rows.proofs.RowFields.{shown}
 use Rattle.xlsx_rows.proofs.rows.write_row.Given as goal
 
-abbrev pub invariant-columns : goal.invariant-columns
-invariant-columns l = record {
+abbrev pub invariant-loop-value : goal.invariant-loop-value
+invariant-loop-value l = record {
   taken : (before : List ℕ) → IsBetweenRecords before l.fn.writer →
-      IsInRecord before (map data_field (first_values l.range l.row l.column)) l.writer;
-  left : AreLeftFrom l.area (l.area.start.0 + l.row, l.area.start.1 + l.column)
-      (cells_of l.range) l.left;
+      IsInRecord before (map data_field (map shown l.yielded)) l.writer;
+  whole : map shown l.yielded ++ row_left l.value-iterator ≡ row_left l.fn.row;
 }

@@ -1,0 +1,13 @@
+use Rattle.std.proofs.Common.{◌≡◌, ◌++◌, ℕ, List, map}
+use Rattle.std.specs.List.{flat_map}
+use Rattle.cell_data.specs.RangeItems.{row_items, row_left, rows_left}
+use Rattle.xlsx_rows.specs.RowsText.{record_text}
+use Rattle.xlsx_rows.specs.RowSteps.{IsBetweenRecords}
+use Rattle.xlsx_rows.proofs.rows.write_rows.Given as goal
+
+abbrev pub invariant-loop-row : goal.invariant-loop-row
+invariant-loop-row l = record {
+  taken : (before : List ℕ) → IsBetweenRecords before l.fn.writer →
+      IsBetweenRecords (before ++ flat_map record_text (map row_left l.yielded)) l.writer;
+  whole : map row_left l.yielded ++ rows_left l.row-iterator ≡ row_items l.range;
+}
