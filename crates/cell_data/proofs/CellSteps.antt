@@ -21,9 +21,9 @@ use Rattle.cell_refs.specs.Positions.{position_cmp, is_rising, is_in_bounds, lie
 use Rattle.cell_refs.specs.declared.dimensions.Dimensions.{Dimensions}
 use Rattle.cell_refs.proofs.PositionOrder.{and_both}
 use Rattle.sorted_cells.specs.Placed.{value_first, left_behind, past_row}
-use Rattle.cell_data.specs.CellsLeft.{AreLeftFrom, AreLeftAt, none_earlier, position_of}
+use Rattle.cell_data.specs.CellsLeft.{AreLeftFrom, AreLeftAt, position_of}
 use Rattle.cell_data.specs.Range.{cells_of, bounds_of, blank_of, width_of, start_of, filled}
-use Rattle.cell_data.specs.Splitting.{AreInOrder, StandsFirst, given, Splits}
+use Rattle.cell_data.specs.Splitting.{AreInOrder, given, none_earlier, Splits}
 use Rattle.cell_data.specs.declared.range.Range.{Range}
 use Rattle.cell_data.proofs.Splitting.{past, at_first, splits_at, order_behind}
 
@@ -98,11 +98,6 @@ in_columns (Some area) p is_in =
     let from : area.start.1 ≤ p.1 = grind (arith, nat_tests, first) in
     let to : p.1 ≤ area.end.1 = grind (arith, nat_tests, last) in
     (from, omega (arith, from, to))
-
-stands_first : {X : Type 0} (p : ℕ × ℕ) (es : List ((ℕ × ℕ) × X)) → none_earlier p es ≡ true →
-    StandsFirst p es
-stands_first p [] none = tt
-stands_first p (e ∷ es) none = none
 
 module _ {X : Type 0} (bounds : Option Dimensions) (all : List ((ℕ × ℕ) × X)) where
   stands_next : (row column : ℕ) (es : List ((ℕ × ℕ) × X)) →
@@ -363,7 +358,7 @@ module _ {X : Type 0} (range : Range X) where
       let splits : Splits p left value behind =
       subst (λ (b : List ((ℕ × ℕ) × X)). Splits p left value b) (sym behind_is)
       (subst (λ (v : Option X). Splits p left v (left_behind p left)) (sym value_is)
-      (splits_at p left from.order (stands_first p left from.first))) in record {
+      (splits_at p left from.order from.first)) in record {
         filled_by = ap (λ (v : Option X). unwrap_or v (blank_of range))
             (sym (found_there (bounds_of range) (cells_of range) p value left behind from splits));
         left = at_place p.0 (p.1 + 1) (place.0, place.1 + 1) behind refl (omega arith)

@@ -12,7 +12,7 @@ use Rattle.cell_refs.specs.Positions.{position_cmp, is_rising}
 use Rattle.cell_refs.proofs.PositionOrder.{position_total, position_same, and_both, less_from}
 use Rattle.sorted_cells.specs.Placed.{value_first, left_behind}
 use Rattle.sorted_cells.proofs.Finding.{none_behind}
-use Rattle.cell_data.specs.Splitting.{AreInOrder, StandsFirst, given, Splits}
+use Rattle.cell_data.specs.Splitting.{AreInOrder, given, none_earlier, Splits}
 use Rattle.cell_data.proofs.Placing.{below_further}
 
 module _ {X : Type 0} where
@@ -57,7 +57,7 @@ equal_if_tied Greater tied = absurd (cc)
 
 -- cells in order, at a position that none of them stands before
 pub splits_at : {X : Type 0} (p : ℕ × ℕ) (cells : List ((ℕ × ℕ) × X)) → AreInOrder cells →
-    StandsFirst p cells → Splits p cells (value_first p cells) (left_behind p cells)
+    none_earlier p cells ≡ true → Splits p cells (value_first p cells) (left_behind p cells)
 splits_at p [] order first = record { whole = refl; below = refl; order = order }
 splits_at {X} p (cell ∷ cells) order first =
     by_test (eq_by_cmp position_cmp p cell.0) refl

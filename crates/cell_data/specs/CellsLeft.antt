@@ -1,11 +1,11 @@
 -- Which cells of an area are left on a way through it, row by row.
-use Rattle.std.specs.Prelude.{◌≡◌, ℕ, ◌+◌, Bool, true, List, [], ◌∷◌, Option}
+use Rattle.std.specs.Prelude.{◌≡◌, ℕ, ◌+◌, true, List, Option}
 use Rattle.std.specs.FinMap.{find}
 use Rattle.std.specs.Ordering.{is_le}
 use Rattle.cell_refs.specs.declared.dimensions.Dimensions.{Dimensions}
 use Rattle.cell_refs.specs.Positions.{position_cmp, lie_inside}
 use Rattle.cell_data.specs.Range.{cells_of, bounds_of, start_of}
-use Rattle.cell_data.specs.Splitting.{AreInOrder}
+use Rattle.cell_data.specs.Splitting.{AreInOrder, none_earlier}
 use Rattle.cell_data.specs.declared.range.Range.{Range}
 
 -- the position of a row and a column that are counted from the first ones of the area
@@ -13,11 +13,6 @@ abbrev pub position_of : Option Dimensions → ℕ × ℕ → ℕ × ℕ
 position_of bounds place =
     let start = start_of bounds in
     (start.0 + place.0, start.1 + place.1)
-
--- no cell stands before the position, where the first one doesn't
-abbrev pub none_earlier : {X : Type 0} → ℕ × ℕ → List ((ℕ × ℕ) × X) → Bool
-none_earlier position [] = true
-none_earlier position (cell ∷ cells) = is_le (position_cmp position cell.0)
 
 -- Of all cells in order those are left that stand at the position or behind it; all of them lie in
 -- the area.

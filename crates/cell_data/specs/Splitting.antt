@@ -1,6 +1,6 @@
 -- Cells in the order of positions, split at one: the cell that stands there, if one does, and those
 -- behind it.
-use Rattle.std.specs.Prelude.{◌≡◌, ℕ, true, List, [], ◌∷◌, ◌++◌, Option, Some, None}
+use Rattle.std.specs.Prelude.{◌≡◌, ℕ, Bool, true, List, [], ◌∷◌, ◌++◌, Option, Some, None}
 use Rattle.std.specs.Ordering.{is_le}
 use Rattle.std.specs.FinMap.Entries.{below_all}
 use Rattle.cell_refs.specs.Positions.{position_cmp, is_rising}
@@ -11,10 +11,10 @@ pub record AreInOrder {X : Type 0} (cells : List ((ℕ × ℕ) × X)) : Type 0 w
   pub rising : is_rising cells ≡ true
   pub sheet : AreInSheet cells
 
--- no cell stands before the position
-abbrev pub StandsFirst : {X : Type 0} → ℕ × ℕ → List ((ℕ × ℕ) × X) → Type 0
-StandsFirst position [] = Unit {0}
-StandsFirst position (cell ∷ cells) = is_le (position_cmp position cell.0) ≡ true
+-- no cell stands before the position, where the first one doesn't
+abbrev pub none_earlier : {X : Type 0} → ℕ × ℕ → List ((ℕ × ℕ) × X) → Bool
+none_earlier position [] = true
+none_earlier position (cell ∷ cells) = is_le (position_cmp position cell.0)
 
 -- a cell at the position, or none
 abbrev pub given : {X : Type 0} → ℕ × ℕ → Option X → List ((ℕ × ℕ) × X)

@@ -33,7 +33,7 @@ fn is_between(start: (u32, u32), end: (u32, u32), pos: (u32, u32)) -> bool
 
 impl<T> Range<T> {
     ghost use Rattle.std.specs.Prelude.{◌≡◌, ◌+◌, ◌-◌, ◌<◌, is_none, IfOk, IfSome, All, true};
-    ghost use Rattle.std.specs.Prelude.{length};
+    ghost use Rattle.std.specs.Prelude.{length, ◌^◌};
     ghost use Rattle.std.specs.FinMap.{find};
     ghost use Rattle.std.specs.Option.{option_map, option_copied, unwrap_or};
     ghost use Rattle.cell_data.specs.Range.{cells_of, bounds_of, blank_of, width_of, height_of};
@@ -227,6 +227,7 @@ impl<T> Range<T> {
     pub fn used(&self) -> PlacedCells<'_, T>
         ensures cells { placed_left result ≡ cells_of self.now }
         ensures rising { is_rising (cells_of self.now) ≡ true }
+        ensures fits { length (cells_of self.now) < 2 ^ 64 }
         ensures sheet { AreInSheet (cells_of self.now) }
         ensures from { IsTrue (lie_from (start_of (bounds_of self.now)) (cells_of self.now)) }
         ensures inside { IsTrue (lie_inside (bounds_of self.now) (cells_of self.now)) }
@@ -263,7 +264,8 @@ impl<T> Range<T> {
     /// The used cells: their row and column, counted from the first ones of the area, and their
     /// value, row by row.
     pub fn used_cells(&self) -> UsedCells<'_, T>
-        ensures { used_left result ≡ used_items self.now }
+        ensures cells { used_left result ≡ used_items self.now }
+        ensures fits { length (used_items self.now) < 2 ^ 64 }
     {
         UsedCells::new(self)
     }

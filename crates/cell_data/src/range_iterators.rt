@@ -34,11 +34,13 @@ pub struct UsedCells<'a, T> {
 }
 
 impl<'a, T> UsedCells<'a, T> {
+    ghost use Rattle.std.specs.Prelude.{◌^◌, length};
     ghost use Rattle.cell_data.specs.RangeItems.{used_left, used_items};
 
     /// The used cells of this range, of which none was taken yet.
     pub fn new(range: &'a Range<T>) -> UsedCells<'a, T>
-        ensures { used_left result ≡ used_items range.now }
+        ensures cells { used_left result ≡ used_items range.now }
+        ensures fits { length (used_items range.now) < 2 ^ 64 }
     {
         UsedCells {
             left: range.used(),

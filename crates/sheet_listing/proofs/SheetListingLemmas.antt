@@ -25,7 +25,7 @@ use Rattle.sorted_cells.specs.Last.{last_key, comes_after}
 use Rattle.sorted_cells.specs.Placed.{first_position, value_first, left_behind}
 use Rattle.cell_data.proofs.Placing.{one_further}
 use Rattle.cell_data.proofs.Splitting.{below_cons, past, at_first, splits_at}
-use Rattle.cell_data.specs.Splitting.{AreInOrder, StandsFirst, given, Splits}
+use Rattle.cell_data.specs.Splitting.{AreInOrder, given, none_earlier, Splits}
 use Rattle.cell_data.specs.CellValue.{CellValue, nothing, value_of_data}
 use Rattle.cell_refs.specs.Positions.{position_cmp, is_rising}
 use Rattle.cell_data.specs.declared.value.Data.{Data}
@@ -369,7 +369,7 @@ lines_end style out whole values formulas ids none same =
 
 -- a step takes the cell at the position, where no cell stands before it
 pub next_splits : {X : Type 0} (p : ℕ × ℕ) (v : Option X) (cells behind : List ((ℕ × ℕ) × X)) →
-    AreInOrder cells → StandsFirst p cells → v ≡ value_first p cells →
+    AreInOrder cells → none_earlier p cells ≡ true → v ≡ value_first p cells →
     behind ≡ left_behind p cells → Splits p cells v behind
 next_splits p v cells behind order first value left =
     subst (λ taken. Splits p cells taken behind) (sym value)
@@ -441,8 +441,8 @@ stands_before p b (Some q) le upto = le_follows p b q le upto _ refl _ refl
 
 module _ {X : Type 0} where
   stands_first : (p : ℕ × ℕ) (cells : List ((ℕ × ℕ) × X)) →
-      StandsUpTo p (first_position cells) → StandsFirst p cells
-  stands_first p [] upto = tt
+      StandsUpTo p (first_position cells) → none_earlier p cells ≡ true
+  stands_first p [] upto = refl
   stands_first p (cell ∷ cells) upto = upto
 
   no_cell : (cells : List ((ℕ × ℕ) × X)) → first_position cells ≡ None → cells ≡ []

@@ -14,7 +14,7 @@ use Rattle.cell_refs.specs.declared.TheConstants.{MAX_ROWS, MAX_COLUMNS}
 use Rattle.cell_data.specs.CellError.{cell_error_text}
 use Rattle.cell_data.specs.CellValue.{CellValue, nothing, integer, number, text, shared_text, truth}
 use Rattle.cell_data.specs.CellValue.{time, iso_time, failure, value_of_data}
-use Rattle.cell_data.specs.Splitting.{StandsFirst}
+use Rattle.cell_data.specs.Splitting.{none_earlier}
 use Rattle.decimals.specs.Decimals.{printed}
 use Rattle.cell_refs.specs.Positions.{position_cmp}
 use Rattle.cell_data.specs.declared.value.Data.{Data}
@@ -201,7 +201,7 @@ pub record IsFirstOf
     (ids : List ((ℕ × ℕ) × Z)) (position : ℕ × ℕ) : Type 0 where
   pub in_rows : position.0 < MAX_ROWS
   pub in_columns : position.1 < MAX_COLUMNS
-  pub before_values : StandsFirst position values
-  pub before_formulas : StandsFirst position formulas
-  pub before_ids : StandsFirst position ids
+  pub before_values : none_earlier position values ≡ true
+  pub before_formulas : none_earlier position formulas ≡ true
+  pub before_ids : none_earlier position ids ≡ true
   pub is_used : IsOfSome position values formulas ids

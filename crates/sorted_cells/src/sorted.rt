@@ -25,7 +25,7 @@ pub struct SortedCells<T> {
 impl<T> SortedCells<T> {
     ghost use Rattle.std.specs.Prelude.{◌≡◌, ◌++◌, ◌∷◌, [], ◌==◌, length, true, OnOk, OnErr};
     ghost use Rattle.std.specs.Prelude.{IfOk};
-    ghost use Rattle.std.specs.Prelude.{◌+◌, ◌<◌, drop};
+    ghost use Rattle.std.specs.Prelude.{◌+◌, ◌<◌, ◌^◌, drop};
     ghost use Rattle.std.specs.FinMap.{find};
     ghost use Rattle.std.specs.List.{filter};
     ghost use Rattle.std.specs.Option.{option_copied};
@@ -129,6 +129,7 @@ impl<T> SortedCells<T> {
     pub fn iter(&self) -> PlacedCells<'_, T>
         ensures cells { placed_left result ≡ kept_cells self.now }
         ensures rising { is_rising (kept_cells self.now) ≡ true }
+        ensures fits { length (kept_cells self.now) < 2 ^ 64 }
     {
         PlacedCells::new(&self.rows, &self.cells)
     }
