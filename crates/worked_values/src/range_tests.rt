@@ -85,6 +85,7 @@ fn two_far_cells_are_two_cells(rt: HostRuntime) -> Result<(), Fail> {
     let ends = [Cell::new((0, 0), 1), Cell::new((1_048_575, 16_383), 2)];
     let range: Range<u8> = Range::from_sparse(alloc, Vec::from_array(alloc, ends)?, 0)?;
     assert!(rt; range.used_count() == 2);
+    assert!(rt; range.used_cells().count() == 2);
     assert!(rt; range.get_size() == (1_048_576, 16_384));
     assert!(rt; range.get((1_048_575, 16_383)) == Some(&2));
     assert!(rt; range.used_value((1_048_575, 16_383)) == Some(&2));
