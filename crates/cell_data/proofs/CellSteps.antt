@@ -22,7 +22,7 @@ use Rattle.cell_refs.specs.declared.dimensions.Dimensions.{Dimensions}
 use Rattle.cell_refs.proofs.PositionOrder.{and_both}
 use Rattle.sorted_cells.specs.Placed.{value_first, left_behind, past_row}
 use Rattle.cell_data.specs.CellsLeft.{AreLeftFrom, AreLeftAt, position_of}
-use Rattle.cell_data.specs.Range.{cells_of, bounds_of, blank_of, width_of, start_of, filled}
+use Rattle.cell_data.specs.Range.{cells_of, bounds_of, width_of, start_of}
 use Rattle.cell_data.specs.Splitting.{AreInOrder, given, none_earlier, Splits}
 use Rattle.cell_data.specs.declared.range.Range.{Range}
 use Rattle.cell_data.proofs.Splitting.{past, at_first, splits_at, order_behind}
@@ -152,6 +152,23 @@ module _ {X : Type 0} (bounds : Option Dimensions) (all : List ((ℕ × ℕ) × 
         ∙ (ap (find position_cmp other) (sym splits.whole)
         ∙ from.same other (le_from_up_to (row, column) other up_to));
   }
+
+  -- one cell further
+  pub record IsTaken (p : ℕ × ℕ) (value : Option X) (behind : List ((ℕ × ℕ) × X)) : Type 0 where
+    pub found : find position_cmp p all ≡ value
+    pub left : AreLeftFrom bounds (p.0, p.1 + 1) all behind
+
+  pub taken : (p : ℕ × ℕ) (value : Option X) (left behind : List ((ℕ × ℕ) × X)) →
+      AreLeftFrom bounds p all left → value ≡ value_first p left → behind ≡ left_behind p left →
+      IsTaken p value behind
+  taken p value left behind from value_is behind_is =
+      let splits : Splits p left value behind =
+      subst (λ (b : List ((ℕ × ℕ) × X)). Splits p left value b) (sym behind_is)
+      (subst (λ (v : Option X). Splits p left v (left_behind p left)) (sym value_is)
+      (splits_at p left from.order from.first)) in record {
+        found = found_there p value left behind from splits;
+        left = column_passed p.0 p.1 value left behind from splits;
+      }
 
   -- a cell that doesn't stand in the row stands behind it
   stands_below : (row column : ℕ) (p : ℕ × ℕ) → IsUpTo (row, column) p → (p.0 ≡ row → ⊥) →
@@ -342,29 +359,21 @@ module _ {X : Type 0} (range : Range X) where
       (omega (arith, first_column))
       (all_left (bounds_of range) (cells_of range) order from inside)
 
-  -- one cell further
-  pub record IsTaken
-      (place : ℕ × ℕ) (value : Option X) (behind : List ((ℕ × ℕ) × X)) : Type 0 where
-    pub filled_by : unwrap_or value (blank_of range) ≡ filled range place
-    pub left : AreLeftAt range (place.0, place.1 + 1) behind
+  -- a column further is the next place of the row
+  pub position_further : (p place : ℕ × ℕ) → p ≡ position_of (bounds_of range) place →
+      (p.0, p.1 + 1) ≡ position_of (bounds_of range) (place.0, place.1 + 1)
+  position_further p place at =
+      let s = start_of (bounds_of range) in
+      let same : s.1 + place.1 + 1 ≡ s.1 + (place.1 + 1) = omega arith in
+      ap (λ (q : ℕ × ℕ). (q.0, q.1 + 1)) at ∙ ap (λ (k : ℕ). (s.0 + place.0, k)) same
 
-  pub taken : (place : ℕ × ℕ) (value : Option X) (left behind : List ((ℕ × ℕ) × X)) →
-      AreLeftAt range place left →
-      value ≡ value_first (position_of (bounds_of range) place) left →
-      behind ≡ left_behind (position_of (bounds_of range) place) left →
-      IsTaken place value behind
-  taken place value left behind from value_is behind_is =
-      let p = position_of (bounds_of range) place in
-      let splits : Splits p left value behind =
-      subst (λ (b : List ((ℕ × ℕ) × X)). Splits p left value b) (sym behind_is)
-      (subst (λ (v : Option X). Splits p left v (left_behind p left)) (sym value_is)
-      (splits_at p left from.order from.first)) in record {
-        filled_by = ap (λ (v : Option X). unwrap_or v (blank_of range))
-            (sym (found_there (bounds_of range) (cells_of range) p value left behind from splits));
-        left = at_place p.0 (p.1 + 1) (place.0, place.1 + 1) behind refl (omega arith)
-            (column_passed (bounds_of range) (cells_of range) p.0 p.1 value left behind from
-            splits);
-      }
+  pub place_passed : (p place : ℕ × ℕ) (left : List ((ℕ × ℕ) × X)) →
+      p ≡ position_of (bounds_of range) place →
+      AreLeftFrom (bounds_of range) (p.0, p.1 + 1) (cells_of range) left →
+      AreLeftAt range (place.0, place.1 + 1) left
+  place_passed p place left at from =
+      subst (λ (q : ℕ × ℕ). AreLeftFrom (bounds_of range) q (cells_of range) left)
+      (position_further p place at) from
 
   -- the place behind a cell, by its number
   pub number_passed : (n : ℕ) (left : List ((ℕ × ℕ) × X)) →

@@ -183,33 +183,24 @@ impl<T> Range<T> {
         Some(self.value_or_blank(pos))
     }
 
-    /// The row on the sheet, counted from 0, of a row that is counted from the first one of the
-    /// area.
-    pub(crate) fn row_number(&self, row: usize) -> u32
-        requires { row < height_of (bounds_of self.now) }
-        ensures { result ≡ (start_of (bounds_of self.now)).0 + row }
-    {
-        let (first, _) = self.start().unwrap();
-        first + row as u32
-    }
-
-    /// The column on the sheet, counted from 0, of a column that is counted from the first one of
-    /// the area.
-    fn column_number(&self, column: usize) -> u32
-        requires { column < width_of (bounds_of self.now) }
-        ensures { result ≡ (start_of (bounds_of self.now)).1 + column }
-    {
-        let (_, first) = self.start().unwrap();
-        first + column as u32
-    }
-
     /// The position on the sheet of a row and a column, counted from the first ones of the area.
     pub(crate) fn position_of(&self, place: (usize, usize)) -> (u32, u32)
         requires row { place.0 < height_of (bounds_of self.now) }
         requires column { place.1 < width_of (bounds_of self.now) }
         ensures { result ≡ position_of (bounds_of self.now) place }
     {
-        (self.row_number(place.0), self.column_number(place.1))
+        let (row, column) = self.start().unwrap();
+        (row + place.0 as u32, column + place.1 as u32)
+    }
+
+    /// The position on the sheet of the first column of a row, counted from the first one of the
+    /// area.
+    pub(crate) fn row_start(&self, row: usize) -> (u32, u32)
+        requires { row < height_of (bounds_of self.now) }
+        ensures { result ≡ position_of (bounds_of self.now) (row, 0) }
+    {
+        let (first, column) = self.start().unwrap();
+        (first + row as u32, column)
     }
 
     /// The value at a row and a column, counted from the first ones of the area; none outside it.

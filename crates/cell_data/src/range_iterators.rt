@@ -1,27 +1,23 @@
 ghost use Rattle.std.specs.Prelude.{◌≡◌, ◌+◌, ◌<◌, ◌/◌, ◌%◌, IsTrue};
-ghost use Rattle.cell_refs.specs.Positions.{lie_from};
-ghost use Rattle.cell_data.specs.CellsLeft.{AreLeftAt};
-ghost use Rattle.cell_data.specs.Range.{bounds_of, height_of, width_of, filled};
+ghost use Rattle.std.specs.FinMap.{find};
+ghost use Rattle.std.specs.Option.{unwrap_or};
+ghost use Rattle.cell_refs.specs.Positions.{position_cmp, lie_from};
+ghost use Rattle.cell_data.specs.CellsLeft.{AreLeftFrom, AreLeftAt, position_of};
+ghost use Rattle.cell_data.specs.Range.{cells_of, bounds_of, blank_of, width_of};
 ghost use Rattle.sorted_cells.specs.Placed.{placed_left};
 
 use crate::range::Range;
 use sorted_cells::PlacedCells;
 
-/// Takes the value at a place of the area, counted from its first row and column, from the cells
-/// that are left from there on.
-fn take_value<'a, T>(
-    range: &'a Range<T>,
-    left: &mut PlacedCells<'a, T>,
-    place: (usize, usize),
-) -> &'a T
-    requires row { place.0 < height_of (bounds_of range.now) }
-    requires column { place.1 < width_of (bounds_of range.now) }
-    requires left { AreLeftAt range.now place (placed_left left.old) }
-    ensures value { result.now ≡ filled range.now place }
-    ensures left { AreLeftAt range.now (place.0, place.1 + 1) (placed_left left.new) }
+/// Takes the value at a position from the cells of a range that are left from there on.
+fn take_value<'a, T>(range: &'a Range<T>, left: &mut PlacedCells<'a, T>, pos: (u32, u32)) -> &'a T
+    requires { AreLeftFrom (bounds_of range.now) pos (cells_of range.now) (placed_left left.old) }
+    ensures value { result.now
+        ≡ unwrap_or (find position_cmp pos (cells_of range.now)) (blank_of range.now) }
+    ensures left { AreLeftFrom (bounds_of range.now) (pos.0, pos.1 + 1) (cells_of range.now)
+        (placed_left left.new) }
 {
-    left.next_at(range.position_of(place))
-        .unwrap_or(range.blank())
+    left.next_at(pos).unwrap_or(range.blank())
 }
 
 /// The used cells of a range, row by row: the row and the column, counted from the first ones of
@@ -109,7 +105,8 @@ impl<'a, T> Iterator for Cells<'a, T> {
             return None;
         }
         let (row, column) = self.range.place_of(self.next);
-        let val = take_value(self.range, &mut self.left, (row, column));
+        let pos = self.range.position_of((row, column));
+        let val = take_value(self.range, &mut self.left, pos);
         self.next += 1;
         Some((row, column, val))
     }
@@ -122,7 +119,10 @@ pub struct RowCells<'a, T> {
     range: &'a Range<T>,
     row: usize,
     next: usize,
-    ghost inside: { row < height_of (bounds_of range.now) },
+    width: usize,
+    pos: (u32, u32),
+    ghost columns: { width ≡ width_of (bounds_of range.now) },
+    ghost place: { pos ≡ position_of (bounds_of range.now) (row, next) },
     ghost from: { AreLeftAt range.now (row, next) (placed_left left) },
 }
 
@@ -137,11 +137,12 @@ impl<'a, T> Iterator for RowCells<'a, T> {
     ghost remaining = { item_count row_left };
 
     fn next(&mut self) -> Option<Self::Item> {
-        if self.next >= self.range.width() {
+        if self.next >= self.width {
             return None;
         }
-        let val = take_value(self.range, &mut self.left, (self.row, self.next));
+        let val = take_value(self.range, &mut self.left, self.pos);
         self.next += 1;
+        self.pos.1 += 1;
         Some(val)
     }
 }
@@ -185,14 +186,17 @@ impl<'a, T> Iterator for Rows<'a, T> {
             return None;
         }
         let row = self.next;
+        let pos = self.range.row_start(row);
         let left = self.left;
-        self.left.pass_row(self.range.row_number(row));
+        self.left.pass_row(pos.0);
         self.next += 1;
         Some(RowCells {
             left,
             range: self.range,
             row,
             next: 0,
+            width: self.range.width(),
+            pos,
         })
     }
 }
