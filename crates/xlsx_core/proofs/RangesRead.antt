@@ -1,5 +1,5 @@
 -- A part is read in one way, and what is read isn't refused.
-use Rattle.std.proofs.Common.{◌≡◌, ℕ, List, [], length, sym, ◌∙◌, ap, map, inl, inr, subst}
+use Rattle.std.proofs.Common.{◌≡◌, ℕ, List, [], length, refl, sym, ◌∙◌, ap, map, inl, inr, subst}
 use Rattle.std.proofs.Common.{Option, Some, None, Ok, Err, codes, true, false, arith, String}
 use Rattle.std.proofs.Common.{Global}
 use Rattle.std.specs.Prelude.{⊤, option_map, IsSomeAnd, is_some}
@@ -14,7 +14,7 @@ use Rattle.cell_data.specs.declared.value.Data.{Data}
 use Rattle.cell_data.specs.declared.value.DataRef.{DataRef}
 use Rattle.cell_data.specs.declared.value.HeaderRow.{HeaderRow}
 use Rattle.cell_refs.specs.Positions.{last_of_each, least_area}
-use Rattle.cell_styles.specs.StyleMap.{StyleMap}
+use Rattle.cell_styles.specs.StyleMap.{StyledCell, StyleMap}
 use Rattle.cell_styles.specs.declared.style.Style.{Style}
 use Rattle.xlsx_error.specs.declared.error.XlsxError.{XlsxError}
 use Rattle.xlsx_error.specs.declared.error.XlsxError.TheVariants.{Xml, XmlEof, NotAWorksheet}
@@ -34,13 +34,27 @@ use Rattle.xlsx_cells.proofs.SoundSheet.{no_part_cause}
 use Rattle.xlsx_open.proofs.Sound.{both_at}
 use Rattle.xlsx_core.specs.SheetReading.{events_at, with_meaning, value_pairs, place_pairs}
 use Rattle.xlsx_core.specs.SheetReading.{PlacedCause}
-use Rattle.xlsx_core.specs.Worksheets.{AnswersValues, AnswersFormulas, HasStyledCells, HasSheetData}
+use Rattle.xlsx_core.specs.Worksheets.{AnswersCells, AnswersValues, AnswersFormulas}
+use Rattle.xlsx_core.specs.Worksheets.{HasStyledCells, HasSheetData}
 use Rattle.xlsx_core.specs.Worksheets.{IsNoWorksheet, IsValueRange, IsPlaceRange, IsFormulaRange}
 use Rattle.xlsx_core.specs.Worksheets.{ReadsUsed, ReadsValues, ReadsPlaces, ReadsFormulas}
 use Rattle.xlsx_core.specs.Worksheets.{ReadsStyles, RangePartCause, RangeCause, below_header}
 use Rattle.xlsx_core.specs.Worksheets.{header_area}
 use Rattle.xlsx_core.proofs.LastOfEach.{last_mapped}
 use Rattle.xlsx_core.proofs.RangesMade.{below_mapped, least_mapped}
+
+-- a reading of values alone says them
+pub values_answered : (part : Option (List Event)) (grounds : Grounds) (count : ℕ)
+    (values : List ((ℕ × ℕ) × CellValue)) (formulas : List ((ℕ × ℕ) × List ℕ))
+    (ids : List StyledCell) (fact : List ((ℕ × ℕ) × CellValue) → Type 0)
+    → IsSomeAnd part (AnswersCells values_alone grounds count values formulas ids) → fact values
+    → IsSomeAnd part (λ events. (found : List ((ℕ × ℕ) × CellValue))
+    × AnswersValues grounds events found × fact found)
+values_answered None grounds count values formulas ids fact answers holds = absurd answers
+values_answered (Some events) grounds count values formulas ids fact (inl held) holds =
+    (values, inl (held.section, held.sheet, held.valued refl), holds)
+values_answered (Some events) grounds count values formulas ids fact (inr none) holds =
+    (values, inr (none.0, none.1), holds)
 
 -- a part has data, or has none
 pub data_or_none : (events : List Event) (section : PartSection)
