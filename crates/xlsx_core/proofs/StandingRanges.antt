@@ -1,16 +1,16 @@
 -- What stands at each position, and the range of it.
-use Rattle.std.proofs.Common.{◌≡◌, ℕ, zero, suc, ◌<◌, List, [], ◌∷◌, ◌++◌, Bool, true, false, cond}
-use Rattle.std.proofs.Common.{map, Option, Some, None, refl, sym, ◌∙◌, ap, subst, arith, length}
+use Rattle.std.proofs.Common.{◌≡◌, ℕ, suc, ◌<◌, List, [], ◌∷◌, ◌++◌, Bool, true, cond}
+use Rattle.std.proofs.Common.{map, Option, Some, None, refl, sym, ◌∙◌, ap, subst, arith}
 use Rattle.std.specs.Prelude.{nat_le, nat_lt, ◌&&◌}
-use Rattle.std.specs.List.{filter, list_all}
+use Rattle.std.specs.List.{filter}
 use Rattle.std.proofs.lemmas.Bool.Decides.{nat_tests}
 use Rattle.cell_refs.specs.declared.dimensions.Dimensions.{Dimensions}
 use Rattle.cell_refs.specs.Positions.{position_cmp, last_of_each, least_area, lie_inside}
-use Rattle.cell_refs.specs.Positions.{is_in_area, is_in_bounds, is_rising, are_sheet_bounds}
+use Rattle.cell_refs.specs.Positions.{is_in_area, is_rising, are_sheet_bounds}
 use Rattle.cell_refs.proofs.PositionOrder.{and_both}
 use Rattle.sorted_cells.specs.Last.{last_key, comes_after}
 use Rattle.sorted_cells.proofs.Orders.{after_sorted}
-use Rattle.cell_data.specs.Cells.{AreInSheet, IsPlacedInSheet}
+use Rattle.cell_data.specs.Cells.{AreInSheet}
 use Rattle.cell_data.specs.declared.range.Range.{Range}
 use Rattle.cell_data.specs.declared.value.HeaderRow.{HeaderRow}
 use Rattle.cell_data.specs.declared.value.HeaderRow.TheVariants.{FirstNonEmptyRow, Row}

@@ -1,6 +1,6 @@
-use Rattle.std.proofs.Common.{refl, ◌∙◌, ap}
+use Rattle.std.proofs.Common.{◌∙◌, ap}
 use Rattle.std.specs.List.{filter}
-use Rattle.cell_refs.specs.Positions.{is_in_area, last_of_each}
+use Rattle.cell_refs.specs.Positions.{is_in_area}
 use Rattle.cell_data.specs.Gathered.{cells_gathered}
 use Rattle.xlsx_core.specs.Worksheets.{area_below}
 use Rattle.cell_data.specs.declared.value.HeaderRow.TheVariants.{Row}
