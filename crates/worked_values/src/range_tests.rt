@@ -1,6 +1,7 @@
 //! Ranges of cells.
 
-use cell_data::{Cell, Range};
+use cell_data::{Cell, GatheredCells, Range, least_area};
+use cell_refs::Dimensions;
 use std::alloc::{AllocError, Global};
 use std::test::Fail;
 use test_tables::assert_text;
@@ -76,6 +77,24 @@ fn the_last_cell_of_a_position_stands(rt: HostRuntime) -> Result<(), Fail> {
     }
     assert_text(&out, "0 4 4;5 0 3;", "used cells")?;
     assert!(rt; range.cells().count() == 30);
+    Ok(())
+}
+
+#[test]
+fn cells_are_gathered_as_they_come(rt: HostRuntime) -> Result<(), Fail> {
+    let alloc = rt.alloc();
+    let mut cells: GatheredCells<u8> = GatheredCells::new(alloc);
+    cells.push((0, 3), 1)?;
+    cells.push((4, 1), 2)?;
+    cells.push((0, 3), 3)?;
+    cells.push((2, 7), 4)?;
+    let sorted = cells.into_sorted(alloc)?;
+    let mut out = String::new(alloc);
+    for (pos, value) in sorted.iter() {
+        write!(out, "{} {} {value};", pos.0, pos.1)?;
+    }
+    assert_text(&out, "0 3 3;2 7 4;4 1 2;", "gathered cells")?;
+    assert!(rt; least_area(&sorted) == Some(Dimensions { start: (0, 1), end: (4, 7) }));
     Ok(())
 }
 
