@@ -94,7 +94,11 @@ fn cells_are_gathered_as_they_come(rt: HostRuntime) -> Result<(), Fail> {
         write!(out, "{} {} {value};", pos.0, pos.1)?;
     }
     assert_text(&out, "0 3 3;2 7 4;4 1 2;", "gathered cells")?;
-    assert!(rt; least_area(&sorted) == Some(Dimensions { start: (0, 1), end: (4, 7) }));
+    let area = Dimensions {
+        start: (0, 1),
+        end: (4, 7),
+    };
+    assert!(rt; least_area(&sorted) == Some(area));
     Ok(())
 }
 

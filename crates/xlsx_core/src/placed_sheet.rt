@@ -110,7 +110,7 @@ pub fn read_placed<P: Package>(
         TakesExactly count result old (P.state «package».new) }
     ensures inside { IfOk result (λ cells.
         LieInSheet (cells_gathered cells.values) (cells_gathered cells.formulas)
-            cells.style_ids.items) }
+        cells.style_ids.items) }
     ensures reads { let old = P.state «package».old in
         let wants = asked.entry.wants in
         let grounds = grounds_of asked.entry.book in
@@ -173,7 +173,7 @@ pub fn read_range<P: Package>(
         TakesExactly count result old (P.state «package».new) }
     ensures inside { IfOk result (λ cells.
         LieInSheet (cells_gathered cells.values) (cells_gathered cells.formulas)
-            cells.style_ids.items) }
+        cells.style_ids.items) }
     ensures reads { let old = P.state «package».old in
         let wants = asked.entry.wants in
         let grounds = grounds_of asked.entry.book in
