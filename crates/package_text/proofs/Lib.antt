@@ -4,3 +4,4 @@ pub mod PackageTextLemmas
 pub mod ReadsBack
 pub mod SpellsBack
 pub mod SplitsNone
+pub mod WrittenTexts

@@ -40,7 +40,8 @@ parts_read : (parts : List Part)
 parts_read [] = refl
 parts_read (part ∷ parts) = rw (part_read part) (rw (parts_read parts) refl)
 
-package_read : (parts : List Part) → of_json (outline (package_data parts)) ≡ Some (package_data parts)
+package_read : (parts : List Part)
+    → of_json (outline (package_data parts)) ≡ Some (package_data parts)
 unfolding package_data
 package_read parts = rw (parts_read parts) (rw (number_of-decimal 2 (omega arith)) refl)
 
@@ -50,7 +51,8 @@ texts_numbers : (texts : List (List ℕ)) → ItemsHaveNumbers (items_outline (t
 texts_numbers [] = tt
 texts_numbers (content ∷ texts) = (tt, texts_numbers texts)
 
-events_numbers : (texts : List (List (List ℕ))) → ItemsHaveNumbers (items_outline (events_data texts))
+events_numbers : (texts : List (List (List ℕ)))
+    → ItemsHaveNumbers (items_outline (events_data texts))
 events_numbers [] = tt
 events_numbers (texts ∷ others) = (texts_numbers texts, events_numbers others)
 

@@ -1,14 +1,17 @@
 -- The value that is written of a package spells that package.
-use Rattle.std.proofs.Common.{◌≡◌, ◌||◌, ℕ, List, [], ◌∷◌, ◌++◌, Bool, true, false, Option, Some, None}
+use Rattle.std.proofs.Common.{◌≡◌, ◌||◌, ℕ, List, [], ◌∷◌, ◌++◌, Bool, true, false}
+use Rattle.std.proofs.Common.{Option, Some, None}
 use Rattle.std.proofs.Common.{refl, ap, ◌∙◌, if◌then◌else◌}
 use Rattle.std.specs.Option.{option_map, option_and_then}
 use Rattle.std.specs.Str.{bytes_eq}
 use Rattle.std.proofs.lemmas.Slice.Eq.{bytes_eq-Decides}
 use Rattle.serde_json.specs.Data.{array}
 use Rattle.serde_json.specs.Written.{has_float, items_have_float}
-use Rattle.part_events.specs.Event.{Event, Tag, start, end, leaf, text, char_data, entity_ref, other}
+use Rattle.part_events.specs.Event.{Event, Tag, start, end, leaf, text, char_data, entity_ref}
+use Rattle.part_events.specs.Event.{other}
 use Rattle.part_events.specs.Package.{Part}
-use Rattle.package_text.specs.PackageText.{events_of_value, events_in, part_in, parts_in, package_of}
+use Rattle.package_text.specs.PackageText.{events_of_value, events_in, part_in, parts_in}
+use Rattle.package_text.specs.PackageText.{package_of}
 use Rattle.package_text.specs.PackageText.{empty_element, named_part}
 use Rattle.package_text.specs.WrittenPackage.{texts_data, texts_of_event, texts_of_empty}
 use Rattle.package_text.specs.WrittenPackage.{event_texts, events_data, part_data, parts_data}

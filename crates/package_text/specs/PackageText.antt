@@ -20,6 +20,7 @@ texts_of no_items = Some []
 texts_of (item value rest) =
     option_and_then (λ first. option_map (λ texts. first ∷ texts) (texts_of rest)) (as_str value)
 
+-- a start of this name and attribute text
 abbrev pub start_of : List ℕ → List ℕ → Event
 start_of name attributes = start (record { name = name; attributes = attributes })
 
@@ -27,7 +28,7 @@ start_of name attributes = start (record { name = name; attributes = attributes 
 abbrev pub empty_element : List ℕ → List ℕ → List Event
 empty_element name attributes = start_of name attributes ∷ end name ∷ []
 
--- the events of a kind and its texts: one, or the two of an empty element, where a version has these
+-- the events of a kind and its texts: one, or where a version has them the two of an empty element
 abbrev pub events_of_texts : Bool → List (List ℕ) → Option (List Event)
 events_of_texts has_empty [] = None
 events_of_texts has_empty (kind ∷ []) =
@@ -43,10 +44,12 @@ events_of_texts has_empty (kind ∷ name ∷ attributes ∷ []) =
     then (if has_empty then Some (empty_element name attributes) else None) else None)
 events_of_texts has_empty (kind ∷ first ∷ second ∷ third ∷ more) = None
 
+-- the events of a JSON value, if it spells one or an empty element
 abbrev pub events_of_value : Bool → Data → Option (List Event)
 events_of_value has_empty value =
     option_and_then (events_of_texts has_empty) (option_and_then texts_of (as_array value))
 
+-- the events of the items of a JSON array, if each of them spells some
 abbrev pub events_in : Bool → Items → Option (List Event)
 events_in has_empty no_items = Some []
 events_in has_empty (item value rest) =
@@ -66,6 +69,7 @@ part_in has_empty value =
     option_and_then (λ name. named_part name events)
     (option_and_then as_str (get (codes "name") value))
 
+-- the parts of the items of a JSON array, if each of them spells one
 abbrev pub parts_in : Bool → Items → Option (List Part)
 parts_in has_empty no_items = Some []
 parts_in has_empty (item value rest) =
@@ -105,20 +109,25 @@ members_have_float_beside key (member own value members) =
     if bytes_eq key own then members_have_float members
     else has_float value || members_have_float_beside key members
 
+-- whether a number in a value is no integer of 64 bits, where its first member of this key is left
+-- aside
 abbrev pub has_float_beside : List ℕ → Data → Bool
 has_float_beside key (object members) = members_have_float_beside key members
 has_float_beside key value = has_float value
 
+-- the part of a JSON value, if its numbers beside its events are integers
 abbrev pub part_beside : Bool → Data → Option Part
 part_beside has_empty value =
     if has_float_beside (codes "events") value then None else part_in has_empty value
 
+-- the parts of such items of a JSON array
 abbrev pub parts_beside : Bool → Items → Option (List Part)
 parts_beside has_empty no_items = Some []
 parts_beside has_empty (item value rest) =
     option_and_then (λ part. option_map (λ parts. part ∷ parts) (parts_beside has_empty rest))
     (part_beside has_empty value)
 
+-- the parts of a package text, if its numbers beside the parts' events are integers
 unfoldable pub package_beside : Data → Option (List Part)
 package_beside value =
     let number = option_and_then as_number (get (codes "version") value) in

@@ -1,6 +1,6 @@
 -- The value that spells a package in version 2, and its text.
-use Rattle.std.specs.Prelude.{◌≡◌, ℕ, List, [], ◌∷◌, Bool, true, false, if◌then◌else◌, codes}
-use Rattle.std.specs.Prelude.{Some, option_and_then}
+use Rattle.std.specs.Prelude.{◌≡◌, ℕ, ◌+◌, ◌≤◌, List, [], ◌∷◌, length, drop, Bool, true, false}
+use Rattle.std.specs.Prelude.{if◌then◌else◌, codes, Some, option_and_then}
 use Rattle.std.specs.Str.{bytes_eq}
 use Rattle.serde_json.specs.Data.{Data, object, array, string, number, unsigned, Items, no_items}
 use Rattle.serde_json.specs.Data.{item, no_members, member}
@@ -9,7 +9,7 @@ use Rattle.serde_json.specs.Written.{compact_text}
 use Rattle.part_events.specs.Event.{Event, event_of, start, end, leaf, text, char_data, entity_ref}
 use Rattle.part_events.specs.Event.{other}
 use Rattle.part_events.specs.Package.{Part}
-use Rattle.package_text.specs.PackageText.{package_of}
+use Rattle.package_text.specs.PackageText.{package_of, events_of}
 use Rattle.package_text.specs.declared.spelled.SpelledEvent.{SpelledEvent}
 use Rattle.package_text.specs.declared.spelled.SpelledEvent.TheVariants.{One, Empty}
 
@@ -102,12 +102,25 @@ SplitsNone = (events : List Event) → none_splits (event_texts events) ≡ true
 
 -- ---- the steps of writing it
 
+-- whether the first of these events is the end of this name
+abbrev pub begins_by_end : List ℕ → List Event → Bool
+begins_by_end name (end own ∷ events) = bytes_eq name own
+begins_by_end name events = false
+
 -- whether an event is a start, and the first of these events the end of its name
 abbrev pub is_pair : Event → List Event → Bool
-is_pair (start tag) (end name ∷ events) = bytes_eq tag.name name
-is_pair event events = false
+is_pair (start tag) events = begins_by_end tag.name events
+is_pair (end name) events = false
+is_pair (leaf kind) events = false
 
 -- the texts of an event of a package text
 abbrev pub texts_of_spelled : SpelledEvent → List (List ℕ)
 texts_of_spelled (One event) = texts_of_event (event_of event)
 texts_of_spelled (Empty tag) = texts_of_empty tag.name.now tag.attributes.now
+
+-- the texts of the events from a place on begin with those of this one, and those behind what it
+-- stands for follow
+pub record IsWrittenAt (events : List Event) (place : ℕ) (event : SpelledEvent) : Type 0 where
+  pub ends : place + length (events_of event) ≤ length events
+  pub begins : event_texts (drop place events)
+      ≡ texts_of_spelled event ∷ event_texts (drop (place + length (events_of event)) events)
