@@ -9,6 +9,7 @@ import json
 import os
 import re
 import signal
+import stat
 import struct
 import sys
 import tempfile
@@ -72,6 +73,16 @@ FILES = {
 }
 MARKUP = (".xml", ".rels", ".vml")
 
+# In front of the entries that a Mac puts beside those of the workbook, and of their file names.
+FOREIGN_FOLDER, FOREIGN_FILE = "__macosx", "._"
+
+# White space, which may end a tag, and the start of markup that becomes one event with nothing in
+# it: of all else a text has as many bytes as its markup, or more.
+WHITE_SPACE = b" \t\r\n"
+CONTENTLESS = re.compile(rb"<[!?]")
+UTF_16 = (b"\xff\xfe", b"\xfe\xff")
+DECLARATION = re.compile(rb"(?:\xef\xbb\xbf)?(?:<\?xml [^>]*\?>)?")
+
 # How the content of an OpenDocument file's first entry, `mimetype`, begins.
 OPEN_DOCUMENT = b"application/vnd.oasis.opendocument"
 
@@ -97,6 +108,25 @@ def one_line(text):
 def file_name(path):
     """What stands behind the last slash. As in the reader, `\\` is one, and letters are folded."""
     return re.split(r"[/\\]", path)[-1].lower()
+
+
+def is_foreign(path):
+    """Whether an entry is none of the workbook's."""
+    return re.split(r"[/\\]", path)[0].lower() == FOREIGN_FOLDER or file_name(path).startswith(
+        FOREIGN_FILE
+    )
+
+
+def owner(path):
+    """The file name of the part whose relationships a part has: nothing for those of the package,
+    and None where it has none."""
+    *folders, file = re.split(r"[/\\]", path.lower())
+    return file[: -len(".rels")] if folders[-1:] == ["_rels"] and file.endswith(".rels") else None
+
+
+def is_root(path):
+    """Whether a part has the relationships of the package."""
+    return re.split(r"[/\\]", path.lower()) == ["_rels", ".rels"]
 
 
 def directory_names(file):
@@ -146,10 +176,26 @@ def written():
         raise Refusal(7, f"write fault: {error.strerror}") from None
 
 
+def opened(source):
+    """The file of a name, or of the number of an open one. Nothing is waited for: a pipe that
+    nobody writes to is no file."""
+    if isinstance(source, int):
+        return open(source, "rb", closefd=False)
+    with contextlib.ExitStack() as stack:
+        file = stack.enter_context(
+            open(source, "rb", opener=lambda path, flags: os.open(path, flags | os.O_NONBLOCK))
+        )
+        mode = os.fstat(file.fileno()).st_mode
+        if stat.S_ISFIFO(mode):
+            raise Refusal(3, "can't be read: it is a pipe, and no file")
+        if not stat.S_ISREG(mode):
+            raise Refusal(3, "can't be read: it is no regular file")
+        stack.pop_all()
+    return file
+
+
 def archive_of(file):
     with read("the zip archive"):
-        if not file.seekable():
-            raise Refusal(3, "can't be read: it is a pipe, and no file")
         front = file.read(len(COMPOUND))
         if front == COMPOUND:
             raise compound_refusal(file)
@@ -181,38 +227,84 @@ class Workbook:
     def __init__(self, archive, is_all, limit):
         self.archive, self.is_all, self.limit = archive, is_all, limit
         # Of entries with one name the last stands, since an archive is added to at its end.
-        self.entries = {entry.filename: entry for entry in archive.infolist()}
+        self.entries = {
+            entry.filename: entry for entry in archive.infolist() if not is_foreign(entry.filename)
+        }
         if self.is_open_document():
             raise Refusal(11, "an OpenDocument file: save it as .xlsx")
         self.targets = self.found_targets()
         if any(name.endswith(".bin") for name in self.targets):
             raise Refusal(11, "an .xlsb workbook: save it as .xlsx")
+        if not self.fits():
+            raise too_large(limit)
 
     def is_open_document(self):
         entry = self.entries.get("mimetype")
         return entry is not None and next(self.pieces(entry), b"").startswith(OPEN_DOCUMENT)
 
     def found_targets(self):
-        """The file names that relationships of the wanted types lead to, wherever they stand."""
+        """The file names that relationships of the wanted types lead to: those of the package and,
+        from there on, those beside each part that is written."""
+        beside = {}
+        for name in self.entries:
+            beside.setdefault(owner(name), []).append(name)
         found, size = set(), 0
-        for name, entry in self.entries.items():
-            if file_name(name).endswith(".rels"):
-                for some in self.events(entry):
-                    # These parts are all written.
-                    size += len(some)
-                    if size > self.limit:
-                        raise too_large(self.limit)
-                    found.update(*map(targets_of, json.loads(f"[{some}]")))
+        waiting = [name for name in beside.get("", ()) if is_root(name)]
+        waiting += [name for file in FILES for name in beside.get(file, ())]
+        while waiting:
+            for some in self.events(self.entries[waiting.pop()]):
+                # These parts are all written.
+                size += len(some)
+                if size > self.limit:
+                    raise too_large(self.limit)
+                for file in set().union(*map(targets_of, json.loads(f"[{some}]"))) - found:
+                    found.add(file)
+                    # Those of the fixed names are cut already.
+                    if file not in FILES:
+                        waiting += (name for name in beside.get(file, ()) if not is_root(name))
         return found
 
     def is_written(self, name):
+        file, part = file_name(name), owner(name)
         if self.is_all:
-            return name.endswith(MARKUP)
-        return name.endswith(".rels") or name in FILES or name in self.targets
+            return file.endswith(MARKUP)
+        if part is None:
+            return not file.endswith(".rels") and (file in FILES or file in self.targets)
+        return is_root(name) or part in FILES or part in self.targets
+
+    def fits(self):
+        """Whether a part's text can be short enough for all that its entry says of its size. What
+        is too large is told so before it is cut."""
+        written = [entry for name, entry in self.entries.items() if self.is_written(name)]
+        if sum(entry.file_size for entry in written) <= self.limit:
+            return True
+        least = 0
+        for entry in written:
+            least += self.least(entry, self.limit - least)
+            if least > self.limit:
+                return False
+        return True
+
+    def least(self, entry, most):
+        """How many bytes the text of a part has at least, as far as they aren't more than `most`:
+        as many as its markup behind a declaration, but for white space, or none where it has
+        anything that may be left out."""
+        size, before = 0, b""
+        for piece in self.pieces(entry):
+            if not size:
+                piece = piece[DECLARATION.match(piece).end() :]
+            if b"\0" in piece or piece[:2] in UTF_16:
+                return 0
+            if CONTENTLESS.search(before + piece):
+                return 0
+            size, before = size + len(piece.translate(None, WHITE_SPACE)), piece[-1:]
+            if size > most:
+                break
+        return size
 
     def parts(self):
         for name, entry in self.entries.items():
-            if self.is_written(file_name(name)):
+            if self.is_written(name):
                 yield name, self.events(entry)
 
     def events(self, entry):
@@ -266,26 +358,32 @@ class Output:
             between = ","
         self.add("\n]}\n")
 
-    def send(self, descriptor):
+
+def kept_text(source, is_all, limit):
+    """The package text of a workbook file, told by its name or as the number of an open one, whole
+    in a temporary file that stands at its start."""
+    with contextlib.ExitStack() as stack, contextlib.ExitStack() as refused:
+        with read("the file"):
+            file = stack.enter_context(opened(source))
+        archive = stack.enter_context(archive_of(file))
         with written():
-            self.kept.seek(0)
-            for piece in iter(lambda: self.kept.read(PIECE), b""):
-                send(piece, descriptor)
+            kept = refused.enter_context(tempfile.TemporaryFile(buffering=0))
+        output = Output(kept, limit)
+        output.add_package(Workbook(archive, is_all, limit).parts())
+        with written():
+            kept.seek(0)
+        refused.pop_all()
+    return kept
 
 
 def write(path, is_all, limit, descriptor):
     with written():
         # A closed one would be that of the next file which is opened.
         os.fstat(descriptor)
-    with contextlib.ExitStack() as stack:
-        with read("the file"):
-            file = stack.enter_context(open(path, "rb"))
-        archive = stack.enter_context(archive_of(file))
+    with kept_text(path, is_all, limit) as kept:
         with written():
-            kept = stack.enter_context(tempfile.TemporaryFile(buffering=0))
-        output = Output(kept, limit)
-        output.add_package(Workbook(archive, is_all, limit).parts())
-        output.send(descriptor)
+            for piece in iter(lambda: kept.read(PIECE), b""):
+                send(piece, descriptor)
 
 
 class Parser(argparse.ArgumentParser):
