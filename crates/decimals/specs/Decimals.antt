@@ -15,6 +15,7 @@ use Rattle.std.specs.Str.Parse.{without_leading_sign}
 abbrev pub digits_in_front : List ℕ → List ℕ
 digits_in_front text = take_while is_ascii_digit text
 
+-- what stands behind the decimal digits in front of a text
 abbrev pub behind_digits : List ℕ → List ℕ
 behind_digits text = drop (prefix_len is_ascii_digit text) text
 
@@ -27,6 +28,7 @@ abbrev pub fraction_digits : List ℕ → List ℕ
 fraction_digits [] = []
 fraction_digits (b ∷ bs) = if is_point b then digits_in_front bs else []
 
+-- what stands behind the point and its digits in front of a text
 abbrev pub behind_fraction : List ℕ → List ℕ
 behind_fraction [] = []
 behind_fraction (b ∷ bs) = if is_point b then behind_digits bs else b ∷ bs
@@ -50,9 +52,11 @@ power_of (b ∷ bs) = if is_exponent_mark b then signed_number bs else None
 abbrev pub trailing_zeros : List ℕ → ℕ
 trailing_zeros digits = suffix_len (λ b. b == 48) digits
 
+-- the digits without the zeros at their end
 abbrev pub without_trailing_zeros : List ℕ → List ℕ
 without_trailing_zeros digits = take (length digits - trailing_zeros digits) digits
 
+-- a number with its sign
 abbrev pub with_sign : Bool → ℕ → ℤ
 with_sign negative n = if negative then neg_ℤ (pos n) else pos n
 
@@ -96,10 +100,13 @@ abbrev pub with_point_in : ℕ → List ℕ → List ℕ
 with_point_in places digits =
     take (length digits - places) digits ++ 46 ∷ drop (length digits - places) digits
 
+-- digits with a point before the last `places` of them, and zeros in front where they are too
+-- few
 abbrev pub with_point : ℕ → List ℕ → List ℕ
 with_point places digits =
     with_point_in places (replicate (places + 1 - length digits) 48 ++ digits)
 
+-- digits with `E` and the power of ten
 abbrev pub with_exponent : List ℕ → ℤ → List ℕ
 with_exponent digits power = digits ++ 69 ∷ signed_decimal power
 
@@ -115,5 +122,6 @@ abbrev pub printed_signed : ℤ → ℤ → List ℕ
 printed_signed (pos n) power = printed_digits (decimal n) power
 printed_signed (negsuc n) power = 45 ∷ printed_digits (decimal (n + 1)) power
 
+-- the text of a decimal, by its mantissa and its power of ten
 unfoldable pub printed : ℤ × ℤ → List ℕ
 printed number = printed_signed number.0 number.1
