@@ -31,9 +31,11 @@ event_of_texts (kind ∷ name ∷ attributes ∷ []) =
     then Some (start (record { name = name; attributes = attributes })) else None
 event_of_texts (kind ∷ first ∷ second ∷ third ∷ more) = None
 
+-- the event of a JSON value, if it spells one
 abbrev pub event_in : Data → Option Event
 event_in value = option_and_then event_of_texts (option_and_then texts_of (as_array value))
 
+-- the events of the items of a JSON array, if each of them spells one
 abbrev pub events_in : Items → Option (List Event)
 events_in no_items = Some []
 events_in (item value rest) =
@@ -53,6 +55,7 @@ part_in value =
     option_and_then (λ name. named_part name events)
     (option_and_then as_str (get (codes "name") value))
 
+-- the parts of the items of a JSON array, if each of them spells one
 abbrev pub parts_in : Items → Option (List Part)
 parts_in no_items = Some []
 parts_in (item value rest) =
@@ -90,20 +93,25 @@ members_have_float_beside key (member own value members) =
     if bytes_eq key own then members_have_float members
     else has_float value || members_have_float_beside key members
 
+-- whether a number in a value is no integer of 64 bits, where its first member of this key is
+-- left aside
 abbrev pub has_float_beside : List ℕ → Data → Bool
 has_float_beside key (object members) = members_have_float_beside key members
 has_float_beside key value = has_float value
 
+-- the part of a JSON value, if its numbers beside its events are integers
 abbrev pub part_beside : Data → Option Part
 part_beside value =
     if has_float_beside (codes "events") value then None else part_in value
 
+-- the parts of such items of a JSON array
 abbrev pub parts_beside : Items → Option (List Part)
 parts_beside no_items = Some []
 parts_beside (item value rest) =
     option_and_then (λ part. option_map (λ parts. part ∷ parts) (parts_beside rest))
     (part_beside value)
 
+-- the parts of a package text of version 1, if its numbers beside the parts' events are integers
 unfoldable pub package_beside : Data → Option (List Part)
 package_beside value =
     let number = option_and_then as_number (get (codes "version") value) in
