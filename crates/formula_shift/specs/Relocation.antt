@@ -16,10 +16,12 @@ abbrev pub is_name_before : Option ℕ → Bool
 is_name_before None = false
 is_name_before (Some b) = (b == 40) || (b == 33)
 
+-- the first byte of a text
 abbrev pub first_byte : List ℕ → Option ℕ
 first_byte [] = None
 first_byte (b ∷ bs) = Some b
 
+-- a piece is a word, which may be a reference
 abbrev pub is_word : PieceKind → Bool
 is_word word_kind = true
 is_word _ = false
@@ -50,6 +52,7 @@ moved_piece offset piece behind =
     unwrap_or (option_map word_of
     (option_and_then (displaced offset) (piece_reference piece behind))) piece
 
+-- pieces of a formula, each moved as the byte behind it allows
 abbrev pub moved_pieces : ℤ × ℤ → List PieceText → List PieceText
 moved_pieces offset [] = []
 moved_pieces offset (p ∷ ps) =
