@@ -16,6 +16,7 @@ import tempfile
 import words as of_words
 from program import PROVING, UNPROVED, UNPROVED_SAYS, WRITE_FAULT, Ended, Program, build
 from program import is_fresh, say
+from words import one_line
 
 # The most bytes that the program reads.
 LIMIT = 64 * 1024 * 1024
@@ -83,7 +84,7 @@ class Package:
 
 def of_file(path):
     """The package text of a workbook file."""
-    from package_text import Refusal, kept_text, one_line
+    from package_text import Refusal, kept_text
 
     with tempfile.TemporaryFile() as held:
         if path == of_words.STANDARD_INPUT:
@@ -213,7 +214,7 @@ class Front:
         with open(path, "xb") as output:
             status, said = self.program.run(["csv", name], self.package.input(), output.fileno())
         if status:
-            raise Refused(status, f"'{name}': ".encode() + said)
+            raise Refused(status, f"'{one_line(name)}': ".encode() + said)
 
 
 def is_reader_gone():

@@ -17,6 +17,7 @@ import zipfile
 import zlib
 
 from markup import MarkupFault, TooLong, events, spelled
+from words import one_line
 
 try:
     from lzma import LZMAError
@@ -86,7 +87,6 @@ DECLARATION = re.compile(rb"(?:\xef\xbb\xbf)?(?:<\?xml [^>]*\?>)?")
 # How the content of an OpenDocument file's first entry, `mimetype`, begins.
 OPEN_DOCUMENT = b"application/vnd.oasis.opendocument"
 
-CONTROL = re.compile("[\0-\x1f\x7f-\x9f]")
 PAIR = re.compile(r"""([^\s=]+)\s*=\s*(?:"([^"]*)"|'([^']*)')""")
 
 
@@ -98,11 +98,6 @@ class Refusal(Exception):
 
 def too_large(limit):
     return Refusal(4, f"input too large: its package text has more than {limit:,} bytes")
-
-
-def one_line(text):
-    """The text without control characters, so that it stays one line and does nothing else."""
-    return CONTROL.sub(lambda found: f"\\x{ord(found[0]):02x}", text)
 
 
 def file_name(path):

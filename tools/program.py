@@ -1,13 +1,15 @@
 """The proved program xlsx_tool: whether it is there, how it is built, and how it is run."""
 
+import contextlib
 import os
 import pathlib
-import re
 import resource
 import shutil
 import subprocess
 import sys
 import tempfile
+
+from words import one_line
 
 TOP = pathlib.Path(__file__).resolve().parent.parent
 CRATE = TOP / "crates" / "xlsx_tool"
@@ -31,9 +33,8 @@ class Ended(Exception):
 
 
 def say(text):
-    """Says a line on standard error, without control characters in it."""
-    shown = re.sub("[\0-\x1f\x7f-\x9f]", lambda found: f"\\x{ord(found[0]):02x}", text)
-    os.write(2, f"xlsx: {shown}\n".encode(errors="backslashreplace"))
+    """Says a line on standard error."""
+    os.write(2, f"xlsx: {one_line(text)}\n".encode(errors="backslashreplace"))
 
 
 def find(command, what):
@@ -73,14 +74,20 @@ def is_fresh():
     )
 
 
-def wait_for(child):
-    """The status of a child, as a shell tells it. It ends with this process, in any case."""
+@contextlib.contextmanager
+def ending(child):
+    """A child that ends with this process: it is ended where what is done with it doesn't end."""
     try:
-        status = child.wait()
-    finally:
-        if child.poll() is None:
-            child.terminate()
-            child.wait()
+        yield child
+    except BaseException:
+        child.terminate()
+        child.wait()
+        raise
+
+
+def status_of(child):
+    """The status that a child ends with, as a shell tells it."""
+    status = child.wait()
     return 128 - status if status < 0 else status
 
 
@@ -97,13 +104,15 @@ def build():
             moment = os.stat(began.name).st_mtime_ns
     except OSError as error:
         raise Ended(1, f"{out} can't be written: {error.strerror}") from None
-    child = subprocess.Popen(
+    proving = subprocess.Popen(
         [sys.executable, "tools/prove.py", "xlsx_tool", log],
         cwd=TOP,
         stdin=subprocess.DEVNULL,
         stdout=2,
     )
-    if wait_for(child):
+    with ending(proving) as child:
+        status = status_of(child)
+    if status:
         raise Ended(1, f"xlsx_tool could not be built: the end of {log} says why")
     # What changes during a build counts as newer than the program.
     os.utime(PROGRAM, ns=(moment, moment))
@@ -131,26 +140,25 @@ class Program:
         another. The status, and what is said of a refusal."""
         if not self.is_proved:
             return self.run_unproved(words, package, output)
-        child = subprocess.Popen(
+        running = subprocess.Popen(
             [PROGRAM, *words],
             stdin=package,
             stdout=output,
             stderr=subprocess.PIPE,
             preexec_fn=self.bound,
         )
-        try:
+        with running.stderr, ending(running) as child:
             said = child.stderr.read()
-        finally:
-            status = wait_for(child)
-        return status, said
+            return status_of(child), said
 
     def run_unproved(self, words, package, output):
         """The same by a run without a proof, where that gives an answer."""
         with tempfile.TemporaryFile() as lines, tempfile.TemporaryFile() as errors:
-            child = subprocess.Popen(
+            running = subprocess.Popen(
                 ["rt", "try", "--", *words], cwd=CRATE, stdin=package, stdout=lines, stderr=errors
             )
-            status = wait_for(child)
+            with ending(running) as child:
+                status = status_of(child)
             errors.seek(0)
             # The last line tells whether the program ended, and the one before it how.
             rows = errors.read().splitlines(keepends=True)

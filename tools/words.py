@@ -1,6 +1,9 @@
 """The words that ./xlsx takes: its commands, its page, and what is wrong with other words."""
 
 import collections
+import re
+
+CONTROL = re.compile("[\0-\x1f\x7f-\x9f]")
 
 # What a command is told by: its word, the names of what stands behind it, the same as a sentence
 # says it, and the lines of the page.
@@ -161,6 +164,11 @@ answers `out of memory' with status 8 beyond it; XLSX_MEMORY sets another number
 none. Once it is built, its own page stands below.
 
 """
+
+
+def one_line(text):
+    """The text without control characters, so that it stays one line and does nothing else."""
+    return CONTROL.sub(lambda found: f"\\x{ord(found[0]):02x}", text)
 
 
 class Faulty(Exception):
