@@ -576,7 +576,7 @@ class Wrapper(unittest.TestCase):
         self.build(PROGRAM)
         self.assertEqual(self.run_on("book.xlsx", "cells", "S"), (0, LINES, ""))
         said = "Worksheet 'X' not found\n"
-        said += "xlsx: the sheets of a workbook are listed by: ./xlsx FILE.xlsx sheets\n"
+        said += "xlsx: there are these sheets: 'S'\n"
         self.assertEqual(self.run_on("book.xlsx", "cells", "X"), (6, b"", said))
         lines = b"S\tworksheet\tvisible\n"
         self.assertEqual(self.run_on("book.xlsx", "sheets"), (0, lines, ""))
