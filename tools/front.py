@@ -4,10 +4,10 @@ The status is the program's own, that of tools/package_text.py (docs/FORMAT.md),
 program could not be built or gave no answer. What can be refused is refused before a build.
 """
 
+import contextlib
 import os
 import re
 import select
-import shutil
 import signal
 import stat
 import sys
@@ -48,7 +48,7 @@ def standard_input():
     return open(0, "rb", buffering=0, closefd=False)
 
 
-def kept(source, most):
+def kept(source, most=sys.maxsize):
     """The bytes of an open file, at most so many, in a temporary one."""
     file = tempfile.TemporaryFile()
     while most and (piece := source.read(min(most, 1 << 20))):
@@ -82,31 +82,46 @@ class Package:
         return self.start is not None
 
 
-def of_file(path):
-    """The package text of a workbook file."""
-    from package_text import Refusal, kept_text
-
-    with tempfile.TemporaryFile() as held:
-        if path == of_words.STANDARD_INPUT:
-            shutil.copyfileobj(standard_input(), held)
-            held.flush()
-        try:
-            source = held.fileno() if path == of_words.STANDARD_INPUT else path
-            return kept_text(source, False, LIMIT)
-        except Refusal as refusal:
-            status, text = refusal.status, str(refusal)
-        except MemoryError:
-            status, text = 8, "out of memory"
-    name = one_line(os.fsencode(path).decode(errors="surrogateescape"))
-    raise Refused(status, os.fsencode(name) + f": {one_line(text)}\n".encode(errors="replace"))
-
-
 class Refused(Exception):
     """The end of ./xlsx by a refusal: its status, and the bytes that tell of it."""
 
     def __init__(self, status, said):
         super().__init__(said)
         self.status, self.said = status, said
+
+
+@contextlib.contextmanager
+def told_of(path):
+    """Has what is refused of a workbook file told with its name."""
+    from package_text import Refusal
+
+    try:
+        yield
+        return
+    except Refusal as refusal:
+        status, text = refusal.status, str(refusal)
+    except MemoryError:
+        status, text = 8, "out of memory"
+    name = os.fsencode(one_line(path))
+    raise Refused(status, name + f": {one_line(text)}\n".encode(errors="replace"))
+
+
+class Book:
+    """A workbook file, of which a package text is made."""
+
+    def __init__(self, path, stack):
+        from package_text import workbook_of, written
+
+        self.path = source = path
+        with told_of(path):
+            if path == of_words.STANDARD_INPUT:
+                with written():
+                    source = stack.enter_context(kept(standard_input())).fileno()
+            self.workbook = stack.enter_context(workbook_of(source, limit=LIMIT))
+
+    def package(self):
+        with told_of(self.path):
+            return Package(self.workbook.text())
 
 
 class Front:
@@ -264,10 +279,10 @@ def memory_of(word):
     return int(word)
 
 
-def package_of(path, words):
+def package_of(path, words, stack):
     """The package text that is read: that of a file, or standard input."""
     if path is not None:
-        return Package(of_file(path))
+        return Book(path, stack).package()
     if words[0] not in of_words.PAGES and words[0] != "sample" and os.isatty(0):
         say(f"waiting for a package text at the terminal; ./xlsx FILE.xlsx {words[0]} .. reads a file")
     package = Package(standard_input())
@@ -285,16 +300,16 @@ def answered(words):
         help_page(os.environ.get("XLSX_MEMORY", MEMORY))
         if not is_fresh():
             return 0
-    package = package_of(path, words)
-    if not is_fresh():
-        if is_proved:
+    with contextlib.ExitStack() as stack:
+        package = package_of(path, words, stack)
+        if is_fresh():
+            is_proved = True
+        elif is_proved:
             build()
         else:
             say(UNPROVED_SAYS)
-    else:
-        is_proved = True
-    front = Front(Program(is_proved, memory), package)
-    return front.write_all(words[2]) if of_words.is_all(words) else front.answer(words)
+        front = Front(Program(is_proved, memory), package)
+        return front.write_all(words[2]) if of_words.is_all(words) else front.answer(words)
 
 
 def end(number, frame):

@@ -3,6 +3,7 @@
 
 import argparse
 import contextlib
+import enum
 import errno
 import html
 import json
@@ -51,10 +52,13 @@ BROKEN = (
     OverflowError,
 )
 
+# The types of the relationships that lead to the workbook's part and to the worksheets.
+DOCUMENT, WORKSHEET = "officeDocument", "worksheet"
+
 # Relationships of these types lead to what the reader opens, now or later.
 TYPES = {
-    "officeDocument",
-    "worksheet",
+    DOCUMENT,
+    WORKSHEET,
     "chartsheet",
     "dialogsheet",
     "table",
@@ -63,8 +67,9 @@ TYPES = {
     "pivotCacheRecords",
 }
 # It looks for parts of these file names whether a relationship leads to them or not.
+BOOK = "workbook.xml"
 FILES = {
-    "workbook.xml",
+    BOOK,
     "sharedstrings.xml",
     "styles.xml",
     "theme1.xml",
@@ -90,38 +95,54 @@ OPEN_DOCUMENT = b"application/vnd.oasis.opendocument"
 PAIR = re.compile(r"""([^\s=]+)\s*=\s*(?:"([^"]*)"|'([^']*)')""")
 
 
+class Sheets(enum.Enum):
+    """Which parts are written, where it isn't one worksheet's part with those of no other: all; all
+    but the worksheets' own; or those alone that tell which parts the sheets have."""
+
+    ALL = "all"
+    NONE = "none"
+    BOOK = "book"
+
+
 class Refusal(Exception):
     def __init__(self, status, text):
         super().__init__(text)
         self.status = status
 
 
+class TooLarge(Exception):
+    """A package text is longer than it may be."""
+
+
 def too_large(limit):
-    return Refusal(4, f"input too large: its package text has more than {limit:,} bytes")
+    return f"input too large: its package text has more than {limit:,} bytes"
+
+
+def folded(path):
+    """As the reader compares names: `\\` is `/`, and letters are folded."""
+    return path.replace("\\", "/").lower()
 
 
 def file_name(path):
-    """What stands behind the last slash. As in the reader, `\\` is one, and letters are folded."""
-    return re.split(r"[/\\]", path)[-1].lower()
+    """What stands behind the last slash."""
+    return folded(path).split("/")[-1]
 
 
 def is_foreign(path):
     """Whether an entry is none of the workbook's."""
-    return re.split(r"[/\\]", path)[0].lower() == FOREIGN_FOLDER or file_name(path).startswith(
-        FOREIGN_FILE
-    )
+    return folded(path).split("/")[0] == FOREIGN_FOLDER or file_name(path).startswith(FOREIGN_FILE)
 
 
 def owner(path):
     """The file name of the part whose relationships a part has: nothing for those of the package,
     and None where it has none."""
-    *folders, file = re.split(r"[/\\]", path.lower())
+    *folders, file = folded(path).split("/")
     return file[: -len(".rels")] if folders[-1:] == ["_rels"] and file.endswith(".rels") else None
 
 
 def is_root(path):
     """Whether a part has the relationships of the package."""
-    return re.split(r"[/\\]", path.lower()) == ["_rels", ".rels"]
+    return folded(path) == "_rels/.rels"
 
 
 def directory_names(file):
@@ -202,7 +223,7 @@ def archive_of(file):
 
 
 def targets_of(event):
-    """The file names that a relationship leads to, where its type is wanted."""
+    """The file names that a relationship leads to, each with its type, where that is wanted."""
     if event[0] != "s" or event[1].split(":")[-1] != "Relationship":
         return set()
     # The reader takes some of these texts as written, and others with their references resolved.
@@ -211,9 +232,8 @@ def targets_of(event):
         for key, double, single in PAIR.findall(event[2])
         for value in (double or single, html.unescape(double or single))
     ]
-    if not any(key == "Type" and kind.split("/")[-1] in TYPES for key, kind in pairs):
-        return set()
-    return {file_name(target) for key, target in pairs if key == "Target"}
+    types = {kind.split("/")[-1] for key, kind in pairs if key == "Type"} & TYPES
+    return {(file_name(target), kind) for key, target in pairs if key == "Target" for kind in types}
 
 
 class Workbook:
@@ -227,11 +247,10 @@ class Workbook:
         }
         if self.is_open_document():
             raise Refusal(11, "an OpenDocument file: save it as .xlsx")
+        # For each file name that relationships lead to, their types.
         self.targets = self.found_targets()
         if any(name.endswith(".bin") for name in self.targets):
             raise Refusal(11, "an .xlsb workbook: save it as .xlsx")
-        if not self.fits():
-            raise too_large(limit)
 
     def is_open_document(self):
         entry = self.entries.get("mimetype")
@@ -243,7 +262,7 @@ class Workbook:
         beside = {}
         for name in self.entries:
             beside.setdefault(owner(name), []).append(name)
-        found, size = set(), 0
+        found, size = {}, 0
         waiting = [name for name in beside.get("", ()) if is_root(name)]
         waiting += [name for file in FILES for name in beside.get(file, ())]
         while waiting:
@@ -251,15 +270,16 @@ class Workbook:
                 # These parts are all written.
                 size += len(some)
                 if size > self.limit:
-                    raise too_large(self.limit)
-                for file in set().union(*map(targets_of, json.loads(f"[{some}]"))) - found:
-                    found.add(file)
+                    raise Refusal(4, too_large(self.limit))
+                for file, kind in set().union(*map(targets_of, json.loads(f"[{some}]"))):
                     # Those of the fixed names are cut already.
-                    if file not in FILES:
+                    if file not in found and file not in FILES:
                         waiting += (name for name in beside.get(file, ()) if not is_root(name))
+                    found.setdefault(file, set()).add(kind)
         return found
 
-    def is_written(self, name):
+    def is_looked_for(self, name):
+        """Whether the reader may look for a part."""
         file, part = file_name(name), owner(name)
         if self.is_all:
             return file.endswith(MARKUP)
@@ -267,15 +287,63 @@ class Workbook:
             return not file.endswith(".rels") and (file in FILES or file in self.targets)
         return is_root(name) or part in FILES or part in self.targets
 
-    def fits(self):
-        """Whether a part's text can be short enough for all that its entry says of its size. What
-        is too large is told so before it is cut."""
-        written = [entry for name, entry in self.entries.items() if self.is_written(name)]
-        if sum(entry.file_size for entry in written) <= self.limit:
+    def is_sheet(self, name):
+        """Whether a part is a worksheet's, and nothing else leads to it."""
+        file = file_name(name)
+        return self.targets.get(file) == {WORKSHEET} and file not in FILES
+
+    def is_book(self, name):
+        """Whether a part tells which parts the sheets have."""
+        part = file_name(name) if owner(name) is None else owner(name)
+        return is_root(name) or part == BOOK or DOCUMENT in self.targets.get(part, ())
+
+    def written(self, sheets):
+        """The names of the parts that are written for some sheets, or for the part of one."""
+        names = [name for name in self.entries if self.is_looked_for(name)]
+        if sheets is Sheets.ALL:
+            return names
+        if sheets is Sheets.BOOK:
+            return [name for name in names if self.is_book(name)]
+        kept = None if sheets is Sheets.NONE else folded(sheets)
+        return [name for name in names if not self.is_sheet(name) or folded(name) == kept]
+
+    def sheet_count(self):
+        """How many parts are a worksheet's alone."""
+        return sum(map(self.is_sheet, self.entries))
+
+    def text(self, sheets=Sheets.ALL):
+        """The package text for some sheets, or for the part of one: whole, in a temporary file
+        that stands at its start."""
+        names = self.written(sheets)
+        if not self.fits(names):
+            raise self.too_large(names)
+        with contextlib.ExitStack() as refused:
+            with written():
+                kept = refused.enter_context(tempfile.TemporaryFile(buffering=0))
+            output = Output(kept, self.limit)
+            try:
+                output.add_package((name, self.events(self.entries[name])) for name in names)
+            except TooLarge:
+                raise self.too_large(names) from None
+            with written():
+                kept.seek(0)
+            refused.pop_all()
+        return kept
+
+    def too_large(self, names):
+        """Tells of parts whose text is too long, and of the largest of them."""
+        most = max((self.entries[name] for name in names), key=lambda entry: entry.file_size)
+        size = f"{most.filename} has {most.file_size:,} bytes of markup"
+        return Refusal(4, f"{too_large(self.limit)}; {size}")
+
+    def fits(self, names):
+        """Whether the text of parts can be short enough, for all that the archive says of their
+        sizes. What is too large is told so before it is cut."""
+        if sum(self.entries[name].file_size for name in names) <= self.limit:
             return True
         least = 0
-        for entry in written:
-            least += self.least(entry, self.limit - least)
+        for name in names:
+            least += self.least(self.entries[name], self.limit - least)
             if least > self.limit:
                 return False
         return True
@@ -296,11 +364,6 @@ class Workbook:
             if size > most:
                 break
         return size
-
-    def parts(self):
-        for name, entry in self.entries.items():
-            if self.is_written(name):
-                yield name, self.events(entry)
 
     def events(self, entry):
         """The events of a part, as texts of one or more with commas between them."""
@@ -337,7 +400,7 @@ class Output:
         piece = text.encode()
         self.size += len(piece)
         if self.size > self.limit:
-            raise too_large(self.limit)
+            raise TooLarge
         send(piece, self.kept.fileno())
 
     def add_package(self, parts):
@@ -354,28 +417,20 @@ class Output:
         self.add("\n]}\n")
 
 
-def kept_text(source, is_all, limit):
-    """The package text of a workbook file, told by its name or as the number of an open one, whole
-    in a temporary file that stands at its start."""
-    with contextlib.ExitStack() as stack, contextlib.ExitStack() as refused:
+@contextlib.contextmanager
+def workbook_of(source, is_all=False, limit=sys.maxsize):
+    """A workbook file, told by its name or as the number of an open one."""
+    with contextlib.ExitStack() as stack:
         with read("the file"):
             file = stack.enter_context(opened(source))
-        archive = stack.enter_context(archive_of(file))
-        with written():
-            kept = refused.enter_context(tempfile.TemporaryFile(buffering=0))
-        output = Output(kept, limit)
-        output.add_package(Workbook(archive, is_all, limit).parts())
-        with written():
-            kept.seek(0)
-        refused.pop_all()
-    return kept
+        yield Workbook(stack.enter_context(archive_of(file)), is_all, limit)
 
 
-def write(path, is_all, limit, descriptor):
+def write(path, is_all, limit, descriptor, sheets=Sheets.ALL):
     with written():
         # A closed one would be that of the next file which is opened.
         os.fstat(descriptor)
-    with kept_text(path, is_all, limit) as kept:
+    with workbook_of(path, is_all, limit) as workbook, workbook.text(sheets) as kept:
         with written():
             for piece in iter(lambda: kept.read(PIECE), b""):
                 send(piece, descriptor)
@@ -393,6 +448,10 @@ def size_of(word):
     if not word.isdecimal():
         raise argparse.ArgumentTypeError("it takes a number of bytes")
     return int(word)
+
+
+def sheets_of(word):
+    return {"all": Sheets.ALL, "none": Sheets.NONE}.get(word, word)
 
 
 def asked_of(words):
@@ -415,6 +474,13 @@ def asked_of(words):
         metavar="BYTES",
         help="refuse a text that is longer than this",
     )
+    parser.add_argument(
+        "--sheets",
+        type=sheets_of,
+        default=Sheets.ALL,
+        metavar="PART",
+        help="of the worksheets' own parts write this one alone, or with `none' no such part",
+    )
     return parser.parse_args(words)
 
 
@@ -424,7 +490,7 @@ def main():
     try:
         asked = asked_of(sys.argv[1:])
         name = asked.file
-        write(asked.file, asked.all, asked.limit, 1)
+        write(asked.file, asked.all, asked.limit, 1, asked.sheets)
         return 0
     except Refusal as refusal:
         status, text = refusal.status, str(refusal)

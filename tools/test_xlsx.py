@@ -588,6 +588,23 @@ class Wrapper(unittest.TestCase):
                 self.run_on("book.xlsx", "cells", "S", stdout=full), (7, None, "write fault\n")
             )
 
+    def test_all_worksheets_of_all_samples(self):
+        self.build(PROGRAM)
+        for number, path in enumerate(sorted((TOP / "samples").glob("*.xlsx"))):
+            folder = self.folder / str(number)
+            ran = self.run_on(path, "csv", "--all", folder)
+            with self.subTest(sample=path.name):
+                _, lines, _ = self.run_on(path, "sheets")
+                rows = (line.split("\t") for line in lines.decode().splitlines())
+                names = [name for name, kind, _ in rows if kind == "worksheet"]
+                each = {name: self.run_on(path, "csv", name) for name in names}
+                self.assertEqual(ran, (0, b"", ""))
+                written = {file.name: file.read_bytes() for file in folder.iterdir()}
+                wanted = {f"{name}.csv": lines for name, (_, lines, _) in each.items()}
+                self.assertEqual(written, wanted)
+                first = self.run_on(path, "csv")
+                self.assertEqual(first, each[names[0]])
+
     def test_the_program_finds_parts_by_names_in_any_case_and_with_backslashes(self):
         self.build(PROGRAM)
         turned = {name.replace("/", "\\").upper(): part for name, part in MINIMAL.items()}
