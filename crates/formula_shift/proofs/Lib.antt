@@ -2,6 +2,7 @@ pub mod Cutting
 pub mod PieceEnds
 pub mod Steps
 pub mod Recutting
+pub mod Joining
 pub mod Spellings
 pub mod Moving
 pub mod Numbers
