@@ -55,7 +55,7 @@ no_other_behind p rest stands other =
     (ap (λ k. length_behind k (stands.behind ++ rest)) (sym (other_kind_is p.kind other))
     ∙ stands.ends)
 
-both_true : (a b : Bool) → (a && b) ≡ true → (a ≡ true) × (b ≡ true)
+pub both_true : (a b : Bool) → (a && b) ≡ true → (a ≡ true) × (b ≡ true)
 both_true true true e = (refl, refl)
 both_true true false e = cc
 both_true false b e = cc

@@ -8,4 +8,5 @@ pub mod Moving
 pub mod Numbers
 pub mod Positions
 pub mod ReadBack
+pub mod MovedReferences
 pub mod Composing

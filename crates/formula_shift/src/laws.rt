@@ -7,7 +7,7 @@ ghost use Rattle.cell_refs.specs.Reference.{reference, row_reference};
 ghost use Rattle.formula_shift.specs.References.{corner_of, corner_spelling, word_reference};
 ghost use Rattle.formula_shift.specs.References.{spelling};
 ghost use Rattle.formula_shift.specs.Relocation.{NoneLeaves, offset_between, moved_pieces};
-ghost use Rattle.formula_shift.specs.Relocation.{joined_others, references, moved};
+ghost use Rattle.formula_shift.specs.Relocation.{joined_others, references, moved, moved_references};
 
 use crate::Corner;
 
@@ -35,6 +35,13 @@ pub fn apostrophe_takes_a_character(c: char)
 pub fn moved_text_is_cut_into_the_moved_pieces()
     ensures { (text : List ℕ) (offset : ℤ × ℤ) →
         pieces (moved text offset) ≡ joined_others (moved_pieces offset (pieces text)) }
+{}
+
+/// The references of a moved text are those of the text, moved, in order. Those that leave the
+/// worksheet are left out, and `#REF!` has none.
+pub fn references_of_a_moved_text_are_moved()
+    ensures { (text : List ℕ) (offset : ℤ × ℤ) →
+        references (pieces (moved text offset)) ≡ moved_references text offset }
 {}
 
 /// A text without a reference is its own expansion.
