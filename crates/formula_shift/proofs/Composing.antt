@@ -165,8 +165,9 @@ reference_twice d e first (Some second) there is formed =
           (corner_twice d e second parts.0 parts.2 i)),
     )
 
-pub displaced_twice : (d e : ℤ × ℤ) (reference there : Reference) → displaced d reference ≡ Some there →
-    IsFormed reference → IsFormed there × (displaced e there ≡ displaced (offsets d e) reference)
+pub displaced_twice : (d e : ℤ × ℤ) (reference there : Reference) →
+    displaced d reference ≡ Some there → IsFormed reference →
+    IsFormed there × (displaced e there ≡ displaced (offsets d e) reference)
 unfolding displaced
 displaced_twice d e reference there is formed =
     reference_twice d e reference.first reference.second there is formed

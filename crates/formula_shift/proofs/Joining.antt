@@ -7,7 +7,7 @@ use Rattle.std.specs.List.{prefix_len, list_all}
 use Rattle.formula_shift.specs.Pieces.{PieceKind, string_kind, quoted_kind, group_kind, word_kind}
 use Rattle.formula_shift.specs.Pieces.{other_kind, PieceText, is_other_byte, length_behind}
 use Rattle.formula_shift.specs.Pieces.{joined_pieces}
-use Rattle.formula_shift.specs.Relocation.{is_other, before_others, joined_others}
+use Rattle.formula_shift.specs.Relocation.{is_other, other_of, before_others, joined_others}
 use Rattle.formula_shift.proofs.Recutting.{first_kind, passes, begins, begins_other, other_is}
 use Rattle.formula_shift.proofs.Recutting.{run_stops, StandsBefore, GrowsBefore, AreCut}
 
@@ -24,8 +24,7 @@ pub joined_pieces-before_others : (p : PieceText) (qs : List PieceText) →
 joined_pieces-before_others p [] = refl
 joined_pieces-before_others p (q ∷ qs) = by_test (is_other p.kind && is_other q.kind) where
   by_test : (both : Bool) →
-      joined_pieces (cond both
-      (record { kind = other_kind; bytes = p.bytes ++ q.bytes } ∷ qs) (p ∷ q ∷ qs))
+      joined_pieces (cond both (other_of (p.bytes ++ q.bytes) ∷ qs) (p ∷ q ∷ qs))
       ≡ p.bytes ++ (q.bytes ++ joined_pieces qs)
   by_test true = append_assoc p.bytes q.bytes (joined_pieces qs)
   by_test false = refl
@@ -36,16 +35,16 @@ joined_pieces-joined_others [] = refl
 joined_pieces-joined_others (p ∷ ps) = joined_pieces-before_others p (joined_others ps)
     ∙ ap (λ t. p.bytes ++ t) (joined_pieces-joined_others ps)
 
--- the kind of a piece that stands before a text is the first one of both together
-pub first_kind_is : (p : PieceText) (rest : List ℕ) → StandsBefore p rest →
-    first_kind (p.bytes ++ rest) ≡ Some p.kind
-first_kind_is p rest stands = ap (λ t. first_kind (t ++ rest)) stands.bytes_are
+-- the kind of a piece that stands before a text is the first one before any
+pub first_kind_is : (p : PieceText) (rest after : List ℕ) → StandsBefore p rest →
+    first_kind (p.bytes ++ after) ≡ Some p.kind
+first_kind_is p rest after stands = ap (λ t. first_kind (t ++ after)) stands.bytes_are
     ∙ ap Some (sym stands.kind_is)
 
 begins_piece : (p : PieceText) (rest : List ℕ) → StandsBefore p rest →
     begins is_other_byte (p.bytes ++ rest) ≡ is_other p.kind
 begins_piece p rest stands = begins_other (p.bytes ++ rest)
-    ∙ ap (passes is_other) (first_kind_is p rest stands)
+    ∙ ap (passes is_other) (first_kind_is p rest rest stands)
 
 -- no Other begins behind an Other that ends
 no_other_behind : (p : PieceText) (rest : List ℕ) → StandsBefore p rest → is_other p.kind ≡ true →
@@ -95,7 +94,7 @@ module _ (p q : PieceText) (rest : List ℕ) (grows : GrowsBefore p (q.bytes ++ 
             prefix_len is_other_byte (f ∷ (bs ++ rest)) ≡ length (f ∷ bs)
         by_first f bs first ends = grind arith
 
-  grown : StandsBefore (record { kind = other_kind; bytes = p.bytes ++ q.bytes }) rest
+  grown : StandsBefore (other_of (p.bytes ++ q.bytes)) rest
   grown = record {
     first = grows.first;
     behind = grows.behind ++ q.bytes;
@@ -114,16 +113,14 @@ pub before_others-cut : (p : PieceText) (qs : List PieceText) →
 before_others-cut p [] (inl stands) cut = (stands, tt)
 before_others-cut p [] (inr grows) cut = let never : false ≡ true = grows.grows in cc
 before_others-cut p (q ∷ qs) (inl stands) cut =
-    subst (λ both. AreCut (cond both
-    (record { kind = other_kind; bytes = p.bytes ++ q.bytes } ∷ qs) (p ∷ q ∷ qs)))
+    subst (λ both. AreCut (cond both (other_of (p.bytes ++ q.bytes) ∷ qs) (p ∷ q ∷ qs)))
     (sym (never_both p q (joined_pieces qs) stands cut.0)) (stands, cut)
 before_others-cut p (q ∷ qs) (inr grows) cut =
     let other : is_other q.kind ≡ true = sym (begins_piece q (joined_pieces qs) cut.0)
     ∙ grows.grows in
     let both : (is_other p.kind && is_other q.kind) ≡ true =
     λ i. grows.is_other_kind i && other i in
-    subst (λ both. AreCut (cond both
-    (record { kind = other_kind; bytes = p.bytes ++ q.bytes } ∷ qs) (p ∷ q ∷ qs)))
+    subst (λ both. AreCut (cond both (other_of (p.bytes ++ q.bytes) ∷ qs) (p ∷ q ∷ qs)))
     (sym both) (grown p q (joined_pieces qs) grows cut.0 other, cut.1)
 
 -- ---- where no two are neighbours
@@ -137,8 +134,7 @@ pub before_others-apart : (p : PieceText) (qs : List PieceText) →
     (is_other p.kind && starts_other qs) ≡ false → before_others p qs ≡ p ∷ qs
 before_others-apart p [] apart = refl
 before_others-apart p (q ∷ qs) apart =
-    ap (λ both. cond both
-    (record { kind = other_kind; bytes = p.bytes ++ q.bytes } ∷ qs) (p ∷ q ∷ qs)) apart
+    ap (λ both. cond both (other_of (p.bytes ++ q.bytes) ∷ qs) (p ∷ q ∷ qs)) apart
 
 pub cut_apart : (p : PieceText) (ps : List PieceText) → AreCut (p ∷ ps) →
     (is_other p.kind && starts_other ps) ≡ false

@@ -8,5 +8,5 @@ pub mod Moving
 pub mod Numbers
 pub mod Positions
 pub mod ReadBack
-pub mod MovedReferences
+pub mod Leaving
 pub mod Composing

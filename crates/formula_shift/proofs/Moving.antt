@@ -13,7 +13,8 @@ use Rattle.formula_shift.specs.Pieces.{is_other_byte, length_behind}
 use Rattle.formula_shift.specs.Pieces.{pieces, joined_pieces}
 use Rattle.formula_shift.specs.References.{IsInWorksheet, word_reference, displaced}
 use Rattle.formula_shift.specs.Relocation.{is_word, is_other, is_name_before, first_byte}
-use Rattle.formula_shift.specs.Relocation.{piece_reference, word_of, lost_pieces, image, image_or}
+use Rattle.formula_shift.specs.Relocation.{piece_reference, word_of, other_of, lost_pieces}
+use Rattle.formula_shift.specs.Relocation.{image, image_or}
 use Rattle.formula_shift.specs.Relocation.{moved_piece, moved_pieces, references, moved}
 use Rattle.formula_shift.specs.Relocation.{joined_others}
 use Rattle.formula_shift.proofs.Cutting.{joined_pieces-pieces}
@@ -23,6 +24,7 @@ use Rattle.formula_shift.proofs.Recutting.{BeginsAlike, EndsAlike, length_behind
 use Rattle.formula_shift.proofs.Recutting.{StandsBefore, GrowsBefore, AreCut, are_cut-pieces}
 use Rattle.formula_shift.proofs.Recutting.{pieces-joined_pieces}
 use Rattle.formula_shift.proofs.Joining.{joined_pieces-joined_others, before_others-cut}
+use Rattle.formula_shift.proofs.Joining.{first_kind_is, both_true}
 use Rattle.formula_shift.proofs.Spellings.{IsWordText, word_reference_inside, displaced_inside}
 use Rattle.formula_shift.proofs.Spellings.{spelling_is_word}
 
@@ -47,8 +49,8 @@ piece_reference_word piece behind =
       by_tests true false o inside word = tt
       by_tests false b o inside word = tt
 
--- What the pieces qs are that stand for p in a moved text: p alone, or, where p is a Word, the pieces
--- of `#REF!` or another Word.
+-- what stands for a piece in a moved text: the piece alone, or, where it is a Word, the pieces of
+-- `#REF!` or another Word
 abbrev pub IsWordImage : List PieceText → Type 0
 IsWordImage qs = (qs ≡ lost_pieces)
     ⊎ ((q : PieceText) × (qs ≡ q ∷ []) × (q.kind ≡ word_kind) × IsWordText 25 q.bytes)
@@ -80,29 +82,14 @@ run_is p (w ∷ ws) rest all stops = grind (arith, run_is p ws rest)
 word_piece_kind : (c : ℕ) → is_word_byte c ≡ true → piece_kind c ≡ word_kind
 word_piece_kind c word = word_kind_is (piece_kind c) (word_is c ∙ word)
 
--- the first byte of a Word is one of a Word's
+-- the first byte of a Word is one of a Word's, and so are the others
+word_bytes : (w : ℕ) (ws : List ℕ) → list_all is_word_byte (w ∷ ws) ≡ true →
+    (is_word_byte w ≡ true) × (list_all is_word_byte ws ≡ true)
+word_bytes w ws all = both_true (is_word_byte w) (list_all is_word_byte ws) all
+
 pub first_in_word : (w : ℕ) (ws : List ℕ) → list_all is_word_byte (w ∷ ws) ≡ true →
     is_word_byte w ≡ true
-first_in_word w ws all = by_test (is_word_byte w) (list_all is_word_byte ws) all where
-  by_test : (a b : Bool) → (a && b) ≡ true → a ≡ true
-  by_test true b e = refl
-  by_test false b e = e
-
-rest_in_word : (w : ℕ) (ws : List ℕ) → list_all is_word_byte (w ∷ ws) ≡ true →
-    list_all is_word_byte ws ≡ true
-rest_in_word w ws all = by_test (is_word_byte w) (list_all is_word_byte ws) all where
-  by_test : (a b : Bool) → (a && b) ≡ true → b ≡ true
-  by_test true b e = e
-  by_test false b e = cc
-
-abbrev lost_sign : PieceText
-lost_sign = record { kind = other_kind; bytes = codes "#" }
-
-abbrev lost_word : PieceText
-lost_word = record { kind = word_kind; bytes = codes "REF" }
-
-abbrev lost_mark : PieceText
-lost_mark = record { kind = other_kind; bytes = codes "!" }
+first_in_word w ws all = (word_bytes w ws all).0
 
 -- a Word of these bytes stands before a text that begins with no byte of a Word's
 word_stands : (q : PieceText) (bs rest : List ℕ) → q.bytes ≡ bs → q.kind ≡ word_kind →
@@ -115,7 +102,7 @@ word_stands q (w ∷ ws) rest are kind nonempty all stops = record {
   bytes_are = are;
   kind_is = kind ∙ sym (word_piece_kind w (first_in_word w ws all));
   ends = ap (λ k. length_behind k (ws ++ rest)) kind
-      ∙ run_is is_word_byte ws rest (rest_in_word w ws all) stops;
+      ∙ run_is is_word_byte ws rest (word_bytes w ws all).1 stops;
 }
 
 run_all : (p : ℕ → Bool) (bs rest : List ℕ) → prefix_len p (bs ++ rest) ≡ length bs →
@@ -177,7 +164,7 @@ joined_cut p after before cut =
     before) cut
 
 mark_before : (rest : List ℕ) (other : Bool) → begins is_other_byte rest ≡ other →
-    StandsBefore lost_mark rest ⊎ GrowsBefore lost_mark rest
+    StandsBefore (other_of (codes "!")) rest ⊎ GrowsBefore (other_of (codes "!")) rest
 mark_before rest true is = inr (record {
   first = 33;
   behind = [];
@@ -199,21 +186,23 @@ lost_cut : (after : List PieceText) → AreCut (joined_others after) →
     AreCut (joined_others (lost_pieces ++ after))
 lost_cut after cut =
     let rest = joined_pieces after in
-    joined_cut lost_sign (lost_word ∷ lost_mark ∷ after) (inl (record {
+    let word : PieceText = record { kind = word_kind; bytes = codes "REF" } in
+    let mark = other_of (codes "!") in
+    joined_cut (other_of (codes "#")) (word ∷ mark ∷ after) (inl (record {
       first = 35;
       behind = [];
       bytes_are = refl;
       kind_is = refl;
       ends = refl;
     }))
-    (joined_cut lost_word (lost_mark ∷ after) (inl (record {
+    (joined_cut word (mark ∷ after) (inl (record {
       first = 82;
       behind = codes "EF";
       bytes_are = refl;
       kind_is = refl;
       ends = refl;
     }))
-    (joined_cut lost_mark after (mark_before rest (begins is_other_byte rest) refl) cut))
+    (joined_cut mark after (mark_before rest (begins is_other_byte rest) refl) cut))
 
 -- qs stand before what is moved, where p stands before what it is moved from
 module _ (p : PieceText) (rest : List ℕ) (qs after : List PieceText) (is_from : IsMovedFrom p qs)
@@ -242,19 +231,18 @@ module _ (p : PieceText) (rest : List ℕ) (qs after : List PieceText) (is_from 
   alike_moved =
       elim is_from [
         | inl same ↦ subst (λ qs. BeginsAlike (p.bytes ++ rest) (joined_pieces (qs ++ after)))
-            (sym same) (inl (whole rest ∙ sym (whole (joined_pieces after))))
+            (sym same) (inl (whole ∙ sym (first_kind_is p rest (joined_pieces after) stands)))
         | inr word ↦ elim word.1 [
           | inl lost ↦ subst (λ qs. BeginsAlike (p.bytes ++ rest) (joined_pieces (qs ++ after)))
-              (sym lost) (inr (whole rest ∙ ap Some word.0, refl))
+              (sym lost) (inr (whole ∙ ap Some word.0, refl))
           | inr moved ↦ subst (λ qs. BeginsAlike (p.bytes ++ rest) (joined_pieces (qs ++ after)))
               (sym moved.1)
-              (inl (whole rest ∙ ap Some word.0
+              (inl (whole ∙ ap Some word.0
               ∙ sym (by_bytes moved.0.bytes moved.3.nonempty moved.3.in_word)))
         ]
       ] where
-        whole : (behind : List ℕ) → first_kind (p.bytes ++ behind) ≡ Some p.kind
-        whole behind = ap (λ t. first_kind (t ++ behind)) stands.bytes_are
-            ∙ ap Some (sym stands.kind_is)
+        whole : first_kind (p.bytes ++ rest) ≡ Some p.kind
+        whole = first_kind_is p rest rest stands
 
         by_bytes : (bs : List ℕ) → 0 < length bs → list_all is_word_byte bs ≡ true →
             first_kind (bs ++ joined_pieces after) ≡ Some word_kind
@@ -338,7 +326,7 @@ image_length p rest qs is_from stands =
       ]
     ]
 
--- a moved text is at most 25 times as long, and empty where the text is
+-- a moved text is at most 25 times as long, and empty only where the text is
 moved_length : (offset : ℤ × ℤ) (ps : List PieceText) → AreCut ps →
     (length (joined_pieces (moved_pieces offset ps)) ≤ 25 * length (joined_pieces ps))
     × (0 < length (joined_pieces ps) → 0 < length (joined_pieces (moved_pieces offset ps)))

@@ -7,7 +7,8 @@ ghost use Rattle.cell_refs.specs.Reference.{reference, row_reference};
 ghost use Rattle.formula_shift.specs.References.{corner_of, corner_spelling, word_reference};
 ghost use Rattle.formula_shift.specs.References.{spelling};
 ghost use Rattle.formula_shift.specs.Relocation.{NoneLeaves, offset_between, moved_pieces};
-ghost use Rattle.formula_shift.specs.Relocation.{joined_others, references, moved, moved_references};
+ghost use Rattle.formula_shift.specs.Relocation.{joined_others, references, moved};
+ghost use Rattle.formula_shift.specs.Relocation.{moved_references};
 
 use crate::Corner;
 
@@ -57,7 +58,7 @@ pub fn spelling_reads_back()
 {}
 
 /// Where no reference of a text leaves the worksheet from a to b, expanding from a to b and then
-/// from b to c gives the expansion from a to c. One that leaves from a to c is `#REF!` on both ways.
+/// from b to c gives the expansion from a to c. One that leaves from a to c is `#REF!` either way.
 pub fn expansions_compose()
     ensures { (text : List ℕ) (a b c : ℕ × ℕ) → NoneLeaves (offset_between a b) text →
         moved (moved text (offset_between a b)) (offset_between b c)

@@ -6,11 +6,11 @@ use Rattle.std.specs.Prelude.{IfSome, ℤ, option_to_list}
 use Rattle.std.specs.List.{flat_map}
 use Rattle.std.proofs.lemmas.Grind.{flat_map-append}
 use Rattle.formula_shift.specs.declared.reference.Reference.{Reference}
-use Rattle.formula_shift.specs.Pieces.{word_kind, other_kind, PieceText, pieces, joined_pieces}
+use Rattle.formula_shift.specs.Pieces.{word_kind, PieceText, pieces, joined_pieces}
 use Rattle.formula_shift.specs.References.{IsInWorksheet, word_reference, displaced}
 use Rattle.formula_shift.specs.Relocation.{is_word, is_other, is_name_before, first_byte}
-use Rattle.formula_shift.specs.Relocation.{piece_reference, references, lost_pieces, image}
-use Rattle.formula_shift.specs.Relocation.{image_or, moved_pieces, moved}
+use Rattle.formula_shift.specs.Relocation.{piece_reference, references, other_of}
+use Rattle.formula_shift.specs.Relocation.{lost_pieces, image, image_or, moved_pieces, moved}
 use Rattle.formula_shift.specs.Relocation.{before_others, joined_others, moved_references}
 use Rattle.formula_shift.proofs.Recutting.{AreCut, are_cut-pieces}
 use Rattle.formula_shift.proofs.Joining.{other_kind_is, both_true, joined_pieces-joined_others}
@@ -35,16 +35,14 @@ references-before_others : (p : PieceText) (qs : List PieceText) →
 references-before_others p [] = refl
 references-before_others p (q ∷ qs) = by_test (is_other p.kind && is_other q.kind) refl where
   by_test : (both : Bool) → (is_other p.kind && is_other q.kind) ≡ both →
-      references (cond both
-      (record { kind = other_kind; bytes = p.bytes ++ q.bytes } ∷ qs) (p ∷ q ∷ qs))
+      references (cond both (other_of (p.bytes ++ q.bytes) ∷ qs) (p ∷ q ∷ qs))
       ≡ references (p ∷ q ∷ qs)
   by_test false are = refl
   by_test true are =
       let others = both_true (is_other p.kind) (is_other q.kind) are in
       let behind = first_byte (joined_pieces qs) in
-      let one : piece_reference (record { kind = other_kind; bytes = p.bytes ++ q.bytes }) behind
-      ≡ None =
-      other_is_none (record { kind = other_kind; bytes = p.bytes ++ q.bytes }) behind refl in
+      let one : piece_reference (other_of (p.bytes ++ q.bytes)) behind ≡ None =
+      other_is_none (other_of (p.bytes ++ q.bytes)) behind refl in
       ap (λ o. option_to_list o ++ references qs) one
       ∙ (λ i. option_to_list
       (sym (other_is_none p (first_byte (q.bytes ++ joined_pieces qs)) others.0) i)
