@@ -25,6 +25,7 @@ pub data Front : Type 0 where
 abbrev pub without_leading_space : List ℕ → List ℕ
 without_leading_space text = drop (prefix_len is_ascii_whitespace text) text
 
+-- the text without the white space at its end
 abbrev pub without_trailing_space : List ℕ → List ℕ
 without_trailing_space text = take (length text - suffix_len is_ascii_whitespace text) text
 
@@ -32,6 +33,7 @@ without_trailing_space text = take (length text - suffix_len is_ascii_whitespace
 abbrev pub is_quote : ℕ → Bool
 is_quote b = b == 34 || b == 39
 
+-- a text begins with a quote of either kind
 abbrev pub begins_with_quote : List ℕ → Bool
 begins_with_quote [] = false
 begins_with_quote (b ∷ bs) = is_quote b

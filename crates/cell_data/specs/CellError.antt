@@ -5,6 +5,7 @@ use Rattle.cell_data.specs.declared.value.CellErrorType.{CellErrorType}
 use Rattle.cell_data.specs.declared.value.CellErrorType.TheVariants.{Div0, NA, Name, Null, Num, Ref}
 use Rattle.cell_data.specs.declared.value.CellErrorType.TheVariants.{Value, GettingData}
 
+-- the error that a text names
 abbrev pub cell_error : List ℕ → Option CellErrorType
 cell_error text =
     if bytes_eq text (codes "#DIV/0!") then Some Div0

@@ -9,6 +9,7 @@ use Rattle.cell_data.specs.declared.value.Data.TheVariants as owned
 use Rattle.cell_data.specs.declared.value.DataRef.{DataRef}
 use Rattle.cell_data.specs.declared.value.DataRef.TheVariants as shared
 
+-- the value of a cell, apart from how it is kept
 pub data CellValue : Type 0 where
   nothing : CellValue
   integer : ℤ → CellValue
@@ -22,9 +23,11 @@ pub data CellValue : Type 0 where
   iso_time : List ℕ → CellValue
   failure : CellErrorType → CellValue
 
+-- the value of a date or a duration
 abbrev pub time_value : ExcelDateTime → CellValue
 time_value date = time (number_of date.value) date.kind date.is_1904
 
+-- the value that `Data` holds
 abbrev pub value_of_data : Data → CellValue
 value_of_data (owned.Int n) = integer n
 value_of_data (owned.Decimal d) = number (number_of d)
@@ -35,6 +38,7 @@ value_of_data (owned.DateTimeIso bytes) = iso_time (string_bytes bytes)
 value_of_data (owned.Error error) = failure error
 value_of_data owned.Empty = nothing
 
+-- the value that `DataRef` holds
 abbrev pub value_of_data_ref : DataRef → CellValue
 value_of_data_ref (shared.Decimal d) = number (number_of d)
 value_of_data_ref (shared.String bytes) = text (string_bytes bytes)

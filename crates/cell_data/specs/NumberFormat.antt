@@ -14,6 +14,7 @@ date_ids =
     codes "14" ∷ codes "15" ∷ codes "16" ∷ codes "17" ∷ codes "18" ∷ codes "19" ∷ codes "20"
     ∷ codes "21" ∷ codes "22" ∷ codes "45" ∷ codes "47" ∷ []
 
+-- what a built-in number format counts, by its number (ECMA-376 part 1, section 18.8.30)
 abbrev pub builtin_format : List ℕ → CellFormat
 builtin_format id =
     if list_any (λ known. bytes_eq id known) date_ids then DateTime
@@ -95,6 +96,7 @@ first_sign b bs =
     else (if is_date_letter b || begins_half_day b bs then tells DateTime
     else passed bs))))
 
+-- the format that a sign tells, or what reading on tells of the rest
 abbrev pub read_on : FormatSign → (List ℕ → CellFormat) → CellFormat
 read_on (tells format) read = format
 read_on (passed rest) read = read rest
@@ -107,5 +109,6 @@ format_with_fuel zero (b ∷ bs) = Other
 format_with_fuel (suc turns) (b ∷ bs) =
     read_on (first_sign b bs) (λ rest. format_with_fuel turns rest)
 
+-- what the text of a number format counts
 unfoldable pub custom_format : List ℕ → CellFormat
 custom_format text = format_with_fuel (length text) text

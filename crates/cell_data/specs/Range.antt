@@ -10,12 +10,15 @@ use Rattle.cell_data.specs.declared.range.Range.{Range}
 use Rattle.cell_refs.specs.Positions.{position_cmp, is_in_bounds}
 use Rattle.sorted_cells.specs.Kept.{kept_cells}
 
+-- the cells that a range keeps, in their order
 abbrev pub cells_of : {X : Type 0} → Range X → List ((ℕ × ℕ) × X)
 cells_of range = kept_cells range.cells
 
+-- the area that a range spans
 abbrev pub bounds_of : {X : Type 0} → Range X → Option Dimensions
 bounds_of range = range.bounds
 
+-- what a range gives for a position that has no cell of its own
 abbrev pub blank_of : {X : Type 0} → Range X → X
 blank_of range = range.blank
 
@@ -24,6 +27,7 @@ abbrev pub width_of : Option Dimensions → ℕ
 width_of None = 0
 width_of (Some area) = area.end.1 + 1 - area.start.1
 
+-- how many rows an area has
 abbrev pub height_of : Option Dimensions → ℕ
 height_of None = 0
 height_of (Some area) = area.end.0 + 1 - area.start.0

@@ -19,6 +19,7 @@ use Rattle.cell_refs.specs.declared.error.RefError.TheVariants.{RowNumberOverflo
 abbrev pub row_limit : ℕ
 row_limit = 1048576
 
+-- the number of columns of a worksheet
 abbrev pub column_limit : ℕ
 column_limit = 16384
 

@@ -9,6 +9,7 @@ use Rattle.std.specs.FinMap.{from_entries, entries, is_sorted}
 use Rattle.cell_refs.specs.declared.TheConstants.{MAX_ROWS, MAX_COLUMNS}
 use Rattle.cell_refs.specs.declared.dimensions.Dimensions.{Dimensions}
 
+-- positions are ordered by their rows, and in a row by their columns
 abbrev pub position_cmp : ℕ × ℕ → ℕ × ℕ → Ordering
 position_cmp a b = ordering_then (nat_cmp a.0 b.0) (nat_cmp a.1 b.1)
 
@@ -39,10 +40,12 @@ is_in_area area position =
     (nat_le area.start.0 position.0 && nat_le position.0 area.end.0)
     && (nat_le area.start.1 position.1 && nat_le position.1 area.end.1)
 
+-- a position lies in an area, if there is one
 abbrev pub is_in_bounds : Option Dimensions → ℕ × ℕ → Bool
 is_in_bounds None position = false
 is_in_bounds (Some area) position = is_in_area area position
 
+-- all of these cells lie in an area; where there is none, there are no cells
 abbrev pub lie_inside : {X : Type 0} → Option Dimensions → List ((ℕ × ℕ) × X) → Bool
 lie_inside bounds cells = list_all (λ cell. is_in_bounds bounds cell.0) cells
 
@@ -52,6 +55,7 @@ is_sheet_area area =
     (nat_le area.start.0 area.end.0 && nat_lt area.end.0 MAX_ROWS)
     && (nat_le area.start.1 area.end.1 && nat_lt area.end.1 MAX_COLUMNS)
 
+-- an area lies in a worksheet, or there is none
 abbrev pub are_sheet_bounds : Option Dimensions → Bool
 are_sheet_bounds None = true
 are_sheet_bounds (Some area) = is_sheet_area area

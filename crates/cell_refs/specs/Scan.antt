@@ -6,6 +6,7 @@ use Rattle.std.specs.Str.Parse.{digits_value}
 use Rattle.cell_refs.specs.declared.position.Scan.{Scan}
 use Rattle.cell_refs.specs.A1.{row_limit, column_limit, letters_value, letters_of, behind_letters}
 
+-- what a scan of a text keeps; a number stays at one more than its limit, once it passes that
 abbrev pub scan_of : List ℕ → Scan
 scan_of text = record {
   column = min (letters_value (letters_of text)) (column_limit + 1);

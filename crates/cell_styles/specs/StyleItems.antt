@@ -33,6 +33,7 @@ cells_in (Some area) styles =
     ))
     (places area)
 
+-- the styles of all positions of an area, row by row
 abbrev pub position_styles : StyleMap → List CellStyle
 position_styles styles = cells_in styles.bounds styles
 
@@ -63,6 +64,7 @@ styled_in (Some area) ids =
     (map (λ place. ((position_in area place).0, (position_in area place).1, slice_index ids place))
     (places area))
 
+-- the positions whose style has a number above 0, with that number
 abbrev pub styled_of : StyleMap → List StyledCell
 styled_of styles = styled_in styles.bounds styles.ids
 

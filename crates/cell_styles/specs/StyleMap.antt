@@ -22,6 +22,7 @@ IsOnSheet cell = (cell.0 < MAX_ROWS) × (cell.1 < MAX_COLUMNS)
 abbrev pub is_explicit : ℕ → StyledCell → Bool
 is_explicit count cell = nat_lt 0 cell.2 && nat_lt cell.2 count
 
+-- a styled cell stands at this position
 abbrev pub is_at : ℕ × ℕ → StyledCell → Bool
 is_at position cell = (cell.0 == position.0) && (cell.1 == position.1)
 
@@ -46,9 +47,11 @@ abbrev pub covering_area : List StyledCell → Option Dimensions
 covering_area [] = None
 covering_area (cell ∷ cells) = Some (widened (covering_area cells) cell)
 
+-- how many columns an area has
 abbrev pub width_in : Dimensions → ℕ
 width_in area = span area.start.1 area.end.1
 
+-- how many rows an area has
 abbrev pub height_in : Dimensions → ℕ
 height_in area = span area.start.0 area.end.0
 
@@ -57,6 +60,7 @@ abbrev pub place_in : Dimensions → ℕ × ℕ → ℕ
 place_in area position =
     (position.0 - area.start.0) * width_in area + (position.1 - area.start.1)
 
+-- the position at a place of an area, counted from 0 along its rows
 abbrev pub position_in : Dimensions → ℕ → ℕ × ℕ
 position_in area place =
     (area.start.0 + place / width_in area, area.start.1 + place % width_in area)
@@ -65,11 +69,13 @@ position_in area place =
 abbrev pub places : Dimensions → List ℕ
 places area = range_with_len 0 (cell_count area)
 
+-- the styles of an area: a palette, and for each position the number of its style in it
 pub record StyleMap : Type 0 where
   pub bounds : Option Dimensions
   pub palette : List Style
   pub ids : List ℕ
 
+-- a map without an area
 abbrev pub no_styles : StyleMap
 no_styles = record { bounds = None; palette = []; ids = [] }
 
@@ -112,5 +118,6 @@ style_in (Some area) styles position =
     then slice_get styles.palette (slice_index styles.ids (place_in area position))
     else None
 
+-- the style at a position
 abbrev pub style_at : StyleMap → ℕ × ℕ → Option Style
 style_at styles position = style_in styles.bounds styles position

@@ -2,7 +2,8 @@
 -- pair: a whole number, and the power of ten that it is taken times.
 use Rattle.std.specs.Prelude.{ℕ, ◌+◌, ◌-◌, ◌^◌, Bool, ◌&&◌, ◌||◌, ◌==◌, nat_lt, nat_le}
 use Rattle.std.specs.Prelude.{if◌then◌else◌, List, [], ◌∷◌, ◌++◌, length, take, drop, replicate}
-use Rattle.std.specs.Prelude.{Option, None, Some, ℤ, pos, negsuc, ◌+ℤ◌, ◌-ℤ◌, neg_ℤ}
+use Rattle.std.specs.Prelude.{Option, None, Some, ℤ, pos, negsuc, ◌+ℤ◌, ◌-ℤ◌, neg_ℤ, nat_abs}
+use Rattle.std.specs.Int.{is_negative}
 use Rattle.std.specs.Char.{is_ascii_digit}
 use Rattle.std.specs.Fmt.{decimal, signed_decimal}
 use Rattle.std.specs.List.{prefix_len, suffix_len, take_while}
@@ -15,6 +16,7 @@ use Rattle.std.specs.Str.Parse.{without_leading_sign}
 abbrev pub digits_in_front : List ℕ → List ℕ
 digits_in_front text = take_while is_ascii_digit text
 
+-- what stands behind the decimal digits in front of a text
 abbrev pub behind_digits : List ℕ → List ℕ
 behind_digits text = drop (prefix_len is_ascii_digit text) text
 
@@ -27,6 +29,7 @@ abbrev pub fraction_digits : List ℕ → List ℕ
 fraction_digits [] = []
 fraction_digits (b ∷ bs) = if is_point b then digits_in_front bs else []
 
+-- what stands behind the point and its digits in front of a text
 abbrev pub behind_fraction : List ℕ → List ℕ
 behind_fraction [] = []
 behind_fraction (b ∷ bs) = if is_point b then behind_digits bs else b ∷ bs
@@ -50,9 +53,11 @@ power_of (b ∷ bs) = if is_exponent_mark b then signed_number bs else None
 abbrev pub trailing_zeros : List ℕ → ℕ
 trailing_zeros digits = suffix_len (λ b. b == 48) digits
 
+-- the digits without the zeros at their end
 abbrev pub without_trailing_zeros : List ℕ → List ℕ
 without_trailing_zeros digits = take (length digits - trailing_zeros digits) digits
 
+-- a number with its sign
 abbrev pub with_sign : Bool → ℕ → ℤ
 with_sign negative n = if negative then neg_ℤ (pos n) else pos n
 
@@ -75,6 +80,14 @@ has_bits bits (negsuc n) = nat_lt n (2 ^ bits)
 abbrev pub fitting : ℤ × ℤ → Option (ℤ × ℤ)
 fitting number = if has_bits 127 number.0 && has_bits 31 number.1 then Some number else None
 
+-- a whole number times ten to a power in its one form: without zeros at its end
+abbrev pub in_one_form : ℤ × ℤ → ℤ × ℤ
+in_one_form n = number_of_digits (is_negative n.0) (decimal (nat_abs n.0)) n.1
+
+-- the decimal of a whole number times ten to a power, where it fits
+unfoldable pub decimal_from : ℤ × ℤ → Option (ℤ × ℤ)
+decimal_from n = fitting (in_one_form n)
+
 -- the number of a whole part, and of what stands behind it
 abbrev pub unsigned_decimal : Bool → List ℕ → List ℕ → Option (ℤ × ℤ)
 unsigned_decimal negative whole behind =
@@ -96,10 +109,13 @@ abbrev pub with_point_in : ℕ → List ℕ → List ℕ
 with_point_in places digits =
     take (length digits - places) digits ++ 46 ∷ drop (length digits - places) digits
 
+-- digits with a point before the last `places` of them, and zeros in front where they are too
+-- few
 abbrev pub with_point : ℕ → List ℕ → List ℕ
 with_point places digits =
     with_point_in places (replicate (places + 1 - length digits) 48 ++ digits)
 
+-- digits with `E` and the power of ten
 abbrev pub with_exponent : List ℕ → ℤ → List ℕ
 with_exponent digits power = digits ++ 69 ∷ signed_decimal power
 
@@ -115,5 +131,6 @@ abbrev pub printed_signed : ℤ → ℤ → List ℕ
 printed_signed (pos n) power = printed_digits (decimal n) power
 printed_signed (negsuc n) power = 45 ∷ printed_digits (decimal (n + 1)) power
 
+-- the text of a decimal, by its mantissa and its power of ten
 unfoldable pub printed : ℤ × ℤ → List ℕ
 printed number = printed_signed number.0 number.1

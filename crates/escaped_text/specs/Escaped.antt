@@ -11,6 +11,7 @@ escaped_byte byte =
     else (if byte == 10 then codes "\\n"
     else (if byte == 13 then codes "\\r" else byte ∷ [])))
 
+-- a text with its tabs, line ends and backslashes escaped
 abbrev pub escaped : List ℕ → List ℕ
 escaped bytes = flat_map escaped_byte bytes
 

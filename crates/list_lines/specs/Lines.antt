@@ -40,6 +40,7 @@ LiesInWorksheet area = IsCellOfWorksheet area.start × IsCellOfWorksheet area.en
 abbrev pub area_field : Dimensions → List ℕ
 area_field area = reference area.start ++ (codes ":" ++ reference area.end)
 
+-- the line of an area
 abbrev pub area_line : Dimensions → List ℕ
 area_line area = area_field area ++ codes "\n"
 

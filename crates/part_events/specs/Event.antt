@@ -23,9 +23,11 @@ pub data Event : Type 0 where
   end : List ℕ → Event
   leaf : Leaf → Event
 
+-- a start tag by its texts
 abbrev pub tag_of : StartTag → Tag
 tag_of tag = record { name = tag.name.now; attributes = tag.attributes.now }
 
+-- an event by its texts
 abbrev pub event_of : PartEvent → Event
 event_of (Start tag) = start (tag_of tag)
 event_of (End name) = end name.now
@@ -34,6 +36,7 @@ event_of (CharData content) = leaf (char_data content.now)
 event_of (EntityRef name) = leaf (entity_ref name.now)
 event_of Other = leaf other
 
+-- an event is a start
 abbrev pub is_start : Event → Bool
 is_start (start tag) = true
 is_start (end name) = false

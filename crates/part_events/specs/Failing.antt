@@ -12,6 +12,8 @@ pub record Planned : Type 0 where
   pub made : ℕ
   pub faults : ℕ
 
+-- the state of a package whose calls fail by a plan: that of the package inside, with the faults
+-- of the plan
 abbrev pub planned_state : Planned → PackageState
 planned_state held = record (state_of held.inner) { faults = held.faults }
 

@@ -14,6 +14,7 @@ use Rattle.part_events.specs.declared.fault.StreamError.{StreamError}
 use Rattle.part_events.specs.declared.fault.StreamError.TheVariants.{Io, Xml, OutOfMemory}
 use Rattle.part_events.specs.declared.fault.XmlFault.TheVariants.{EndMismatch, Unclosed, Entity}
 
+-- the UTF-8 bytes of a character, if there is one
 abbrev pub character_text : Option ℕ → List ℕ
 character_text None = []
 character_text (Some character) = encode_utf8 character
@@ -27,6 +28,7 @@ event_text data_too (leaf (char_data written)) = if data_too then line_ends writ
 event_text data_too (leaf (entity_ref name)) = character_text (entity_character name)
 event_text data_too (leaf other) = []
 
+-- the texts of these events, one behind another; of character data only where it counts, too
 abbrev pub joined_text : Bool → List Event → List ℕ
 joined_text data_too [] = []
 joined_text data_too (event ∷ events) = event_text data_too event ++ joined_text data_too events

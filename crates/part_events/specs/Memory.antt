@@ -5,6 +5,7 @@ use Rattle.part_events.specs.Event.{Event, leaf, other}
 use Rattle.part_events.specs.Package.{Part, PackageState}
 use Rattle.part_events.specs.declared.memory.Place.{Place}
 
+-- the part at a place; past the last one an empty part without a name
 abbrev pub part_at : List Part → ℕ → Part
 part_at parts place = slice_index_or parts place (record { name = []; events = [] })
 
@@ -13,10 +14,12 @@ abbrev pub open_events : List Part → Option Place → List Event
 open_events parts None = []
 open_events parts (Some place) = (part_at parts place.part).events
 
+-- how many events were taken of the part that is open
 abbrev pub taken_of : Option Place → ℕ
 taken_of None = 0
 taken_of (Some place) = place.next
 
+-- an event of the open part is at hand
 abbrev pub has_event : Option Place → Bool
 has_event None = false
 has_event (Some place) = place.has_event

@@ -6,12 +6,14 @@ use Rattle.std.specs.Option.{option_map_or}
 use Rattle.std.specs.Str.{bytes_eq}
 use Rattle.part_events.specs.Event.{Tag, Event, start, end, leaf}
 
+-- how many starts are among these events
 abbrev pub starts_in : List Event → ℕ
 starts_in [] = 0
 starts_in (start tag ∷ past) = starts_in past + 1
 starts_in (end name ∷ past) = starts_in past
 starts_in (leaf kind ∷ past) = starts_in past
 
+-- how many ends are among these events
 abbrev pub ends_in : List Event → ℕ
 ends_in [] = 0
 ends_in (start tag ∷ past) = ends_in past
@@ -36,6 +38,7 @@ open_start (suc outside) (start tag ∷ past) = open_start outside past
 open_start outside (end name ∷ past) = open_start (suc outside) past
 open_start outside (leaf kind ∷ past) = open_start outside past
 
+-- the last start among these events whose end is not among them
 abbrev pub innermost_open : List Event → Option OpenStart
 innermost_open past = open_start 0 past
 

@@ -16,9 +16,11 @@ pub record Part : Type 0 where
 abbrev pub folded_byte : ℕ → ℕ
 folded_byte byte = if byte == 92 then 47 else to_ascii_lowercase byte
 
+-- a name with its bytes folded, as names of parts are compared
 abbrev pub folded : List ℕ → List ℕ
 folded name = map folded_byte name
 
+-- a part has this name, in letters of either case and with either slash
 abbrev pub has_name : List ℕ → Part → Bool
 has_name name part = bytes_eq (folded part.name) (folded name)
 

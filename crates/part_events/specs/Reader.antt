@@ -6,6 +6,7 @@ use Rattle.part_events.specs.Reading.{Reading, reading}
 use Rattle.part_events.specs.declared.cursor.Cursor.{Cursor}
 use Rattle.part_events.specs.declared.reader.XlReader.{XlReader}
 
+-- the reading of a reader, by the state of its package
 abbrev pub reading_by : {P : Type 0} → (P → PackageState) → XlReader P Cursor → Reading
 reading_by state reader = reading (state reader.package.now) reader.cursor
 

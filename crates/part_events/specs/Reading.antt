@@ -26,15 +26,19 @@ pub record Reading : Type 0 where
 abbrev pub open_elements : Cursor → List (List ℕ)
 open_elements cursor = cursor.names
 
+-- how many events a cursor has taken
 abbrev pub events_taken : Cursor → ℕ
 events_taken cursor = cursor.at
 
+-- a call on a cursor has failed
 abbrev pub has_failed : Cursor → Bool
 has_failed cursor = cursor.failed
 
+-- the allocator of a cursor
 abbrev pub allocator_in : Cursor → Global
 allocator_in cursor = cursor.alloc
 
+-- a package and a cursor over its open part as one reading
 abbrev pub reading : PackageState → Cursor → Reading
 reading source cursor = record {
   source = source;
@@ -170,6 +174,7 @@ pub record StaysAtEnd (old new : Reading) : Type 0 where
   pub at : new.at ≡ old.at
   pub left : old.source.left ≡ new.source.left
 
+-- what a step does: it takes an event, or it stays at the end of the part
 abbrev pub Steps : Bool → Reading → Reading → Type 0
 Steps true old new = TakesEvent old new
 Steps false old new = StaysAtEnd old new

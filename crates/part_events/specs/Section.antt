@@ -35,6 +35,7 @@ behind inside (leaf kind ∷ events) = behind inside events
 abbrev pub is_named : List (List ℕ) → Tag → Bool
 is_named names tag = list_any (bytes_eq (local_name_of tag.name)) names
 
+-- every start is wanted
 abbrev pub is_any : Tag → Bool
 is_any tag = true
 

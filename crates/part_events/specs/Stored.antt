@@ -44,6 +44,7 @@ pub record IsPiece (bytes : List ℕ) (first last : ℕ) : Type 0 where
   pub start_fits : IsCharBoundary bytes first
   pub end_fits : IsCharBoundary bytes last
 
+-- the texts of a stored event stand in the bytes one behind another, from `first` on
 abbrev pub LiesFrom : List ℕ → ℕ → StoredEvent → Type 0
 LiesFrom bytes first (Start name attributes) =
     IsPiece bytes first name × IsPiece bytes name attributes
@@ -57,6 +58,7 @@ LiesFrom bytes first (Other last) = IsPiece bytes first last
 abbrev pub stored_event : List ℕ → ℕ × StoredEvent → Event
 stored_event bytes own = event_from bytes own.0 own.1
 
+-- a stored event lies in the bytes, from the place beside it on
 abbrev pub IsStored : List ℕ → ℕ × StoredEvent → Type 0
 IsStored bytes own = LiesFrom bytes own.0 own.1
 

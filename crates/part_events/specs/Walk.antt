@@ -16,6 +16,7 @@ use Rattle.part_events.specs.declared.walk.Step.TheVariants.{Found, Closed, Ende
 use Rattle.part_events.specs.declared.walk.Wanted.{Wanted}
 use Rattle.part_events.specs.declared.walk.Wanted.TheVariants.{Any, Named}
 
+-- the starts that a walk asks for: any, or those of some local names
 abbrev pub wants : Wanted → Tag → Bool
 wants Any = is_any
 wants (Named names) = is_named (map (λ name. name.now) names.now)

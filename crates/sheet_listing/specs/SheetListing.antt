@@ -30,6 +30,7 @@ use Rattle.cell_styles.specs.declared.fill.FillPattern.TheVariants as pattern
 use Rattle.cell_styles.specs.declared.style.Style.{Style}
 use Rattle.escaped_text.specs.Escaped.{escaped}
 
+-- the field of a truth value
 abbrev pub truth_text : Bool → List ℕ
 truth_text true = codes "b:true"
 truth_text false = codes "b:false"
@@ -92,6 +93,7 @@ abbrev pub value_line : (ℕ × ℕ) × CellValue → List ℕ
 value_line entry =
     reference entry.0 ++ (codes "\t" ++ (field (value_field entry.1) ++ codes "\n"))
 
+-- the lines of values, each with its position
 abbrev pub value_lines : List ((ℕ × ℕ) × CellValue) → List ℕ
 value_lines values = flat_map value_line values
 
@@ -99,6 +101,7 @@ value_lines values = flat_map value_line values
 abbrev pub further_field : CellValue → List ℕ
 further_field value = codes "\t" ++ field (value_field value)
 
+-- the fields of the values behind the first
 abbrev pub further_fields : List CellValue → List ℕ
 further_fields values = flat_map further_field values
 
@@ -113,12 +116,15 @@ line_of position value formula id fill =
     if is_some (value_field value) || (is_some (formula_field formula) || nat_lt 0 id)
     then line position (value_field value) (formula_field formula) fill else []
 
+-- the value at a position, or nothing
 abbrev pub value_placed : ℕ × ℕ → List ((ℕ × ℕ) × CellValue) → CellValue
 value_placed position values = unwrap_or (find position_cmp position values) nothing
 
+-- the formula at a position, or an empty text
 abbrev pub formula_placed : ℕ × ℕ → List ((ℕ × ℕ) × List ℕ) → List ℕ
 formula_placed position formulas = unwrap_or (find position_cmp position formulas) []
 
+-- the number of the style at a position, or 0
 abbrev pub id_placed : ℕ × ℕ → List ((ℕ × ℕ) × ℕ) → ℕ
 id_placed position ids = unwrap_or (find position_cmp position ids) 0
 
@@ -155,18 +161,23 @@ listing values formulas styles =
 
 -- ---- the cells of ranges
 
+-- the values of cells by their positions
 abbrev pub cell_values : List ((ℕ × ℕ) × Data) → List ((ℕ × ℕ) × CellValue)
 cell_values cells = map (λ cell. (cell.0, value_of_data cell.1)) cells
 
+-- the formulas of cells by their positions
 abbrev pub cell_formulas : List ((ℕ × ℕ) × String Global) → List ((ℕ × ℕ) × List ℕ)
 cell_formulas cells = map (λ cell. (cell.0, string_bytes cell.1)) cells
 
+-- the value that was given for a position, or nothing
 abbrev pub value_given : Option Data → CellValue
 value_given value = unwrap_or (option_map value_of_data value) nothing
 
+-- the formula that was given for a position, or an empty text
 abbrev pub formula_given : Option (String Global) → List ℕ
 formula_given formula = unwrap_or (option_map string_bytes formula) []
 
+-- the number of a style that was given for a position, or 0
 abbrev pub id_given : Option ℕ → ℕ
 id_given id = unwrap_or id 0
 

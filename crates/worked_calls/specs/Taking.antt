@@ -46,6 +46,7 @@ TakesThrough fact before earlier old (own ∷ others) new =
     × TakesThrough fact (cell takes.element ∷ behind_marks takes.takes.front.passed before)
     (behind_formulas takes.kept earlier) mid others new
 
+-- a cell has an error for its value
 abbrev pub has_error : Cell DataRef → Bool
 has_error own = is_error (cell_value_entry own)
 

@@ -32,6 +32,7 @@ abbrev pub optional_text : ℕ → Option (List ℕ) → Result (Option (List �
 optional_text behind None = Ok None
 optional_text behind (Some written) = some_text (link_text behind written)
 
+-- a link by its fields
 abbrev pub link_to :
     Option (List ℕ) → Dimensions → Option (List ℕ) → Option (List ℕ) → Option (List ℕ) → Link
 link_to target range location shown tip = record {
@@ -53,6 +54,7 @@ linked target (Ok range) (Ok location) (Err refusal) tip = Err refusal
 linked target (Ok range) (Err refusal) shown tip = Err refusal
 linked target (Err refusal) location shown tip = Err refusal
 
+-- a link that is there
 abbrev pub some_link : Result Link Refusal → Result (Option Link) Refusal
 some_link (Ok link) = Ok (Some link)
 some_link (Err refusal) = Err refusal
@@ -77,6 +79,7 @@ link_from behind target (written ∷ location ∷ shown ∷ tip ∷ []) =
     link_with behind target written location shown tip
 link_from behind target (written ∷ location ∷ shown ∷ tip ∷ more ∷ values) = Ok None
 
+-- a link by the id that was looked up
 abbrev pub link_by_id :
     (List ℕ → Option (List ℕ)) → ℕ → List (Option (List ℕ)) →
     Result (Option (List ℕ)) AttrFault → Result (Option Link) Refusal
@@ -84,6 +87,7 @@ link_by_id targets behind values (Ok id) =
     link_from behind (option_and_then targets id) values
 link_by_id targets behind values (Err fault) = Err (plain (lookup_fault fault))
 
+-- a link by what was looked up at its start
 abbrev pub link_by :
     (List ℕ → Option (List ℕ)) → PlacedTag → Result (List (Option (List ℕ))) AttrFault →
     Result (Option Link) Refusal
@@ -98,6 +102,7 @@ link_of targets start =
     (lookup (codes "ref" ∷ codes "location" ∷ codes "display" ∷ codes "tooltip" ∷ [])
     start.tag.attributes)
 
+-- a start is a link
 abbrev pub is_link : Tag → Bool
 is_link tag = is_named (codes "hyperlink" ∷ []) tag
 

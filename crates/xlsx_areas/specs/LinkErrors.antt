@@ -19,6 +19,7 @@ LinksCause targets events error =
     let name = codes "hyperlinks" in
     LackingCause name (always name) (IsInsideRefused (links_in targets)) events error
 
+-- why the links of the part at a path are refused, whose targets are known
 abbrev pub LinksFail :
     (List ℕ → Option (List ℕ)) → List ℕ → PackageState → PackageState → XlsxError → Type 0
 LinksFail targets path old new error =
@@ -30,6 +31,7 @@ SheetLinksCause parts path events error =
     LinkTargetsCause parts path error
     ⊎ IsSomeAnd (link_targets parts path) (λ targets. LinksCause (target_in targets) events error)
 
+-- why the links of the sheet at a path are refused, with the targets of its relationships
 abbrev pub SheetLinksFail : List ℕ → PackageState → PackageState → XlsxError → Type 0
 SheetLinksFail path old new error =
     FailsBy (IfThere (SheetLinksCause old.parts path) (part_of old.parts path)) old new error

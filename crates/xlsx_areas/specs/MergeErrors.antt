@@ -23,6 +23,7 @@ abbrev pub MergesCause : List Event → XlsxError → Type 0
 MergesCause events error =
     LackingCause (codes "mergeCells") (always []) (IsInsideRefused merges_in) events error
 
+-- why the merged cells of the part at a path are refused
 abbrev pub MergesFail : List ℕ → PackageState → PackageState → XlsxError → Type 0
 MergesFail path old new error =
     FailsBy (IfThere MergesCause (part_of old.parts path)) old new error
@@ -31,6 +32,7 @@ MergesFail path old new error =
 abbrev pub RegionsCause : List Event → XlsxError → Type 0
 RegionsCause events error = WholePartCause (IsMeaningRefused merges_in) events error
 
+-- why the regions of the part at a path are refused
 abbrev pub RegionsFail : List ℕ → PackageState → PackageState → XlsxError → Type 0
 RegionsFail path old new error =
     FailsBy (IfThere RegionsCause (part_of old.parts path)) old new error
@@ -40,6 +42,7 @@ abbrev pub BreaksBefore : List Event → XlsxError → Type 0
 BreaksBefore events error =
     (section_in (codes "mergeCells") events ≡ None) × IsBroken events error
 
+-- the nesting of the part at a path breaks before its merged cells
 abbrev pub BreaksBeforeMerges : List ℕ → PackageState → PackageState → XlsxError → Type 0
 BreaksBeforeMerges path old new error =
     FailsBy (IfThere BreaksBefore (part_of old.parts path)) old new error

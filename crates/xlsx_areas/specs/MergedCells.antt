@@ -14,6 +14,7 @@ use Rattle.xlsx_sections.specs.Placed.{named_by}
 use Rattle.xlsx_sections.specs.Refusal.{Refusal}
 use Rattle.xlsx_parts.specs.PartSaid.{section_said_or, whole_said}
 
+-- a start is an area of merged cells
 abbrev pub is_merge : Tag → Bool
 is_merge tag = is_named (codes "mergeCell" ∷ []) tag
 
@@ -37,9 +38,11 @@ merges_at parts path = option_and_then merges_of (part_of parts path)
 abbrev pub regions_of : List Event → Option (List Dimensions)
 regions_of events = whole_said merges_in events
 
+-- the regions of the part at a path
 abbrev pub regions_at : List Part → List ℕ → Option (List Dimensions)
 regions_at parts path = option_and_then regions_of (part_of parts path)
 
+-- areas, or none where they are refused
 abbrev pub or_none : {A : Type 0} → Result (List A) Refusal → List A
 or_none (Ok areas) = areas
 or_none (Err refusal) = []
@@ -49,6 +52,7 @@ or_none (Err refusal) = []
 abbrev pub merges_or_none : PartSection → List Dimensions
 merges_or_none s = if has_end s then or_none (merges_in (inside_of s)) else []
 
+-- the areas of a section, or where there is none what the whole part says
 abbrev pub of_section : Option PartSection → Option (List Dimensions) → Option (List Dimensions)
 of_section None whole = whole
 of_section (Some s) whole = Some (merges_or_none s)
@@ -59,5 +63,6 @@ merges_or_none_of events =
     of_section (section_in (codes "mergeCells") events) (section_said_or [] (codes "mergeCells")
     merges_in events)
 
+-- the merged cells of the part at a path, none where they are refused
 abbrev pub merges_or_none_at : List Part → List ℕ → Option (List Dimensions)
 merges_or_none_at parts path = option_and_then merges_or_none_of (part_of parts path)

@@ -18,6 +18,7 @@ pub record Region : Type 0 where
   pub sheet : SheetPath
   pub area : Dimensions
 
+-- an area on its sheet
 abbrev pub region_in : SheetPath → Dimensions → Region
 region_in sheet area = record { sheet = sheet; area = area }
 

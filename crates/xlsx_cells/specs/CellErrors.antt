@@ -65,6 +65,7 @@ abbrev pub IsStreamError : XlsxError → Type 0
 IsStreamError Failed = ⊤
 IsStreamError error = IsCellError error
 
+-- a refusal that the next styled cell of a reader can have
 abbrev pub IsStyledStreamError : XlsxError → Type 0
 IsStyledStreamError Failed = ⊤
 IsStyledStreamError error = IsStyledError error

@@ -34,9 +34,11 @@ use Rattle.xlsx_cells.specs.declared.sheet_cursor.SheetCursor.{SheetCursor}
 abbrev pub stream_by : {P : Type 0} → (P → PackageState) → XlsxCellReader P SheetCursor → Stream
 stream_by state reader = stream (state reader.package.now) reader.sheet
 
+-- the name of the reference to the package that a reader holds
 abbrev pub reference_of : {P : Type 0} → XlsxCellReader P SheetCursor → GName
 reference_of reader = reader.package.ghost_name
 
+-- the area that the sheet tells of its data
 abbrev pub area_held : {P : Type 0} → XlsxCellReader P SheetCursor → Dimensions
 area_held reader = reader.dimensions
 
@@ -77,18 +79,23 @@ EnterCellsFails old OutOfMemory = ⊤
 EnterCellsFails old error =
     old.source.is_told ≡ true → HeadCause (events_of old) (whole (events_of old)) error
 
+-- the values of cells are wanted
 abbrev pub values_alone : Wants
 values_alone = record { values = true; formulas = false; styles = false }
 
+-- the formulas of cells are wanted
 abbrev pub formulas_alone : Wants
 formulas_alone = record { values = false; formulas = true; styles = false }
 
+-- the styles of cells are wanted
 abbrev pub styles_alone : Wants
 styles_alone = record { values = false; formulas = false; styles = true }
 
+-- the values and the styles of cells are wanted
 abbrev pub values_and_styles : Wants
 values_and_styles = record { values = true; formulas = false; styles = true }
 
+-- the values and the formulas of cells are wanted
 abbrev pub values_and_formulas : Wants
 values_and_formulas = record { values = true; formulas = true; styles = false }
 
@@ -116,6 +123,7 @@ pub record IsValuedStyle
   pub valued : IsValued grounds own.0 before element kept
   pub styled : id_named element.tag ≡ Ok own.1
 
+-- a text that is not empty
 abbrev pub written_text : List ℕ → Option (List ℕ)
 written_text [] = None
 written_text (b ∷ bs) = Some (b ∷ bs)

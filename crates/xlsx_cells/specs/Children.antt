@@ -26,6 +26,7 @@ pub record StandsAtElement (element : Element) (r : Reading) : Type 0 where
   pub tag : start element.tag ≡ r.source.current
   pub inside : element.inside ≡ content 0 (ahead r)
 
+-- the value that is kept of a child
 abbrev pub value_kept : Option DataRef → Option CellValue
 value_kept value = option_map value_of_data_ref value
 
@@ -41,6 +42,7 @@ IsNamedAs Stray tag =
     (is_named (codes "f" ∷ []) tag ≡ false) × (is_named (codes "v" ∷ []) tag ≡ false)
     × (is_named (codes "is" ∷ []) tag ≡ false)
 
+-- the name of the child that gives the value, in a cell of inline strings or another
 abbrev pub value_name : Bool → ChildName
 value_name true = Inline
 value_name false = Value

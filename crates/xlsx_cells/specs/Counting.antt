@@ -19,6 +19,7 @@ pub record AreKept (before : List Mark) (counters : Counters) : Type 0 where
   pub row : counters.row ≡ min (row_counter 0 before) MAX_ROWS
   pub column : counters.column ≡ min (column_counter 0 before) MAX_COLUMNS
 
+-- an answer is no refusal
 abbrev pub IsGiven : {A : Type 0} → Result A Refusal → Type 0
 IsGiven {A} answer = (a : A) × (answer ≡ Ok a)
 

@@ -14,6 +14,7 @@ use Rattle.xlsx_values.specs.Value.{end_in_value}
 use Rattle.xlsx_cells.specs.Marks.{is_cell}
 use Rattle.xlsx_cells.specs.declared.children.Wants.{Wants}
 
+-- the kind of a cell, by what was looked up at its start
 abbrev pub kind_from : Result (List (Option (List ℕ))) AttrFault → CellKind
 kind_from (Ok values) = with_three (λ position style typ. kind_named typ) untyped values
 kind_from (Err fault) = untyped
@@ -33,9 +34,11 @@ end_in_child wants kind tag inside =
     then (if wants.values then end_in_string inside else None)
     else Some (codes "c")))
 
+-- the end that is told missing in a child of a cell
 abbrev pub end_in_child_element : Wants → CellKind → Element → Option (List ℕ)
 end_in_child_element wants kind child = end_in_child wants kind child.tag child.inside
 
+-- the end that is told missing in what stands in a cell
 abbrev pub end_in_children : Wants → CellKind → List Event → Option (List ℕ)
 end_in_children wants kind inside =
     end_among is_any (codes "c") (end_in_child_element wants kind) inside
@@ -50,6 +53,7 @@ end_in_contents wants tag inside =
     if reads_children wants then end_in_children wants (kind_of_cell tag) inside
     else Some (codes "c")
 
+-- the end that is told missing in a cell
 abbrev pub end_in_cell : Wants → Element → Option (List ℕ)
 end_in_cell wants element = end_in_contents wants element.tag element.inside
 

@@ -66,6 +66,7 @@ pub record FindsNone (before : List Mark) (base : ℕ) (old new : Reading) : Typ
   pub left : behind_section base old ≡ ahead new
   pub ends : new.at ≡ suc (section_end base old)
 
+-- a search finds the cell at this position, or none is left
 abbrev pub Finds :
     List Mark → Option (ℕ × ℕ) → ℕ → Reading → Reading → Counters → Type 0
 Finds before None base old new counters = FindsNone before base old new
@@ -79,6 +80,7 @@ StandsAtCell base (Some position) old new =
     StandsAtStart is_cell base (Some (new.at - 1)) old new
     × (position.0 < MAX_ROWS) × (position.1 < MAX_COLUMNS)
 
+-- where a cell is found, the last event taken is its start
 abbrev pub FindsCellElement : ℕ → Option (ℕ × ℕ) → Reading → Reading → Type 0
 FindsCellElement base None old new = ⊤
 FindsCellElement base (Some position) old new =
@@ -113,6 +115,7 @@ IsStepRefused passes refused counters section refusal =
     (before : List Mark) → AreKept before counters →
     IsMarkRefused passes refused before (marks (inside_of section)) refusal
 
+-- the position of a cell is refused
 abbrev pub IsMisplaced : List Mark → Element → Refusal → Type 0
 IsMisplaced before element refusal = cell_position before element.tag ≡ Err refusal
 

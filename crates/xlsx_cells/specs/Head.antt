@@ -28,9 +28,11 @@ use Rattle.xlsx_sections.specs.Refusal.{Refusal, plain, RefusedAs, lookup_fault,
 use Rattle.xlsx_cells.specs.Counting.{IsRefused}
 use Rattle.xlsx_cells.specs.declared.head.Head.{Head}
 
+-- a start begins the data of a sheet
 abbrev pub is_sheet_data : Tag → Bool
 is_sheet_data tag = is_named (codes "sheetData" ∷ []) tag
 
+-- a start tells the area of a sheet's data
 abbrev pub is_dimension : Tag → Bool
 is_dimension tag = is_named (codes "dimension" ∷ []) tag
 
@@ -47,6 +49,7 @@ head_starts (start tag ∷ events) = if is_sheet_data tag then [] else tag ∷ h
 head_starts (end name ∷ events) = head_starts events
 head_starts (leaf kind ∷ events) = head_starts events
 
+-- the area that was looked up
 abbrev pub area_looked_up : Result (Option (List ℕ)) AttrFault → Result (Option Dimensions) Refusal
 area_looked_up (Ok (Some written)) = some_placed (area written)
 area_looked_up (Ok None) = Err (plain lacks_area)
@@ -64,6 +67,7 @@ dimensions_by tag = if is_dimension tag then dimension_area tag else Ok None
 abbrev pub dimensions_in : List Event → Result (Option Dimensions) Refusal
 dimensions_in events = last_answer dimensions_by (head_starts events)
 
+-- the area that an event of the head tells
 abbrev pub dimensions_at : Event → Result (Option Dimensions) Refusal
 dimensions_at (start tag) = dimensions_by tag
 dimensions_at (end name) = Ok None
@@ -88,9 +92,11 @@ first_other (tag ∷ tags) = if is_dimension tag then first_other tags else Some
 abbrev pub other_in : List Event → Option (List ℕ)
 other_in events = option_map (λ tag. local_name_of tag.name) (first_other (head_starts events))
 
+-- the name of a start that does not tell the area
 abbrev pub other_by : Tag → Option (List ℕ)
 other_by tag = if is_dimension tag then None else Some (local_name_of tag.name)
 
+-- the name of an event's start that does not tell the area
 abbrev pub other_at : Event → Option (List ℕ)
 other_at (start tag) = other_by tag
 other_at (end name) = None
@@ -111,6 +117,7 @@ LacksData other (XmlEof element) = (element.now ≡ codes "worksheet") × (other
 LacksData other (NotAWorksheet name) = other ≡ Some (string_bytes name)
 LacksData other _ = ⊥
 
+-- no data of a sheet begin in these events
 abbrev pub HasNoData : List Event → Type 0
 HasNoData ahead = behind_start is_sheet_data ahead ≡ None
 

@@ -6,12 +6,15 @@ use Rattle.attr_text.specs.Attributes.{local_name_of}
 use Rattle.part_events.specs.Event.{Tag, Event, start, end, leaf}
 use Rattle.part_events.specs.Section.{Element, element_of, is_named}
 
+-- a start is a cell
 abbrev pub is_cell : Tag → Bool
 is_cell tag = is_named (codes "c" ∷ []) tag
 
+-- a start is a row
 abbrev pub is_row : Tag → Bool
 is_row tag = is_named (codes "row" ∷ []) tag
 
+-- a name is that of a row
 abbrev pub is_row_name : List ℕ → Bool
 is_row_name name = bytes_eq (local_name_of name) (codes "row")
 

@@ -16,6 +16,7 @@ use Rattle.xlsx_cells.specs.Marks.{Mark, row_start, row_end, cell}
 abbrev pub row_named : Tag → Result (Option ℕ) Refusal
 row_named tag = named_by row_of (value_of (codes "r") tag.attributes)
 
+-- the position that a cell tells
 abbrev pub position_named : Tag → Result (Option (ℕ × ℕ)) Refusal
 position_named tag = named_by corner (value_of (codes "r") tag.attributes)
 
@@ -58,6 +59,7 @@ implied_position row column =
     else (if nat_le MAX_ROWS row then Err (plain (misplaced ref.RowNumberOverflow))
     else Ok (row, column))
 
+-- the position that is told, or the one that follows from what stands before
 abbrev pub or_implied : List Mark → Result (Option (ℕ × ℕ)) Refusal → Result (ℕ × ℕ) Refusal
 or_implied before (Ok (Some position)) = Ok position
 or_implied before (Ok None) =

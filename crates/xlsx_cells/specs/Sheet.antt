@@ -12,6 +12,7 @@ use Rattle.xlsx_formulas.specs.Formula.{FormulaText, formulas_in, cell_formula, 
 use Rattle.xlsx_cells.specs.Marks.{Mark, row_start, row_end, cell, marks}
 use Rattle.xlsx_cells.specs.Position.{row_named, cell_position}
 
+-- the cells behind a row, unless the row is refused
 abbrev pub behind_row :
     {A : Type 0} → Result (Option ℕ) Refusal → Result (List A) Refusal → Result (List A) Refusal
 behind_row (Ok row) others = others
@@ -28,6 +29,7 @@ answers_from answer before (row_end ∷ marks) = answers_from answer (row_end �
 answers_from answer before (cell element ∷ marks) =
     and_others (answer before element) (answers_from answer (cell element ∷ before) marks)
 
+-- an answer with its position; the position's refusal comes first
 abbrev pub at_position :
     {A : Type 0} → Result (ℕ × ℕ) Refusal → Result A Refusal → Result ((ℕ × ℕ) × A) Refusal
 at_position (Ok position) (Ok a) = Ok (position, a)
@@ -74,6 +76,7 @@ is_nothing (value.time days kind is_1904) = false
 is_nothing (value.iso_time written) = false
 is_nothing (value.failure error) = false
 
+-- a text is empty
 abbrev pub is_empty : List ℕ → Bool
 is_empty [] = true
 is_empty (b ∷ bs) = false

@@ -36,6 +36,7 @@ abbrev pub AreDataRefused : Wants → Grounds → PartSection → Refusal → Ty
 AreDataRefused wants grounds s refusal =
     IsMarkRefused IsPlaced (IsCellRefused wants grounds) [] (marks (inside_of s)) refusal
 
+-- why the data of a sheet are refused
 abbrev pub DataCause : Wants → Grounds → PartSection → XlsxError → Type 0
 DataCause wants grounds s error =
     SectionCause (end_in_data wants) (AreDataRefused wants grounds) s error
@@ -93,6 +94,7 @@ abbrev pub OptionalHeadCause : Option (List Event) → XlsxError → Type 0
 OptionalHeadCause None error = ⊥
 OptionalHeadCause (Some events) error = HeadCause events (whole events) error
 
+-- why the data of the part at a path are not opened
 abbrev pub OpenDataFails : List ℕ → PackageState → PackageState → XlsxError → Type 0
 OpenDataFails path old new error =
     FailsBy (OptionalHeadCause (part_of old.parts path)) old new error
@@ -101,12 +103,15 @@ OpenDataFails path old new error =
 abbrev pub value_entry : (ℕ × ℕ) × DataRef → (ℕ × ℕ) × CellValue
 value_entry own = (own.0, value_of_data_ref own.1)
 
+-- cells by their positions and values
 abbrev pub value_entries : List ((ℕ × ℕ) × DataRef) → List ((ℕ × ℕ) × CellValue)
 value_entries cells = map value_entry cells
 
+-- a cell by its position and the text of its formula
 abbrev pub formula_entry : (ℕ × ℕ) × CellFormula → (ℕ × ℕ) × List ℕ
 formula_entry own = (own.0, text_of_formula own.1)
 
+-- cells by their positions and formulas
 abbrev pub formula_entries : List ((ℕ × ℕ) × CellFormula) → List ((ℕ × ℕ) × List ℕ)
 formula_entries cells = map formula_entry cells
 

@@ -45,6 +45,7 @@ pub record Stream : Type 0 where
   pub is_done : Bool
   pub is_failed : Bool
 
+-- a package and a cursor over its sheet as one stream of cells
 abbrev pub stream : PackageState → SheetCursor → Stream
 stream source sheet = record {
   reading = reading source sheet.cursor;
@@ -72,9 +73,11 @@ pub record IsGoing (s : Stream) : Type 0 where
 abbrev pub data_ahead : Stream → List Event
 data_ahead s = section_ahead s.base s.reading
 
+-- the rows and cells that a stream has still to take
 abbrev pub marks_ahead : Stream → List Mark
 marks_ahead s = marks (data_ahead s)
 
+-- the data that a stream has still to take have their end
 abbrev pub are_closed_ahead : Stream → Bool
 are_closed_ahead s = is_closed_ahead s.base s.reading
 
@@ -127,6 +130,7 @@ PassingFails passes refused wants old new error =
     old.reading new error
     × IsCutOff passes old.counters old.base old.reading error
 
+-- why the next cell is refused
 abbrev pub NextCellFails : Wants → Grounds → Stream → Reading → XlsxError → Type 0
 NextCellFails wants grounds old new error =
     PassingFails NoCell (IsCellRefused wants grounds) wants old new error
@@ -158,6 +162,7 @@ pub record WrittenCell : Type 0 where
   pub text : List ℕ
   pub style_id : ℕ
 
+-- a cell with the text of its formula, as it is written
 abbrev pub seen_with_text : CellText → WrittenCell
 seen_with_text own = record {
   pos = own.pos;
@@ -195,6 +200,7 @@ pub record LacksUnwanted (wants : Wants) (read : CellRead) : Type 0 where
   pub formula : wants.formulas ≡ false → read.formula ≡ None
   pub style : wants.styles ≡ false → read.style_id ≡ 0
 
+-- what is not wanted of a cell is left empty
 pub record LacksUnwantedText (wants : Wants) (own : WrittenCell) : Type 0 where
   pub value : wants.values ≡ false → own.value ≡ Empty
   pub text : wants.formulas ≡ false → own.text ≡ []

@@ -12,6 +12,7 @@ use Rattle.xlsx_cells.specs.Marks.{Mark, marks}
 use Rattle.xlsx_cells.specs.Position.{cell_position}
 use Rattle.xlsx_cells.specs.Sheet.{answers_from}
 
+-- the number of a style that was looked up
 abbrev pub id_looked_up : Result (Option (List ℕ)) AttrFault → Result ℕ Refusal
 id_looked_up (Ok written) = Ok (unwrap_or (style_number written) 0)
 id_looked_up (Err fault) = Err (plain (lookup_fault fault))
@@ -20,6 +21,7 @@ id_looked_up (Err fault) = Err (plain (lookup_fault fault))
 abbrev pub id_named : Tag → Result ℕ Refusal
 id_named tag = id_looked_up (value_of (codes "s") tag.attributes)
 
+-- a position with the number of its style; the position's refusal comes first
 abbrev pub with_id : Result (ℕ × ℕ) Refusal → Result ℕ Refusal → Result StyledCell Refusal
 with_id (Ok position) (Ok id) = Ok (position.0, position.1, id)
 with_id (Ok position) (Err refusal) = Err refusal

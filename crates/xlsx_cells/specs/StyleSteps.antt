@@ -20,6 +20,7 @@ IsUnstyled count before element =
 abbrev pub IsStyled : StyledCell → List Mark → Element → List FormulaText → Type 0
 IsStyled own before element kept = (placed_id before element ≡ Ok own) × (kept ≡ [])
 
+-- the position of a styled cell
 abbrev pub styled_position : StyledCell → ℕ × ℕ
 styled_position own = (own.0, own.1)
 

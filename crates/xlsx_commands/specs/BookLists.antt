@@ -12,11 +12,13 @@ use Rattle.xlsx_workbook.specs.declared.sheet.SheetVisible.{SheetVisible}
 use Rattle.xlsx_workbook.specs.declared.sheet.SheetVisible.TheVariants.{Visible, Hidden, VeryHidden}
 use Rattle.xlsx_open.specs.Opening.{Opening, OpensAs, ListedSheet, without_path, listed_sheet}
 
+-- the word for the type of a sheet
 abbrev pub type_word : SheetType → List ℕ
 type_word WorkSheet = codes "worksheet"
 type_word ChartSheet = codes "chartsheet"
 type_word DialogSheet = codes "dialogsheet"
 
+-- the word for the state of a sheet
 abbrev pub state_word : SheetVisible → List ℕ
 state_word Visible = codes "visible"
 state_word Hidden = codes "hidden"
@@ -28,6 +30,7 @@ sheet_lines sheets =
     flat_map
     (λ sheet. sheet_line sheet.name (type_word sheet.typ) (state_word sheet.visible)) sheets
 
+-- the lines of defined names
 abbrev pub name_lines : List (List ℕ × List ℕ) → List ℕ
 name_lines names = flat_map (λ name. pair_line name.0 name.1) names
 

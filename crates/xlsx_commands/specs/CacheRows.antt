@@ -40,6 +40,7 @@ NamedPivotCause parts sheet name (PivotTableNotFound asked) =
 NamedPivotCause parts sheet name error =
     ListedPivotsCause parts error ⊎ HasCacheCause parts sheet name error
 
+-- the lines of rows
 abbrev pub row_lines : List (List CellValue) → List ℕ
 row_lines rows = flat_map row_line rows
 

@@ -30,6 +30,7 @@ pub data Command : Type 0 where
   pivot : List ℕ → List ℕ → Command
   sample : ℕ → Command
 
+-- the command that was asked, by the texts of its names
 abbrev pub command_meant : Asked → Command
 command_meant (asked.Cells name) = cells name.now
 command_meant asked.Sheets = sheets

@@ -47,9 +47,11 @@ HasMerges parts name areas =
 abbrev pub MergesPathCause : List ℕ → PathCause
 MergesPathCause name path parts error = PlacedCause name path MergesCause parts error
 
+-- why the merged cells of the sheet of a name are refused
 abbrev pub NamedMergesCause : List Part → List ℕ → XlsxError → Type 0
 NamedMergesCause parts name error = NamedCause (MergesPathCause name) parts name error
 
+-- the lines of merged cells
 abbrev pub merge_lines : List Dimensions → List ℕ
 merge_lines areas = flat_map area_line areas
 
@@ -70,9 +72,11 @@ HasLinks parts name links =
 abbrev pub NamedLinksCause : List Part → List ℕ → XlsxError → Type 0
 NamedLinksCause parts name error = NamedCause (PlacedLinksCause name) parts name error
 
+-- the line of a link
 abbrev pub line_of_link : Link → List ℕ
 line_of_link own = link_line own.range own.target own.location own.displayed_text own.tooltip
 
+-- the lines of links
 abbrev pub link_lines : List Link → List ℕ
 link_lines links = flat_map line_of_link links
 
@@ -86,5 +90,6 @@ pub record AreLinkLines (parts : List Part) (name lines : List ℕ) : Type 0 whe
 abbrev pub IsLinkInside : Link → Type 0
 IsLinkInside own = LiesInWorksheet own.range
 
+-- a link that is kept lies in a worksheet
 abbrev pub IsKeptInside : Hyperlink → Type 0
 IsKeptInside own = IsLinkInside (link_said own)

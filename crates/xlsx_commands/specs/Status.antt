@@ -23,6 +23,7 @@ status_of WriteFault = 7
 status_of OutOfMemory = 8
 status_of BoxTooLarge = 10
 
+-- the text of an error of the program
 abbrev pub error_text : ToolError → Option (List ℕ)
 error_text Usage = Some (codes "usage")
 error_text ReadFault = Some (codes "read fault")

@@ -30,9 +30,11 @@ ListedTablesCause parts error = ListedCause TablesCause parts error
 
 -- ---- their list
 
+-- the line of a table
 abbrev pub line_of_table : SheetTable → List ℕ
 line_of_table own = table_line own.table.name own.sheet own.table.area own.table.columns
 
+-- the lines of tables
 abbrev pub table_lines : List SheetTable → List ℕ
 table_lines tables = flat_map line_of_table tables
 

@@ -30,11 +30,13 @@ PlacedLinksCause name path parts error =
     IsSomeAnd path (λ there. SheetLinksCause parts there events own) in
     PlacedCause name path refuses parts error
 
+-- why the links of the sheet of a name, whose part is at this path, are refused
 abbrev pub PlacedLinksFail :
     List ℕ → Option (List ℕ) → PackageState → PackageState → XlsxError → Type 0
 PlacedLinksFail name path old new error =
     FailsBy (PlacedLinksCause name path old.parts) old new error
 
+-- a refusal that reading the links of the sheet of a name can have
 abbrev pub IsPlacedLinksError : List ℕ → XlsxError → Type 0
 IsPlacedLinksError name (WorksheetNotFound asked) = string_bytes asked ≡ name
 IsPlacedLinksError name error = IsSheetLinksError error

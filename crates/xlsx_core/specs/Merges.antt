@@ -27,6 +27,7 @@ sheet_paths (sheet ∷ sheets) [] = []
 sheet_paths (sheet ∷ sheets) (path ∷ paths) =
     sheet_at (string_bytes sheet.name) (path_kept path) ∷ sheet_paths sheets paths
 
+-- the sheets of a workbook with the paths of their parts
 abbrev pub sheets_of_book : {P : Type 0} → Xlsx P → List SheetPath
 sheets_of_book xlsx = sheet_paths xlsx.metadata.sheets.items xlsx.paths.items
 
@@ -54,6 +55,7 @@ abbrev pub PlacedMergesFail :
 PlacedMergesFail name path old new error =
     FailsBy (PlacedCause name path MergesCause old.parts) old new error
 
+-- a refusal that reading the merged cells of the sheet of a name can have
 abbrev pub IsPlacedMergesError : List ℕ → XlsxError → Type 0
 IsPlacedMergesError name (WorksheetNotFound asked) = string_bytes asked ≡ name
 IsPlacedMergesError name error = IsMergesError error
@@ -62,10 +64,12 @@ IsPlacedMergesError name error = IsMergesError error
 abbrev pub out_of_range : ℕ → List ℕ
 out_of_range index = codes "Sheet index " ++ (decimal index ++ codes " out of range")
 
+-- a refusal of an index that no sheet has
 abbrev pub IsOutOfRange : ℕ → XlsxError → Type 0
 IsOutOfRange index (WorksheetNotFound asked) = string_bytes asked ≡ out_of_range index
 IsOutOfRange index _ = ⊥
 
+-- a refusal by an index alone: no sheet has it, or memory is wanting
 abbrev pub IsIndexError : ℕ → XlsxError → Type 0
 IsIndexError index OutOfMemory = ⊤
 IsIndexError index error = IsOutOfRange index error
@@ -89,6 +93,7 @@ abbrev pub HoldsRegions :
     List Part → List SheetPath → Vec MergedRegion Global → Type 0
 HoldsRegions parts sheets kept = all_regions parts sheets ≡ Some (map region_of kept.items)
 
+-- why the regions of these sheets are refused
 abbrev pub AllRegionsFail :
     List SheetPath → PackageState → PackageState → XlsxError → Type 0
 AllRegionsFail sheets old new error = FailsBy (AllRegionsCause old.parts sheets) old new error

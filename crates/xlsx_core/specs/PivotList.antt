@@ -27,6 +27,7 @@ abbrev pub PivotDataFails :
 PivotDataFails name None old error = IsNoPivotTable name error
 PivotDataFails name (Some paths) old error = OpenCacheFails paths.0 paths.1 old error
 
+-- a refusal that opening the rows of a pivot table can have
 abbrev pub IsPivotDataError : List ℕ → Option (List ℕ × List ℕ) → XlsxError → Type 0
 IsPivotDataError name None error = IsNoPivotTable name error
 IsPivotDataError name (Some paths) error = IsCacheFieldsError error

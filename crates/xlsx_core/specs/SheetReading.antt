@@ -70,6 +70,7 @@ grounds_with strings formats is_1904 = record {
   is_1904 = is_1904;
 }
 
+-- what the values of an opened workbook rest on
 abbrev pub opened_grounds : Opening → Grounds
 opened_grounds opening = grounds_with opening.shared.strings opening.shared.formats opening.is_1904
 
@@ -95,6 +96,7 @@ with_meaning meaning entry = (entry.0, meaning entry.1)
 abbrev pub pairs_by : {X Y : Type 0} → (X → Y) → Range X → List ((ℕ × ℕ) × Y)
 pairs_by meaning range = map (with_meaning meaning) (cells_of range)
 
+-- the values of a range by their positions
 abbrev pub value_pairs : Range Data → List ((ℕ × ℕ) × CellValue)
 value_pairs range = pairs_by value_of_data range
 
@@ -102,6 +104,7 @@ value_pairs range = pairs_by value_of_data range
 abbrev pub place_pairs : Range DataRef → List ((ℕ × ℕ) × CellValue)
 place_pairs range = pairs_by value_of_data_ref range
 
+-- the formulas of a range by their positions
 abbrev pub formula_pairs : Range (String Global) → List ((ℕ × ℕ) × List ℕ)
 formula_pairs range = pairs_by string_bytes range
 

@@ -31,6 +31,7 @@ use Rattle.xlsx_core.specs.declared.xlsx.Xlsx.{Xlsx}
 abbrev pub first_named : List ℕ → List SheetTable → Option SheetTable
 first_named name tables = find (λ (own : SheetTable). bytes_eq own.table.name name) tables
 
+-- the first loaded table of a name
 abbrev pub table_of_book : {P : Type 0} → Xlsx P → List ℕ → Option SheetTable
 table_of_book xlsx name = first_named name (loaded_tables xlsx)
 
@@ -57,6 +58,7 @@ abbrev pub area_data_events : Option Dimensions → Option (List ℕ) → List P
 area_data_events None path parts = 0
 area_data_events (Some area) path parts = data_events path parts
 
+-- the same of the loaded table of a name
 abbrev pub table_ends : {P : Type 0} → Xlsx P → List ℕ → List Part → ℕ
 table_ends xlsx name parts =
     option_map_or

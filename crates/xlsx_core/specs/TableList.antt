@@ -23,12 +23,15 @@ sheet_name sheets number =
 abbrev pub with_sheet : List Sheet → ℕ × TableSaid → SheetTable
 with_sheet sheets loaded = table_of_sheet (sheet_name sheets loaded.0) loaded.1
 
+-- a loaded table with the name of its sheet
 abbrev pub table_held : List Sheet → LoadedTable → SheetTable
 table_held sheets loaded = with_sheet sheets (loaded_of loaded)
 
+-- loaded tables, each with the name of its sheet
 abbrev pub tables_held : List Sheet → List LoadedTable → List SheetTable
 tables_held sheets loaded = map (table_held sheets) loaded
 
+-- the tables that are loaded, none before a load
 abbrev pub loaded_or_none : List Sheet → Option (Vec LoadedTable Global) → List SheetTable
 loaded_or_none sheets None = []
 loaded_or_none sheets (Some loaded) = tables_held sheets loaded.items

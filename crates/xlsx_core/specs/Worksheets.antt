@@ -133,10 +133,12 @@ AnswersCells wants grounds count values formulas ids events =
     HoldsWanted wants grounds count events values formulas ids
     ⊎ (IsNoWorksheet events × (values ≡ []) × (formulas ≡ []) × (ids ≡ []))
 
+-- what a call answers of a sheet's values; those of a part that is no worksheet are none
 abbrev pub AnswersValues : Grounds → List Event → List ((ℕ × ℕ) × CellValue) → Type 0
 AnswersValues grounds events values =
     HasValues grounds events values ⊎ (IsNoWorksheet events × (values ≡ []))
 
+-- what a call answers of a sheet's formulas; those of a part that is no worksheet are none
 abbrev pub AnswersFormulas : List Event → List ((ℕ × ℕ) × List ℕ) → Type 0
 AnswersFormulas events formulas =
     HasFormulas events formulas ⊎ (IsNoWorksheet events × (formulas ≡ []))
@@ -262,6 +264,7 @@ abbrev pub RangeCause :
 RangeCause name wants grounds path parts error =
     PlacedCause name path (RangePartCause wants grounds) parts error
 
+-- a refusal that reading a range of the sheet of a name can have
 abbrev pub IsRangeError : List ℕ → XlsxError → Type 0
 IsRangeError name (NotAWorksheet other) = ⊥
 IsRangeError name error = IsPlacedError name error

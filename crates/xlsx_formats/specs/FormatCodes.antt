@@ -19,6 +19,7 @@ pub record WrittenFormat : Type 0 where
   pub id : List ℕ
   pub code : List ℕ
 
+-- a written format with its code, once that is resolved
 abbrev pub with_code : List ℕ → Result (List ℕ) Refusal → Result (Option WrittenFormat) Refusal
 with_code id (Ok code) = Ok (Some (record { id = id; code = code }))
 with_code id (Err refusal) = Err refusal
@@ -30,11 +31,13 @@ written_by behind None code = Ok None
 written_by behind (Some id) None = Ok None
 written_by behind (Some id) (Some code) = with_code id (decoded_at behind code)
 
+-- the format that the texts of its attributes tell, if both are there
 abbrev pub written_if :
     ℕ → Result (List (Option (List ℕ))) AttrFault → Result (Option WrittenFormat) Refusal
 written_if behind (Ok texts) = with_two (written_by behind) (Ok None) texts
 written_if behind (Err fault) = Err (plain (lookup_fault fault))
 
+-- the attributes that tell a written format
 abbrev pub written_keys : List (List ℕ)
 written_keys = codes "numFmtId" ∷ codes "formatCode" ∷ []
 
@@ -42,6 +45,7 @@ written_keys = codes "numFmtId" ∷ codes "formatCode" ∷ []
 abbrev pub written_format : PlacedTag → Result (Option WrittenFormat) Refusal
 written_format start = written_if start.behind (lookup written_keys start.tag.attributes)
 
+-- a start is a written number format
 abbrev pub is_number_format : Tag → Bool
 is_number_format tag = is_named (codes "numFmt" ∷ []) tag
 
@@ -64,6 +68,7 @@ abbrev pub code_written : List ℕ → List WrittenFormat → Option (List ℕ)
 code_written id [] = None
 code_written id (format ∷ formats) = option_or (code_written id formats) (code_if id format)
 
+-- the code of a written format
 abbrev pub code_of : KeptCode → List ℕ
 code_of kept = string_bytes kept.code
 

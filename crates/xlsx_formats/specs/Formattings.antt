@@ -48,6 +48,7 @@ pub record FormattingSaid : Type 0 where
   pub format : CellFormat
   pub style : StyleSaid
 
+-- what a style says
 abbrev pub style_said : Style → StyleSaid
 style_said style = record {
   font = option_map said_of style.font;
@@ -58,12 +59,14 @@ style_said style = record {
   protection = style.protection;
 }
 
+-- what a formatting says
 abbrev pub formatting_said : Formatting → FormattingSaid
 formatting_said formatting = record {
   format = formatting.format;
   style = style_said formatting.style;
 }
 
+-- what the lists that a formatting names say
 abbrev pub named_said : List WrittenFormat → NamedLists → NamedSaid
 named_said formats lists = record {
   formats = formats;
@@ -79,24 +82,29 @@ with_alignment settings alignment = record {
   protection = settings.protection;
 }
 
+-- settings with this protection
 abbrev pub with_protection : Settings → Protection → Settings
 with_protection settings protection = record {
   alignment = settings.alignment;
   protection = Some protection;
 }
 
+-- a start is an alignment
 abbrev pub is_alignment : Tag → Bool
 is_alignment tag = is_named (codes "alignment" ∷ []) tag
 
+-- what a start in a formatting makes of its settings
 abbrev pub setting_change : PlacedTag → Settings → Result Settings Refusal
 setting_change start settings =
     if is_alignment start.tag
     then or_fault (changed_with with_alignment settings (alignment_of start.tag))
     else or_fault (changed_with with_protection settings (protection_of start.tag))
 
+-- a start is a setting of a formatting
 abbrev pub is_setting : Tag → Bool
 is_setting tag = is_named (codes "alignment" ∷ codes "protection" ∷ []) tag
 
+-- settings without alignment and protection
 abbrev pub no_settings : Settings
 no_settings = record { alignment = None; protection = None }
 
@@ -114,6 +122,7 @@ abbrev pub format_by : List ℕ → Option (List ℕ) → CellFormat
 format_by id None = builtin_format id
 format_by id (Some code) = custom_format code
 
+-- what the number format of this number counts; without a number nothing of time
 abbrev pub format_named : (List ℕ → Option (List ℕ)) → Option (List ℕ) → CellFormat
 format_named code None = Other
 format_named code (Some id) = format_by id (code id)
@@ -126,9 +135,11 @@ numbered_format code number = record {
   format_id = Some number;
 }
 
+-- the number format of this number, with its code
 abbrev pub number_format_of : (List ℕ → Option (List ℕ)) → List ℕ → Option NumberFormatFields
 number_format_of code id = option_map (numbered_format (code id)) (number_below (2 ^ 32) id)
 
+-- the number format whose number a formatting tells
 abbrev pub number_format_named :
     (List ℕ → Option (List ℕ)) → Option (List ℕ) → Option NumberFormatFields
 number_format_named code id = option_and_then (number_format_of code) id
@@ -154,15 +165,18 @@ formatting_named code lists texts settings = record {
   };
 }
 
+-- the code that the list of written formats has for a number
 abbrev pub code_said : NamedSaid → List ℕ → Option (List ℕ)
 code_said lists id = code_written id lists.formats
 
+-- a formatting by its texts and its settings
 abbrev pub formatting_set :
     NamedSaid → List (Option (List ℕ)) → Result Settings Refusal → Result FormattingSaid Refusal
 formatting_set lists texts (Ok settings) =
     Ok (formatting_named (code_said lists) lists texts settings)
 formatting_set lists texts (Err refusal) = Err refusal
 
+-- a formatting by its texts that were looked up, and its settings
 abbrev pub formatting_by :
     NamedSaid → Result Settings Refusal → Result (List (Option (List ℕ))) AttrFault
     → Result FormattingSaid Refusal

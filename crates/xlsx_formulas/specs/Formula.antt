@@ -25,32 +25,39 @@ pub data Sharing : Type 0 where
   master : ℕ → Dimensions → Sharing
   derived : ℕ → Sharing
 
+-- the text of a formula, and how it is shared
 pub record FormulaText : Type 0 where
   pub sharing : Sharing
   pub text : List ℕ
 
+-- the first formula of a group, by its area
 abbrev pub shared_in : ℕ → Result Dimensions RefError → Result Sharing Refusal
 shared_in index (Ok range) = Ok (master index range)
 shared_in index (Err fault) = Err (plain (misplaced fault))
 
+-- a formula of a group: with an area its first one, else a member
 abbrev pub shared_over : ℕ → Option (List ℕ) → Result Sharing Refusal
 shared_over index None = Ok (derived index)
 shared_over index (Some range) = shared_in index (area range)
 
+-- the sharing of a formula whose group has this number
 abbrev pub shared_numbered : Option ℕ → Option (List ℕ) → Result Sharing Refusal
 shared_numbered None range = Err (plain wrong_index)
 shared_numbered (Some index) range = shared_over index range
 
+-- the sharing of a shared formula, by the texts of its number and its area
 abbrev pub shared_by : Option (List ℕ) → Option (List ℕ) → Result Sharing Refusal
 shared_by None range = Err (plain lacks_index)
 shared_by (Some index) range = shared_numbered (number_text index) range
 
+-- the sharing of a formula, by the texts of its type, its number and its area
 abbrev pub sharing_typed :
     Option (List ℕ) → Option (List ℕ) → Option (List ℕ) → Result Sharing Refusal
 sharing_typed None index range = Ok own
 sharing_typed (Some typ) index range =
     if bytes_eq typ (codes "shared") then shared_by index range else Ok own
 
+-- the sharing of a formula, by what was looked up at its start
 abbrev pub sharing_from : Result (List (Option (List ℕ))) AttrFault → Result Sharing Refusal
 sharing_from (Ok values) = with_three sharing_typed (Err (plain lacks_index)) values
 sharing_from (Err fault) = Err (plain (lookup_fault fault))
@@ -60,10 +67,12 @@ abbrev pub sharing_of : Tag → Result Sharing Refusal
 sharing_of tag =
     sharing_from (lookup (codes "t" ∷ codes "si" ∷ codes "ref" ∷ []) tag.attributes)
 
+-- a formula by its sharing and its text
 abbrev pub shared_text : Sharing → Result (List ℕ) Refusal → Result FormulaText Refusal
 shared_text sharing (Ok written) = Ok (record { sharing = sharing; text = written })
 shared_text sharing (Err refusal) = Err refusal
 
+-- a formula by its sharing and what stands in it
 abbrev pub with_sharing : List Event → Result Sharing Refusal → Result FormulaText Refusal
 with_sharing inside (Ok sharing) = shared_text sharing (element_text false inside)
 with_sharing inside (Err refusal) = Err refusal
@@ -72,6 +81,7 @@ with_sharing inside (Err refusal) = Err refusal
 abbrev pub formula_text : Tag → List Event → Result FormulaText Refusal
 formula_text tag inside = with_sharing inside (sharing_of tag)
 
+-- a formula that is there
 abbrev pub some_formula : Result FormulaText Refusal → Result (Option FormulaText) Refusal
 some_formula (Ok found) = Ok (Some found)
 some_formula (Err refusal) = Err refusal
@@ -83,6 +93,7 @@ said_formula tag inside =
     else (if is_named (codes "v" ∷ []) tag then Ok None
     else (if is_named (codes "is" ∷ []) tag then Ok None else Err (plain stray_child)))
 
+-- the formula that a child of a cell gives
 abbrev pub child_formula : Element → Result (Option FormulaText) Refusal
 child_formula child = in_element child (said_formula child.tag child.inside)
 
@@ -95,12 +106,14 @@ pub record GroupFormula : Type 0 where
   pub text : List ℕ
   pub corner : ℕ × ℕ
 
+-- the first formula of the group of this number, if this is it
 abbrev pub as_master : ℕ → List ℕ → Sharing → Option GroupFormula
 as_master index written own = None
 as_master index written (master other range) =
     if other == index then Some (record { text = written; corner = range.start }) else None
 as_master index written (derived other) = None
 
+-- what was found, or what is found further on
 abbrev pub or_further : Option GroupFormula → Option GroupFormula → Option GroupFormula
 or_further (Some found) further = Some found
 or_further None further = further
@@ -116,6 +129,7 @@ abbrev pub moved_to : ℕ × ℕ → Option GroupFormula → List ℕ
 moved_to position None = []
 moved_to position (Some found) = moved found.text (offset_between found.corner position)
 
+-- the text of the formula at a position, by its sharing and the formulas before it
 abbrev pub formula_by : List FormulaText → ℕ × ℕ → List ℕ → Sharing → List ℕ
 formula_by earlier position written own = written
 formula_by earlier position written (master index range) = written

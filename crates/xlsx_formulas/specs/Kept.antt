@@ -15,11 +15,13 @@ use Rattle.xlsx_formulas.specs.declared.formula.Formula.{Formula}
 use Rattle.xlsx_formulas.specs.declared.masters.Masters.{Masters}
 use Rattle.xlsx_formulas.specs.declared.masters.Master as kept
 
+-- how a formula that is kept is shared
 abbrev pub sharing_seen : Share → Sharing
 sharing_seen Own = own
 sharing_seen (Master index area) = master index area
 sharing_seen (Derived index) = derived index
 
+-- the text and the sharing of a formula that is kept
 abbrev pub formula_seen : Formula → FormulaText
 formula_seen formula = record {
   sharing = sharing_seen formula.share;

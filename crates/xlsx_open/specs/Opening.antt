@@ -50,9 +50,11 @@ pub record ListedSheet : Type 0 where
   pub typ : SheetType
   pub visible : SheetVisible
 
+-- a sheet without the path of its part
 abbrev pub without_path : PlacedSheet → ListedSheet
 without_path sheet = record { name = sheet.name; typ = sheet.typ; visible = sheet.visible }
 
+-- a sheet by its name, its type and its state
 abbrev pub listed_sheet : Sheet → ListedSheet
 listed_sheet sheet = record {
   name = string_bytes sheet.name;
@@ -86,6 +88,7 @@ HasRelationships parts path related =
     IsSomeAnd (closed_section_of (codes "Relationships") (relationships_part path) parts)
     (λ inside. (id : List ℕ) → related_in inside id ≡ Ok (related id))
 
+-- whether dates count from 1904; they don't where nothing says so
 abbrev pub epoch_or_1900 : Result (Option Bool) Refusal → Result Bool Refusal
 epoch_or_1900 (Ok epoch) = Ok (unwrap_or epoch false)
 epoch_or_1900 (Err refusal) = Err refusal
@@ -121,6 +124,7 @@ pub record OpensAs (parts : List Part) (opening : Opening) : Type 0 where
   pub shared : HasShared parts path opening.shared
   pub workbook : HasWorkbook parts path related opening
 
+-- the package opens as a workbook
 abbrev pub OpensSoundly : List Part → Type 0
 OpensSoundly parts = (opening : Opening) × OpensAs parts opening
 
@@ -130,6 +134,7 @@ RootCause parts error =
     PartCause (codes "Relationships") (always (codes "Relationships")) IsPathRefused parts
     (codes "_rels/.rels") error
 
+-- why the relationships of the workbook at a path are refused
 abbrev pub RelationshipsCause : List Part → List ℕ → XlsxError → Type 0
 RelationshipsCause parts path error =
     PartCause (codes "Relationships") (always (codes "Relationships")) AreRelationshipsRefused parts
@@ -228,12 +233,14 @@ pub record OpensFrom (old new : PackageState) : Type 0 where
   pub taken : old.is_told ≡ true → TakesOpening old.parts old.taken new.taken
   pub to_end : old.is_told ≡ true → TakesSections old.parts old.taken new.taken
 
+-- an opening that fails: what it leaves of the package, by its fault
 pub record FailsToOpen {E : Type 0} (fault : E) (old new : PackageState) (error : E) : Type 0 where
   pub parts : SameParts old new
   pub faults : KeepsFaults fault old new error
   pub forward : NeverFalls old.taken new.taken
   pub taken : old.is_told ≡ true → TakesOpening old.parts old.taken new.taken
 
+-- what an opening leaves of the package, whether it succeeds or fails
 abbrev pub OpensPackage : {A E : Type 0} → E → Result A E → PackageState → PackageState → Type 0
 OpensPackage fault result old new =
     MatchResult result (λ _. OpensFrom old new) (FailsToOpen fault old new)
@@ -244,6 +251,7 @@ WorkbookOpens parts path opening =
     (related : List ℕ → Option Related)
     × HasRelationships parts path related × HasWorkbook parts path related opening
 
+-- why the workbook at a path is refused
 abbrev pub WorkbookFails : List ℕ → PackageState → PackageState → XlsxError → Type 0
 WorkbookFails path old new error = FailsBy (WorkbookCause old.parts path) old new error
 
@@ -252,5 +260,6 @@ abbrev pub BookOpens : List Part → List ℕ → Opening → Type 0
 BookOpens parts path opening =
     HasShared parts path opening.shared × WorkbookOpens parts path opening
 
+-- why the workbook at a path is refused with its relationships
 abbrev pub BookFails : List ℕ → PackageState → PackageState → XlsxError → Type 0
 BookFails path old new error = FailsBy (BookCause old.parts path) old new error

@@ -22,6 +22,7 @@ pub record SharedSaid : Type 0 where
   pub formats : List CellFormat
   pub styles : List StyleSaid
 
+-- what the parts say that sheets share
 abbrev pub shared_said : SharedParts → SharedSaid
 shared_said shared = record {
   strings = map string_bytes shared.strings.items;

@@ -30,9 +30,11 @@ pub record PartElement : Type 0 where
   pub tag : Tag
   pub section : PartSection
 
+-- an element of a part by its start and its section
 abbrev pub element_with : Tag → PartSection → PartElement
 element_with tag section = record { tag = tag; section = section }
 
+-- an element of a part, from what its start was found with
 abbrev pub element_from : List Event → StartAhead → PartElement
 element_from events found = element_with found.tag (section_from events found.ahead)
 

@@ -7,6 +7,7 @@ use Rattle.part_events.specs.Package.{Part, part_of}
 use Rattle.xlsx_sections.specs.PartSection.{PartSection, closed_section, section_in}
 use Rattle.xlsx_sections.specs.Refusal.{Refusal}
 
+-- an answer, or none where it is refused
 abbrev pub ok_or_none : {A : Type 0} → Result A Refusal → Option A
 ok_or_none (Ok a) = Some a
 ok_or_none (Err refusal) = None
@@ -33,6 +34,7 @@ unless_absent absent (Some events) said = said
 abbrev pub is_whole : List Event → Bool
 is_whole events = length (whole events) == length events
 
+-- what is said by a part whose nesting holds
 abbrev pub if_whole : {A : Type 0} → List Event → Option A → Option A
 if_whole events said = if is_whole events then said else None
 
@@ -46,11 +48,13 @@ abbrev pub lacking_or :
 lacking_or lacking events None said = if_whole events (Some lacking)
 lacking_or lacking events (Some section) said = said
 
+-- what the section of a name says; a part without it says the other
 abbrev pub section_said_or :
     {A : Type 0} → A → List ℕ → (List Event → Result A Refusal) → List Event → Option A
 section_said_or lacking name meaning events =
     lacking_or lacking events (section_in name events) (section_said name meaning events)
 
+-- two lists one behind the other, if both are there
 abbrev pub put_together : {A : Type 0} → Option (List A) → Option (List A) → Option (List A)
 put_together None others = None
 put_together (Some first) others = option_map (λ more. first ++ more) others

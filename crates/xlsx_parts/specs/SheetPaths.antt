@@ -6,5 +6,6 @@ pub record SheetPath : Type 0 where
   pub name : List ℕ
   pub path : List ℕ
 
+-- a sheet by its name and the path of its part
 abbrev pub sheet_at : List ℕ → List ℕ → SheetPath
 sheet_at name path = record { name = name; path = path }

@@ -100,6 +100,7 @@ abbrev pub StandsAtPartEvent : Option ℕ → Reading → Reading → Type 0
 StandsAtPartEvent None old new = Unit {0}
 StandsAtPartEvent (Some place) old new = StandsAtEvent 0 (Some place) old new
 
+-- a step takes the event at this place, or the end of the part
 abbrev pub StepsToPartEvent : Option ℕ → Reading → Reading → Reading → Type 0
 StepsToPartEvent None first old new =
     first.source.is_told ≡ true → EndsPart first new × (section_ahead 0 old ≡ [])

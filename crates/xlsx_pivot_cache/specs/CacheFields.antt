@@ -29,13 +29,16 @@ pub record FieldSaid : Type 0 where
   pub name : List ℕ
   pub items : List CellValue
 
+-- a field by its name and its items
 abbrev pub field_with : List ℕ → List CellValue → FieldSaid
 field_with name items = record { name = name; items = items }
 
+-- an item that is there
 abbrev pub some_item : Result CellValue Refusal → Result (Option CellValue) Refusal
 some_item (Ok own) = Ok (Some own)
 some_item (Err refusal) = Err refusal
 
+-- the item of a start, if it is one
 abbrev pub item_if : Option ItemKind → Tag → Result (Option CellValue) Refusal
 item_if None tag = Ok None
 item_if (Some kind) tag = some_item (item_of_start kind tag)
@@ -44,15 +47,19 @@ item_if (Some kind) tag = some_item (item_of_start kind tag)
 abbrev pub item_said : Tag → Result (Option CellValue) Refusal
 item_said tag = item_if (item_kind tag) tag
 
+-- the item that an element gives
 abbrev pub item_among : Element → Result (Option CellValue) Refusal
 item_among element = item_said element.tag
 
+-- a start begins the shared items of a field
 abbrev pub is_shared : Tag → Bool
 is_shared tag = is_named (codes "sharedItems" ∷ []) tag
 
+-- a start begins the items of a group
 abbrev pub is_group : Tag → Bool
 is_group tag = is_named (codes "groupItems" ∷ []) tag
 
+-- the shared items of a field, none where it has no list of them
 abbrev pub items_shared : Option (List Event) → Result (List CellValue) Refusal
 items_shared None = Ok []
 items_shared (Some behind) = some_answers item_among (children (content 0 behind))
@@ -65,6 +72,7 @@ items_in inside = items_shared (behind_start is_shared inside)
 abbrev pub groups_items : List Event → Bool
 groups_items inside = is_some (behind_start is_group inside)
 
+-- a field, unless its items are grouped
 abbrev pub unless_grouped :
     List ℕ → Bool → Result (List CellValue) Refusal → Result (Option FieldSaid) Refusal
 unless_grouped name groups (Ok items) = Ok (if groups then None else Some (field_with name items))
@@ -77,17 +85,20 @@ field_named formula inside (Err refusal) = Err refusal
 field_named (Some formula) inside (Ok name) = Ok None
 field_named None inside (Ok name) = unless_grouped name (groups_items inside) (items_in inside)
 
+-- a field, by the texts of its name and its formula
 abbrev pub field_from :
     List Event → Option (List ℕ) → Option (List ℕ) → Result (Option FieldSaid) Refusal
 field_from inside None formula = Ok None
 field_from inside (Some name) formula =
     field_named formula inside (decoded_at (length inside) name)
 
+-- a field, by what was looked up at its start
 abbrev pub field_by :
     List Event → Result (List (Option (List ℕ))) AttrFault → Result (Option FieldSaid) Refusal
 field_by inside (Ok texts) = with_two (field_from inside) (Ok None) texts
 field_by inside (Err fault) = Err (plain (lookup_fault fault))
 
+-- the attributes of a field that tell its name and its formula
 abbrev pub field_keys : List (List ℕ)
 field_keys = codes "name" ∷ codes "formula" ∷ []
 
@@ -96,6 +107,7 @@ field_keys = codes "name" ∷ codes "formula" ∷ []
 abbrev pub field_said : Tag → List Event → Result (Option FieldSaid) Refusal
 field_said tag inside = field_by inside (lookup field_keys tag.attributes)
 
+-- a start is a field of a cache
 abbrev pub is_field : Tag → Bool
 is_field tag = is_named (codes "cacheField" ∷ []) tag
 
@@ -112,6 +124,7 @@ fields_said events =
 abbrev pub field_kept : CacheField → FieldSaid
 field_kept field = field_with (string_bytes field.name) (map value_of_data field.items.items)
 
+-- the fields that are kept
 abbrev pub fields_kept : List CacheField → List FieldSaid
 fields_kept fields = map field_kept fields
 

@@ -29,6 +29,7 @@ item_kind_named name =
     )
     None name
 
+-- the kind of item that a start is
 abbrev pub item_kind : Tag → Option ItemKind
 item_kind tag = item_kind_named (local_name_of tag.name)
 
@@ -43,10 +44,12 @@ whole_number (byte ∷ bytes) =
     if byte == 45 then option_map (λ n. neg_ℤ (pos n)) (number_below (2 ^ 63 + 1) bytes)
     else option_map (λ n. pos n) (number_below (2 ^ 63) (byte ∷ bytes))
 
+-- a whole number, or a value that is not read
 abbrev pub whole_value : Option ℤ → CellValue
 whole_value None = unread
 whole_value (Some n) = value.integer n
 
+-- a decimal, or a value that is not read
 abbrev pub decimal_value : Option (ℤ × ℤ) → CellValue
 decimal_value None = unread
 decimal_value (Some decimal) = value.number decimal
@@ -57,6 +60,7 @@ item_number text =
     if list_any (λ byte. byte == 46) text then decimal_value (decimal_of text)
     else whole_value (whole_number text)
 
+-- the truth value of a text, or a value that is not read
 abbrev pub item_truth : List ℕ → CellValue
 item_truth text =
     named (
@@ -82,6 +86,7 @@ abbrev pub item_with : ItemKind → Option (List ℕ) → CellValue
 item_with kind None = value.nothing
 item_with kind (Some text) = value_as kind text
 
+-- the item of a kind, by what was looked up at its start
 abbrev pub item_by : ItemKind → Result (Option (List ℕ)) AttrFault → Result CellValue Refusal
 item_by kind (Ok text) = Ok (item_with kind text)
 item_by kind (Err fault) = Err (plain (lookup_fault fault))

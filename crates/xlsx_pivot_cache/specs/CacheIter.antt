@@ -26,6 +26,7 @@ use Rattle.xlsx_pivot_cache.specs.declared.pivot_cursor.RecordsPlace.TheVariants
 abbrev pub rows_by : {P : Type 0} → (P → PackageState) → PivotCacheIter P PivotCursor → PivotRows
 rows_by state rows = pivot_rows (state rows.package.now) rows.rows
 
+-- the name of the reference to the package that an iterator over rows holds
 abbrev pub rows_reference : {P : Type 0} → PivotCacheIter P PivotCursor → GName
 rows_reference rows = rows.package.ghost_name
 
@@ -35,6 +36,7 @@ most_left Before left = suc left
 most_left (Within base) left = suc left
 most_left Done left = 0
 
+-- an iterator over rows gives at most as many as can be left
 abbrev pub rows_count : PivotRows → Count
 rows_count rows = at_most (most_left rows.place rows.reading.source.left)
 

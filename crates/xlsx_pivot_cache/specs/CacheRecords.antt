@@ -23,9 +23,11 @@ use Rattle.xlsx_parts.specs.WholePart.{IfThere}
 use Rattle.xlsx_pivot_cache.specs.CacheFields.{FieldSaid, item_said, some_item, fields_at}
 use Rattle.xlsx_pivot_cache.specs.CacheFields.{FieldsAtCause}
 
+-- a start refers to a shared item
 abbrev pub is_reference : Tag → Bool
 is_reference tag = is_named (codes "x" ∷ []) tag
 
+-- the item that is referred to, or the refusal that there is none
 abbrev pub item_or_lacks : Option CellValue → Result CellValue Refusal
 item_or_lacks None = Err (plain lacks_item)
 item_or_lacks (Some item) = Ok item
@@ -72,9 +74,11 @@ values_from fields place (element ∷ elements) =
 abbrev pub row_in : List FieldSaid → List Event → Result (List CellValue) Refusal
 row_in fields inside = values_from fields 0 (children inside)
 
+-- the row that a record says
 abbrev pub row_said : List FieldSaid → Tag → List Event → Result (List CellValue) Refusal
 row_said fields tag inside = row_in fields inside
 
+-- a start is a record
 abbrev pub is_record : Tag → Bool
 is_record tag = is_named (codes "r" ∷ []) tag
 
@@ -86,6 +90,7 @@ rows_in fields inside = list_said is_record (row_said fields) inside
 abbrev pub names_row : List FieldSaid → List CellValue
 names_row fields = map (λ (field : FieldSaid). value.text field.name) fields
 
+-- the name of the section of the records
 abbrev pub records_name : List ℕ
 records_name = codes "pivotCacheRecords"
 
@@ -95,6 +100,7 @@ abbrev pub names_first :
 names_first fields rows =
     option_map (λ (others : List (List CellValue)). names_row fields ∷ others) rows
 
+-- the rows of the records at a path, the names of the fields first
 abbrev pub rows_at : List Part → List ℕ → List FieldSaid → Option (List (List CellValue))
 rows_at parts records fields =
     names_first fields (part_said records_name (rows_in fields) parts records)

@@ -31,6 +31,7 @@ pub record PivotRows : Type 0 where
   pub place : RecordsPlace
   pub reading : Reading
 
+-- a package and a cursor over the records as the rows of a pivot table
 abbrev pub pivot_rows : PackageState → PivotCursor → PivotRows
 pivot_rows source rows = record {
   fields = fields_kept rows.fields.items;
@@ -43,6 +44,7 @@ abbrev pub records_left : List FieldSaid → ℕ → Reading → Option (List (L
 records_left fields base r =
     if is_closed_ahead base r then ok_or_none (rows_in fields (section_ahead base r)) else None
 
+-- the rows that are left, by the place in the records
 abbrev pub left_from :
     RecordsPlace → List FieldSaid → Reading → Option (List (List CellValue))
 left_from Before fields r =
@@ -72,6 +74,7 @@ pub record IsInRecords (fields : List FieldSaid) (base : ℕ) (r : Reading) : Ty
   pub within : base ≤ length r.names
   pub left : r.source.is_told ≡ true → (s : PartSection) × IsLeftOf fields base r s
 
+-- a reading stands where the place in the records says
 abbrev pub RowsStand : RecordsPlace → List FieldSaid → Reading → Type 0
 RowsStand Before fields r = IsReading r × (r.at ≡ 0)
 RowsStand (Within base) fields r = IsInRecords fields base r
@@ -170,6 +173,7 @@ EndsAt (Within base) old new =
     old.reading.source.is_told ≡ true → EndsRecords base old.reading new.reading
 EndsAt Done old new = Unit {0}
 
+-- a call gives no row, and the rows are at their end
 abbrev pub GivesNone : PivotRows → PivotRows → Type 0
 GivesNone old new = EndsAt old.place old new
 

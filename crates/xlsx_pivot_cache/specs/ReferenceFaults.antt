@@ -3,6 +3,7 @@ use Rattle.xlsx_sections.specs.Refusal.{PlainRefusal, wrong_item_number, lacks_f
 use Rattle.xlsx_pivot_cache.specs.declared.record.ReferenceFault.{ReferenceFault}
 use Rattle.xlsx_pivot_cache.specs.declared.record.ReferenceFault.TheVariants.{Number, Field, Item}
 
+-- the refusal of a reference to an item
 abbrev pub refusal_of : ReferenceFault → PlainRefusal
 refusal_of Number = wrong_item_number
 refusal_of Field = lacks_field

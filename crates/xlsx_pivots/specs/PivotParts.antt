@@ -10,6 +10,7 @@ use Rattle.xlsx_parts.specs.FirstElement.{first_said, FirstElementCause}
 use Rattle.xlsx_pivots.specs.Singles.{single_kept_by, Lacks}
 use Rattle.xlsx_pivots.specs.declared.single.Single.TheVariants as single
 
+-- a start is the definition of a pivot table
 abbrev pub is_pivot : Tag → Bool
 is_pivot tag = is_named (codes "pivotTableDefinition" ∷ []) tag
 

@@ -22,6 +22,7 @@ pivot_kept pivot =
     pivot_with (string_bytes pivot.sheet) (string_bytes pivot.name)
     (string_bytes pivot.definitions) (string_bytes pivot.records)
 
+-- the pivot tables that were found
 abbrev pub pivots_kept : PivotTables → List PivotSaid
 pivots_kept pivots = map pivot_kept pivots.pivots.items
 
@@ -29,6 +30,7 @@ pivots_kept pivots = map pivot_kept pivots.pivots.items
 abbrev pub pairs_of : List PivotSaid → List (List ℕ × List ℕ)
 pairs_of pivots = map (λ (own : PivotSaid). (own.sheet, own.name)) pivots
 
+-- a pivot table stands on the sheet of this name
 abbrev pub is_on_sheet : List ℕ → PivotSaid → Bool
 is_on_sheet sheet pivot = bytes_eq pivot.sheet sheet
 
@@ -36,6 +38,7 @@ is_on_sheet sheet pivot = bytes_eq pivot.sheet sheet
 abbrev pub names_on : List ℕ → List PivotSaid → List (List ℕ)
 names_on sheet pivots = map (λ (own : PivotSaid). own.name) (filter (is_on_sheet sheet) pivots)
 
+-- a pivot table has these names, its sheet's and its own
 abbrev pub is_pair : List ℕ → List ℕ → PivotSaid → Bool
 is_pair sheet name pivot = bytes_eq pivot.sheet sheet && bytes_eq pivot.name name
 
@@ -54,5 +57,6 @@ pair_given pair = (pair.0.now, pair.1.now)
 abbrev pub pairs_left : PivotNames → List (List ℕ × List ℕ)
 pairs_left it = pairs_of (map pivot_kept it.left.now)
 
+-- the names that an iterator over a sheet's pivot tables has still to give
 abbrev pub pivot_names_left : PivotNamesInSheet → List (List ℕ)
 pivot_names_left it = names_on it.sheet.now (map pivot_kept it.left.now)

@@ -29,6 +29,7 @@ pub record PivotSaid : Type 0 where
   pub definitions : List ℕ
   pub records : List ℕ
 
+-- a pivot table by its fields
 abbrev pub pivot_with : List ℕ → List ℕ → List ℕ → List ℕ → PivotSaid
 pivot_with sheet name definitions records = record {
   name = name;
@@ -47,6 +48,7 @@ abbrev pub pivot_from :
 pivot_from parts folder sheet name definitions =
     option_map (pivot_with sheet name definitions) (records_at parts folder definitions)
 
+-- the pivot table of a part, once its name is read
 abbrev pub pivot_named : List Part → List ℕ → List ℕ → List ℕ → List ℕ → Option PivotSaid
 pivot_named parts folder sheet path name =
     option_and_then (pivot_from parts folder sheet name) (definitions_at parts path)
@@ -57,9 +59,11 @@ abbrev pub pivot_at : List Part → List ℕ → List ℕ → List ℕ → Optio
 pivot_at parts folder sheet path =
     option_and_then (pivot_named parts folder sheet path) (pivot_name_at parts path)
 
+-- one pivot table as a list
 abbrev pub one_pivot : PivotSaid → List PivotSaid
 one_pivot pivot = pivot ∷ []
 
+-- the pivot table of a part, as a list
 abbrev pub pivots_at : List Part → List ℕ → List ℕ → List ℕ → Option (List PivotSaid)
 pivots_at parts folder sheet path = option_map one_pivot (pivot_at parts folder sheet path)
 
@@ -101,6 +105,7 @@ sheet_events parts path =
     event_count parts (relationships_beside path)
     + sum_of_related (pivot_events parts) parts pivot_type path
 
+-- the same up to the ends of the pivot tables and of the sections of relationships
 abbrev pub sheet_sections : List Part → List ℕ → ℕ
 sheet_sections parts path =
     section_events_of (codes "Relationships") parts (relationships_beside path)
@@ -111,6 +116,7 @@ abbrev pub all_pivot_events : List Part → List SheetPath → ℕ
 all_pivot_events parts sheets =
     sum_by (λ (sheet : SheetPath). sheet_events parts sheet.path) sheets
 
+-- the same of those up to the ends of the sections
 abbrev pub all_pivot_sections : List Part → List SheetPath → ℕ
 all_pivot_sections parts sheets =
     sum_by (λ (sheet : SheetPath). sheet_sections parts sheet.path) sheets

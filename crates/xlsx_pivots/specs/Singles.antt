@@ -27,6 +27,7 @@ kept_with single kept None = Ok kept
 kept_with single None (Some own) = Ok (Some own)
 kept_with single (Some first) (Some own) = Err (plain (many single))
 
+-- what is kept behind another find, which there must be at most once
 abbrev pub single_kept_by :
     Single → Option (List ℕ) → Result (Option (List ℕ)) Refusal →
     Result (Option (List ℕ)) Refusal

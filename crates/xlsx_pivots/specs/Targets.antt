@@ -24,6 +24,7 @@ abbrev pub definitions_type : List ℕ
 definitions_type =
     codes "http://schemas.openxmlformats.org/officeDocument/2006/relationships/pivotCacheDefinition"
 
+-- the type of the relationship to the records of a cache
 abbrev pub records_type : List ℕ
 records_type =
     codes "http://schemas.openxmlformats.org/officeDocument/2006/relationships/pivotCacheRecords"
@@ -35,6 +36,7 @@ counted None None = None
 counted None (Some []) = None
 counted None (Some (byte ∷ target)) = Some (byte ∷ target)
 
+-- a target that was found, beside the one that is kept
 abbrev pub counted_target :
     Option (List ℕ) → Result (Option (List ℕ)) Refusal → Result (Option (List ℕ)) Refusal
 counted_target kept (Ok target) = Ok (counted kept target)
@@ -82,6 +84,7 @@ abbrev pub in_caches : List ℕ → List ℕ → List ℕ
 in_caches caches target =
     if starts_with nat_eq target caches then target else (caches ++ codes "/") ++ target
 
+-- the path of the records, by their target
 abbrev pub records_path : List ℕ → List ℕ → List ℕ
 records_path folder target = in_caches (folder ++ codes "pivotCache") (without_slash target)
 

@@ -9,9 +9,11 @@ use Rattle.xlsx_sections.specs.Answers.{or_earlier}
 use Rattle.xlsx_sections.specs.Refusal.{Refusal, no_character, placed_at}
 use Rattle.xlsx_sections.specs.Names.{name_by}
 
+-- a start is a property of the users
 abbrev pub is_property : Tag → Bool
 is_property tag = is_named (codes "property" ∷ []) tag
 
+-- a name is that of a property of the users
 abbrev pub ends_property : List ℕ → Bool
 ends_property name = is_property (record { name = name; attributes = [] })
 
@@ -20,10 +22,12 @@ pub record OpenCustom : Type 0 where
   pub name : List ℕ
   pub text : List ℕ
 
+-- the property of a name, as it begins
 abbrev pub custom_opened : Option (List ℕ) → Option OpenCustom
 custom_opened None = None
 custom_opened (Some name) = Some (record { name = name; text = [] })
 
+-- a property with more of its text
 abbrev pub custom_with_text : List ℕ → OpenCustom → OpenCustom
 custom_with_text more property = record { name = property.name; text = property.text ++ more }
 

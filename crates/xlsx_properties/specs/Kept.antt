@@ -37,6 +37,7 @@ held Manager kept = option_map string_bytes kept.manager
 abbrev pub custom_held : List ℕ → WorkbookProperties → Option (List ℕ)
 custom_held name kept = option_map string_bytes (get_by_text kept.custom_properties name)
 
+-- the name and the text of an entry
 abbrev pub entry_texts : String Global × String Global → List ℕ × List ℕ
 entry_texts entry = (string_bytes entry.0, string_bytes entry.1)
 

@@ -8,15 +8,19 @@ use Rattle.xlsx_properties.specs.declared.open_custom.CustomPlace.{CustomPlace}
 use Rattle.xlsx_properties.specs.declared.open_custom.OpenCustom as open_custom
 use Rattle.xlsx_properties.specs.declared.open_property.OpenProperty.{OpenProperty}
 
+-- the property that is open, with its text so far
 abbrev pub open_text : OpenProperty → OpenText
 open_text own = record { property = own.property; text = string_bytes own.text }
 
+-- the same, if one is open
 abbrev pub open_in : Option OpenProperty → Option OpenText
 open_in started = option_map open_text started
 
+-- the property of the users that is open, with its text so far
 abbrev pub custom_text_of : open_custom.OpenCustom → custom.OpenCustom
 custom_text_of own = record { name = string_bytes own.name; text = string_bytes own.text }
 
+-- the same, if one is open
 abbrev pub custom_in_place : Option open_custom.OpenCustom → Option custom.OpenCustom
 custom_in_place started = option_map custom_text_of started
 

@@ -13,12 +13,15 @@ use Rattle.xlsx_properties.specs.PropertyTexts.{property_in}
 use Rattle.xlsx_properties.specs.Said.{Saying, AreRefused}
 use Rattle.xlsx_properties.specs.declared.property.Property.{Property}
 
+-- the part of the core properties
 abbrev pub core_part : List ℕ
 core_part = codes "docProps/core.xml"
 
+-- the part of the program's properties
 abbrev pub program_part : List ℕ
 program_part = codes "docProps/app.xml"
 
+-- the part of the users' own properties
 abbrev pub custom_part : List ℕ
 custom_part = codes "docProps/custom.xml"
 

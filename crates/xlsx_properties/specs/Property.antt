@@ -79,5 +79,6 @@ named_properties =
     ∷ (codes "manager", Manager)
     ∷ []
 
+-- two properties are the same
 abbrev pub is_same : Property → Property → Bool
 is_same wanted own = order_of wanted == order_of own

@@ -16,6 +16,7 @@ use Rattle.xlsx_properties.specs.declared.property.Property.{Property}
 abbrev pub Listed : Type 0
 Listed = List (List ℕ × Option Property)
 
+-- the properties that a part lists
 abbrev pub listed_in : PropertyPart → Listed
 listed_in Core = core_properties
 listed_in Program = program_properties
@@ -57,10 +58,12 @@ text_behind earlier events =
     text_or_refused earlier (ends_next events) (length events - length (leaves events))
     (leaves events) (unknown_entity (leaves events))
 
+-- a text that counts only where it is wanted
 abbrev pub if_wanted : Bool → Result (Option (List ℕ)) Refusal → Result (Option (List ℕ)) Refusal
 if_wanted wanted (Ok text) = Ok (if wanted then text else None)
 if_wanted wanted (Err refusal) = Err refusal
 
+-- the text of a property, if it is the wanted one
 abbrev pub text_if : Property → Option Property → List Event → Result (Option (List ℕ)) Refusal
 text_if wanted None events = Ok None
 text_if wanted (Some own) events = if_wanted (is_same wanted own) (text_behind [] events)
@@ -79,10 +82,12 @@ pub record OpenText : Type 0 where
   pub property : Property
   pub text : List ℕ
 
+-- a property as it begins
 abbrev pub opened : Option Property → Option OpenText
 opened None = None
 opened (Some own) = Some (record { property = own; text = [] })
 
+-- an open property with more of its text
 abbrev pub with_text : List ℕ → OpenText → OpenText
 with_text more own = record { property = own.property; text = own.text ++ more }
 

@@ -6,6 +6,7 @@ use Rattle.std.specs.declared.alloc.Global.{Global}
 use Rattle.xlsx_relationships.specs.Relationships.{Related}
 use Rattle.xlsx_relationships.specs.declared.relationships.Relationship.{Relationship}
 
+-- the target and the type of a relationship
 abbrev pub relationship_of : Relationship → Related
 relationship_of r = record { target = arc_str_bytes r.target; typ = string_bytes r.typ }
 

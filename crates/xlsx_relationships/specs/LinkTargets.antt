@@ -22,6 +22,7 @@ use Rattle.xlsx_parts.specs.PartSaid.{part_said, unless_absent}
 use Rattle.xlsx_relationships.specs.Paths.{relationships_beside}
 use Rattle.xlsx_relationships.specs.Relationships.{relationship_starts}
 
+-- a text with its escapes resolved
 abbrev pub without_escapes : Result (List ℕ) Refusal → Result (List ℕ) Refusal
 without_escapes (Ok text) = Ok (unescaped text)
 without_escapes (Err refusal) = Err refusal
@@ -35,13 +36,16 @@ pub record LinkTarget : Type 0 where
   pub id : List ℕ
   pub target : List ℕ
 
+-- the type of a relationship is that of a hyperlink
 abbrev pub is_hyperlink_type : List ℕ → Bool
 is_hyperlink_type typ = ends_with nat_eq typ (codes "/relationships/hyperlink")
 
+-- an id with the target that it leads to
 abbrev pub leading_to : List ℕ → Result (List ℕ) Refusal → Result (Option LinkTarget) Refusal
 leading_to id (Ok target) = Ok (Some (record { id = id; target = target }))
 leading_to id (Err refusal) = Err refusal
 
+-- the target of a link, by its id, its type and its target
 abbrev pub link_target_from :
     ℕ → Option (List ℕ) → Option (List ℕ) → Option (List ℕ) → Result (Option LinkTarget) Refusal
 link_target_from behind None typ target = Ok None
@@ -50,6 +54,7 @@ link_target_from behind (Some id) (Some typ) target =
     if is_hyperlink_type typ && not (length id == 0)
     then leading_to id (link_text behind (unwrap_or target [])) else Ok None
 
+-- the target of a link, by what was looked up at its start
 abbrev pub link_target_by :
     ℕ → Result (List (Option (List ℕ))) AttrFault → Result (Option LinkTarget) Refusal
 link_target_by behind (Ok values) = with_three (link_target_from behind) (Ok None) values

@@ -4,6 +4,7 @@ use Rattle.std.specs.Prelude.{if◌then◌else◌, Option, Some, None, unwrap_or
 use Rattle.std.specs.List.{after_last}
 use Rattle.std.specs.Str.{bytes_eq}
 
+-- a byte is `/`
 abbrev pub is_slash : ℕ → Bool
 is_slash byte = byte == 47
 
@@ -20,6 +21,7 @@ without_slash path = unwrap_or (behind_slash path) path
 abbrev pub last_piece : List ℕ → List ℕ
 last_piece path = after_last is_slash path
 
+-- a path up to its last `/`, with it
 abbrev pub front_pieces : List ℕ → List ℕ
 front_pieces path = take (length path - length (last_piece path)) path
 

@@ -33,6 +33,8 @@ outer_folder path = part_folder (before_slash path)
 abbrev pub behind_dots : List ℕ → Option (List ℕ)
 behind_dots target = if starts_with nat_eq target (codes "../") then Some (drop 3 target) else None
 
+-- where a target leads from a part: what follows its `../` stands in the outer folder, any other
+-- target at the top
 abbrev pub led_from : List ℕ → Option (List ℕ) → List ℕ → List ℕ
 led_from path (Some rest) target = outer_folder path ++ rest
 led_from path None target = without_slash target
@@ -51,6 +53,7 @@ typed_from wanted behind typ target =
     if bytes_eq (unwrap_or typ []) wanted
     then some_text (decoded_at behind (unwrap_or target [])) else Ok None
 
+-- the target of a relationship of this type, by what was looked up at its start
 abbrev pub typed_by :
     List ℕ → ℕ → Result (List (Option (List ℕ))) AttrFault → Result (Option (List ℕ)) Refusal
 typed_by wanted behind (Ok values) = with_two (typed_from wanted behind) (Ok None) values
@@ -62,6 +65,7 @@ typed_target wanted start =
     typed_by wanted start.behind
     (lookup (codes "Type" ∷ codes "Target" ∷ []) start.tag.attributes)
 
+-- the path that a target leads to from a part
 abbrev pub led_to :
     List ℕ → Result (Option (List ℕ)) Refusal → Result (Option (List ℕ)) Refusal
 led_to path (Ok target) = Ok (option_and_then (target_path path) target)

@@ -16,15 +16,18 @@ use Rattle.xlsx_sections.specs.Refusal.{Refusal, plain, lookup_fault, unrelated,
 abbrev pub relationship_starts : List Event → List PlacedTag
 relationship_starts inside = starts_by (is_named (codes "Relationship" ∷ [])) inside
 
+-- the type of a relationship is that of the workbook
 abbrev pub is_office_document : List ℕ → Bool
 is_office_document typ = ends_with nat_eq typ (codes "/relationships/officeDocument")
 
+-- the target of the workbook, by its type and its target
 abbrev pub target_from : ℕ → Option (List ℕ) → Option (List ℕ) → Result (Option (List ℕ)) Refusal
 target_from behind None target = Ok None
 target_from behind (Some typ) None = Ok None
 target_from behind (Some typ) (Some target) =
     if is_office_document typ then some_text (decoded_at behind target) else Ok None
 
+-- the target of the workbook, by what was looked up at its start
 abbrev pub target_by :
     ℕ → Result (List (Option (List ℕ))) AttrFault → Result (Option (List ℕ)) Refusal
 target_by behind (Ok values) = with_two (target_from behind) (Ok None) values
@@ -44,6 +47,7 @@ pub record Related : Type 0 where
   pub target : List ℕ
   pub typ : List ℕ
 
+-- the relationship of this id, by the texts of its attributes
 abbrev pub related_from :
     List ℕ → Option (List ℕ) → Option (List ℕ) → Option (List ℕ) → Option Related
 related_from id None typ target = None
@@ -52,6 +56,7 @@ related_from id (Some own) typ target =
     then Some (record { target = unwrap_or target []; typ = unwrap_or typ [] })
     else None
 
+-- the relationship of this id, by what was looked up at its start
 abbrev pub related_by :
     List ℕ → Result (List (Option (List ℕ))) AttrFault → Result (Option Related) Refusal
 related_by id (Ok values) = Ok (with_three (related_from id) None values)

@@ -13,6 +13,7 @@ use Rattle.cell_data.specs.declared.range.Range.{Range}
 use Rattle.cell_data.specs.declared.value.Data.{Data}
 use Rattle.csv.specs.Writing.{default_writer, row_text}
 
+-- the field of a truth value
 abbrev pub truth_field : Bool → List ℕ
 truth_field true = codes "true"
 truth_field false = codes "false"
@@ -30,9 +31,11 @@ field_of (time days kind is_1904) = printed days
 field_of (iso_time bytes) = bytes
 field_of (failure error) = cell_error_text error
 
+-- the field of a value that `Data` holds
 abbrev pub data_field : Data → List ℕ
 data_field value = field_of (value_of_data value)
 
+-- the fields of a header
 abbrev pub header_fields : List (String Global) → List (List ℕ)
 header_fields names = map string_bytes names
 
@@ -42,6 +45,7 @@ header_text None = []
 header_text (Some []) = []
 header_text (Some (name ∷ names)) = row_text default_writer (name ∷ names)
 
+-- the record of a row
 abbrev pub record_text : List Data → List ℕ
 record_text row = row_text default_writer (map data_field row)
 

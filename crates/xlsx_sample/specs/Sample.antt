@@ -18,6 +18,7 @@ abbrev pub number_cell : ℕ → List Event
 number_cell row =
     element (codes "c") (attribute (codes "r") (codes "A" ++ decimal row)) (sample_value row)
 
+-- the attributes of the first formula of the sample, which the others share
 abbrev pub master_attributes : ℕ → List ℕ
 master_attributes rows =
     attribute (codes "t") (codes "shared")
@@ -34,6 +35,7 @@ derived_formula =
     element (codes "f")
     (attribute (codes "t") (codes "shared") ++ attribute (codes "si") (codes "0")) []
 
+-- the formula of a row: in the first row the shared one, and a member of its group in the others
 abbrev pub formula_element : ℕ → ℕ → List Event
 formula_element rows row = if row == 1 then master_formula rows else derived_formula
 
@@ -55,6 +57,7 @@ string_cell row =
     ++ (style_attribute row ++ attribute (codes "t") (codes "s")))
     (sample_value (row % 3))
 
+-- the row of this number, with its three cells
 abbrev pub row_element : ℕ → ℕ → List Event
 row_element rows row =
     element (codes "row") (attribute (codes "r") (decimal row))
@@ -79,6 +82,7 @@ related kind target =
     (attribute (codes "Id") (codes "rId1")
     ++ (attribute (codes "Type") (relationship_type kind) ++ attribute (codes "Target") target)) []
 
+-- the part of the package's relationships: one, to the workbook
 abbrev pub root_part : Part
 root_part = record {
   name = codes "_rels/.rels";
@@ -86,6 +90,7 @@ root_part = record {
       (related (codes "officeDocument") (codes "xl/workbook.xml"));
 }
 
+-- the part of the workbook's relationships: one, to the sheet
 abbrev pub sample_relationships : Part
 sample_relationships = record {
   name = codes "xl/_rels/workbook.xml.rels";
@@ -93,33 +98,40 @@ sample_relationships = record {
       (related (codes "worksheet") (codes "worksheets/sheet1.xml"));
 }
 
+-- the sheet in the list of the workbook's sheets
 abbrev pub sheet_element : List Event
 sheet_element =
     element (codes "sheet")
     (attribute (codes "name") (codes "Sample")
     ++ (attribute (codes "sheetId") (codes "1") ++ attribute (codes "r:id") (codes "rId1"))) []
 
+-- the list of the workbook's sheets
 abbrev pub sheets_element : List Event
 sheets_element = element (codes "sheets") [] sheet_element
 
+-- the workbook's own part
 abbrev pub sample_workbook : Part
 sample_workbook = record {
   name = codes "xl/workbook.xml";
   events = element (codes "workbook") [] sheets_element;
 }
 
+-- the data of the sheet, with so many rows
 abbrev pub data_element : ℕ → List Event
 data_element rows = element (codes "sheetData") [] (first_rows rows rows)
 
+-- the sheet's part, with so many rows
 abbrev pub sample_sheet : ℕ → Part
 sample_sheet rows = record {
   name = codes "xl/worksheets/sheet1.xml";
   events = element (codes "worksheet") [] (data_element rows);
 }
 
+-- a shared string with this text
 abbrev pub string_element : List ℕ → List Event
 string_element content = element (codes "si") [] (element (codes "t") [] (words content))
 
+-- the part of the shared strings
 abbrev pub sample_strings : Part
 sample_strings = record {
   name = codes "xl/sharedStrings.xml";
@@ -137,11 +149,13 @@ abbrev pub plain_fill : List ℕ → List Event
 plain_fill attributes =
     element (codes "fill") [] (element (codes "patternFill") attributes [])
 
+-- the pattern of a yellow fill
 abbrev pub yellow_pattern : List Event
 yellow_pattern =
     element (codes "patternFill") (pattern (codes "solid"))
     (element (codes "fgColor") (attribute (codes "rgb") (codes "FFFFFF00")) [])
 
+-- a fill that is yellow
 abbrev pub yellow_fill : List Event
 yellow_fill = element (codes "fill") [] yellow_pattern
 
@@ -156,10 +170,12 @@ fills_element =
 abbrev pub format_element : List ℕ → List Event
 format_element fill = element (codes "xf") (attribute (codes "fillId") fill) []
 
+-- the formats of cells: without a fill, and with the yellow one
 abbrev pub formats_element : List Event
 formats_element =
     element (codes "cellXfs") [] (format_element (codes "0") ++ format_element (codes "2"))
 
+-- the part of the styles
 abbrev pub sample_styles : Part
 sample_styles = record {
   name = codes "xl/styles.xml";

@@ -2,10 +2,12 @@
 use Rattle.std.specs.Prelude.{ℕ, List, [], ◌∷◌, ◌++◌, Option, Some, None, Result, Ok, Err}
 use Rattle.xlsx_sections.specs.Refusal.{Refusal}
 
+-- an answer in front of others
 abbrev pub with_first : {A : Type 0} → A → Result (List A) Refusal → Result (List A) Refusal
 with_first first (Ok others) = Ok (first ∷ others)
 with_first first (Err refusal) = Err refusal
 
+-- an answer in front of others; the first refusal counts
 abbrev pub and_others : {A : Type 0} → Result A Refusal → Result (List A) Refusal
     → Result (List A) Refusal
 and_others (Ok first) others = with_first first others
@@ -16,6 +18,7 @@ abbrev pub all_answers : {X A : Type 0} → (X → Result A Refusal) → List X 
 all_answers answer [] = Ok []
 all_answers answer (x ∷ xs) = and_others (answer x) (all_answers answer xs)
 
+-- the same, where the first may say nothing
 abbrev pub and_others_if : {A : Type 0} → Result (Option A) Refusal → Result (List A) Refusal
     → Result (List A) Refusal
 and_others_if (Ok (Some first)) others = with_first first others
@@ -28,12 +31,14 @@ abbrev pub some_answers : {X A : Type 0} → (X → Result (Option A) Refusal) �
 some_answers answer [] = Ok []
 some_answers answer (x ∷ xs) = and_others_if (answer x) (some_answers answer xs)
 
+-- what comes later counts, and what came earlier where nothing does
 abbrev pub or_earlier : {A : Type 0} → Option A → Result (Option A) Refusal
     → Result (Option A) Refusal
 or_earlier earlier (Ok (Some later)) = Ok (Some later)
 or_earlier earlier (Ok None) = Ok earlier
 or_earlier earlier (Err refusal) = Err refusal
 
+-- of two answers the later that says something; the first refusal counts
 abbrev pub or_later : {A : Type 0} → Result (Option A) Refusal → Result (Option A) Refusal
     → Result (Option A) Refusal
 or_later (Ok earlier) later = or_earlier earlier later
@@ -58,6 +63,7 @@ with_two f other (a ∷ []) = other
 with_two f other (a ∷ b ∷ []) = f a b
 with_two f other (a ∷ b ∷ c ∷ values) = other
 
+-- three values that were looked up, handed on; another number of them never comes
 abbrev pub with_three :
     {A : Type 0} → (Option (List ℕ) → Option (List ℕ) → Option (List ℕ) → A) → A →
     List (Option (List ℕ)) → A

@@ -6,6 +6,7 @@ use Rattle.xlsx_sections.specs.Answers.{all_answers}
 use Rattle.xlsx_sections.specs.Elements.{end_among}
 use Rattle.xlsx_sections.specs.Refusal.{Refusal, in_element}
 
+-- what an element means, by its start and what stands in it
 abbrev pub element_said :
     {A : Type 0} → (Tag → List Event → Result A Refusal) → Element → Result A Refusal
 element_said meaning element = in_element element (meaning element.tag element.inside)
@@ -17,6 +18,7 @@ abbrev pub list_said :
     → Result (List A) Refusal
 list_said wanted meaning inside = all_answers (element_said meaning) (outermost wanted inside)
 
+-- the end that is told missing inside an element
 abbrev pub end_inside : (List Event → Option (List ℕ)) → Element → Option (List ℕ)
 end_inside ending element = ending element.inside
 

@@ -4,6 +4,7 @@ use Rattle.part_events.specs.Event.{Event}
 use Rattle.part_events.specs.JoinedText.{joined_text, unknown_entity}
 use Rattle.xlsx_sections.specs.Refusal.{Refusal, no_character}
 
+-- a text, or the refusal that a reference in it has no character
 abbrev pub known_text : List ℕ → Option ℕ → Result (List ℕ) Refusal
 known_text written None = Ok written
 known_text written (Some behind) = Err (no_character behind)

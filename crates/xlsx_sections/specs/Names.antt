@@ -10,10 +10,12 @@ use Rattle.xlsx_error.specs.declared.error.XlsxError.{XlsxError}
 use Rattle.xlsx_error.specs.declared.error.XlsxError.TheVariants.{OutOfMemory, Xml, XmlAttr}
 use Rattle.xlsx_sections.specs.Refusal.{Refusal, plain, lookup_fault, decoded_at}
 
+-- a text that is there
 abbrev pub some_text : Result (List ℕ) Refusal → Result (Option (List ℕ)) Refusal
 some_text (Ok text) = Ok (Some text)
 some_text (Err refusal) = Err refusal
 
+-- the name that was looked up, its references resolved
 abbrev pub name_from :
     ℕ → Result (Option (List ℕ)) AttrFault → Result (Option (List ℕ)) Refusal
 name_from behind (Ok (Some name)) = some_text (decoded_at behind name)

@@ -32,9 +32,11 @@ pub record PartSection : Type 0 where
 abbrev pub inside_of : PartSection → List Event
 inside_of s = content s.within s.ahead
 
+-- the section has its end in the part
 abbrev pub has_end : PartSection → Bool
 has_end s = is_closed s.within s.ahead
 
+-- the number of the event that ends the section
 abbrev pub last_of : PartSection → ℕ
 last_of s = s.first + length (inside_of s)
 
@@ -56,6 +58,7 @@ section_from events ahead = record {
   ahead = ahead;
 }
 
+-- the first section of a name in a part
 abbrev pub section_in : List ℕ → List Event → Option PartSection
 section_in name events =
     option_map (section_from events) (behind_start (is_named (name ∷ [])) (whole events))
@@ -120,6 +123,7 @@ abbrev pub IsStartLacking : List ℕ → Reading → XlsxError → Type 0
 IsStartLacking name old error =
     (behind_start (is_named (name ∷ [])) (ahead old) ≡ None) × StartCause name (events_of old) error
 
+-- why the search for the start of a section fails
 abbrev pub StartFails : List ℕ → Reading → Reading → XlsxError → Type 0
 StartFails name old new error = FailsBy (IsStartLacking name old) old.source new.source error
 
@@ -197,10 +201,12 @@ PartFails name ending refused path old new error =
 abbrev pub if_closed : List Event → Option (List Event)
 if_closed events = if is_closed 0 events then Some (content 0 events) else None
 
+-- the events of the first section of a name, if it has its end
 abbrev pub closed_section : List ℕ → List Event → Option (List Event)
 closed_section name events =
     option_and_then if_closed (behind_start (is_named (name ∷ [])) (whole events))
 
+-- the same of a part, if it is there
 abbrev pub closed_section_of : List ℕ → List ℕ → List Part → Option (List Event)
 closed_section_of name part parts = option_and_then (closed_section name) (part_of parts part)
 
@@ -211,6 +217,7 @@ StandsAtEvent base None old new = TakesEvent old new × (suc (length new.names) 
 StandsAtEvent base (Some at) old new =
     TakesEvent old new × (base ≤ length new.names) × (at ≡ old.at)
 
+-- the next event of a section that is open from `base` on, or its end
 abbrev pub FindsEvent : ℕ → Option ℕ → Reading → Reading → Type 0
 FindsEvent base None old new = TakesLastEnd base old new
 FindsEvent base (Some at) old new = TakesInside base old new
@@ -222,6 +229,7 @@ StandsAtStart wanted base (Some at) old new =
     IsAtElement new × (base < length new.names)
     × IsStartAnd new.source.current (λ tag. wanted tag ≡ true) × (suc at ≡ new.at) × (old.at ≤ at)
 
+-- the next wanted start in a section that is open from `base` on, or its end
 abbrev pub FindsStartIn : (Tag → Bool) → ℕ → Option ℕ → Reading → Reading → Type 0
 FindsStartIn wanted base None old new = ClosesSection wanted base old new
 FindsStartIn wanted base (Some at) old new =

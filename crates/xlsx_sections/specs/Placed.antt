@@ -9,6 +9,7 @@ abbrev pub placed : {A : Type 0} → Result A RefError → Result A Refusal
 placed (Ok place) = Ok place
 placed (Err fault) = Err (plain (misplaced fault))
 
+-- a place that was read, its fault as a refusal
 abbrev pub some_placed : {A : Type 0} → Result A RefError → Result (Option A) Refusal
 some_placed (Ok place) = Ok (Some place)
 some_placed (Err fault) = Err (plain (misplaced fault))

@@ -65,6 +65,7 @@ pub data PlainRefusal : Type 0 where
   lacks_field : PlainRefusal
   lacks_item : PlainRefusal
 
+-- why a section is refused: at a text, or for a plain reason
 pub data Refusal : Type 0 where
   -- a reference in one of its texts has no character; so many events of the section stand behind
   -- the event with the text
@@ -76,6 +77,7 @@ abbrev pub told_by : List ℕ → List (List ℕ × PlainRefusal) → Option Pla
 told_by text [] = None
 told_by text (row ∷ rows) = if bytes_eq text row.0 then Some row.1 else told_by text rows
 
+-- the refusals that tell a value which has no meaning, by what is told beside it
 abbrev pub unrecognized : List ℕ → List (List ℕ × PlainRefusal)
 unrecognized value =
     (codes "sheet:state", unknown_state value)
@@ -83,12 +85,14 @@ unrecognized value =
     ∷ (codes "boolean cell value", wrong_truth value)
     ∷ []
 
+-- the refusals of an unexpected node, by what was expected
 abbrev pub nodes_expected : List (List ℕ × PlainRefusal)
 nodes_expected =
     (codes "dimension", lacks_area)
     ∷ (codes "v, f, or is", stray_child)
     ∷ []
 
+-- the refusals that tell a text alone, by that text
 abbrev pub unexpected : List (List ℕ × PlainRefusal)
 unexpected =
     (codes "Cell string index not found in shared strings table", lacks_string)
@@ -145,6 +149,7 @@ abbrev pub further : ℕ → Refusal → Refusal
 further more (no_character behind) = no_character (behind + more)
 further more (plain own) = plain own
 
+-- an answer of a part of a section, with so many more events behind it
 abbrev pub answer_further : {A : Type 0} → ℕ → Result A Refusal → Result A Refusal
 answer_further more (Ok a) = Ok a
 answer_further more (Err refusal) = Err (further more refusal)
@@ -161,6 +166,7 @@ in_element element answer = answer_further (events_behind element) answer
 abbrev pub ElementFails : {A : Type 0} → Result A Refusal → ℕ → ℕ → XlsxError → Type 0
 ElementFails answer at behind error = RefusedAt (λ refusal. answer ≡ Err refusal) at behind error
 
+-- a start with so many events of its section behind it
 abbrev pub placed_at : Tag → ℕ → PlacedTag
 placed_at tag behind = record { tag = tag; behind = behind }
 
@@ -169,6 +175,7 @@ abbrev pub decoded_or : ℕ → Result (List ℕ) ℕ → Result (List ℕ) Refu
 decoded_or behind (Ok text) = Ok text
 decoded_or behind (Err at) = Err (no_character behind)
 
+-- a text with its references resolved, with so many events behind its start
 abbrev pub decoded_at : ℕ → List ℕ → Result (List ℕ) Refusal
 decoded_at behind text = decoded_or behind (decoded text)
 

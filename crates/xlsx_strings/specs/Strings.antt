@@ -40,16 +40,20 @@ abbrev pub keeps_blanks : Result (Option (List ℕ)) AttrFault → Result Bool A
 keeps_blanks (Ok space) = Ok (is_preserved space)
 keeps_blanks (Err fault) = Err fault
 
+-- a start keeps the blanks around its text
 abbrev pub blanks_kept : Tag → Result Bool AttrFault
 blanks_kept tag = keeps_blanks (value_of (codes "xml:space") tag.attributes)
 
+-- a text with the blanks around it, or without them
 abbrev pub spaced : Bool → List ℕ → List ℕ
 spaced kept written = if kept then written else trimmed written
 
+-- the text of an element, its blanks kept or not, and its escapes resolved
 abbrev pub all_spaced : Bool → Result (List ℕ) Refusal → Result (List ℕ) Refusal
 all_spaced kept (Ok written) = Ok (unescaped (spaced kept written))
 all_spaced kept (Err refusal) = Err refusal
 
+-- the text of an element, by what its start says of blanks
 abbrev pub text_by : List Event → Result Bool AttrFault → Result (List ℕ) Refusal
 text_by inside (Ok kept) = all_spaced kept (element_text true inside)
 text_by inside (Err fault) = Err (plain (lookup_fault fault))
@@ -58,6 +62,7 @@ text_by inside (Err fault) = Err (plain (lookup_fault fault))
 abbrev pub text_within : Tag → List Event → Result (List ℕ) Refusal
 text_within tag inside = text_by inside (blanks_kept tag)
 
+-- a start is a text
 abbrev pub is_text : Tag → Bool
 is_text tag = is_named (codes "t" ∷ []) tag
 
@@ -69,6 +74,7 @@ is_text_or_phonetic tag = is_named (codes "t" ∷ codes "rPh" ∷ []) tag
 abbrev pub piece_of : Tag → List Event → Result (List ℕ) Refusal
 piece_of tag inside = if is_text tag then text_within tag inside else Ok []
 
+-- the texts one behind another
 abbrev pub all_joined : Result (List (List ℕ)) Refusal → Result (List ℕ) Refusal
 all_joined (Ok texts) = Ok (flat_map (λ (text : List ℕ). text) texts)
 all_joined (Err refusal) = Err refusal
@@ -78,9 +84,11 @@ all_joined (Err refusal) = Err refusal
 abbrev pub string_of : List Event → Result (List ℕ) Refusal
 string_of inside = all_joined (list_said is_text_or_phonetic piece_of inside)
 
+-- a start is a shared string
 abbrev pub is_string : Tag → Bool
 is_string tag = is_named (codes "si" ∷ []) tag
 
+-- the text of a shared string
 abbrev pub string_said : Tag → List Event → Result (List ℕ) Refusal
 string_said tag inside = string_of inside
 
@@ -92,12 +100,15 @@ strings_in inside = list_said is_string string_said inside
 abbrev pub end_in_piece : Tag → List Event → Option (List ℕ)
 end_in_piece tag inside = if is_text tag then Some (codes "t") else Some []
 
+-- the end that is told missing in a piece of a shared string
 abbrev pub end_in_piece_element : Element → Option (List ℕ)
 end_in_piece_element element = end_in_piece element.tag element.inside
 
+-- the end that is told missing in a shared string
 abbrev pub end_in_string : List Event → Option (List ℕ)
 end_in_string inside = end_among is_text_or_phonetic [] end_in_piece_element inside
 
+-- the end that is told missing in the shared strings
 abbrev pub end_in_strings : List Event → Option (List ℕ)
 end_in_strings inside = end_in_list is_string (codes "sst") end_in_string inside
 

@@ -39,12 +39,15 @@ abbrev pub rotation_by : Option ℕ → TextRotation
 rotation_by None = rotation.None
 rotation_by (Some n) = if n == 255 then rotation.Stacked else rotation.Degrees n
 
+-- the rotation that a text tells; without a number none
 abbrev pub rotation_of : Option (List ℕ) → TextRotation
 rotation_of text = rotation_by (option_and_then (number_below 65536) text)
 
+-- the indent that a text tells, below 256
 abbrev pub indent_of : Option (List ℕ) → Option ℕ
 indent_of text = option_and_then (number_below 256) text
 
+-- the alignment that the texts of its attributes tell
 abbrev pub alignment_by : Result (List (Option (List ℕ))) AttrFault → Result Alignment AttrFault
 alignment_by (Err fault) = Err fault
 alignment_by (Ok texts) = Ok (record {
@@ -56,6 +59,7 @@ alignment_by (Ok texts) = Ok (record {
   shrink_to_fit = truth_or false (get_or texts 5 None);
 })
 
+-- the attributes that tell an alignment
 abbrev pub alignment_keys : List (List ℕ)
 alignment_keys =
     codes "horizontal" ∷ codes "vertical" ∷ codes "wrapText" ∷ codes "textRotation"
@@ -65,6 +69,7 @@ alignment_keys =
 abbrev pub alignment_of : Tag → Result Alignment AttrFault
 alignment_of tag = alignment_by (lookup alignment_keys tag.attributes)
 
+-- the protection that the texts of its attributes tell
 abbrev pub protection_by : Result (List (Option (List ℕ))) AttrFault → Result Protection AttrFault
 protection_by (Err fault) = Err fault
 protection_by (Ok texts) = Ok (record {

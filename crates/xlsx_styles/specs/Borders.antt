@@ -32,10 +32,12 @@ line_named text = named (
     ∷ (codes "mediumDashDotDot", line.MediumDashDotDot)
     ∷ (codes "slantDashDot", line.SlantDashDot) ∷ []) line.None text
 
+-- the line of a border that a text names; without a text none
 abbrev pub border_line : Option (List ℕ) → BorderStyle
 border_line None = line.None
 border_line (Some text) = line_named text
 
+-- the color of a side, by a start in it
 abbrev pub side_color : List Color → PlacedTag → Result (Option Color) Refusal
 side_color theme start = or_fault (color_of theme start.tag)
 
@@ -43,17 +45,21 @@ side_color theme start = or_fault (color_of theme start.tag)
 abbrev pub color_in : List Color → List Event → Result (Option Color) Refusal
 color_in theme inside = last_answer (side_color theme) (starts_by is_color inside)
 
+-- a side with its line and its color
 abbrev pub colored : BorderStyle → Result (Option Color) Refusal → Result Border Refusal
 colored style (Ok color) = Ok (record { style = style; color = color })
 colored style (Err refusal) = Err refusal
 
+-- the line that was looked up
 abbrev pub lined : Result (Option (List ℕ)) AttrFault → Result BorderStyle AttrFault
 lined (Ok text) = Ok (border_line text)
 lined (Err fault) = Err fault
 
+-- the line of a side, by its start
 abbrev pub side_line : Tag → Result BorderStyle AttrFault
 side_line tag = lined (value_of (codes "style") tag.attributes)
 
+-- a side by its line and what stands in it
 abbrev pub side_by : List Color → List Event → Result BorderStyle AttrFault → Result Border Refusal
 side_by theme inside (Ok style) = colored style (color_in theme inside)
 side_by theme inside (Err fault) = Err (plain (lookup_fault fault))
@@ -114,6 +120,7 @@ with_side down up Diagonal borders side = record {
   diagonal_up = if up then side else borders.diagonal_up;
 }
 
+-- borders with this side in its place
 abbrev pub side_kept : (Border → Borders) → Result Border Refusal → Result Borders Refusal
 side_kept place (Ok side) = Ok (place side)
 side_kept place (Err refusal) = Err refusal
@@ -124,12 +131,14 @@ abbrev pub side_placed : Bool → Bool → Tag → Borders → Result Border Ref
 side_placed down up tag borders side =
     side_kept (with_side down up (side_named (local_name_of tag.name)) borders) side
 
+-- what an element in a border makes of it
 abbrev pub border_change :
     List Color → Bool → Bool → Element → Borders → Result Borders Refusal
 border_change theme down up element borders =
     side_placed down up element.tag borders
     (in_element element (side_of theme element.tag element.inside))
 
+-- a start is a side of a border
 abbrev pub is_side : Tag → Bool
 is_side tag = is_named (
     codes "left" ∷ codes "right" ∷ codes "top" ∷ codes "bottom" ∷ codes "diagonal" ∷ []) tag
@@ -143,5 +152,6 @@ border_of theme down up inside =
 abbrev pub end_in_side : Element → Option (List ℕ)
 end_in_side element = Some (codes "border side")
 
+-- the end that is told missing in a border
 abbrev pub end_in_border : List Event → Option (List ℕ)
 end_in_border inside = end_among is_side (codes "border") end_in_side inside

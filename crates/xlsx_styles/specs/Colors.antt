@@ -19,6 +19,7 @@ use Rattle.xlsx_styles.specs.Tint.{Fraction, number_fraction}
 abbrev pub is_color : Tag → Bool
 is_color tag = is_named (codes "color" ∷ []) tag
 
+-- opaque black
 abbrev pub black : Color
 black = color_of_argb 0xFF000000
 
@@ -45,6 +46,7 @@ indexed_argbs =
     ∷ 0xFF003366 ∷ 0xFF339966 ∷ 0xFF003300 ∷ 0xFF333300 ∷ 0xFF993300 ∷ 0xFF993366 ∷ 0xFF333399
     ∷ 0xFF333333 ∷ 0xFF000000 ∷ 0xFFFFFFFF ∷ []
 
+-- the colors of the standard palette
 abbrev pub indexed_colors : List Color
 indexed_colors = map color_of_argb indexed_argbs
 
@@ -52,13 +54,16 @@ indexed_colors = map color_of_argb indexed_argbs
 abbrev pub color_at : List Color → ℕ → Color
 color_at colors n = get_or colors n black
 
+-- the color at the place that a text tells, below 256
 abbrev pub placed_color : List Color → List ℕ → Option Color
 placed_color colors text = option_map (color_at colors) (number_below 256 text)
 
+-- the color of the standard palette that a text tells
 abbrev pub indexed_color : Option (List ℕ) → Option Color
 indexed_color None = None
 indexed_color (Some text) = placed_color indexed_colors text
 
+-- the color of the theme, or where none is told that of the standard palette
 abbrev pub theme_color :
     List Color → Option (List ℕ) → Option (List ℕ) → Option Color
 theme_color theme None indexed = indexed_color indexed
@@ -89,6 +94,7 @@ tinted_if None color = color
 tinted_if (Some number) color =
     if nat_abs number.0 == 0 then color else tinted number color
 
+-- the tint that a text tells
 abbrev pub tint_of : Option (List ℕ) → Option (ℤ × ℤ)
 tint_of text = option_and_then decimal_of text
 
@@ -98,11 +104,13 @@ color_of_texts theme texts =
     option_map (tinted_if (tint_of (get_or texts 3 None)))
     (plain_color theme (get_or texts 0 None) (get_or texts 1 None) (get_or texts 2 None))
 
+-- the color that the texts of its attributes tell
 abbrev pub color_by :
     List Color → Result (List (Option (List ℕ))) AttrFault → Result (Option Color) AttrFault
 color_by theme (Ok texts) = Ok (color_of_texts theme texts)
 color_by theme (Err fault) = Err fault
 
+-- the attributes that tell a color
 abbrev pub color_keys : List (List ℕ)
 color_keys = codes "rgb" ∷ codes "theme" ∷ codes "indexed" ∷ codes "tint" ∷ []
 

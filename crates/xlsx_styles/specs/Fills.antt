@@ -39,6 +39,7 @@ with_pattern fill (Some text) = record {
   background_color = fill.background_color;
 }
 
+-- a fill with this foreground, if there is one
 abbrev pub with_foreground : Fill → Option Color → Fill
 with_foreground fill None = fill
 with_foreground fill (Some color) = record {
@@ -47,6 +48,7 @@ with_foreground fill (Some color) = record {
   background_color = fill.background_color;
 }
 
+-- a fill with this background, if there is one
 abbrev pub with_background : Fill → Option Color → Fill
 with_background fill None = fill
 with_background fill (Some color) = record {
@@ -55,9 +57,11 @@ with_background fill (Some color) = record {
   background_color = Some color;
 }
 
+-- a start is the pattern of a fill
 abbrev pub is_pattern : Tag → Bool
 is_pattern tag = is_named (codes "patternFill" ∷ []) tag
 
+-- a start is the foreground of a fill
 abbrev pub is_foreground : Tag → Bool
 is_foreground tag = is_named (codes "fgColor" ∷ []) tag
 
@@ -69,9 +73,11 @@ fill_changed theme tag fill =
     else (if is_foreground tag then changed_with with_foreground fill (color_of theme tag)
     else changed_with with_background fill (color_of theme tag))
 
+-- what a start in a fill makes of it
 abbrev pub fill_change : List Color → PlacedTag → Fill → Result Fill Refusal
 fill_change theme start fill = or_fault (fill_changed theme start.tag fill)
 
+-- a start says something of a fill
 abbrev pub is_in_fill : Tag → Bool
 is_in_fill tag = is_named (codes "patternFill" ∷ codes "fgColor" ∷ codes "bgColor" ∷ []) tag
 

@@ -36,6 +36,7 @@ pub record FontSaid : Type 0 where
   pub color : Option Color
   pub family : Option ℕ
 
+-- what the fields of a font say
 abbrev pub said_of : FontFields → FontSaid
 said_of font = record {
   name = font.name;
@@ -53,6 +54,7 @@ abbrev pub weight_by : Option ℕ → FontWeight
 weight_by None = weight.Normal
 weight_by (Some n) = if nat_le 600 n then weight.Bold else weight.Normal
 
+-- the weight that a text names
 unfoldable pub weight_named : List ℕ → FontWeight
 weight_named text = named (
     (codes "bold", weight.Bold) ∷ (codes "700", weight.Bold) ∷ (codes "1", weight.Bold)
@@ -60,15 +62,18 @@ weight_named text = named (
     ∷ (codes "400", weight.Normal) ∷ (codes "0", weight.Normal)
     ∷ (codes "false", weight.Normal) ∷ []) (weight_by (number_below 65536 text)) text
 
+-- the weight of a start by its text; without one bold
 abbrev pub weight_of : Option (List ℕ) → FontWeight
 weight_of None = weight.Bold
 weight_of (Some text) = weight_named text
 
+-- the style that a text names
 unfoldable pub style_named : List ℕ → FontStyle
 style_named text = named (
     (codes "italic", style.Italic) ∷ (codes "oblique", style.Italic)
     ∷ (codes "1", style.Italic) ∷ (codes "true", style.Italic) ∷ []) style.Normal text
 
+-- the style of a start by its text; without one italic
 abbrev pub style_of : Option (List ℕ) → FontStyle
 style_of None = style.Italic
 style_of (Some text) = style_named text
@@ -80,6 +85,7 @@ underline_named text = named (
     ∷ (codes "singleAccounting", underline.SingleAccounting)
     ∷ (codes "doubleAccounting", underline.DoubleAccounting) ∷ []) underline.None text
 
+-- the underline of a start by its text; without one a single line
 abbrev pub underline_of : Option (List ℕ) → UnderlineStyle
 underline_of None = underline.Single
 underline_of (Some text) = underline_named text
@@ -98,6 +104,7 @@ with_size font text = record {
   family = font.family;
 }
 
+-- a font with the family that a text tells, below 256
 abbrev pub with_family : FontSaid → Option (List ℕ) → FontSaid
 with_family font text = record {
   name = font.name;
@@ -110,6 +117,7 @@ with_family font text = record {
   family = option_or (option_and_then (number_below 256) text) font.family;
 }
 
+-- a font with the weight that a text tells
 abbrev pub with_weight : FontSaid → Option (List ℕ) → FontSaid
 with_weight font text = record {
   name = font.name;
@@ -122,6 +130,7 @@ with_weight font text = record {
   family = font.family;
 }
 
+-- a font with the style that a text tells
 abbrev pub with_style : FontSaid → Option (List ℕ) → FontSaid
 with_style font text = record {
   name = font.name;
@@ -134,6 +143,7 @@ with_style font text = record {
   family = font.family;
 }
 
+-- a font with the underline that a text tells
 abbrev pub with_underline : FontSaid → Option (List ℕ) → FontSaid
 with_underline font text = record {
   name = font.name;
@@ -146,6 +156,7 @@ with_underline font text = record {
   family = font.family;
 }
 
+-- a font that is struck through, or not, as a text tells
 abbrev pub with_strike : FontSaid → Option (List ℕ) → FontSaid
 with_strike font text = record {
   name = font.name;
@@ -158,6 +169,7 @@ with_strike font text = record {
   family = font.family;
 }
 
+-- a font with this color, if there is one
 abbrev pub with_color : FontSaid → Option Color → FontSaid
 with_color font color = record {
   name = font.name;
@@ -170,6 +182,7 @@ with_color font color = record {
   family = font.family;
 }
 
+-- a font with this name
 abbrev pub with_name : FontSaid → List ℕ → FontSaid
 with_name font name = record {
   name = Some name;
@@ -182,10 +195,12 @@ with_name font name = record {
   family = font.family;
 }
 
+-- a font with a name that was resolved
 abbrev pub with_decoded : FontSaid → Result (List ℕ) Refusal → Result FontSaid Refusal
 with_decoded font (Ok name) = Ok (with_name font name)
 with_decoded font (Err refusal) = Err refusal
 
+-- what the start of a name makes of a font
 abbrev pub name_changed :
     ℕ → FontSaid → Result (Option (List ℕ)) AttrFault → Result FontSaid Refusal
 name_changed behind font (Ok None) = Ok font
@@ -202,10 +217,12 @@ with_value name font text =
     else (if bytes_eq name (codes "strike") then with_strike font text
     else with_family font text))))
 
+-- what a start that is no name and no color makes of a font
 unfoldable pub value_changed : Tag → FontSaid → Result FontSaid AttrFault
 value_changed tag font =
     changed_with (with_value (local_name_of tag.name)) font (value_of (codes "val") tag.attributes)
 
+-- a start is the name of a font
 abbrev pub is_font_name : Tag → Bool
 is_font_name tag = is_named (codes "name" ∷ []) tag
 
@@ -218,6 +235,7 @@ font_change theme start font =
     then or_fault (changed_with with_color font (color_of theme start.tag))
     else or_fault (value_changed start.tag font))
 
+-- a start says something of a font
 abbrev pub is_in_font : Tag → Bool
 is_in_font tag = is_named (
     codes "name" ∷ codes "sz" ∷ codes "family" ∷ codes "b" ∷ codes "i" ∷ codes "u"

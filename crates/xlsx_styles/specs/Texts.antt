@@ -6,6 +6,7 @@ use Rattle.std.specs.Str.{bytes_eq}
 abbrev pub is_truth : List ℕ → Bool
 is_truth text = not (bytes_eq text (codes "0") || bytes_eq text (codes "false"))
 
+-- whether a text tells true; without a text the other
 abbrev pub truth_or : Bool → Option (List ℕ) → Bool
 truth_or other None = other
 truth_or other (Some text) = is_truth text

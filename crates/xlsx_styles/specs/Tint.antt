@@ -9,6 +9,7 @@ use Rattle.cell_styles.specs.declared.color.Color.{Color}
 abbrev pub unit : ℕ
 unit = 10 ^ 20
 
+-- an integer is below 0
 abbrev pub is_negative : ℤ → Bool
 is_negative (pos n) = false
 is_negative (negsuc n) = true
@@ -22,6 +23,7 @@ parts_of size (negsuc power) = size * unit / 10 ^ (power + 1)
 abbrev pub number_size : ℤ × ℤ → ℕ
 number_size number = min (parts_of (nat_abs number.0) number.1) unit
 
+-- the size of a tint, without its sign
 abbrev pub tint_size : Decimal → ℕ
 tint_size tint = number_size (number_of tint)
 
@@ -45,6 +47,7 @@ abbrev pub tinted_sum : Bool → ℕ → ℕ → ℕ
 tinted_sum true size sum = sum * (unit - size)
 tinted_sum false size sum = sum * (unit - size) + 510 * size
 
+-- a numerator over a divisor
 pub record Fraction : Type 0 where
   pub numerator : ℕ
   pub divisor : ℕ
@@ -59,12 +62,14 @@ shade sum tinted (suc room) channel = record {
   divisor = 2 * unit * suc room;
 }
 
+-- a channel of a tinted color as a fraction, by the tint's mantissa and power of ten
 abbrev pub number_fraction : Color → ℤ × ℤ → ℕ → Fraction
 number_fraction color number channel =
     shade (channel_sum color)
     (tinted_sum (is_negative number.0) (number_size number) (channel_sum color))
     (room_of (channel_sum color)) channel
 
+-- a channel of a color that is tinted by a decimal, as a fraction
 abbrev pub tint_fraction : Color → Decimal → ℕ → Fraction
 tint_fraction color tint channel = number_fraction color (number_of tint) channel
 

@@ -18,35 +18,45 @@ use Rattle.xlsx_styles.specs.Fonts.{FontSaid, font_of}
 use Rattle.xlsx_styles.specs.Texts.{truth_or}
 use Rattle.xlsx_formats.specs.Formattings.{NamedSaid, FormattingSaid, formatting_of}
 
+-- a start is a font
 abbrev pub is_font : Tag → Bool
 is_font tag = is_named (codes "font" ∷ []) tag
 
+-- what a font says
 abbrev pub font_said : List Color → Tag → List Event → Result FontSaid Refusal
 font_said theme tag inside = font_of theme inside
 
+-- the fonts of a list
 abbrev pub fonts_in : List Color → List Event → Result (List FontSaid) Refusal
 fonts_in theme inside = list_said is_font (font_said theme) inside
 
+-- the end that is told missing in a list of fonts
 abbrev pub end_in_fonts : List Event → Option (List ℕ)
 end_in_fonts inside = end_in_list is_font (codes "fonts") (always (codes "font")) inside
 
+-- a start is a fill
 abbrev pub is_fill : Tag → Bool
 is_fill tag = is_named (codes "fill" ∷ []) tag
 
+-- what a fill says
 abbrev pub fill_said : List Color → Tag → List Event → Result Fill Refusal
 fill_said theme tag inside = fill_of theme inside
 
+-- the fills of a list
 abbrev pub fills_in : List Color → List Event → Result (List Fill) Refusal
 fills_in theme inside = list_said is_fill (fill_said theme) inside
 
+-- the end that is told missing in a list of fills
 abbrev pub end_in_fills : List Event → Option (List ℕ)
 end_in_fills inside = end_in_list is_fill (codes "fills") (always (codes "fill")) inside
 
+-- whether the diagonals go down and up, by the texts of the attributes
 abbrev pub diagonals_by : Result (List (Option (List ℕ))) AttrFault → Result (Bool × Bool) AttrFault
 diagonals_by (Ok texts) =
     Ok (truth_or false (get_or texts 0 None), truth_or false (get_or texts 1 None))
 diagonals_by (Err fault) = Err fault
 
+-- the attributes that tell which diagonals a border has
 abbrev pub diagonal_keys : List (List ℕ)
 diagonal_keys = codes "diagonalDown" ∷ codes "diagonalUp" ∷ []
 
@@ -54,23 +64,29 @@ diagonal_keys = codes "diagonalDown" ∷ codes "diagonalUp" ∷ []
 abbrev pub diagonals_of : Tag → Result (Bool × Bool) AttrFault
 diagonals_of tag = diagonals_by (lookup diagonal_keys tag.attributes)
 
+-- what a border says, by its diagonals and what stands in it
 abbrev pub border_by :
     List Color → List Event → Result (Bool × Bool) AttrFault → Result Borders Refusal
 border_by theme inside (Ok ways) = border_of theme ways.0 ways.1 inside
 border_by theme inside (Err fault) = Err (plain (lookup_fault fault))
 
+-- what a border says
 abbrev pub border_said : List Color → Tag → List Event → Result Borders Refusal
 border_said theme tag inside = border_by theme inside (diagonals_of tag)
 
+-- a start is a border
 abbrev pub is_border : Tag → Bool
 is_border tag = is_named (codes "border" ∷ []) tag
 
+-- the borders of a list
 abbrev pub borders_in : List Color → List Event → Result (List Borders) Refusal
 borders_in theme inside = list_said is_border (border_said theme) inside
 
+-- the end that is told missing in a list of borders
 abbrev pub end_in_borders : List Event → Option (List ℕ)
 end_in_borders inside = end_in_list is_border (codes "borders") end_in_border inside
 
+-- a start is a format of cells
 abbrev pub is_format : Tag → Bool
 is_format tag = is_named (codes "xf" ∷ []) tag
 
@@ -78,5 +94,6 @@ is_format tag = is_named (codes "xf" ∷ []) tag
 abbrev pub formattings_in : NamedSaid → List Event → Result (List FormattingSaid) Refusal
 formattings_in lists inside = list_said is_format (formatting_of lists) inside
 
+-- the end that is told missing in a list of formats of cells
 abbrev pub end_in_formats : List Event → Option (List ℕ)
 end_in_formats inside = end_in_list is_format (codes "cellXfs") (always (codes "xf")) inside

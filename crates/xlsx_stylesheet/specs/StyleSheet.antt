@@ -30,6 +30,7 @@ pub record ListsSaid : Type 0 where
   pub named : NamedSaid
   pub formattings : List FormattingSaid
 
+-- lists without entries
 abbrev pub no_lists : ListsSaid
 no_lists = record {
   named = record { formats = []; fonts = []; fills = []; borders = [] };
@@ -44,6 +45,7 @@ list_named name =
     else (if bytes_eq name (codes "fills") then list.Fills
     else (if bytes_eq name (codes "borders") then list.Borders else list.Formats)))
 
+-- lists with these written formats
 abbrev pub with_formats : ListsSaid → List WrittenFormat → ListsSaid
 with_formats lists formats = record {
   named = record {
@@ -55,6 +57,7 @@ with_formats lists formats = record {
   formattings = lists.formattings;
 }
 
+-- lists with these fonts
 abbrev pub with_fonts : ListsSaid → List FontSaid → ListsSaid
 with_fonts lists fonts = record {
   named = record {
@@ -66,6 +69,7 @@ with_fonts lists fonts = record {
   formattings = lists.formattings;
 }
 
+-- lists with these fills
 abbrev pub with_fills : ListsSaid → List Fill → ListsSaid
 with_fills lists fills = record {
   named = record {
@@ -77,6 +81,7 @@ with_fills lists fills = record {
   formattings = lists.formattings;
 }
 
+-- lists with these borders
 abbrev pub with_borders : ListsSaid → List Borders → ListsSaid
 with_borders lists borders = record {
   named = record {
@@ -88,9 +93,11 @@ with_borders lists borders = record {
   formattings = lists.formattings;
 }
 
+-- lists with these formattings
 abbrev pub with_formattings : ListsSaid → List FormattingSaid → ListsSaid
 with_formattings lists formattings = record { named = lists.named; formattings = formattings }
 
+-- lists with one that was read in its place
 abbrev pub with_list : {A : Type 0} → (List A → ListsSaid) → Result (List A) Refusal
     → Result ListsSaid Refusal
 with_list place (Ok list) = Ok (place list)
@@ -111,13 +118,16 @@ list_read theme list.Formats lists inside =
     with_list (with_formattings lists)
     (prepended lists.formattings (formattings_in lists.named inside))
 
+-- the list that a start begins
 abbrev pub list_of : Tag → StyleList
 list_of tag = list_named (local_name_of tag.name)
 
+-- what an element of the style sheet makes of the lists
 abbrev pub list_change : List Color → Element → ListsSaid → Result ListsSaid Refusal
 list_change theme element lists =
     in_element element (list_read theme (list_of element.tag) lists element.inside)
 
+-- a start begins one of the lists
 abbrev pub is_style_list : Tag → Bool
 is_style_list tag = is_named (
     codes "numFmts" ∷ codes "fonts" ∷ codes "fills" ∷ codes "borders" ∷ codes "cellXfs" ∷ []) tag
@@ -127,6 +137,7 @@ is_style_list tag = is_named (
 abbrev pub lists_in : List Color → List Event → Result ListsSaid Refusal
 lists_in theme inside = all_changes (list_change theme) (outermost is_style_list inside) no_lists
 
+-- the formattings of lists that were read
 abbrev pub formattings_of : Result ListsSaid Refusal → Result (List FormattingSaid) Refusal
 formattings_of (Ok lists) = Ok lists.formattings
 formattings_of (Err refusal) = Err refusal
@@ -143,6 +154,7 @@ list_end list.Fills inside = end_in_fills inside
 list_end list.Borders inside = end_in_borders inside
 list_end list.Formats inside = end_in_formats inside
 
+-- the end that is told missing in an element of the style sheet
 abbrev pub list_element_end : Element → Option (List ℕ)
 list_element_end element = list_end (list_of element.tag) element.inside
 

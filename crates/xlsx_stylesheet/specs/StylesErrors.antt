@@ -13,6 +13,7 @@ IsStylesEnd name =
     ⊎ ((name ≡ codes "borders") ⊎ ((name ≡ codes "border") ⊎ ((name ≡ codes "border side")
     ⊎ ((name ≡ codes "cellXfs") ⊎ (name ≡ codes "xf"))))))))))
 
+-- a refusal that reading a style sheet can have
 abbrev pub AreStylesError : XlsxError → Type 0
 AreStylesError Io = ⊤
 AreStylesError OutOfMemory = ⊤

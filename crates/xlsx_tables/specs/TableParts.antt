@@ -24,6 +24,7 @@ pub record TableSaid : Type 0 where
   pub columns : List (List ℕ)
   pub area : Option Dimensions
 
+-- an area without so many rows at its start and at its end
 abbrev pub without_rows : ℕ → ℕ → Dimensions → Dimensions
 without_rows headers totals area = record {
   start = (area.start.0 + headers, area.start.1);
@@ -37,6 +38,7 @@ data_area headers totals area =
     if nat_le (area.start.0 + headers + totals) area.end.0 && nat_le area.start.1 area.end.1
     then Some (without_rows headers totals area) else None
 
+-- a count, or the refusal of a text that is none
 abbrev pub counted_by : List ℕ → Option ℕ → Result ℕ Refusal
 counted_by text None = Err (plain (wrong_count text))
 counted_by text (Some n) = Ok n
@@ -51,22 +53,26 @@ pub record StartSaid : Type 0 where
   pub name : List ℕ
   pub area : Option Dimensions
 
+-- what the start says, once the rows of totals are counted
 abbrev pub with_totals : List ℕ → Dimensions → ℕ → Result ℕ Refusal → Result StartSaid Refusal
 with_totals name area headers (Ok totals) =
     Ok (record { name = name; area = data_area headers totals area })
 with_totals name area headers (Err refusal) = Err refusal
 
+-- what the start says, once the rows of headers are counted
 abbrev pub with_headers :
     List ℕ → Dimensions → Result ℕ Refusal → Result ℕ Refusal → Result StartSaid Refusal
 with_headers name area (Ok headers) totals = with_totals name area headers totals
 with_headers name area (Err refusal) totals = Err refusal
 
+-- what the start says, once its area is read
 abbrev pub with_area :
     List ℕ → Result Dimensions Refusal → Result ℕ Refusal → Result ℕ Refusal →
     Result StartSaid Refusal
 with_area name (Ok area) headers totals = with_headers name area headers totals
 with_area name (Err refusal) headers totals = Err refusal
 
+-- what the start says, once its name is resolved
 abbrev pub with_table_name :
     Result (List ℕ) Refusal → Result Dimensions Refusal → Result ℕ Refusal → Result ℕ Refusal →
     Result StartSaid Refusal
@@ -82,6 +88,7 @@ start_from behind name ref headers totals =
     with_table_name (decoded_at behind (unwrap_or name [])) (placed (area (unwrap_or ref [])))
     (rows_counted 1 headers) (rows_counted 0 totals)
 
+-- what the start of a table says, by what was looked up
 abbrev pub start_by :
     ℕ → Result (List (Option (List ℕ))) AttrFault → Result StartSaid Refusal
 start_by behind (Ok texts) =
@@ -89,13 +96,16 @@ start_by behind (Ok texts) =
     (get_or texts 3 None)
 start_by behind (Err fault) = Err (plain (lookup_fault fault))
 
+-- the attributes of a table's start
 abbrev pub table_keys : List (List ℕ)
 table_keys =
     codes "displayName" ∷ codes "ref" ∷ codes "headerRowCount" ∷ codes "totalsRowCount" ∷ []
 
+-- what the start of a table says
 abbrev pub start_said : PlacedTag → Result StartSaid Refusal
 start_said start = start_by start.behind (lookup table_keys start.tag.attributes)
 
+-- a start is a column of a table
 abbrev pub is_column : Tag → Bool
 is_column tag = is_named (codes "tableColumn" ∷ []) tag
 
@@ -103,12 +113,14 @@ is_column tag = is_named (codes "tableColumn" ∷ []) tag
 abbrev pub columns_in : List Event → Result (List (List ℕ)) Refusal
 columns_in inside = some_answers name_by (starts_by is_column inside)
 
+-- a table by its start and its columns
 abbrev pub with_columns :
     StartSaid → Result (List (List ℕ)) Refusal → Result TableSaid Refusal
 with_columns begun (Ok columns) =
     Ok (record { name = begun.name; columns = columns; area = begun.area })
 with_columns begun (Err refusal) = Err refusal
 
+-- the same; the refusal of the start comes first
 abbrev pub and_columns :
     Result StartSaid Refusal → Result (List (List ℕ)) Refusal → Result TableSaid Refusal
 and_columns (Ok begun) columns = with_columns begun columns
@@ -127,6 +139,7 @@ table_of events = first_said (codes "table") table_said events
 abbrev pub start_kept : TableStart → StartSaid
 start_kept begun = record { name = string_bytes begun.name; area = begun.area }
 
+-- what a table's part says, as it is kept
 abbrev pub table_kept : TablePart → TableSaid
 table_kept part = record {
   name = string_bytes part.display_name;

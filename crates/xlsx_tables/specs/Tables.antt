@@ -39,9 +39,11 @@ pub record SheetTable : Type 0 where
   pub sheet : List ℕ
   pub table : TableSaid
 
+-- a table with the name of its sheet
 abbrev pub table_of_sheet : List ℕ → TableSaid → SheetTable
 table_of_sheet sheet table = record { sheet = sheet; table = table }
 
+-- the tables of a sheet
 abbrev pub tables_on : List Part → SheetPath → Option (List SheetTable)
 tables_on parts sheet = option_map (map (table_of_sheet sheet.name)) (tables_at parts sheet.path)
 
@@ -67,6 +69,7 @@ abbrev pub all_table_events : List Part → List SheetPath → ℕ
 all_table_events parts sheets =
     sum_by (λ (sheet : SheetPath). table_events parts sheet.path) sheets
 
+-- the same up to the ends of these sections
 abbrev pub all_table_sections : List Part → List SheetPath → ℕ
 all_table_sections parts sheets =
     sum_by (λ (sheet : SheetPath). table_sections parts sheet.path) sheets
@@ -89,6 +92,7 @@ abbrev pub TablesCause : List Part → List SheetPath → XlsxError → Type 0
 TablesCause parts sheets error =
     SomeCause (λ (sheet : SheetPath). TablesAtCause parts sheet.path) sheets error
 
+-- a refusal that reading tables can have
 abbrev pub IsTablesError : XlsxError → Type 0
 IsTablesError error = IsRelatedError error ⊎ IsTableError error
 
@@ -96,5 +100,6 @@ IsTablesError error = IsRelatedError error ⊎ IsTableError error
 abbrev pub on_sheet : ℕ → TableSaid → ℕ × TableSaid
 on_sheet sheet table = (sheet, table)
 
+-- a table that is loaded, with the number of its sheet
 abbrev pub loaded_of : LoadedTable → ℕ × TableSaid
 loaded_of loaded = (loaded.sheet, table_kept loaded.part)

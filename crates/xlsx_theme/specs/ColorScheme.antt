@@ -31,6 +31,7 @@ is_color_model tag = is_named (codes "srgbClr" ∷ codes "sysClr" ∷ []) tag
 abbrev pub color_of_model : Option (List ℕ) → Option (List ℕ) → Option Color
 color_of_model val last = option_or (option_and_then hex_color last) (option_and_then hex_color val)
 
+-- the color that the texts of a color model tell
 abbrev pub model_by : Result (List (Option (List ℕ))) AttrFault → Result (Option Color) AttrFault
 model_by (Ok texts) = Ok (with_two color_of_model None texts)
 model_by (Err fault) = Err fault
@@ -39,6 +40,7 @@ model_by (Err fault) = Err fault
 abbrev pub model_color : Tag → Result (Option Color) AttrFault
 model_color tag = model_by (lookup (codes "val" ∷ codes "lastClr" ∷ []) tag.attributes)
 
+-- the color of a start in a slot
 abbrev pub model_answer : PlacedTag → Result (Option Color) Refusal
 model_answer start = or_fault (model_color start.tag)
 
@@ -48,6 +50,7 @@ abbrev pub unless_given : {A : Type 0} → Option A → Result (Option A) Refusa
 unless_given (Some given) others = Ok (Some given)
 unless_given None others = others
 
+-- a color that is given, or that of what follows
 abbrev pub or_others : {A : Type 0} → Result (Option A) Refusal → Result (Option A) Refusal
     → Result (Option A) Refusal
 or_others (Ok given) others = unless_given given others
@@ -60,6 +63,7 @@ abbrev pub first_answer : {X A : Type 0} → (X → Result (Option A) Refusal) �
 first_answer answer [] = Ok None
 first_answer answer (x ∷ xs) = or_others (answer x) (first_answer answer xs)
 
+-- a color that was read, or black where none is given
 abbrev pub or_black : Result (Option Color) Refusal → Result Color Refusal
 or_black (Ok color) = Ok (unwrap_or color black)
 or_black (Err refusal) = Err refusal
@@ -68,6 +72,7 @@ or_black (Err refusal) = Err refusal
 abbrev pub slot_color : List Event → Result Color Refusal
 slot_color inside = or_black (first_answer model_answer (starts_by is_color_model inside))
 
+-- the color of a slot
 abbrev pub slot_said : Tag → List Event → Result Color Refusal
 slot_said tag inside = slot_color inside
 
@@ -84,6 +89,7 @@ numbered_colors (a ∷ b ∷ []) = None
 numbered_colors (a ∷ b ∷ c ∷ []) = None
 numbered_colors (a ∷ b ∷ c ∷ d ∷ others) = Some (b ∷ a ∷ d ∷ c ∷ others)
 
+-- the colors of the slots in the order of their numbers
 abbrev pub all_numbered : Result (List Color) Refusal → Result (Option (List Color)) Refusal
 all_numbered (Ok colors) = Ok (numbered_colors colors)
 all_numbered (Err refusal) = Err refusal

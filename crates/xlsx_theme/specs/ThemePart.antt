@@ -20,10 +20,12 @@ use Rattle.xlsx_styles.specs.Theme.{default_theme}
 use Rattle.xlsx_theme.specs.ColorScheme.{scheme_colors}
 use Rattle.xlsx_theme.specs.declared.theme_part.ThemeColors.{ThemeColors}
 
+-- the colors, or none where they are refused
 abbrev pub unless_refused : Result (Option (List Color)) Refusal → Option (List Color)
 unless_refused (Ok colors) = colors
 unless_refused (Err refusal) = None
 
+-- the colors of a color scheme, by what stands in it
 abbrev pub colors_inside : List Event → Option (List Color)
 colors_inside inside = unless_refused (scheme_colors inside)
 

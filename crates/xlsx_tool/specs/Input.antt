@@ -41,6 +41,7 @@ PieceRead room before after old new false =
     (new.faults ≡ old.faults) × (after ≡ before)
     × (old.is_told ≡ true → (old.left ≡ []) × (new.left ≡ []))
 
+-- why a piece of the input is not read, and how many faults it counts
 abbrev pub PieceFails : SourceState → SourceState → ToolError → Type 0
 PieceFails old new ReadFault = RisesByOne old.faults new.faults
 PieceFails old new OutOfMemory = new.faults ≡ old.faults

@@ -4,6 +4,7 @@ use Rattle.std.specs.List.{Contains}
 use Rattle.xlsx_tool.specs.Source.{SourceState}
 use Rattle.xlsx_tool.specs.Sink.{SinkState}
 
+-- an input that is held in memory, and fails at given calls
 pub record HeldSource : Type 0 where
   pub left : List ℕ
   -- the most bytes that one call gives
@@ -13,6 +14,7 @@ pub record HeldSource : Type 0 where
   pub calls : ℕ
   pub faults : ℕ
 
+-- the state of such an input
 abbrev pub source_state : HeldSource → SourceState
 source_state held = record { is_told = true; left = held.left; faults = held.faults }
 
@@ -22,6 +24,7 @@ pub record CountsRead (old new : HeldSource) : Type 0 where
   pub piece : new.piece ≡ old.piece
   pub fail_at : new.fail_at ≡ old.fail_at
 
+-- an output that is held in memory, takes only so much, and fails at given calls
 pub record HeldSink : Type 0 where
   pub written : List ℕ
   -- the most bytes that it takes in all
@@ -32,6 +35,7 @@ pub record HeldSink : Type 0 where
   pub calls : ℕ
   pub faults : ℕ
 
+-- the state of such an output
 abbrev pub sink_state : HeldSink → SinkState
 sink_state held = record { is_told = true; written = held.written; faults = held.faults }
 

@@ -9,6 +9,7 @@ use Rattle.xlsx_commands.specs.declared.error.ToolError.TheVariants.{WriteFault,
 use Rattle.xlsx_tool.specs.Run.{Streams, Succeeds, Refuses, IsSent, SendFails, reads_nothing}
 use Rattle.xlsx_tool.specs.Sink.{SinkState}
 
+-- the help page
 unfoldable pub help_text : List ℕ
 help_text =
     codes "Usage: xlsx_tool cells NAME < package.json\n"
@@ -41,6 +42,7 @@ help_text =
     ++ codes "sample makes a package of 1 to 20,000 rows and prints how much is read of it.\n"
     ))))))))))))))))))))))))))
 
+-- the line of the version
 abbrev pub version_text : List ℕ
 version_text = codes "xlsx_tool 0.1.0\n"
 

@@ -155,11 +155,13 @@ pub record AnswersExactly
 abbrev pub PackageRead : Option (List Part) → Contents → Type 0
 PackageRead spelled held = (spelled ≡ Some held.parts) × (held ≡ closed held.parts 0)
 
+-- why an input is no package: it spells none, or memory is wanting
 abbrev pub NoPackage : Option (List Part) → ToolError → Type 0
 NoPackage spelled NotAPackage = spelled ≡ None
 NoPackage spelled OutOfMemory = Unit {0}
 NoPackage spelled _ = ⊥
 
+-- why bytes are not written, and what was written of them
 abbrev pub SendFails : List ℕ → SinkState → SinkState → ToolError → Type 0
 SendFails bytes old new WriteFault = RisesByOne old.faults new.faults × FrontSent bytes old new
 SendFails bytes old new _ = ⊥

@@ -4,11 +4,13 @@ use Rattle.std.specs.Io.KnownBytes.{Appends}
 use Rattle.xlsx_tool.specs.Sink.{SinkState}
 use Rattle.xlsx_tool.specs.Source.{SourceState}
 
+-- the state of a reader of std
 pub record ReaderState : Type 0 where
   -- the bytes that are still to come, where the reader tells them
   pub left : Option (List ℕ)
   pub faults : ℕ
 
+-- the state of a writer of std
 pub record WriterState : Type 0 where
   -- the bytes that the writer holds, where it tells them
   pub written : Option (List ℕ)

@@ -13,6 +13,7 @@ use Rattle.xlsx_values.specs.declared.book.Book.{Book}
 use Rattle.xlsx_values.specs.declared.types.CellType.{CellType}
 use Rattle.xlsx_values.specs.declared.types.CellType.TheVariants as typ
 
+-- the kind of cells that a type is
 abbrev pub kind_of : CellType → CellKind
 kind_of typ.Untyped = untyped
 kind_of typ.Number = of_number
@@ -24,6 +25,7 @@ kind_of typ.Date = of_date
 kind_of typ.Inline = of_inline
 kind_of (typ.Unknown text) = of_unknown (string_bytes text)
 
+-- what values rest on: the shared strings, the formats and the epoch
 abbrev pub grounds_of : Book → Grounds
 grounds_of book = record {
   strings = map string_bytes book.strings.now;

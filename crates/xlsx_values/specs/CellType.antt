@@ -14,6 +14,7 @@ pub data CellKind : Type 0 where
   of_inline : CellKind
   of_unknown : List ℕ → CellKind
 
+-- the kind of cells that the text of their type names (ECMA-376 part 1, section 18.18.11)
 abbrev pub kind_named : Option (List ℕ) → CellKind
 kind_named None = untyped
 kind_named (Some typ) =

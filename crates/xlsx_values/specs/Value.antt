@@ -50,12 +50,15 @@ first_text (leaf other ∷ events) = None
 abbrev pub format_at : List CellFormat → Option ℕ → CellFormat
 format_at formats style = unwrap_or (option_and_then (slice_get formats) style) format.Other
 
+-- the number of a style that a text tells; 0 where it is no number
 abbrev pub style_number : Option (List ℕ) → Option ℕ
 style_number written = option_map (λ (text : List ℕ). unwrap_or (number_text text) 0) written
 
+-- the format of the style that a text tells
 abbrev pub format_of : List CellFormat → Option (List ℕ) → CellFormat
 format_of formats style = format_at formats (style_number style)
 
+-- the shared string at a place, if there is one
 abbrev pub string_at : List (List ℕ) → ℕ → Result CellValue Refusal
 string_at strings place =
     if is_some (slice_get strings place) then Ok (value.shared_text place)
@@ -76,6 +79,7 @@ lower_truth lower =
     else (if bytes_eq lower (codes "true") then Some true
     else None)))
 
+-- a truth value, or the refusal of a text that is none
 abbrev pub or_wrong_truth : List ℕ → Option Bool → Result CellValue Refusal
 or_wrong_truth written None = Err (plain (wrong_truth written))
 or_wrong_truth written (Some b) = Ok (value.truth b)
@@ -86,13 +90,16 @@ trimmed_truth written [] = Ok value.nothing
 trimmed_truth written (b ∷ bs) =
     or_wrong_truth written (lower_truth (str_to_ascii_lowercase (b ∷ bs)))
 
+-- the truth value of a text, without the blanks around it
 abbrev pub truth_value : List ℕ → Result CellValue Refusal
 truth_value written = trimmed_truth written (trim written)
 
+-- an error, or the refusal of a text that names none
 abbrev pub or_wrong_error : List ℕ → Option CellErrorType → Result CellValue Refusal
 or_wrong_error written None = Err (plain (wrong_error written))
 or_wrong_error written (Some error) = Ok (value.failure error)
 
+-- the error that a text names
 abbrev pub error_value : List ℕ → Result CellValue Refusal
 error_value written = or_wrong_error written (cell_error written)
 
@@ -102,6 +109,7 @@ formatted is_1904 format.Other decimal = value.number decimal
 formatted is_1904 format.DateTime decimal = value.time decimal counts.DateTime is_1904
 formatted is_1904 format.TimeDelta decimal = value.time decimal counts.TimeDelta is_1904
 
+-- a number; a text that is none is refused in a cell of numbers, and else a text
 abbrev pub or_no_number : Bool → List ℕ → Option CellValue → Result CellValue Refusal
 or_no_number typed written (Some found) = Ok found
 or_no_number true written None = Err (plain (wrong_number written))
@@ -137,11 +145,13 @@ value_of_joined of_date written = Ok (value.iso_time written)
 value_of_joined of_inline written = Ok value.nothing
 value_of_joined (of_unknown typ) written = Err (plain (wrong_type typ))
 
+-- the value of the first text, or nothing without one
 abbrev pub of_first :
     (List ℕ → Result CellValue Refusal) → Option (List ℕ) → Result CellValue Refusal
 of_first read None = Ok value.nothing
 of_first read (Some written) = read written
 
+-- the value of the joined texts
 abbrev pub of_joined :
     (List ℕ → Result CellValue Refusal) → Result (List ℕ) Refusal → Result CellValue Refusal
 of_joined read (Ok written) = read written
@@ -153,6 +163,7 @@ abbrev pub first_event_value :
 first_event_value grounds format kind inside =
     of_first (value_of_first grounds format kind) (first_text inside)
 
+-- the value of a cell whose texts are joined
 abbrev pub joined_value : CellKind → List Event → Result CellValue Refusal
 joined_value kind inside = of_joined (value_of_joined kind) (element_text false inside)
 
@@ -162,6 +173,7 @@ counted_value grounds format kind inside =
     if is_joined kind then joined_value kind inside
     else first_event_value grounds format kind inside
 
+-- a value that is there
 abbrev pub some_value : Result CellValue Refusal → Result (Option CellValue) Refusal
 some_value (Ok found) = Ok (Some found)
 some_value (Err refusal) = Err refusal
@@ -176,6 +188,7 @@ value_element grounds format kind inside =
 abbrev pub inline_value : List Event → Result CellValue Refusal
 inline_value inside = of_joined (λ (written : List ℕ). Ok (value.text written)) (string_of inside)
 
+-- a start has this local name
 abbrev pub is_child : List ℕ → Tag → Bool
 is_child own tag = is_named (own ∷ []) tag
 
@@ -188,11 +201,13 @@ said_value grounds format kind tag inside =
     else (if is_child (codes "is") tag then some_value (inline_value inside)
     else Err (plain stray_child)))
 
+-- the value that a child of a cell gives
 abbrev pub child_value :
     Grounds → CellFormat → CellKind → Element → Result (Option CellValue) Refusal
 child_value grounds format kind child =
     in_element child (said_value grounds format kind child.tag child.inside)
 
+-- the value that was given, or nothing
 abbrev pub or_nothing : Result (Option CellValue) Refusal → Result CellValue Refusal
 or_nothing (Ok (Some found)) = Ok found
 or_nothing (Ok None) = Ok value.nothing
@@ -203,6 +218,7 @@ abbrev pub value_in : Grounds → CellFormat → CellKind → List Event → Res
 value_in grounds format kind inside =
     or_nothing (last_answer (child_value grounds format kind) (children inside))
 
+-- the value of a cell, by its style, its type and what stands in it
 abbrev pub typed_value :
     Grounds → List Event → Option (List ℕ) → Option (List ℕ) → Result CellValue Refusal
 typed_value grounds inside style typ =
@@ -228,6 +244,7 @@ abbrev pub end_in_first : List Event → Option (List ℕ)
 end_in_first [] = Some (codes "v")
 end_in_first (event ∷ events) = None
 
+-- the end that is told missing in the value of a cell
 abbrev pub end_in_value : CellKind → List Event → Option (List ℕ)
 end_in_value kind inside =
     if is_inline kind then None
@@ -237,6 +254,7 @@ end_in_value kind inside =
 abbrev pub text_at : List (List ℕ) → ℕ → CellValue
 text_at strings place = value.text (unwrap_or (slice_get strings place) [])
 
+-- a value with its shared string as a text
 abbrev pub resolved : List (List ℕ) → CellValue → CellValue
 resolved strings value.nothing = value.nothing
 resolved strings (value.integer n) = value.integer n

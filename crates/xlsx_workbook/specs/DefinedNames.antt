@@ -13,6 +13,7 @@ use Rattle.xlsx_sections.specs.Refusal.{Refusal, no_character}
 abbrev pub behind_in_section : List Event → ℕ → ℕ → ℕ
 behind_in_section inside behind within = (behind - length inside) + within
 
+-- a defined name with its text, or the refusal of a reference in it
 abbrev pub text_or_refusal :
     List ℕ → List ℕ → (ℕ → ℕ) → Option ℕ → Result (Option (List ℕ × List ℕ)) Refusal
 text_or_refusal name text place None = Ok (Some (name, text))
@@ -33,6 +34,7 @@ defined_name element =
     name_with_text element.inside element.behind
     (name_by (record { tag = element.tag; behind = element.behind }))
 
+-- a start is a defined name
 abbrev pub is_defined_name : Tag → Bool
 is_defined_name tag = is_named (codes "definedName" ∷ []) tag
 

@@ -11,6 +11,7 @@ use Rattle.xlsx_workbook.specs.declared.sheet.SheetEntry.{SheetEntry}
 abbrev pub path_kept : KeptPath → List ℕ
 path_kept path = sheet_part (arc_str_bytes path.folder) (arc_str_bytes path.target)
 
+-- the sheet of an entry, with its path
 abbrev pub sheet_of_entry : SheetEntry → sheets.PlacedSheet
 sheet_of_entry e = record {
   name = string_bytes e.sheet.name;
@@ -19,5 +20,6 @@ sheet_of_entry e = record {
   path = path_kept e.path;
 }
 
+-- a defined name and its text
 abbrev pub pair_of : String Global × String Global → List ℕ × List ℕ
 pair_of name = (string_bytes name.0, string_bytes name.1)

@@ -10,15 +10,19 @@ file_of path = if length (last_piece path) == 0 then codes "workbook.xml" else l
 abbrev pub workbook_part : List ℕ → List ℕ
 workbook_part path = folder_of path ++ file_of path
 
+-- the path of the relationships of the workbook at this path
 abbrev pub relationships_part : List ℕ → List ℕ
 relationships_part path = ((folder_of path ++ codes "_rels/") ++ file_of path) ++ codes ".rels"
 
+-- the path of the shared strings beside the workbook at this path
 abbrev pub strings_part : List ℕ → List ℕ
 strings_part path = folder_of path ++ codes "sharedStrings.xml"
 
+-- the path of the theme beside the workbook at this path
 abbrev pub theme_part : List ℕ → List ℕ
 theme_part path = folder_of path ++ codes "theme/theme1.xml"
 
+-- the path of the styles beside the workbook at this path
 abbrev pub styles_part : List ℕ → List ℕ
 styles_part path = folder_of path ++ codes "styles.xml"
 

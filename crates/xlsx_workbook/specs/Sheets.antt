@@ -39,18 +39,21 @@ type_named text =
     else (if bytes_eq text (codes "chartsheet") then Some ChartSheet
     else (if bytes_eq text (codes "dialogsheet") then Some DialogSheet else None))
 
+-- a sheet by its type, or the refusal of a type that is unknown
 abbrev pub typed_sheet :
     List ℕ → SheetVisible → List ℕ → Option SheetType → Result PlacedSheet Refusal
 typed_sheet name state path None = Err (plain (unknown_type path))
 typed_sheet name state path (Some typ) =
     Ok (record { name = name; typ = typ; visible = state; path = path })
 
+-- a sheet by its relationship, or the refusal that it has none
 abbrev pub related_sheet :
     List ℕ → List ℕ → SheetVisible → Option Related → Result PlacedSheet Refusal
 related_sheet folder name state None = Err (plain unrelated)
 related_sheet folder name state (Some related) =
     typed_sheet name state (sheet_part folder related.target) (type_named (last_piece related.typ))
 
+-- a sheet by its state, or the refusal of a state that is unknown
 abbrev pub stated_sheet :
     List ℕ → (List ℕ → Option Related) → List ℕ → List ℕ → List ℕ → Option SheetVisible →
     Result PlacedSheet Refusal
@@ -58,6 +61,7 @@ stated_sheet folder related id written name None = Err (plain (unknown_state wri
 stated_sheet folder related id written name (Some state) =
     related_sheet folder name state (related id)
 
+-- a sheet, once its name is resolved
 abbrev pub named_sheet :
     List ℕ → (List ℕ → Option Related) → List ℕ → List ℕ → Result (List ℕ) Refusal →
     Result PlacedSheet Refusal
@@ -65,6 +69,7 @@ named_sheet folder related id state (Ok name) =
     stated_sheet folder related id state name (state_named state)
 named_sheet folder related id state (Err refusal) = Err refusal
 
+-- a sheet, by the texts of its id, its name and its state
 abbrev pub sheet_from :
     List ℕ → (List ℕ → Option Related) → ℕ → Option (List ℕ) → Option (List ℕ) →
     Option (List ℕ) → Result PlacedSheet Refusal
@@ -72,6 +77,7 @@ sheet_from folder related behind id name state =
     named_sheet folder related (unwrap_or id []) (unwrap_or state (codes "visible"))
     (decoded_at behind (unwrap_or name []))
 
+-- a sheet, by the id that was looked up
 abbrev pub identified_sheet :
     List ℕ → (List ℕ → Option Related) → ℕ → List (Option (List ℕ)) →
     Result (Option (List ℕ)) AttrFault → Result PlacedSheet Refusal
@@ -79,6 +85,7 @@ identified_sheet folder related behind values (Ok id) =
     with_two (sheet_from folder related behind id) (Err (plain unrelated)) values
 identified_sheet folder related behind values (Err fault) = Err (plain (lookup_fault fault))
 
+-- a sheet, by what was looked up at its start
 abbrev pub sheet_by :
     List ℕ → (List ℕ → Option Related) → PlacedTag → Result (List (Option (List ℕ))) AttrFault →
     Result PlacedSheet Refusal
@@ -94,6 +101,7 @@ sheet_of folder related start =
     sheet_by folder related start
     (lookup (codes "name" ∷ codes "state" ∷ []) start.tag.attributes)
 
+-- a start is a sheet of the workbook
 abbrev pub is_sheet : Tag → Bool
 is_sheet tag = is_named (codes "sheet" ∷ []) tag
 
@@ -103,9 +111,11 @@ abbrev pub sheets_in :
 sheets_in folder related inside =
     all_answers (sheet_of folder related) (starts_by is_sheet inside)
 
+-- a text is `1` or `true`
 abbrev pub is_true_text : List ℕ → Bool
 is_true_text text = bytes_eq text (codes "1") || bytes_eq text (codes "true")
 
+-- whether dates count from 1904, by what was looked up
 abbrev pub epoch_by : Result (Option (List ℕ)) AttrFault → Result (Option Bool) Refusal
 epoch_by (Ok value) = Ok (option_map is_true_text value)
 epoch_by (Err fault) = Err (plain (lookup_fault fault))
@@ -114,6 +124,7 @@ epoch_by (Err fault) = Err (plain (lookup_fault fault))
 abbrev pub epoch_of : PlacedTag → Result (Option Bool) Refusal
 epoch_of start = epoch_by (value_of (codes "date1904") start.tag.attributes)
 
+-- a start tells the properties of the workbook
 abbrev pub is_properties : Tag → Bool
 is_properties tag = is_named (codes "workbookPr" ∷ []) tag
 

@@ -16,9 +16,11 @@ use Rattle.xlsx_relationships.specs.Relationships.{Related}
 use Rattle.xlsx_workbook.specs.Sheets.{PlacedSheet, sheets_in, epoch_in}
 use Rattle.xlsx_workbook.specs.declared.workbook.WorkbookContents.{WorkbookContents}
 
+-- the sheets of a workbook
 abbrev pub sheets_of : WorkbookContents → List PlacedSheet
 sheets_of found = map sheet_of_entry found.entries.items
 
+-- the defined names of a workbook with their texts
 abbrev pub names_of : WorkbookContents → List (List ℕ × List ℕ)
 names_of found = map pair_of found.names.items
 
@@ -64,6 +66,7 @@ IsNameRefused folder related found name s refusal =
     AreSheetsRefused folder related found (inside_of s) refusal
     ⊎ (name_with_text (content 0 s.ahead) (length (inside_of s)) (Ok name) ≡ Err refusal)
 
+-- an event is the start of a defined name
 abbrev pub is_name_start : Event → Bool
 is_name_start (start tag) = is_defined_name tag
 is_name_start (end name) = false
