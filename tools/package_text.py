@@ -3,12 +3,14 @@
 
 import argparse
 import contextlib
+import enum
 import errno
 import html
 import json
 import os
 import re
 import signal
+import stat
 import struct
 import sys
 import tempfile
@@ -16,6 +18,7 @@ import zipfile
 import zlib
 
 from markup import MarkupFault, TooLong, events, spelled
+from words import one_line
 
 try:
     from lzma import LZMAError
@@ -49,10 +52,13 @@ BROKEN = (
     OverflowError,
 )
 
+# The types of the relationships that lead to the workbook's part and to the worksheets.
+DOCUMENT, WORKSHEET = "officeDocument", "worksheet"
+
 # Relationships of these types lead to what the reader opens, now or later.
 TYPES = {
-    "officeDocument",
-    "worksheet",
+    DOCUMENT,
+    WORKSHEET,
     "chartsheet",
     "dialogsheet",
     "table",
@@ -61,8 +67,9 @@ TYPES = {
     "pivotCacheRecords",
 }
 # It looks for parts of these file names whether a relationship leads to them or not.
+BOOK = "workbook.xml"
 FILES = {
-    "workbook.xml",
+    BOOK,
     "sharedstrings.xml",
     "styles.xml",
     "theme1.xml",
@@ -72,11 +79,29 @@ FILES = {
 }
 MARKUP = (".xml", ".rels", ".vml")
 
+# In front of the entries that a Mac puts beside those of the workbook, and of their file names.
+FOREIGN_FOLDER, FOREIGN_FILE = "__macosx", "._"
+
+# White space, which may end a tag, and the start of markup that becomes one event with nothing in
+# it: of all else a text has as many bytes as its markup, or more.
+WHITE_SPACE = b" \t\r\n"
+CONTENTLESS = re.compile(rb"<[!?]")
+UTF_16 = (b"\xff\xfe", b"\xfe\xff")
+DECLARATION = re.compile(rb"(?:\xef\xbb\xbf)?(?:<\?xml [^>]*\?>)?")
+
 # How the content of an OpenDocument file's first entry, `mimetype`, begins.
 OPEN_DOCUMENT = b"application/vnd.oasis.opendocument"
 
-CONTROL = re.compile("[\0-\x1f\x7f-\x9f]")
 PAIR = re.compile(r"""([^\s=]+)\s*=\s*(?:"([^"]*)"|'([^']*)')""")
+
+
+class Sheets(enum.Enum):
+    """Which parts are written, where it isn't one worksheet's part with those of no other: all; all
+    but the worksheets' own; or those alone that tell which parts the sheets have."""
+
+    ALL = "all"
+    NONE = "none"
+    BOOK = "book"
 
 
 class Refusal(Exception):
@@ -85,18 +110,39 @@ class Refusal(Exception):
         self.status = status
 
 
+class TooLarge(Exception):
+    """A package text is longer than it may be."""
+
+
 def too_large(limit):
-    return Refusal(4, f"input too large: its package text has more than {limit:,} bytes")
+    return f"input too large: its package text has more than {limit:,} bytes"
 
 
-def one_line(text):
-    """The text without control characters, so that it stays one line and does nothing else."""
-    return CONTROL.sub(lambda found: f"\\x{ord(found[0]):02x}", text)
+def folded(path):
+    """As the reader compares names: `\\` is `/`, and letters are folded."""
+    return path.replace("\\", "/").lower()
 
 
 def file_name(path):
-    """What stands behind the last slash. As in the reader, `\\` is one, and letters are folded."""
-    return re.split(r"[/\\]", path)[-1].lower()
+    """What stands behind the last slash."""
+    return folded(path).split("/")[-1]
+
+
+def is_foreign(path):
+    """Whether an entry is none of the workbook's."""
+    return folded(path).split("/")[0] == FOREIGN_FOLDER or file_name(path).startswith(FOREIGN_FILE)
+
+
+def owner(path):
+    """The file name of the part whose relationships a part has: nothing for those of the package,
+    and None where it has none."""
+    *folders, file = folded(path).split("/")
+    return file[: -len(".rels")] if folders[-1:] == ["_rels"] and file.endswith(".rels") else None
+
+
+def is_root(path):
+    """Whether a part has the relationships of the package."""
+    return folded(path) == "_rels/.rels"
 
 
 def directory_names(file):
@@ -146,10 +192,26 @@ def written():
         raise Refusal(7, f"write fault: {error.strerror}") from None
 
 
+def opened(source):
+    """The file of a name, or of the number of an open one. Nothing is waited for: a pipe that
+    nobody writes to is no file."""
+    if isinstance(source, int):
+        return open(source, "rb", closefd=False)
+    with contextlib.ExitStack() as stack:
+        file = stack.enter_context(
+            open(source, "rb", opener=lambda path, flags: os.open(path, flags | os.O_NONBLOCK))
+        )
+        mode = os.fstat(file.fileno()).st_mode
+        if stat.S_ISFIFO(mode):
+            raise Refusal(3, "can't be read: it is a pipe, and no file")
+        if not stat.S_ISREG(mode):
+            raise Refusal(3, "can't be read: it is no regular file")
+        stack.pop_all()
+    return file
+
+
 def archive_of(file):
     with read("the zip archive"):
-        if not file.seekable():
-            raise Refusal(3, "can't be read: it is a pipe, and no file")
         front = file.read(len(COMPOUND))
         if front == COMPOUND:
             raise compound_refusal(file)
@@ -161,7 +223,7 @@ def archive_of(file):
 
 
 def targets_of(event):
-    """The file names that a relationship leads to, where its type is wanted."""
+    """The file names that a relationship leads to, each with its type, where that is wanted."""
     if event[0] != "s" or event[1].split(":")[-1] != "Relationship":
         return set()
     # The reader takes some of these texts as written, and others with their references resolved.
@@ -170,9 +232,8 @@ def targets_of(event):
         for key, double, single in PAIR.findall(event[2])
         for value in (double or single, html.unescape(double or single))
     ]
-    if not any(key == "Type" and kind.split("/")[-1] in TYPES for key, kind in pairs):
-        return set()
-    return {file_name(target) for key, target in pairs if key == "Target"}
+    types = {kind.split("/")[-1] for key, kind in pairs if key == "Type"} & TYPES
+    return {(file_name(target), kind) for key, target in pairs if key == "Target" for kind in types}
 
 
 class Workbook:
@@ -181,9 +242,12 @@ class Workbook:
     def __init__(self, archive, is_all, limit):
         self.archive, self.is_all, self.limit = archive, is_all, limit
         # Of entries with one name the last stands, since an archive is added to at its end.
-        self.entries = {entry.filename: entry for entry in archive.infolist()}
+        self.entries = {
+            entry.filename: entry for entry in archive.infolist() if not is_foreign(entry.filename)
+        }
         if self.is_open_document():
             raise Refusal(11, "an OpenDocument file: save it as .xlsx")
+        # For each file name that relationships lead to, their types.
         self.targets = self.found_targets()
         if any(name.endswith(".bin") for name in self.targets):
             raise Refusal(11, "an .xlsb workbook: save it as .xlsx")
@@ -193,27 +257,113 @@ class Workbook:
         return entry is not None and next(self.pieces(entry), b"").startswith(OPEN_DOCUMENT)
 
     def found_targets(self):
-        """The file names that relationships of the wanted types lead to, wherever they stand."""
-        found, size = set(), 0
-        for name, entry in self.entries.items():
-            if file_name(name).endswith(".rels"):
-                for some in self.events(entry):
-                    # These parts are all written.
-                    size += len(some)
-                    if size > self.limit:
-                        raise too_large(self.limit)
-                    found.update(*map(targets_of, json.loads(f"[{some}]")))
+        """The file names that relationships of the wanted types lead to: those of the package and,
+        from there on, those beside each part that is written."""
+        beside = {}
+        for name in self.entries:
+            beside.setdefault(owner(name), []).append(name)
+        found, size = {}, 0
+        waiting = [name for name in beside.get("", ()) if is_root(name)]
+        waiting += [name for file in FILES for name in beside.get(file, ())]
+        while waiting:
+            for some in self.events(self.entries[waiting.pop()]):
+                # These parts are all written.
+                size += len(some)
+                if size > self.limit:
+                    raise Refusal(4, too_large(self.limit))
+                for file, kind in set().union(*map(targets_of, json.loads(f"[{some}]"))):
+                    # Those of the fixed names are cut already.
+                    if file not in found and file not in FILES:
+                        waiting += (name for name in beside.get(file, ()) if not is_root(name))
+                    found.setdefault(file, set()).add(kind)
         return found
 
-    def is_written(self, name):
+    def is_looked_for(self, name):
+        """Whether the reader may look for a part."""
+        file, part = file_name(name), owner(name)
         if self.is_all:
-            return name.endswith(MARKUP)
-        return name.endswith(".rels") or name in FILES or name in self.targets
+            return file.endswith(MARKUP)
+        if part is None:
+            return not file.endswith(".rels") and (file in FILES or file in self.targets)
+        return is_root(name) or part in FILES or part in self.targets
 
-    def parts(self):
-        for name, entry in self.entries.items():
-            if self.is_written(file_name(name)):
-                yield name, self.events(entry)
+    def is_sheet(self, name):
+        """Whether a part is a worksheet's, and nothing else leads to it."""
+        file = file_name(name)
+        return self.targets.get(file) == {WORKSHEET} and file not in FILES
+
+    def is_book(self, name):
+        """Whether a part tells which parts the sheets have."""
+        part = file_name(name) if owner(name) is None else owner(name)
+        return is_root(name) or part == BOOK or DOCUMENT in self.targets.get(part, ())
+
+    def written(self, sheets):
+        """The names of the parts that are written for some sheets, or for the part of one."""
+        names = [name for name in self.entries if self.is_looked_for(name)]
+        if sheets is Sheets.ALL:
+            return names
+        if sheets is Sheets.BOOK:
+            return [name for name in names if self.is_book(name)]
+        kept = None if sheets is Sheets.NONE else folded(sheets)
+        return [name for name in names if not self.is_sheet(name) or folded(name) == kept]
+
+    def sheet_count(self):
+        """How many parts are a worksheet's alone."""
+        return sum(map(self.is_sheet, self.entries))
+
+    def text(self, sheets=Sheets.ALL):
+        """The package text for some sheets, or for the part of one: whole, in a temporary file
+        that stands at its start."""
+        names = self.written(sheets)
+        if not self.fits(names):
+            raise self.too_large(names)
+        with contextlib.ExitStack() as refused:
+            with written():
+                kept = refused.enter_context(tempfile.TemporaryFile(buffering=0))
+            output = Output(kept, self.limit)
+            try:
+                output.add_package((name, self.events(self.entries[name])) for name in names)
+            except TooLarge:
+                raise self.too_large(names) from None
+            with written():
+                kept.seek(0)
+            refused.pop_all()
+        return kept
+
+    def too_large(self, names):
+        """Tells of parts whose text is too long, and of the largest of them."""
+        most = max((self.entries[name] for name in names), key=lambda entry: entry.file_size)
+        size = f"{most.filename} has {most.file_size:,} bytes of markup"
+        return Refusal(4, f"{too_large(self.limit)}; {size}")
+
+    def fits(self, names):
+        """Whether the text of parts can be short enough, for all that the archive says of their
+        sizes. What is too large is told so before it is cut."""
+        if sum(self.entries[name].file_size for name in names) <= self.limit:
+            return True
+        least = 0
+        for name in names:
+            least += self.least(self.entries[name], self.limit - least)
+            if least > self.limit:
+                return False
+        return True
+
+    def least(self, entry, most):
+        """How many bytes the text of a part has at least, as far as they aren't more than `most`:
+        as many as its markup behind a declaration, but for white space, or none where it has
+        anything that may be left out."""
+        size, before = 0, b""
+        for piece in self.pieces(entry):
+            if not size:
+                piece = piece[DECLARATION.match(piece).end() :]
+            if b"\0" in piece or piece[:2] in UTF_16:
+                return 0
+            if CONTENTLESS.search(before + piece):
+                return 0
+            size, before = size + len(piece.translate(None, WHITE_SPACE)), piece[-1:]
+            if size > most:
+                break
+        return size
 
     def events(self, entry):
         """The events of a part, as texts of one or more with commas between them."""
@@ -250,7 +400,7 @@ class Output:
         piece = text.encode()
         self.size += len(piece)
         if self.size > self.limit:
-            raise too_large(self.limit)
+            raise TooLarge
         send(piece, self.kept.fileno())
 
     def add_package(self, parts):
@@ -266,26 +416,24 @@ class Output:
             between = ","
         self.add("\n]}\n")
 
-    def send(self, descriptor):
-        with written():
-            self.kept.seek(0)
-            for piece in iter(lambda: self.kept.read(PIECE), b""):
-                send(piece, descriptor)
+
+@contextlib.contextmanager
+def workbook_of(source, is_all=False, limit=sys.maxsize):
+    """A workbook file, told by its name or as the number of an open one."""
+    with contextlib.ExitStack() as stack:
+        with read("the file"):
+            file = stack.enter_context(opened(source))
+        yield Workbook(stack.enter_context(archive_of(file)), is_all, limit)
 
 
-def write(path, is_all, limit, descriptor):
+def write(path, is_all, limit, descriptor, sheets=Sheets.ALL):
     with written():
         # A closed one would be that of the next file which is opened.
         os.fstat(descriptor)
-    with contextlib.ExitStack() as stack:
-        with read("the file"):
-            file = stack.enter_context(open(path, "rb"))
-        archive = stack.enter_context(archive_of(file))
+    with workbook_of(path, is_all, limit) as workbook, workbook.text(sheets) as kept:
         with written():
-            kept = stack.enter_context(tempfile.TemporaryFile(buffering=0))
-        output = Output(kept, limit)
-        output.add_package(Workbook(archive, is_all, limit).parts())
-        output.send(descriptor)
+            for piece in iter(lambda: kept.read(PIECE), b""):
+                send(piece, descriptor)
 
 
 class Parser(argparse.ArgumentParser):
@@ -300,6 +448,10 @@ def size_of(word):
     if not word.isdecimal():
         raise argparse.ArgumentTypeError("it takes a number of bytes")
     return int(word)
+
+
+def sheets_of(word):
+    return {"all": Sheets.ALL, "none": Sheets.NONE}.get(word, word)
 
 
 def asked_of(words):
@@ -322,6 +474,13 @@ def asked_of(words):
         metavar="BYTES",
         help="refuse a text that is longer than this",
     )
+    parser.add_argument(
+        "--sheets",
+        type=sheets_of,
+        default=Sheets.ALL,
+        metavar="PART",
+        help="of the worksheets' own parts write this one alone, or with `none' no such part",
+    )
     return parser.parse_args(words)
 
 
@@ -331,7 +490,7 @@ def main():
     try:
         asked = asked_of(sys.argv[1:])
         name = asked.file
-        write(asked.file, asked.all, asked.limit, 1)
+        write(asked.file, asked.all, asked.limit, 1, asked.sheets)
         return 0
     except Refusal as refusal:
         status, text = refusal.status, str(refusal)

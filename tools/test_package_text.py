@@ -14,7 +14,7 @@ import zipfile
 from unittest import mock
 
 from fixtures import MINIMAL, SALES, archive, relationships
-from package_text import Refusal, write
+from package_text import Refusal, Sheets, workbook_of, write
 
 HERE = pathlib.Path(__file__).resolve().parent
 SHIPPED = HERE.parent / "crates" / "xlsx_tool" / "stdin"
@@ -46,6 +46,7 @@ def bounded(size):
 
 
 LONG_TEXT = "input too large: its package text has more than 1,000,000 bytes"
+LONG_SHEET = LONG_TEXT + "; xl/worksheets/sheet1.xml has {:,} bytes of markup"
 LONG_EVENT = "input too large: {} has a text or a tag of more than 1,000,000 characters"
 
 
@@ -137,6 +138,80 @@ class Parts(Files):
         }
         wanted = [*MINIMAL, "xl/worksheets/_rels/sheet1.xml.rels"]
         self.assertEqual(self.names_of(with_parts(**more)), wanted)
+
+    def test_the_parts_of_no_worksheet_and_of_one(self):
+        """A part to which something else leads, or which has a fixed name, is no worksheet's alone."""
+        kinds = (
+            ("worksheet", "worksheets/sheet1.xml"),
+            ("worksheet", "\\xl\\Two.xml"),
+            ("worksheet", "styles.xml"),
+            ("worksheet", "both.xml"),
+            ("chartsheet", "both.xml"),
+            ("chartsheet", "chart.xml"),
+        )
+        sheets = ["xl/worksheets/sheet1.xml", "XL/two.xml", "a/two.xml"]
+        others = ["xl/styles.xml", "xl/both.xml", "xl/chart.xml"]
+        more = {
+            "xl/_rels/workbook.xml.rels": relationships(*kinds),
+            **dict.fromkeys((*sheets, *others), "<a/>"),
+            "xl/_rels/two.xml.rels": "<Relationships/>",
+        }
+        data = with_parts(**more)
+        names = [*MINIMAL, *sheets[1:], *others, "xl/_rels/two.xml.rels"]
+        for word, left_out in (
+            ("all", []),
+            ("none", sheets),
+            ("xl\\TWO.xml", [sheets[0], sheets[2]]),
+            ("a/two.xml", sheets[:2]),
+            ("xl/styles.xml", sheets),
+            ("nowhere", sheets),
+        ):
+            with self.subTest(word):
+                wanted = [name for name in names if name not in left_out]
+                self.assertEqual(self.names_of(data, "--sheets", word), wanted)
+        with open(self.path, "rb") as file, workbook_of(file.fileno()) as workbook:
+            self.assertEqual(workbook.sheet_count(), 3)
+            with workbook.text(Sheets.BOOK) as text:
+                parts = json.load(text)["parts"]
+        self.assertEqual([part["name"] for part in parts], list(MINIMAL)[:3])
+
+    def test_a_broken_sheet_that_is_left_out_refuses_nothing(self):
+        data = with_parts(**{"xl/worksheets/sheet1.xml": "<"})
+        self.assertEqual(self.names_of(data, "--sheets=none"), list(MINIMAL)[:3])
+
+    def test_what_a_mac_puts_beside_the_parts_is_left_out(self):
+        more = {
+            "__MACOSX/_rels/._.rels": b"\0\5\x16\7",
+            "__MACOSX/xl/._workbook.xml": b"\0\5\x16\7",
+            "xl/worksheets/._sheet1.xml": b"\0\5\x16\7",
+            "__MACOSX/_rels/.rels": "<",
+        }
+        self.assertEqual(self.names_of(with_parts(**more)), list(MINIMAL))
+        self.assertEqual(self.names_of(with_parts(**more), "--all"), list(MINIMAL))
+
+    def test_relationships_beside_other_parts_are_not_looked_at(self):
+        more = {
+            "xl/drawings/_rels/drawing1.xml.rels": "<",
+            "a.rels": "<",
+            "xl/worksheets/sheet1.xml.rels": "<",
+            "xl/media/_rels/.rels": relationships(("worksheet", "none.xml")),
+            "xl/none.xml": "<",
+        }
+        self.assertEqual(self.names_of(with_parts(**more)), list(MINIMAL))
+
+    def test_relationships_are_followed_from_part_to_part(self):
+        """Each part leads to the next one, which stands before it in the archive."""
+        more = {
+            f"xl/t/{'_rels/' * is_beside}t{at}.xml{'.rels' * is_beside}": (
+                relationships(("table", f"t{at + 1}.xml")) if is_beside else "<table/>"
+            )
+            for at in range(99, 0, -1)
+            for is_beside in (False, True)
+        }
+        more["xl/worksheets/_rels/sheet1.xml.rels"] = relationships(("table", "../t/t1.xml"))
+        self.assertEqual(self.names_of(with_parts(**more)), [*MINIMAL, *more])
+        del more["xl/worksheets/_rels/sheet1.xml.rels"]
+        self.assertEqual(self.names_of(with_parts(**more)), list(MINIMAL))
 
     def test_all_parts_of_markup(self):
         more = {
@@ -263,10 +338,18 @@ class Refusals(Files):
         os.write(pipe, archive(MINIMAL))
         self.check_refused(None, 3, "can't be read: it is a pipe, and no file")
 
+    def test_a_pipe_that_nobody_writes_to(self):
+        os.mkfifo(self.path)
+        self.check_refused(None, 3, "can't be read: it is a pipe, and no file", timeout=60)
+
+    def test_a_device(self):
+        self.path = "/dev/zero"
+        self.check_refused(None, 3, "can't be read: it is no regular file")
+
     def test_a_message_is_one_line(self):
         self.path += "\n\x1b[31m\x85.xlsx"
-        text = "_rels/\x1b\n.rels is broken: markup without an end, at character 0"
-        _, _, said = self.run_on(archive({"_rels/\x1b\n.rels": "<"}))
+        text = "xl/\x1b\n/workbook.xml is broken: markup without an end, at character 0"
+        _, _, said = self.run_on(archive({"xl/\x1b\n/workbook.xml": "<"}))
         wanted = f"{self.path}: {text}"
         for control in "\n\x1b\x85":
             wanted = wanted.replace(control, f"\\x{ord(control):02x}")
@@ -344,24 +427,46 @@ class Refusals(Files):
         self.check_refused(
             data,
             4,
-            f"input too large: its package text has more than {limit:,} bytes",
+            f"input too large: its package text has more than {limit:,} bytes; "
+            f"xl/_rels/workbook.xml.rels has {len(MINIMAL['xl/_rels/workbook.xml.rels'])} bytes of markup",
             f"--limit={limit}",
         )
 
     def test_a_part_that_is_too_large_is_not_kept(self):
         """Parts of 16 MB, in files of some 16 KB. The memory is that of the interpreter too."""
+        long_event = LONG_EVENT.format("xl/worksheets/sheet1.xml")
         for front, more, end, text in (
-            ("<worksheet>", '<row r="1"/>', "", LONG_TEXT),
-            ("<worksheet><!--", "12345678", "-->", LONG_EVENT.format("xl/worksheets/sheet1.xml")),
-            ("<worksheet>", "12345678", "", LONG_EVENT.format("xl/worksheets/sheet1.xml")),
+            ("<worksheet>", '<row r="1"/>', "", LONG_SHEET),
+            ("<worksheet><!--", "12345678", "-->", long_event),
+            ("<worksheet>", "12345678", "", LONG_SHEET),
+            ("<worksheet><!---->", "12345678", "", long_event),
         ):
             part = front + more * (16_000_000 // len(more)) + end
             data = with_parts(**{"xl/worksheets/sheet1.xml": part})
-            self.check_refused(data, 4, text, "--limit=1000000", preexec_fn=bounded(60_000_000))
+            said = text.format(len(part))
+            self.check_refused(data, 4, said, "--limit=1000000", preexec_fn=bounded(60_000_000))
+
+    def test_what_is_too_large_is_told_before_it_is_cut(self):
+        """The part of the workbook is broken, and is cut before that of the sheet."""
+        rows = '<row r="1"/>' * 100_000
+        broken = "xl/workbook.xml is broken: markup without an end, at character 0"
+        for part, status, text in (
+            (f"<worksheet>{rows}", 4, LONG_SHEET),
+            (f"\ufeff<?xml version='1.0'?>\r\n<worksheet>{rows}", 4, LONG_SHEET),
+            # What may be left out of the text counts nothing.
+            (f"<worksheet><!--{rows}-->", 13, broken),
+            (f"<worksheet></worksheet{' ' * 1_200_000}>", 13, broken),
+            (f"<worksheet>{rows}".encode("utf-16"), 13, broken),
+            (f"<worksheet>{rows}".encode("utf-16-be"), 13, broken),
+        ):
+            data = with_parts(**{"xl/workbook.xml": "<", "xl/worksheets/sheet1.xml": part})
+            with self.subTest(part=part[:30]):
+                said = text.format(len(part.encode() if isinstance(part, str) else part))
+                self.check_refused(data, status, said, "--limit=1000000")
 
     def test_relationships_that_are_too_many(self):
         part = "<Relationship/>" * 200_000
-        self.check_refused(archive({"a.rels": part}), 4, LONG_TEXT, "--limit=1000000")
+        self.check_refused(archive({"_rels/.rels": part}), 4, LONG_TEXT, "--limit=1000000")
 
     def test_want_of_memory(self):
         data = with_parts(**{"xl/workbook.xml": "x" * 60_000_000})

@@ -6,10 +6,12 @@ import resource
 import shutil
 import signal
 import subprocess
+import sys
 import tempfile
 import unittest
 
 from fixtures import LINES, MINIMAL, archive, package_text
+from words import COMMANDS, USAGE
 
 TOP = pathlib.Path(__file__).resolve().parent.parent
 PROGRAM = TOP / "crates" / "xlsx_tool" / "out" / "xlsx_tool"
@@ -37,6 +39,25 @@ BOUNDED = """\
 [ "$(cat | wc -c)" -gt 0 ] || exit 5
 ulimit -v
 """
+# Lists sheets, tables and pivot tables, two sheets of one name among them, and tells which sheet,
+# table or pivot table it is asked for; there is none of the name that begins with `no`.
+LISTING = """\
+#!/bin/sh
+cat >/dev/null
+case "$1:$2" in
+sheets:)
+    printf 'Chart\\tchartsheet\\tvisible\\nFirst\\tworksheet\\tvisible\\n'
+    printf 'a/b\\\\tc\\tworksheet\\thidden\\nFirst\\tworksheet\\tvisible\\n.%%\\tworksheet\\tvisible\\n'
+    ;;
+tables:) for n in 1 2 3 4 5 6 7 8 9 10 11 12; do printf "T$n\\tFirst\\tA1:B2\\tx\\n"; done ;;
+pivots:) printf 'First\\tSold\\n' ;;
+table:no*) echo "Table '$2' not found" >&2; exit 6 ;;
+pivot:*) echo "Pivot Table '$3' was not found on worksheet" >&2; exit 6 ;;
+*:no*) echo "Worksheet '$2' not found" >&2; exit 6 ;;
+*) [ ! -e "$FAILING" ] || [ "$2" = First ] || { echo "box too large" >&2; exit 10; }
+    printf '%s of %s\\n' "$1" "$2" ;;
+esac
+"""
 # Proves a crate, builds the program of this folder, or runs it unproved.
 RT = """\
 #!/bin/sh
@@ -56,16 +77,10 @@ echo "rt $* speaks of $(basename "$PWD")"
 [ ! -e "$FAILING" ] || [ "$1" != run ] || exit 1
 [ "$1" != run ] || cp "$STAND_IN" out/xlsx_tool
 """
+# What ./xlsx is made of.
+FRONT = ("front", "markup", "package_text", "program", "prove", "words")
 NAMED = ("cells", "merges", "links", "csv", "csv-table", "table", "sample")
-COMMANDS = (*NAMED, "sheets", "names", "tables", "pivots", "props")
-USAGE = """\
-usage: ./xlsx FILE.xlsx cells NAME       (or merges, links, csv, csv-table or table NAME,
-                                          pivot SHEET NAME, or sheets, names, tables,
-                                          pivots or props)
-       ./xlsx cells NAME < package.json
-       ./xlsx sample N
-       ./xlsx --help
-"""
+FILES = ("xlsx", *(f"tools/{name}.py" for name in FRONT))
 UNPROVED = (
     "xlsx: this answer is not proved; past 1 MiB of lines or a minute's run there is none\n"
 )
@@ -84,7 +99,7 @@ class Wrapper(unittest.TestCase):
         (self.folder / "top" / "crates.txt").write_text("xlsx_tool: low\nlow:\nbeside: low\n")
         (self.folder / "top" / "crates" / "low").mkdir()
         (self.folder / "top" / "tools").mkdir()
-        for name in ("xlsx", "tools/markup.py", "tools/package_text.py", "tools/prove.py"):
+        for name in FILES:
             shutil.copy(TOP / name, self.folder / "top" / name)
         self.written("program", STAND_IN)
         self.written("bin/rt", RT)
@@ -111,9 +126,10 @@ class Wrapper(unittest.TestCase):
         about = {"STAND_IN": self.folder / "program", "FAILING": self.folder / "failing"}
         if memory is not None:
             about["XLSX_MEMORY"] = memory
+        if "stdin" not in given:
+            given["input"] = data
         ran = subprocess.run(
             [self.folder / "top" / "xlsx", *words],
-            input=data,
             stderr=subprocess.PIPE,
             env={**os.environ, **about, "PATH": path},
             cwd=self.folder,
@@ -165,17 +181,19 @@ class Wrapper(unittest.TestCase):
         bare = self.folder / "bare"
         bare.mkdir()
         for name in names:
-            (bare / name).symlink_to(shutil.which(name))
+            # What stands among the commands for Python may be a script of a shell's.
+            there = sys.executable if name == "python3" else shutil.which(name)
+            (bare / name).symlink_to(there)
         return str(bare)
 
     def test_no_rt(self):
         said = "xlsx: rt, the command of the Rattle kit, is not among the commands (PATH)\n"
-        path = self.bare("sh", "dirname", "awk", "find", "rm")
+        path = self.bare("sh", "dirname", "python3")
         self.assertEqual(self.run_on("cells", "0", path=path), (1, b"", said))
 
     def test_no_python(self):
-        said = "xlsx: python3, which reads workbook files, is not among the commands (PATH)\n"
-        path = self.bare("sh", "dirname", "awk", "find", "rm")
+        said = "xlsx: python3, which ./xlsx is written in, is not among the commands (PATH)\n"
+        path = self.bare("sh", "dirname")
         self.assertEqual(self.run_on("book.xlsx", "cells", "0", path=path), (1, b"", said))
 
     # Without a proof
@@ -204,12 +222,6 @@ class Wrapper(unittest.TestCase):
     def test_what_can_be_refused_is_refused_before_the_build(self):
         self.written("no.xlsx", "nut")
         for words, status, said in (
-            ([], 2, USAGE),
-            (["cell", "S"], 2, USAGE),
-            (["cells"], 2, USAGE),
-            (["--unproved"], 2, USAGE),
-            (["--unproved", "book.xlsx", "cell", "S"], 2, USAGE),
-            (["book.xlsx"], 2, USAGE),
             (["none.xlsx", "cells", "S"], 3, "none.xlsx: can't be read: No such file or directory\n"),
             (["no.xlsx", "cells", "S"], 14, "no.xlsx: no zip archive, and so no .xlsx workbook\n"),
         ):
@@ -226,7 +238,6 @@ class Wrapper(unittest.TestCase):
                 self.run_on("cells", str(status), data=b"1"),
                 (status, f"cells {status}: 1\n".encode(), ""),
             )
-        self.assertEqual(self.run_on(), (2, b"", USAGE))
         self.assertEqual(self.run_on("--version"), (0, b"version\n", ""))
 
     def test_a_workbook_file_becomes_the_programs_input(self):
@@ -251,17 +262,157 @@ class Wrapper(unittest.TestCase):
         self.written("cells", archive(MINIMAL))
         self.assertEqual(self.run_on("cells", "0", data=b"1"), (0, b"cells 0: 1\n", ""))
 
-    def test_words_behind_a_file_that_are_no_command(self):
-        self.build()
-        for words in (
-            ["book.xlsx"],
-            ["book.xlsx", "cells"],
-            ["none.xlsx", "cell", "0"],
-            ["none"],
-            # It reads no package.
-            ["book.xlsx", "sample", "5"],
+    def check_words(self, *words, said, **given):
+        """Words that are refused with a line that says what is wrong."""
+        with self.subTest(words=words, **given):
+            more = "xlsx: ./xlsx --help says which words there are\n"
+            wanted = 2, b"", f"xlsx: {said}\n{more}"
+            self.assertEqual(self.run_on(*words, **given), wanted)
+
+    def test_words_that_are_no_command(self):
+        """What is wrong is told, before anything is built or read."""
+        sheet = "the name of a sheet, or --sheet and its number"
+        quotes = "put a name that has blanks in quotes"
+        rows = "sample takes a number of rows, from 1 to 20,000"
+        number = "--sheet takes the number of a sheet, from 1, and not"
+        no_file = "and no file of that name"
+        for words, said in (
+            (["cell", "S"], f"there is no command 'cell', {no_file}: the nearest is cells"),
+            (["none"], f"there is no command 'none', {no_file}"),
+            (["CSV", "S"], f"there is no command 'CSV', {no_file}: the nearest is csv"),
+            (["cells"], f"cells takes {sheet}"),
+            (["csv"], f"csv takes {sheet}"),
+            (["cells", "Sheet", "1"], f"cells takes {sheet}: {quotes}"),
+            (["sheets", "S"], "sheets takes no further words"),
+            (["-h"], "there is no option '-h'"),
+            (["--help", "cells"], "--help stands alone"),
+            (["sample", "0"], f"{rows}, and not '0'"),
+            (["sample", "20001"], f"{rows}, and not '20001'"),
+            (["sample", "-1"], f"{rows}, and not '-1'"),
+            (["sample", "9" * 5000], f"{rows}, and not '{'9' * 5000}'"),
+            (["cells", "--sheet", "0"], f"{number} '0'"),
+            (["cells", "--sheet", "x"], f"{number} 'x'"),
+            (["cells", b"\xff"], "'\\udcff' isn't UTF-8"),
+            (["--unproved", "book.xlsx", "cell", "S"], "there is no command 'cell': the nearest is cells"),
+            (["book.xlsx", "list"], "there is no command 'list': the nearest is links"),
+            (["book.xlsx", "cells"], f"cells takes {sheet}"),
+            (["book.xlsx", "table"], "table takes the name of a table"),
+            (["book.xlsx", "pivot", "S"], "pivot takes two names, of a sheet and of a pivot table"),
+            (["book.xlsx", "sample", "5"], "sample makes its own package, and reads no file"),
+            (["book.xlsx", "-h"], "there is no option '-h'"),
+            (["book.xlsx", "--help"], "--help stands alone"),
+            (["none.xlsx", "cell", "0"], "there is no command 'cell': the nearest is cells"),
+            (["book.xlsx"], "what of book.xlsx is asked for? For one, ./xlsx book.xlsx sheets lists its sheets"),
         ):
+            self.check_words(*words, said=said)
+        self.assertFalse(self.program.exists())
+
+    def test_no_words_at_all(self):
+        for words in ([], ["--unproved"]):
             self.assertEqual(self.run_on(*words), (2, b"", USAGE))
+
+    def test_a_workbook_of_standard_input(self):
+        self.build()
+        data = self.book.read_bytes()
+        wanted = 0, f"cells 0: {self.size}\n".encode(), ""
+        self.assertEqual(self.run_on("-", "cells", "0", data=data), wanted)
+        said = "-: no zip archive, and so no .xlsx workbook\n"
+        self.assertEqual(self.run_on("-", "cells", "0", data=b"nut"), (14, b"", said))
+
+    def test_a_terminal_is_told_what_is_waited_for(self):
+        self.build()
+        terminal, end = os.openpty()
+        self.addCleanup(os.close, terminal)
+        os.write(terminal, b"nut\n\4")
+        ran = self.run_on("cells", "0", data=None, stdin=end)
+        os.close(end)
+        said = "xlsx: waiting for a package text at the terminal; "
+        said += "./xlsx FILE.xlsx cells .. reads a file\n"
+        self.assertEqual(ran, (0, b"cells 0: 4\n", said))
+
+    # Sheets by number, all sheets, and names that there are
+
+    def list_with(self):
+        self.build(self.written("listing", LISTING))
+
+    def test_a_sheet_by_its_number(self):
+        self.list_with()
+        for number, name in (("1", "Chart"), ("2", "First"), ("003", "a/b\tc")):
+            wanted = 0, f"cells of {name}\n".encode(), ""
+            self.assertEqual(self.run_on("book.xlsx", "cells", "--sheet", number), wanted)
+            self.assertEqual(self.run_on("cells", "--sheet", number, data=b"{}"), wanted)
+            with open(self.book, "rb") as file:
+                ran = self.run_on("cells", "--sheet", number, data=None, stdin=file)
+            self.assertEqual(ran, wanted)
+        # This is the sheet of that name.
+        self.assertEqual(self.run_on("book.xlsx", "csv", "--sheet")[1], b"csv of --sheet\n")
+        for number, said in (
+            ("6", "there is no sheet 6: the workbook has 5 sheets"),
+            ("9" * 30, f"there is no sheet {10**10}: the workbook has 5 sheets"),
+            ("4", "sheet 4 has the name of an earlier sheet, 'First'"),
+        ):
+            ran = self.run_on("book.xlsx", "cells", "--sheet", number)
+            self.assertEqual(ran, (6, b"", f"xlsx: {said}\n"))
+
+    def test_the_first_worksheet_as_csv(self):
+        self.list_with()
+        self.assertEqual(self.run_on("book.xlsx", "csv"), (0, b"csv of First\n", ""))
+
+    def test_all_worksheets_as_csv(self):
+        self.list_with()
+        folder = self.folder / "made" / "here"
+        self.assertEqual(self.run_on("book.xlsx", "csv", "--all", folder), (0, b"", ""))
+        written = {path.name: path.read_text() for path in folder.iterdir()}
+        wanted = {
+            "First.csv": "csv of First\n",
+            "a%2Fb%09c.csv": "csv of a/b\tc\n",
+            "%2E%25.csv": "csv of .%\n",
+        }
+        self.assertEqual(written, wanted)
+
+    def test_no_worksheet_is_written_where_one_is_refused(self):
+        self.list_with()
+        self.written("failing", "")
+        folder = self.folder / "made"
+        folder.mkdir()
+        (folder / "First.csv").write_text("old")
+        ran = self.run_on("book.xlsx", "csv", "--all", folder)
+        self.assertEqual(ran, (10, b"", "'a/b\\x09c': box too large\n"))
+        self.assertEqual([path.read_text() for path in folder.iterdir()], ["old"])
+        ran = self.run_on("book.xlsx", "csv", "--all", "/dev/null")
+        self.assertEqual((ran[0], ran[1]), (7, b""))
+
+    def test_names_that_are_not_found(self):
+        self.list_with()
+        tables = ", ".join(f"'T{n}'" for n in range(1, 11))
+        for words, first, second in (
+            (
+                ["cells", "no"],
+                "Worksheet 'no' not found",
+                "sheets: 'Chart', 'First', 'a/b\\x09c', 'First', '.%'",
+            ),
+            (["table", "no"], "Table 'no' not found", f"tables: {tables}, and 2 more"),
+            (
+                ["pivot", "First", "x"],
+                "Pivot Table 'x' was not found on worksheet",
+                "pivot tables: 'Sold' on 'First'",
+            ),
+        ):
+            wanted = 6, b"", f"{first}\nxlsx: there are these {second}\n"
+            self.assertEqual(self.run_on("book.xlsx", *words), wanted)
+
+    def test_a_reader_that_goes_away_is_told_nothing(self):
+        self.build()
+        for words in (["book.xlsx", "cells", "0"], ["--help"]):
+            to_read, to_write = os.pipe()
+            os.close(to_read)
+            if words != ["--help"]:
+                self.build(self.written("faulty", "#!/bin/sh\necho 'write fault' >&2\nexit 7\n"))
+            with open(to_write, "wb") as closed:
+                self.assertEqual(self.run_on(*words, stdout=closed), (7, None, ""))
+        with open("/dev/full", "wb") as full:
+            ran = self.run_on("book.xlsx", "cells", "0", stdout=full)
+        self.assertEqual(ran, (7, None, "write fault\n"))
 
     def test_a_file_that_is_refused(self):
         self.build()
@@ -285,12 +436,14 @@ class Wrapper(unittest.TestCase):
 
     def test_no_room_for_the_package_text(self):
         self.build()
-        words = [self.folder / "top" / "xlsx", "book.xlsx", "cells", "0"]
-        about = {**os.environ, "TMPDIR": str(self.folder / "none")}
-        ran = subprocess.run(
-            words, cwd=self.folder, env=about, stdout=subprocess.PIPE, stderr=subprocess.PIPE
+        said = "book.xlsx: write fault: File too large\n"
+        ran = self.run_on(
+            "book.xlsx",
+            "cells",
+            "0",
+            preexec_fn=lambda: resource.setrlimit(resource.RLIMIT_FSIZE, (1000, 1000)),
         )
-        self.assertEqual((ran.returncode, ran.stdout, ran.stderr.count(b"\n")), (7, b"", 1))
+        self.assertEqual(ran, (7, b"", said))
 
     def test_no_standard_input(self):
         self.build()
@@ -354,7 +507,10 @@ class Wrapper(unittest.TestCase):
         self.build()
         for memory in ("", "x", "-1", "+1", "1.5", " 1", "1 ", "1k", "0x10", "1\n", "9" * 13):
             with self.subTest(memory=memory):
-                self.assertEqual(self.run_on("cells", "0", memory=memory), (2, b"", USAGE))
+                shown = memory.replace("\n", "\\x0a")
+                said = f"xlsx: XLSX_MEMORY is '{shown}': it takes a number of MiB, or 0 for no bound\n"
+                said += "xlsx: ./xlsx --help says which words there are\n"
+                self.assertEqual(self.run_on("cells", "0", memory=memory), (2, b"", said))
 
     def test_a_lower_bound_that_stands_already_stays(self):
         self.build(self.written("bounded", BOUNDED))
@@ -420,7 +576,7 @@ class Wrapper(unittest.TestCase):
         self.build(PROGRAM)
         self.assertEqual(self.run_on("book.xlsx", "cells", "S"), (0, LINES, ""))
         said = "Worksheet 'X' not found\n"
-        said += "xlsx: the sheets of a workbook are listed by: ./xlsx FILE.xlsx sheets\n"
+        said += "xlsx: there are these sheets: 'S'\n"
         self.assertEqual(self.run_on("book.xlsx", "cells", "X"), (6, b"", said))
         lines = b"S\tworksheet\tvisible\n"
         self.assertEqual(self.run_on("book.xlsx", "sheets"), (0, lines, ""))
@@ -431,6 +587,23 @@ class Wrapper(unittest.TestCase):
             self.assertEqual(
                 self.run_on("book.xlsx", "cells", "S", stdout=full), (7, None, "write fault\n")
             )
+
+    def test_all_worksheets_of_all_samples(self):
+        self.build(PROGRAM)
+        for number, path in enumerate(sorted((TOP / "samples").glob("*.xlsx"))):
+            folder = self.folder / str(number)
+            ran = self.run_on(path, "csv", "--all", folder)
+            with self.subTest(sample=path.name):
+                _, lines, _ = self.run_on(path, "sheets")
+                rows = (line.split("\t") for line in lines.decode().splitlines())
+                names = [name for name, kind, _ in rows if kind == "worksheet"]
+                each = {name: self.run_on(path, "csv", name) for name in names}
+                self.assertEqual(ran, (0, b"", ""))
+                written = {file.name: file.read_bytes() for file in folder.iterdir()}
+                wanted = {f"{name}.csv": lines for name, (_, lines, _) in each.items()}
+                self.assertEqual(written, wanted)
+                first = self.run_on(path, "csv")
+                self.assertEqual(first, each[names[0]])
 
     def test_the_program_finds_parts_by_names_in_any_case_and_with_backslashes(self):
         self.build(PROGRAM)

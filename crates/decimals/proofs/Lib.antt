@@ -2,6 +2,7 @@ pub mod Digits
 pub mod Equality
 pub mod OneForm
 pub mod Parsed
+pub mod Parts
 pub mod PowerLemmas
 pub mod Printed
 pub mod ReadsBack

@@ -45,7 +45,7 @@ all_digits (d ∷ ds) digits =
     let (first, rest) = tells_digits.parts d ds digits in
     tells_all_ascii_digits.more d ds first (all_digits ds rest)
 
-decimal_writes : (n : ℕ) → n < 2 ^ 128 → Writes (decimal n) n
+pub decimal_writes : (n : ℕ) → n < 2 ^ 128 → Writes (decimal n) n
 decimal_writes n small =
     let numeral = decimal_is_IsNumeral_wide n (omega arith) in
     record { all = all_digits (decimal n) numeral.0.1; value = numeral.1 }
@@ -127,7 +127,7 @@ kept_form digits n zeros writes last =
     (s, keeps, number, power)
 
 -- the number that those digits write
-number_form : (negative : Bool) (digits : List ℕ) (n zeros : ℕ) (power : ℤ) →
+pub number_form : (negative : Bool) (digits : List ℕ) (n zeros : ℕ) (power : ℤ) →
     Writes digits (n * 10 ^ zeros) → (n % 10 ≡ 0 → ⊥) →
     number_of_digits negative digits power ≡ (with_sign negative n, power +ℤ pos zeros)
 number_form negative digits n zeros power writes last =

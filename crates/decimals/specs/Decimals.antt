@@ -2,7 +2,8 @@
 -- pair: a whole number, and the power of ten that it is taken times.
 use Rattle.std.specs.Prelude.{ℕ, ◌+◌, ◌-◌, ◌^◌, Bool, ◌&&◌, ◌||◌, ◌==◌, nat_lt, nat_le}
 use Rattle.std.specs.Prelude.{if◌then◌else◌, List, [], ◌∷◌, ◌++◌, length, take, drop, replicate}
-use Rattle.std.specs.Prelude.{Option, None, Some, ℤ, pos, negsuc, ◌+ℤ◌, ◌-ℤ◌, neg_ℤ}
+use Rattle.std.specs.Prelude.{Option, None, Some, ℤ, pos, negsuc, ◌+ℤ◌, ◌-ℤ◌, neg_ℤ, nat_abs}
+use Rattle.std.specs.Int.{is_negative}
 use Rattle.std.specs.Char.{is_ascii_digit}
 use Rattle.std.specs.Fmt.{decimal, signed_decimal}
 use Rattle.std.specs.List.{prefix_len, suffix_len, take_while}
@@ -78,6 +79,14 @@ has_bits bits (negsuc n) = nat_lt n (2 ^ bits)
 -- the whole number fits 128 bits and the power 32
 abbrev pub fitting : ℤ × ℤ → Option (ℤ × ℤ)
 fitting number = if has_bits 127 number.0 && has_bits 31 number.1 then Some number else None
+
+-- a whole number times ten to a power in its one form: without zeros at its end
+abbrev pub in_one_form : ℤ × ℤ → ℤ × ℤ
+in_one_form n = number_of_digits (is_negative n.0) (decimal (nat_abs n.0)) n.1
+
+-- the decimal of a whole number times ten to a power, where it fits
+unfoldable pub decimal_from : ℤ × ℤ → Option (ℤ × ℤ)
+decimal_from n = fitting (in_one_form n)
 
 -- the number of a whole part, and of what stands behind it
 abbrev pub unsigned_decimal : Bool → List ℕ → List ℕ → Option (ℤ × ℤ)

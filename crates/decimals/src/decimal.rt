@@ -6,7 +6,7 @@ ghost use Rattle.decimals.specs.Decimals.{with_sign};
 
 use crate::decimal_printing::{push_digits, push_sign};
 use crate::decimal_text::{behind_sign, moved_power, read_fraction, read_power};
-use crate::significand::Significand;
+use crate::significand::{Significand, without_zeros};
 use itoa::Buffer;
 use std::alloc::AllocError;
 
@@ -39,7 +39,7 @@ fn signed(is_negative: bool, number: u128) -> Option<i128>
 
 impl Decimal {
     ghost use Rattle.std.specs.Option.{option_map};
-    ghost use Rattle.decimals.specs.Decimals.{fitting, decimal_of, printed};
+    ghost use Rattle.decimals.specs.Decimals.{fitting, decimal_from, decimal_of, printed};
     ghost use Rattle.decimals.specs.Decimal.{number_of};
 
     /// The number times ten to the power, where both fit. It has no zeros at its end.
@@ -57,6 +57,18 @@ impl Decimal {
         let mantissa = signed(is_negative, number)?;
         let exponent = i32::try_from(power).ok()?;
         Some(Decimal { mantissa, exponent })
+    }
+
+    /// The whole number times ten to the power.
+    ///
+    /// There is none where the power, without the zeros at the end of the whole number, does not
+    /// fit 32 bits. Zero is there at every power. It takes no memory.
+    pub fn from_parts(mantissa: i128, exponent: i64) -> Option<Decimal>
+        ensures { option_map number_of result ≡ decimal_from (mantissa, exponent) }
+    {
+        let (number, zeros) = without_zeros(mantissa.unsigned_abs());
+        let power = i128::from(exponent) + i128::from(zeros);
+        Decimal::fitting(mantissa < 0, number, power)
     }
 
     /// The number that a text writes: a sign or none, digits with at most one point, and an

@@ -12,3 +12,4 @@ pub use laws::{
     copies_are_the_same, equal_numbers_have_one_form, equality_is_by_all_fields,
     zeros_at_the_end_are_powers_of_ten,
 };
+pub use significand::scaled;

@@ -1,4 +1,4 @@
-ghost use Rattle.std.specs.Prelude.{◌≡◌, ◌+◌, ◌*◌, ◌^◌, ◌<◌, ◌≤◌, length, IfSome, IfNone};
+ghost use Rattle.std.specs.Prelude.{◌≡◌, ◌+◌, ◌*◌, ◌%◌, ◌^◌, ◌<◌, ◌≤◌, length, IfSome, IfNone};
 ghost use Rattle.std.specs.Prelude.{SomeIff};
 ghost use Rattle.decimals.specs.Decimals.{digits_in_front, behind_digits};
 ghost use Rattle.decimals.specs.Significand.{digit_added, digits_added};
@@ -12,8 +12,9 @@ pub struct Significand {
     pub count: usize,
 }
 
-/// The number times ten to the power, where it fits.
-fn scaled(number: u128, power: usize) -> Option<u128>
+/// The number times ten to the power, where it fits 128 bits. It stops at the first step past them,
+/// after at most 39, and takes no memory.
+pub fn scaled(number: u128, power: usize) -> Option<u128>
     ensures { SomeIff result (number * 10 ^ power < 2 ^ 128) (number * 10 ^ power) }
 {
     if number == 0 {
@@ -24,6 +25,23 @@ fn scaled(number: u128, power: usize) -> Option<u128>
         product = product.checked_mul(10)?;
     }
     Some(product)
+}
+
+/// The number without the zeros at its end, and how many they are. Zero has none.
+pub fn without_zeros(number: u128) -> (u128, u32)
+    ensures value { result.0 * 10 ^ result.1 ≡ number }
+    ensures trimmed { result.0 % 10 ≡ 0 → result.0 ≡ 0 }
+    ensures few { result.1 ≤ 39 }
+{
+    let mut left = number;
+    for zeros in 0..39 {
+        if left == 0 || left % 10 != 0 {
+            return (left, zeros);
+        }
+        left /= 10;
+    }
+    // A number with so many zeros at its end is past 128 bits.
+    (left, 39)
 }
 
 impl Significand {

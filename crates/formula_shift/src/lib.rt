@@ -1,6 +1,7 @@
 //! Formulas of cells: their pieces, the references in them, and their text moved to another cell.
 #![tactic(auto)]
 
+mod areas;
 mod corner;
 mod cut_formula;
 mod equality;

@@ -1,6 +1,6 @@
 -- Parts and events have no numbers, so that these are looked for beside them alone.
 use Rattle.std.proofs.Common.{◌≡◌, ◌||◌, ℕ, List, Bool, true, false, Option, Some, None, refl, sym}
-use Rattle.std.proofs.Common.{◌∙◌, ap, if◌then◌else◌, codes, ◌∷◌, inl, inr}
+use Rattle.std.proofs.Common.{◌∙◌, ap, if◌then◌else◌, codes, ◌∷◌, ◌++◌, inl, inr}
 use Rattle.std.specs.Prelude.{◌⊎◌}
 use Rattle.std.specs.Option.{option_map, option_and_then}
 use Rattle.std.specs.Ordering.{is_eq, nat_cmp, match_ordering}
@@ -15,9 +15,9 @@ use Rattle.serde_json.specs.Find.{get, get_member, as_array, as_str, as_number, 
 use Rattle.serde_json.specs.Written.{has_float, items_have_float, members_have_float}
 use Rattle.part_events.specs.Event.{Event}
 use Rattle.part_events.specs.Package.{Part}
-use Rattle.package_text.specs.PackageText.{texts_of, event_of_texts, event_in, events_in}
+use Rattle.package_text.specs.PackageText.{texts_of, events_of_texts, events_of_value, events_in}
 use Rattle.package_text.specs.PackageText.{named_part}
-use Rattle.package_text.specs.PackageText.{part_in, parts_in, is_version_1, package_of}
+use Rattle.package_text.specs.PackageText.{part_in, parts_in, version_has_empty, package_of}
 use Rattle.package_text.specs.PackageText.{members_have_float_beside, has_float_beside, part_beside}
 use Rattle.package_text.specs.PackageText.{parts_beside, package_beside}
 
@@ -96,63 +96,68 @@ texts_have_none (item (string s) rest) texts is =
 texts_have_none (item (array items) rest) texts is = absurd cc
 texts_have_none (item (object members) rest) texts is = absurd cc
 
-array_has_none : (items : Items) (found : Option (List (List ℕ))) (event : Event)
-    → texts_of items ≡ found → option_and_then event_of_texts found ≡ Some event
+array_has_none : (has_empty : Bool) (items : Items) (found : Option (List (List ℕ)))
+    (own : List Event)
+    → texts_of items ≡ found → option_and_then (events_of_texts has_empty) found ≡ Some own
     → items_have_float items ≡ false
-array_has_none items None event read is = absurd cc
-array_has_none items (Some texts) event read is = texts_have_none items texts read
+array_has_none has_empty items None own read is = absurd cc
+array_has_none has_empty items (Some texts) own read is = texts_have_none items texts read
 
-event_has_none : (value : Data) (event : Event) → event_in value ≡ Some event
-    → has_float value ≡ false
-event_has_none null event is = absurd cc
-event_has_none (boolean b) event is = absurd cc
-event_has_none (number n) event is = absurd cc
-event_has_none (string s) event is = absurd cc
-event_has_none (array items) event is = array_has_none items (texts_of items) event refl is
-event_has_none (object members) event is = absurd cc
+value_has_none : (has_empty : Bool) (value : Data) (own : List Event)
+    → events_of_value has_empty value ≡ Some own → has_float value ≡ false
+value_has_none has_empty null own is = absurd cc
+value_has_none has_empty (boolean b) own is = absurd cc
+value_has_none has_empty (number n) own is = absurd cc
+value_has_none has_empty (string s) own is = absurd cc
+value_has_none has_empty (array items) own is =
+    array_has_none has_empty items (texts_of items) own refl is
+value_has_none has_empty (object members) own is = absurd cc
 
 or_none : (a b : Bool) → a ≡ false → b ≡ false → (a || b) ≡ false
 or_none true b none other = absurd cc
 or_none false b none other = other
 
-both_have_none : (value : Data) (rest : Items) (first : Option Event)
+both_have_none : (has_empty : Bool) (value : Data) (rest : Items) (first : Option (List Event))
     (found : Option (List Event)) (events : List Event)
-    → ((more : List Event) → events_in rest ≡ Some more → items_have_float rest ≡ false)
-    → event_in value ≡ first → events_in rest ≡ found
-    → option_and_then (λ (event : Event). option_map (λ (more : List Event). event ∷ more) found)
+    → ((more : List Event) → events_in has_empty rest ≡ Some more → items_have_float rest ≡ false)
+    → events_of_value has_empty value ≡ first → events_in has_empty rest ≡ found
+    → option_and_then (λ (own : List Event). option_map (λ (more : List Event). own ++ more) found)
     first ≡ Some events
     → (has_float value || items_have_float rest) ≡ false
-both_have_none value rest None found events none one other is = absurd cc
-both_have_none value rest (Some event) None events none one other is = absurd cc
-both_have_none value rest (Some event) (Some more) events none one other is =
-    or_none (has_float value) (items_have_float rest) (event_has_none value event one)
+both_have_none has_empty value rest None found events none one other is = absurd cc
+both_have_none has_empty value rest (Some own) None events none one other is = absurd cc
+both_have_none has_empty value rest (Some own) (Some more) events none one other is =
+    or_none (has_float value) (items_have_float rest) (value_has_none has_empty value own one)
     (none more other)
 
-events_have_none : (items : Items) (events : List Event) → events_in items ≡ Some events
-    → items_have_float items ≡ false
-events_have_none no_items events is = refl
-events_have_none (item value rest) events is =
-    both_have_none value rest (event_in value) (events_in rest) events (events_have_none rest) refl
-    refl is
+events_have_none : (has_empty : Bool) (items : Items) (events : List Event)
+    → events_in has_empty items ≡ Some events → items_have_float items ≡ false
+events_have_none has_empty no_items events is = refl
+events_have_none has_empty (item value rest) events is =
+    both_have_none has_empty value rest (events_of_value has_empty value)
+    (events_in has_empty rest) events (events_have_none has_empty rest) refl refl is
 
 -- ---- parts
 
-either_events : (items : Items) (found : Option (List Event)) → events_in items ≡ found
-    → (events_in items ≡ None) ⊎ (items_have_float items ≡ false)
-either_events items None read = inl read
-either_events items (Some events) read = inr (events_have_none items events read)
+either_events : (has_empty : Bool) (items : Items) (found : Option (List Event))
+    → events_in has_empty items ≡ found
+    → (events_in has_empty items ≡ None) ⊎ (items_have_float items ≡ false)
+either_events has_empty items None read = inl read
+either_events has_empty items (Some events) read =
+    inr (events_have_none has_empty items events read)
 
 -- what is no list of events, or has no float
-either : (found : Option Data)
-    → (option_and_then events_in (option_and_then as_array found) ≡ None)
+either : (has_empty : Bool) (found : Option Data)
+    → (option_and_then (events_in has_empty) (option_and_then as_array found) ≡ None)
     ⊎ (given_float found ≡ false)
-either None = inr refl
-either (Some null) = inl refl
-either (Some (boolean b)) = inl refl
-either (Some (number n)) = inl refl
-either (Some (string s)) = inl refl
-either (Some (array items)) = either_events items (events_in items) refl
-either (Some (object members)) = inl refl
+either has_empty None = inr refl
+either has_empty (Some null) = inl refl
+either has_empty (Some (boolean b)) = inl refl
+either has_empty (Some (number n)) = inl refl
+either has_empty (Some (string s)) = inl refl
+either has_empty (Some (array items)) =
+    either_events has_empty items (events_in has_empty items) refl
+either has_empty (Some (object members)) = inl refl
 
 nameless : (name : Option (List ℕ))
     → option_and_then (λ (own : List ℕ). named_part own None) name ≡ None
@@ -167,11 +172,12 @@ either_named name events float (inl none) =
     none ∙ nameless name)
 either_named name events float (inr is) = inr is
 
-either_part : (value : Data)
-    → (part_in value ≡ None) ⊎ (given_float (get (codes "events") value) ≡ false)
-either_part value = either_named (option_and_then as_str (get (codes "name") value))
-    (option_and_then events_in (option_and_then as_array (get (codes "events") value)))
-    (given_float (get (codes "events") value)) (either (get (codes "events") value))
+either_part : (has_empty : Bool) (value : Data)
+    → (part_in has_empty value ≡ None) ⊎ (given_float (get (codes "events") value) ≡ false)
+either_part has_empty value = either_named (option_and_then as_str (get (codes "name") value))
+    (option_and_then (events_in has_empty)
+    (option_and_then as_array (get (codes "events") value)))
+    (given_float (get (codes "events") value)) (either has_empty (get (codes "events") value))
 
 beside_decides : (beside float : Bool) (part : Option Part) → (part ≡ None) ⊎ (float ≡ false)
     → (if beside || float then None else part) ≡ (if beside then None else part)
@@ -181,12 +187,14 @@ beside_decides false true part (inr is) = absurd cc
 beside_decides false false part is = refl
 
 -- a part has no float, where none stands beside its events
-part_checked : (value : Data)
-    → (if has_float value then None else part_in value) ≡ part_beside value
-part_checked value =
-    ap (λ (test : Bool). if test then None else part_in value) (by_key (codes "events") value)
+part_checked : (has_empty : Bool) (value : Data)
+    → (if has_float value then None else part_in has_empty value) ≡ part_beside has_empty value
+part_checked has_empty value =
+    ap (λ (test : Bool). if test then None else part_in has_empty value)
+    (by_key (codes "events") value)
     ∙ beside_decides (has_float_beside (codes "events") value)
-    (given_float (get (codes "events") value)) (part_in value) (either_part value)
+    (given_float (get (codes "events") value)) (part_in has_empty value)
+    (either_part has_empty value)
 
 -- a part in front of others
 abbrev in_front : Option Part → Option (List Part) → Option (List Part)
@@ -201,53 +209,81 @@ front_checked false true None rest = refl
 front_checked false true (Some part) rest = refl
 front_checked false false first rest = refl
 
-parts_checked : (items : Items)
-    → (if items_have_float items then None else parts_in items) ≡ parts_beside items
-parts_checked no_items = refl
-parts_checked (item value rest) =
-    front_checked (has_float value) (items_have_float rest) (part_in value) (parts_in rest)
+parts_checked : (has_empty : Bool) (items : Items)
+    → (if items_have_float items then None else parts_in has_empty items)
+    ≡ parts_beside has_empty items
+parts_checked has_empty no_items = refl
+parts_checked has_empty (item value rest) =
+    front_checked (has_float value) (items_have_float rest) (part_in has_empty value)
+    (parts_in has_empty rest)
     ∙ ap (λ (first : Option Part). in_front first
-    (if items_have_float rest then None else parts_in rest)) (part_checked value)
-    ∙ ap (in_front (part_beside value)) (parts_checked rest)
+    (if items_have_float rest then None else parts_in has_empty rest))
+    (part_checked has_empty value)
+    ∙ ap (in_front (part_beside has_empty value)) (parts_checked has_empty rest)
 
 -- ---- the package
 
-none_anyway : {X : Type 0} (float version : Bool)
-    → (if float then None else (if version then None else None))
-    ≡ (let none : Option X = None in if version then none else None)
-none_anyway true true = refl
-none_anyway true false = refl
-none_anyway false version = refl
+none_anyway : {X : Type 0} (float : Bool)
+    → (let none : Option X = None in (if float then none else none) ≡ none)
+none_anyway true = refl
+none_anyway false = refl
 
-array_checked : (version : Bool) (items : Items)
-    → (if items_have_float items then None else (if version then parts_in items else None))
-    ≡ (if version then parts_beside items else None)
-array_checked true items = parts_checked items
-array_checked false items = none_anyway (items_have_float items) false
+array_checked : (version : Option Bool) (items : Items)
+    → (if items_have_float items then None
+    else option_and_then (λ (has_empty : Bool). parts_in has_empty items) version)
+    ≡ option_and_then (λ (has_empty : Bool). parts_beside has_empty items) version
+array_checked None items = none_anyway (items_have_float items)
+array_checked (Some has_empty) items = parts_checked has_empty items
 
-package_checked : (beside version : Bool) (found : Option Data)
-    → (if beside || given_float found then None
-    else (if version then option_and_then parts_in (option_and_then as_array found) else None))
-    ≡ (if beside then None
-    else (if version then option_and_then parts_beside (option_and_then as_array found) else None))
+-- the parts that are read by a version
+abbrev by_version :
+    (Bool → Items → Option (List Part)) → Option Bool → Option Data → Option (List Part)
+by_version read version found =
+    option_and_then (λ (has_empty : Bool). option_and_then (read has_empty)
+    (option_and_then as_array found)) version
+
+no_array : (read : Bool → Items → Option (List Part)) (version : Option Bool)
+    → option_and_then (λ (has_empty : Bool). option_and_then (read has_empty) None) version ≡ None
+no_array read None = refl
+no_array read (Some has_empty) = refl
+
+nothing_checked : (version : Option Bool) (float : Bool) (found : Option Data)
+    → option_and_then as_array found ≡ None
+    → (if float then None else by_version parts_in version found)
+    ≡ by_version parts_beside version found
+nothing_checked version float found none =
+    let one : by_version parts_in version found ≡ None =
+    ap (λ (own : Option Items). option_and_then (λ (has_empty : Bool).
+    option_and_then (parts_in has_empty) own) version) none ∙ no_array parts_in version in
+    let other : by_version parts_beside version found ≡ None =
+    ap (λ (own : Option Items). option_and_then (λ (has_empty : Bool).
+    option_and_then (parts_beside has_empty) own) version) none ∙ no_array parts_beside version in
+    ap (λ (own : Option (List Part)). if float then None else own) one
+    ∙ none_anyway float ∙ sym other
+
+package_checked : (beside : Bool) (version : Option Bool) (found : Option Data)
+    → (if beside || given_float found then None else by_version parts_in version found)
+    ≡ (if beside then None else by_version parts_beside version found)
 package_checked true version found = refl
-package_checked false version None = refl
-package_checked false version (Some null) = refl
-package_checked false version (Some (boolean b)) = refl
-package_checked false version (Some (number n)) = none_anyway (has_float (number n)) version
-package_checked false version (Some (string s)) = refl
+package_checked false version None = nothing_checked version false None refl
+package_checked false version (Some null) = nothing_checked version false (Some null) refl
+package_checked false version (Some (boolean b)) =
+    nothing_checked version false (Some (boolean b)) refl
+package_checked false version (Some (number n)) =
+    nothing_checked version (has_float (number n)) (Some (number n)) refl
+package_checked false version (Some (string s)) =
+    nothing_checked version false (Some (string s)) refl
 package_checked false version (Some (array items)) = array_checked version items
 package_checked false version (Some (object members)) =
-    none_anyway (members_have_float members) version
+    nothing_checked version (members_have_float members) (Some (object members)) refl
 
 -- a package has no float, where none stands beside its parts and beside their events
 pub checked_beside : (value : Data) → package_of value ≡ package_beside value
 unfolding package_of package_beside
 checked_beside value =
     let number = option_and_then as_number (get (codes "version") value) in
-    let version = is_version_1 (option_and_then as_u64 number) in
+    let version = version_has_empty (option_and_then as_u64 number) in
     let found = get (codes "parts") value in
-    ap (λ (test : Bool). if test then None
-    else (if version then option_and_then parts_in (option_and_then as_array found) else None))
+    ap (λ (test : Bool). if test then None else by_version parts_in version found)
     (by_key (codes "parts") value)
     ∙ package_checked (has_float_beside (codes "parts") value) version found

@@ -4,7 +4,7 @@ use Rattle.std.proofs.Common.{refl, sym, ◌∙◌, ap}
 use Rattle.std.proofs.Common.{Some, None, Option, append_assoc, arith, Bool, true, false, cond}
 use Rattle.std.specs.Option.{option_map, option_and_then}
 use Rattle.std.specs.Str.{IsUtf8, is_utf8}
-use Rattle.std.proofs.lemmas.List.{drop_more, get_or_read}
+use Rattle.std.proofs.lemmas.List.{append-nil, drop_more, get_or_read}
 use Rattle.std.proofs.lemmas.Str.{IsUtf8-from_is_utf8, is_utf8-from_IsUtf8}
 use Rattle.serde_json.specs.Data.{Data}
 use Rattle.serde_json.specs.Find.{as_str}
@@ -14,9 +14,8 @@ use Rattle.serde_json.specs.declared.value.Value.{Value}
 use Rattle.part_events.specs.Event.{Event}
 use Rattle.part_events.specs.Package.{Part}
 use Rattle.part_events.specs.Memory.{with_event}
-use Rattle.package_text.specs.PackageText.{texts_of, event_of_texts, events_in, event_in}
-use Rattle.package_text.specs.PackageText.{package_of}
-use Rattle.package_text.specs.PackageText.{package_in}
+use Rattle.package_text.specs.PackageText.{texts_of, events_of_texts, events_in, events_of_value}
+use Rattle.package_text.specs.PackageText.{package_of, package_in, with_events}
 
 -- what is in a text of UTF-8
 pub package_in-read :
@@ -46,37 +45,39 @@ abbrev with_front : {X : Type 0} → Option X → Option (List X) → Option (Li
 with_front first rest = option_and_then (λ x. option_map (λ xs. x ∷ xs) rest) first
 
 no_long_event :
-    (a b c d : Option (List ℕ)) (rest : Option (List (List ℕ)))
+    (has_empty : Bool) (a b c d : Option (List ℕ)) (rest : Option (List (List ℕ)))
     → (let texts = with_front a (with_front b (with_front c (with_front d rest))) in
-    option_and_then event_of_texts texts ≡ None)
-no_long_event None b c d rest = refl
-no_long_event (Some a) None c d rest = refl
-no_long_event (Some a) (Some b) None d rest = refl
-no_long_event (Some a) (Some b) (Some c) None rest = refl
-no_long_event (Some a) (Some b) (Some c) (Some d) None = refl
-no_long_event (Some a) (Some b) (Some c) (Some d) (Some rest) = refl
+    option_and_then (events_of_texts has_empty) texts ≡ None)
+no_long_event has_empty None b c d rest = refl
+no_long_event has_empty (Some a) None c d rest = refl
+no_long_event has_empty (Some a) (Some b) None d rest = refl
+no_long_event has_empty (Some a) (Some b) (Some c) None rest = refl
+no_long_event has_empty (Some a) (Some b) (Some c) (Some d) None = refl
+no_long_event has_empty (Some a) (Some b) (Some c) (Some d) (Some rest) = refl
 
 -- an array of four items or more is no event
 pub long_is_no_event :
-    (values : List Data)
-    → 4 ≤ length values → option_and_then event_of_texts (texts_of (items_of values)) ≡ None
-long_is_no_event [] long = absurd (omega arith)
-long_is_no_event (a ∷ []) long = absurd (omega arith)
-long_is_no_event (a ∷ b ∷ []) long = absurd (omega arith)
-long_is_no_event (a ∷ b ∷ c ∷ []) long = absurd (omega arith)
-long_is_no_event (a ∷ b ∷ c ∷ d ∷ values) long =
-    no_long_event (as_str a) (as_str b) (as_str c) (as_str d) (texts_of (items_of values))
+    (has_empty : Bool) (values : List Data)
+    → 4 ≤ length values
+    → option_and_then (events_of_texts has_empty) (texts_of (items_of values)) ≡ None
+long_is_no_event has_empty [] long = absurd (omega arith)
+long_is_no_event has_empty (a ∷ []) long = absurd (omega arith)
+long_is_no_event has_empty (a ∷ b ∷ []) long = absurd (omega arith)
+long_is_no_event has_empty (a ∷ b ∷ c ∷ []) long = absurd (omega arith)
+long_is_no_event has_empty (a ∷ b ∷ c ∷ d ∷ values) long =
+    no_long_event has_empty (as_str a) (as_str b) (as_str c) (as_str d)
+    (texts_of (items_of values))
 
--- what is in front of a rest, one item further
+-- what is in front of a rest, by more
 pub fronts_more :
-    {X : Type 0} (done : List X) (first : X) (rest : Option (List X))
-    → option_map (λ xs. done ++ xs) (option_map (λ xs. first ∷ xs) rest)
-    ≡ option_map (λ xs. (done ++ first ∷ []) ++ xs) rest
-fronts_more done first None = refl
-fronts_more done first (Some rest) = ap Some (sym (append_assoc done (first ∷ []) rest))
+    {X : Type 0} (done more : List X) (rest : Option (List X))
+    → option_map (λ xs. done ++ xs) (option_map (λ xs. more ++ xs) rest)
+    ≡ option_map (λ xs. (done ++ more) ++ xs) rest
+fronts_more done more None = refl
+fronts_more done more (Some rest) = ap Some (sym (append_assoc done more rest))
 
 -- an event behind those of the last part
-pub with_event-push :
+with_event-push :
     (parts : List Part) (part : Part) (event : Event)
     → with_event (parts ++ part ∷ []) event
     ≡ parts ++ record { name = part.name; events = part.events ++ event ∷ [] } ∷ []
@@ -85,20 +86,37 @@ with_event-push (first ∷ []) part event = refl
 with_event-push (first ∷ second ∷ parts) part event =
     ap (λ (rest : List Part). first ∷ rest) (with_event-push (second ∷ parts) part event)
 
--- the events of what is left, where the first value is this event
+-- events behind those of the last part
+pub with_events-push :
+    (parts : List Part) (name : List ℕ) (done events : List Event)
+    → with_events (parts ++ record { name = name; events = done } ∷ []) events
+    ≡ parts ++ record { name = name; events = done ++ events } ∷ []
+with_events-push parts name done [] =
+    ap (λ (own : List Event). parts ++ record { name = name; events = own } ∷ [])
+    (sym (append-nil done))
+with_events-push parts name done (event ∷ events) =
+    ap (λ (own : List Part). with_events own events)
+    (with_event-push parts (record { name = name; events = done }) event)
+    ∙ with_events-push parts name (done ++ event ∷ []) events
+    ∙ ap (λ (own : List Event). parts ++ record { name = name; events = own } ∷ [])
+    (append_assoc done (event ∷ []) events)
+
+-- the events of what is left, where the first value stands for these
 pub events_more :
-    (values : List Value) (place : ℕ) (value : Value) (event : Event)
-    → place < length values → value ≡ get_or values place value → Some event ≡ event_in (view value)
-    → option_map (λ events. event ∷ events) (events_in (items_view (drop (place + 1) values)))
-    ≡ events_in (items_view (drop place values))
-events_more values place value event here read is =
+    (has_empty : Bool) (values : List Value) (place : ℕ) (value : Value) (own : List Event)
+    → place < length values → value ≡ get_or values place value
+    → Some own ≡ events_of_value has_empty (view value)
+    → option_map (λ events. own ++ events)
+    (events_in has_empty (items_view (drop (place + 1) values)))
+    ≡ events_in has_empty (items_view (drop place values))
+events_more has_empty values place value own here read is =
     let behind = drop (place + 1) values in
-    let found = events_in (items_view behind) in
-    let with_first : Option Event → Option (List Event) =
-    λ first. option_and_then (λ e. option_map (λ events. e ∷ events) found) first
+    let found = events_in has_empty (items_view behind) in
+    let with_first : Option (List Event) → Option (List Event) =
+    λ first. option_and_then (λ e. option_map (λ events. e ++ events) found) first
     in
     ap with_first is
-    ∙ ap (λ (first : Value). events_in (items_view (first ∷ behind)))
+    ∙ ap (λ (first : Value). events_in has_empty (items_view (first ∷ behind)))
     (get_or_read values place value here read value)
-    ∙ ap (λ (rest : List Value). events_in (items_view rest))
+    ∙ ap (λ (rest : List Value). events_in has_empty (items_view rest))
     (sym (drop_more values place value here))

@@ -1,4 +1,4 @@
--- The package that a JSON value spells.
+-- The package that a JSON value spells, in version 1 or 2.
 use Rattle.std.specs.Prelude.{◌≡◌, ◌||◌, ◌++◌, ℕ, ◌==◌, List, [], ◌∷◌, Bool, true, false}
 use Rattle.std.specs.Prelude.{if◌then◌else◌}
 use Rattle.std.specs.Prelude.{Option, Some, None, option_map, option_and_then, codes}
@@ -7,9 +7,12 @@ use Rattle.serde_json.specs.Data.{Data, object, Items, no_items, item, Members, 
 use Rattle.serde_json.specs.Find.{get, as_array, as_str, as_number, as_u64}
 use Rattle.serde_json.specs.Read.{read}
 use Rattle.serde_json.specs.Written.{has_float, members_have_float}
-use Rattle.part_events.specs.Event.{Event, start, end, leaf, text, char_data, entity_ref, other}
-use Rattle.part_events.specs.Memory.{Contents, closed}
+use Rattle.part_events.specs.Event.{Event, event_of, start, end, leaf, text, char_data, entity_ref}
+use Rattle.part_events.specs.Event.{other}
+use Rattle.part_events.specs.Memory.{Contents, closed, with_event}
 use Rattle.part_events.specs.Package.{Part}
+use Rattle.package_text.specs.declared.spelled.SpelledEvent.{SpelledEvent}
+use Rattle.package_text.specs.declared.spelled.SpelledEvent.TheVariants.{One, Empty}
 
 -- the texts of an array that holds nothing else
 abbrev pub texts_of : Items → Option (List (List ℕ))
@@ -17,30 +20,41 @@ texts_of no_items = Some []
 texts_of (item value rest) =
     option_and_then (λ first. option_map (λ texts. first ∷ texts) (texts_of rest)) (as_str value)
 
--- an event by its kind and texts
-abbrev pub event_of_texts : List (List ℕ) → Option Event
-event_of_texts [] = None
-event_of_texts (kind ∷ []) = if bytes_eq kind (codes "o") then Some (leaf other) else None
-event_of_texts (kind ∷ content ∷ []) =
-    if bytes_eq kind (codes "e") then Some (end content)
-    else (if bytes_eq kind (codes "t") then Some (leaf (text content))
-    else (if bytes_eq kind (codes "d") then Some (leaf (char_data content))
-    else (if bytes_eq kind (codes "r") then Some (leaf (entity_ref content)) else None)))
-event_of_texts (kind ∷ name ∷ attributes ∷ []) =
-    if bytes_eq kind (codes "s")
-    then Some (start (record { name = name; attributes = attributes })) else None
-event_of_texts (kind ∷ first ∷ second ∷ third ∷ more) = None
+-- the start of an element by its name and the text of its attributes
+abbrev pub start_of : List ℕ → List ℕ → Event
+start_of name attributes = start (record { name = name; attributes = attributes })
 
--- the event of a JSON value, if it spells one
-abbrev pub event_in : Data → Option Event
-event_in value = option_and_then event_of_texts (option_and_then texts_of (as_array value))
+-- the two events of an element with nothing in it
+abbrev pub empty_element : List ℕ → List ℕ → List Event
+empty_element name attributes = start_of name attributes ∷ end name ∷ []
 
--- the events of the items of a JSON array, if each of them spells one
-abbrev pub events_in : Items → Option (List Event)
-events_in no_items = Some []
-events_in (item value rest) =
-    option_and_then (λ event. option_map (λ events. event ∷ events) (events_in rest))
-    (event_in value)
+-- the events of a kind and its texts: one, or the two of an empty element, where a version has these
+abbrev pub events_of_texts : Bool → List (List ℕ) → Option (List Event)
+events_of_texts has_empty [] = None
+events_of_texts has_empty (kind ∷ []) =
+    if bytes_eq kind (codes "o") then Some (leaf other ∷ []) else None
+events_of_texts has_empty (kind ∷ content ∷ []) =
+    if bytes_eq kind (codes "e") then Some (end content ∷ [])
+    else (if bytes_eq kind (codes "t") then Some (leaf (text content) ∷ [])
+    else (if bytes_eq kind (codes "d") then Some (leaf (char_data content) ∷ [])
+    else (if bytes_eq kind (codes "r") then Some (leaf (entity_ref content) ∷ []) else None)))
+events_of_texts has_empty (kind ∷ name ∷ attributes ∷ []) =
+    if bytes_eq kind (codes "s") then Some (start_of name attributes ∷ [])
+    else (if bytes_eq kind (codes "b")
+    then (if has_empty then Some (empty_element name attributes) else None) else None)
+events_of_texts has_empty (kind ∷ first ∷ second ∷ third ∷ more) = None
+
+-- the events of a JSON value, if it spells some
+abbrev pub events_of_value : Bool → Data → Option (List Event)
+events_of_value has_empty value =
+    option_and_then (events_of_texts has_empty) (option_and_then texts_of (as_array value))
+
+-- the events of the items of a JSON array, if each of them spells some
+abbrev pub events_in : Bool → Items → Option (List Event)
+events_in has_empty no_items = Some []
+events_in has_empty (item value rest) =
+    option_and_then (λ own. option_map (λ events. own ++ events) (events_in has_empty rest))
+    (events_of_value has_empty value)
 
 -- a part of this name, where its events are events
 abbrev pub named_part : List ℕ → Option (List Event) → Option Part
@@ -48,33 +62,35 @@ named_part name events =
     option_map (λ found. let part : Part = record { name = name; events = found } in part) events
 
 -- a part by its name and events
-abbrev pub part_in : Data → Option Part
-part_in value =
+abbrev pub part_in : Bool → Data → Option Part
+part_in has_empty value =
     let found = option_and_then as_array (get (codes "events") value) in
-    let events = option_and_then events_in found in
+    let events = option_and_then (events_in has_empty) found in
     option_and_then (λ name. named_part name events)
     (option_and_then as_str (get (codes "name") value))
 
 -- the parts of the items of a JSON array, if each of them spells one
-abbrev pub parts_in : Items → Option (List Part)
-parts_in no_items = Some []
-parts_in (item value rest) =
-    option_and_then (λ part. option_map (λ parts. part ∷ parts) (parts_in rest)) (part_in value)
+abbrev pub parts_in : Bool → Items → Option (List Part)
+parts_in has_empty no_items = Some []
+parts_in has_empty (item value rest) =
+    option_and_then (λ part. option_map (λ parts. part ∷ parts) (parts_in has_empty rest))
+    (part_in has_empty value)
 
--- the version is the number 1
-abbrev pub is_version_1 : Option ℕ → Bool
-is_version_1 None = false
-is_version_1 (Some version) = version == 1
+-- whether a version has empty elements as one event, where it is a version
+abbrev pub version_has_empty : Option ℕ → Option Bool
+version_has_empty None = None
+version_has_empty (Some version) =
+    if version == 1 then Some false else (if version == 2 then Some true else None)
 
 -- The package that a value spells: no number in the value, at any depth, is other than an integer
--- of 64 bits, its version is 1, and its parts are parts. Other keys don't matter.
+-- of 64 bits, its version is 1 or 2, and its parts are parts. Other keys don't matter.
 unfoldable pub package_of : Data → Option (List Part)
 package_of value =
     let number = option_and_then as_number (get (codes "version") value) in
-    let version = option_and_then as_u64 number in
-    let parts = option_and_then parts_in (option_and_then as_array (get (codes "parts") value)) in
+    let version = version_has_empty (option_and_then as_u64 number) in
+    let found = option_and_then as_array (get (codes "parts") value) in
     if has_float value then None
-    else (if is_version_1 version then parts else None)
+    else option_and_then (λ has_empty. option_and_then (parts_in has_empty) found) version
 
 -- the package that bytes spell, as JSON in UTF-8
 unfoldable pub package_in : List ℕ → Option (List Part)
@@ -100,26 +116,35 @@ has_float_beside key (object members) = members_have_float_beside key members
 has_float_beside key value = has_float value
 
 -- the part of a JSON value, if its numbers beside its events are integers
-abbrev pub part_beside : Data → Option Part
-part_beside value =
-    if has_float_beside (codes "events") value then None else part_in value
+abbrev pub part_beside : Bool → Data → Option Part
+part_beside has_empty value =
+    if has_float_beside (codes "events") value then None else part_in has_empty value
 
 -- the parts of such items of a JSON array
-abbrev pub parts_beside : Items → Option (List Part)
-parts_beside no_items = Some []
-parts_beside (item value rest) =
-    option_and_then (λ part. option_map (λ parts. part ∷ parts) (parts_beside rest))
-    (part_beside value)
+abbrev pub parts_beside : Bool → Items → Option (List Part)
+parts_beside has_empty no_items = Some []
+parts_beside has_empty (item value rest) =
+    option_and_then (λ part. option_map (λ parts. part ∷ parts) (parts_beside has_empty rest))
+    (part_beside has_empty value)
 
--- the parts of a package text of version 1, if its numbers beside the parts' events are integers
+-- the parts of a package text, if its numbers beside the parts' events are integers
 unfoldable pub package_beside : Data → Option (List Part)
 package_beside value =
     let number = option_and_then as_number (get (codes "version") value) in
-    let version = option_and_then as_u64 number in
+    let version = version_has_empty (option_and_then as_u64 number) in
     let found = option_and_then as_array (get (codes "parts") value) in
-    let parts = option_and_then parts_beside found in
     if has_float_beside (codes "parts") value then None
-    else (if is_version_1 version then parts else None)
+    else option_and_then (λ has_empty. option_and_then (parts_beside has_empty) found) version
+
+-- what an event of a package text stands for
+abbrev pub events_of : SpelledEvent → List Event
+events_of (One event) = event_of event ∷ []
+events_of (Empty tag) = empty_element tag.name.now tag.attributes.now
+
+-- the parts with the events at the end of the last
+abbrev pub with_events : List Part → List Event → List Part
+with_events parts [] = parts
+with_events parts (event ∷ events) = with_events (with_event parts event) events
 
 -- what adding a value to a package in memory as a part does, and when it is none
 abbrev pub AppendsPart : Option Part → Contents → Contents → Bool → Type 0

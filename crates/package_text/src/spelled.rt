@@ -1,13 +1,13 @@
-ghost use Rattle.std.specs.Prelude.{◌≡◌, ◌<◌, ◌∷◌, [], Some, None, IfOk, IfSome};
-ghost use Rattle.std.specs.Prelude.{option_map};
+ghost use Rattle.std.specs.Prelude.{◌≡◌, ◌<◌, ◌∷◌, [], length, Some, None, IfOk, OnOk, IfSome};
+ghost use Rattle.std.specs.Prelude.{option_map, false};
 ghost use Rattle.serde_json.specs.View.{view, items_view, members_view};
 ghost use Rattle.serde_json.specs.Written.{has_float, items_have_float, members_have_float};
-ghost use Rattle.part_events.specs.Event.{event_of};
 ghost use Rattle.part_events.specs.Memory.{closed};
-ghost use Rattle.package_text.specs.PackageText.{event_of_texts, event_in, events_in};
+ghost use Rattle.package_text.specs.PackageText.{events_of_texts, events_of_value, events_in};
 ghost use Rattle.package_text.specs.PackageText.{package_of, named_part, members_have_float_beside};
 ghost use Rattle.package_text.specs.PackageText.{has_float_beside, part_beside, package_beside};
-ghost use Rattle.package_text.specs.PackageText.{AppendsPart};
+ghost use Rattle.package_text.specs.PackageText.{AppendsPart, version_has_empty, events_of};
+ghost use Rattle.package_text.specs.PackageText.{with_events};
 
 use part_events::{MemoryPackage, PartEvent, StartTag};
 use serde_json::{Map, Value};
@@ -75,75 +75,115 @@ fn has_float_beside(value: &Value, key: &str) -> bool
     }
 }
 
-fn event_from(value: &Value) -> Option<PartEvent<'_>>
-    ensures { option_map (λ event. event_of event) result ≡ event_in (view value.now) }
+/// What an event of a package text stands for: an event, or an element with nothing in it, which is
+/// two.
+#[derive(Clone, Copy, Debug)]
+pub enum SpelledEvent<'a> {
+    One(PartEvent<'a>),
+    Empty(StartTag<'a>),
+}
+
+fn event_from(value: &Value, has_empty: bool) -> Option<SpelledEvent<'_>>
+    ensures { option_map (λ event. events_of event) result
+        ≡ events_of_value has_empty (view value.now) }
 {
     match value.as_array()?.as_slice() {
         [kind] => plain_event(kind.as_str()?),
         [kind, content] => text_event(kind.as_str()?, content.as_str()?),
         [kind, name, attributes] => {
-            start_event(kind.as_str()?, name.as_str()?, attributes.as_str()?)
+            start_event(
+                has_empty,
+                kind.as_str()?,
+                name.as_str()?,
+                attributes.as_str()?,
+            )
         }
         [] => None,
         [_, _, _, _, ..] => None,
     }
 }
 
-fn plain_event(kind: &str) -> Option<PartEvent<'_>>
-    ensures { option_map (λ event. event_of event) result ≡ event_of_texts (kind.now ∷ []) }
+fn plain_event(kind: &str) -> Option<SpelledEvent<'_>>
+    ensures { option_map (λ event. events_of event) result
+        ≡ events_of_texts false (kind.now ∷ []) }
 {
     match kind {
-        "o" => Some(PartEvent::Other),
+        "o" => Some(SpelledEvent::One(PartEvent::Other)),
         _ => None,
     }
 }
 
-fn text_event<'a>(kind: &str, content: &'a str) -> Option<PartEvent<'a>>
+fn text_event<'a>(kind: &str, content: &'a str) -> Option<SpelledEvent<'a>>
     ensures { let texts = kind.now ∷ content.now ∷ [] in
-        option_map (λ event. event_of event) result ≡ event_of_texts texts }
+        option_map (λ event. events_of event) result ≡ events_of_texts false texts }
 {
+    let event = match kind {
+        "e" => PartEvent::End(content),
+        "t" => PartEvent::Text(content),
+        "d" => PartEvent::CharData(content),
+        "r" => PartEvent::EntityRef(content),
+        _ => return None,
+    };
+    Some(SpelledEvent::One(event))
+}
+
+fn start_event<'a>(
+    has_empty: bool,
+    kind: &str,
+    name: &'a str,
+    attributes: &'a str,
+) -> Option<SpelledEvent<'a>>
+    ensures { let texts = kind.now ∷ name.now ∷ attributes.now ∷ [] in
+        option_map (λ event. events_of event) result ≡ events_of_texts has_empty texts }
+{
+    let tag = StartTag { name, attributes };
     match kind {
-        "e" => Some(PartEvent::End(content)),
-        "t" => Some(PartEvent::Text(content)),
-        "d" => Some(PartEvent::CharData(content)),
-        "r" => Some(PartEvent::EntityRef(content)),
+        "s" => Some(SpelledEvent::One(PartEvent::Start(tag))),
+        "b" if has_empty => Some(SpelledEvent::Empty(tag)),
         _ => None,
     }
 }
 
-fn start_event<'a>(kind: &str, name: &'a str, attributes: &'a str) -> Option<PartEvent<'a>>
-    ensures { let texts = kind.now ∷ name.now ∷ attributes.now ∷ [] in
-        option_map (λ event. event_of event) result ≡ event_of_texts texts }
+/// Appends what it stands for to the last part.
+fn push_spelled(package: &mut MemoryPackage, event: SpelledEvent<'_>) -> Result<(), AllocError>
+    requires { 0 < length «package».old.parts }
+    ensures { OnOk result («package».new
+        ≡ closed (with_events «package».old.parts (events_of event.entry)) «package».old.taken) }
 {
-    match kind {
-        "s" => Some(PartEvent::Start(StartTag { name, attributes })),
-        _ => None,
+    match event {
+        SpelledEvent::One(event) => package.push_event(event),
+        SpelledEvent::Empty(tag) => package.push_empty(tag.name, tag.attributes),
     }
 }
 
 /// Appends a part of this name with these events. Answers false where one of them is no event.
 fn push_part_of(
     package: &mut MemoryPackage,
+    has_empty: bool,
     name: &str,
     events: &[Value],
 ) -> Result<bool, AllocError>
-    ensures { let part = named_part name.now (events_in (items_view events.now)) in
+    ensures { let part = named_part name.now (events_in has_empty (items_view events.now)) in
         IfOk result (AppendsPart part «package».old «package».new) }
 {
     package.add_part(name)?;
     for value in events {
-        let Some(event) = event_from(value) else {
+        let Some(event) = event_from(value, has_empty) else {
             return Ok(false);
         };
-        package.push_event(event)?;
+        push_spelled(package, event)?;
     }
     Ok(true)
 }
 
 /// Appends the part that the value spells. Answers false where it spells none, or has a number that
 /// is no integer of 64 bits.
-fn push_part(package: &mut MemoryPackage, value: &Value) -> Result<bool, AllocError>
-    ensures { let part = part_beside (view value.now) in
+fn push_part(
+    package: &mut MemoryPackage,
+    has_empty: bool,
+    value: &Value,
+) -> Result<bool, AllocError>
+    ensures { let part = part_beside has_empty (view value.now) in
         IfOk result (AppendsPart part «package».old «package».new) }
 {
     // Events have no numbers, so that they are looked at once.
@@ -156,7 +196,18 @@ fn push_part(package: &mut MemoryPackage, value: &Value) -> Result<bool, AllocEr
     let Some(events) = value.get("events").and_then(Value::as_array) else {
         return Ok(false);
     };
-    push_part_of(package, name, events)
+    push_part_of(package, has_empty, name, events)
+}
+
+/// Whether a version has empty elements as one event, or None where it is no version.
+fn version_has_empty(version: Option<u64>) -> Option<bool>
+    ensures { result ≡ version_has_empty version }
+{
+    match version? {
+        1 => Some(false),
+        2 => Some(true),
+        _ => None,
+    }
 }
 
 /// The package that a JSON value spells, by numbers that stand beside its parts and their events.
@@ -166,15 +217,19 @@ fn package_beside(alloc: Global, value: &Value) -> Result<Option<MemoryPackage>,
         IfOk result (λ found. option_map (λ held. held.parts) found ≡ spelled) }
     ensures fresh { IfOk result (λ found. IfSome found (λ held. held ≡ closed held.parts 0)) }
 {
-    if has_float_beside(value, "parts") || value.get("version").and_then(Value::as_u64) != Some(1) {
+    if has_float_beside(value, "parts") {
         return Ok(None);
     }
+    let version = value.get("version").and_then(Value::as_u64);
+    let Some(has_empty) = version_has_empty(version) else {
+        return Ok(None);
+    };
     let Some(parts) = value.get("parts").and_then(Value::as_array) else {
         return Ok(None);
     };
     let mut package = MemoryPackage::new(alloc);
     for part in parts {
-        if !push_part(&mut package, part)? {
+        if !push_part(&mut package, has_empty, part)? {
             return Ok(None);
         }
     }

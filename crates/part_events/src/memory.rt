@@ -1,6 +1,6 @@
-ghost use Rattle.std.specs.Prelude.{◌≡◌, ◌<◌, ◌++◌, ◌∷◌, [], length, OnOk, OnErr};
-ghost use Rattle.part_events.specs.Event.{event_of};
-ghost use Rattle.part_events.specs.Memory.{state_of, closed, with_event};
+ghost use Rattle.std.specs.Prelude.{◌≡◌, ◌<◌, ◌++◌, ◌∷◌, [], length, slice_get, Some, OnOk, OnErr};
+ghost use Rattle.part_events.specs.Event.{event_of, Tag, start, end};
+ghost use Rattle.part_events.specs.Memory.{state_of, closed, part_at, with_event};
 
 use crate::event::PartEvent;
 use crate::package::{Package, PackageFailed};
@@ -85,6 +85,22 @@ impl MemoryPackage {
         Ok(())
     }
 
+    /// Appends the start and the end of an element with nothing in it to the last part. No part is
+    /// open afterwards. A refusal changes nothing.
+    pub fn push_empty(&mut self, name: &str, attributes: &str) -> Result<(), AllocError>
+        requires { 0 < length self.old.parts }
+        ensures ok { let tag : Tag = record { name = name.now; attributes = attributes.now } in
+            OnOk result (self.new
+            ≡ closed (with_event (with_event self.old.parts (start tag)) (end name.now))
+            self.old.taken) }
+        ensures err { OnErr result (self.new ≡ self.old) }
+    {
+        let last = self.parts.len() - 1;
+        self.parts[last].push_empty(name, attributes)?;
+        self.place = None;
+        Ok(())
+    }
+
     /// Leaves no part open.
     pub(crate) fn close(&mut self)
         ensures { self.new ≡ closed self.old.parts self.old.taken }
@@ -97,6 +113,31 @@ impl MemoryPackage {
         ensures { result ≡ length self.now.parts }
     {
         self.parts.len()
+    }
+
+    /// The name of the part of this number, counted from 0, as it was given.
+    pub fn part_name(&self, part: usize) -> &str
+        requires { part < length self.now.parts }
+        ensures { result.now ≡ (part_at self.now.parts part).name }
+    {
+        self.parts[part].name()
+    }
+
+    /// How many events the part of this number has.
+    pub fn event_count(&self, part: usize) -> usize
+        requires { part < length self.now.parts }
+        ensures { result ≡ length (part_at self.now.parts part).events }
+    {
+        self.parts[part].len()
+    }
+
+    /// The event of this number, counted from 0, of the part of this number. It is not taken.
+    pub fn event_at(&self, part: usize, event: usize) -> PartEvent<'_>
+        requires part { part < length self.now.parts }
+        requires event { event < length (part_at self.now.parts part).events }
+        ensures { slice_get (part_at self.now.parts part).events event ≡ Some (event_of result) }
+    {
+        self.parts[part].event(event)
     }
 }
 

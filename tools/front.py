@@ -1,0 +1,345 @@
+"""Answers the words of ./xlsx by the program xlsx_tool, on a workbook file or on a package text.
+
+The status is the program's own, that of tools/package_text.py (docs/FORMAT.md), or 1 where the
+program could not be built or gave no answer. What can be refused is refused before a build.
+"""
+
+import contextlib
+import os
+import re
+import select
+import signal
+import stat
+import sys
+import tempfile
+
+import words as of_words
+from program import PROVING, UNPROVED, UNPROVED_SAYS, WRITE_FAULT, Ended, Program, build
+from program import is_fresh, say
+from words import one_line
+
+# The most bytes that the program reads.
+LIMIT = 64 * 1024 * 1024
+
+# The most address space that the proved program gets, in MiB; 0 sets no bound.
+MEMORY = "4096"
+
+# How many names are told where one isn't found.
+TOLD = 10
+
+# What a name in a listing has in place of these characters.
+ESCAPED = {"\\\\": "\\", "\\t": "\t", "\\n": "\n", "\\r": "\r"}
+
+# What the name of a file can't have on one system or another, and `%`, which stands for it.
+UNFIT = re.compile(r'[\0-\x1f\x7f"%*/:<>?\\|]')
+
+
+def unescaped(field):
+    return re.sub(r"\\[\\tnr]", lambda found: ESCAPED[found[0]], field)
+
+
+def file_of(name):
+    """The name of the file for a worksheet."""
+    fit = UNFIT.sub(lambda found: f"%{ord(found[0]):02X}", name)
+    return f"%2E{fit[1:]}.csv" if fit.startswith(".") else f"{fit}.csv"
+
+
+def standard_input():
+    return open(0, "rb", buffering=0, closefd=False)
+
+
+def kept(source, most=sys.maxsize):
+    """The bytes of an open file, at most so many, in a temporary one."""
+    file = tempfile.TemporaryFile()
+    while most and (piece := source.read(min(most, 1 << 20))):
+        file.write(piece)
+        most -= len(piece)
+    file.flush()
+    file.seek(0)
+    return file
+
+
+class Package:
+    """A package text that the program reads, once or more often: that of an open file."""
+
+    def __init__(self, file):
+        self.file, self.start = file, None
+        try:
+            # What a file is read from, where it can be read again.
+            if stat.S_ISREG(os.fstat(file.fileno()).st_mode):
+                self.start = os.lseek(file.fileno(), 0, os.SEEK_CUR)
+        except OSError:
+            pass
+
+    def input(self):
+        """The number of the file, which stands at its start."""
+        if self.start is not None:
+            os.lseek(self.file.fileno(), self.start, os.SEEK_SET)
+        return self.file.fileno()
+
+    def is_repeated(self):
+        """Whether it can be read again."""
+        return self.start is not None
+
+
+class Refused(Exception):
+    """The end of ./xlsx by a refusal: its status, and the bytes that tell of it."""
+
+    def __init__(self, status, said):
+        super().__init__(said)
+        self.status, self.said = status, said
+
+
+@contextlib.contextmanager
+def told_of(path):
+    """Has what is refused of a workbook file told with its name."""
+    from package_text import Refusal
+
+    try:
+        yield
+        return
+    except Refusal as refusal:
+        status, text = refusal.status, str(refusal)
+    except MemoryError:
+        status, text = 8, "out of memory"
+    name = os.fsencode(one_line(path))
+    raise Refused(status, name + f": {one_line(text)}\n".encode(errors="replace"))
+
+
+class Book:
+    """A workbook file, of which a package text is made."""
+
+    def __init__(self, path, stack):
+        from package_text import workbook_of, written
+
+        self.path = source = path
+        with told_of(path):
+            if path == of_words.STANDARD_INPUT:
+                with written():
+                    source = stack.enter_context(kept(standard_input())).fileno()
+            self.workbook = stack.enter_context(workbook_of(source, limit=LIMIT))
+
+    def package(self):
+        with told_of(self.path):
+            return Package(self.workbook.text())
+
+
+class Front:
+    """One call: the program, and the package text that it reads."""
+
+    def __init__(self, program, package):
+        self.program, self.package = program, package
+
+    def lines(self, *words):
+        """The lines of a command, each as its fields."""
+        with tempfile.TemporaryFile() as output:
+            status, said = self.program.run(words, self.package.input(), output.fileno())
+            if status:
+                raise Refused(status, said)
+            output.seek(0)
+            text = output.read().decode()
+        return [[unescaped(field) for field in line.split("\t")] for line in text.split("\n")[:-1]]
+
+    def sheet(self, number):
+        """The name of the sheet at a place among all, from 1."""
+        sheets = [name for name, *_ in self.lines("sheets")]
+        if number > len(sheets):
+            have = "one sheet" if len(sheets) == 1 else f"{len(sheets)} sheets"
+            raise Ended(6, f"there is no sheet {number}: the workbook has {have}")
+        name = sheets[number - 1]
+        if name in sheets[: number - 1]:
+            raise Ended(6, f"sheet {number} has the name of an earlier sheet, '{name}'")
+        return name
+
+    def worksheets(self):
+        """The names of the worksheets, each once."""
+        sheets = self.lines("sheets")
+        first = {name: kind for name, kind, _ in reversed(sheets)}
+        return [name for name in dict.fromkeys(row[0] for row in sheets) if first[name] == "worksheet"]
+
+    def named(self, words):
+        """The program's words for words that tell a sheet by its number, or none where one is
+        meant."""
+        if of_words.has_number(words):
+            number = words[2].lstrip("0")
+            # No workbook has so many sheets, and so large a number is none of Python's.
+            place = int(number) if len(number) < 10 else 10**10
+            return [words[0], self.sheet(place), *words[3:]]
+        if words == ["csv"]:
+            worksheets = self.worksheets()
+            if not worksheets:
+                raise Ended(6, "the workbook has no worksheet")
+            return ["csv", worksheets[0]]
+        return words
+
+    def names(self, words, said):
+        """What is asked for and not found, and all names that there are of its kind."""
+        if said == f"Worksheet '{words[1]}' not found\n".encode():
+            return "sheets", [name for name, *_ in self.lines("sheets")]
+        if said == f"Table '{words[1]}' not found\n".encode():
+            return "tables", [name for name, *_ in self.lines("tables")]
+        if said.startswith(b"Pivot Table '") and said.endswith(b"' was not found on worksheet\n"):
+            return "pivot tables", [f"{name}' on '{sheet}" for sheet, name in self.lines("pivots")]
+        return "", []
+
+    def say_names(self, words, said):
+        """Says which names there are where one isn't found."""
+        if not self.package.is_repeated():
+            if said == f"Worksheet '{words[1]}' not found\n".encode():
+                say("the sheets of a workbook are listed by: ./xlsx FILE.xlsx sheets")
+            return
+        try:
+            kind, found = self.names(words, said)
+        except Refused:
+            return
+        if kind and not found:
+            say(f"there are no {kind}")
+        elif kind:
+            shown = ", ".join(f"'{name}'" for name in found[:TOLD])
+            more = f", and {len(found) - TOLD} more" if len(found) > TOLD else ""
+            say(f"there are these {kind}: {shown}{more}")
+
+    def answer(self, words):
+        """Runs the program on words, onto standard output: the status."""
+        words = self.named(words)
+        status, said = self.program.run(words, self.package.input(), 1)
+        if status == 7 and said == WRITE_FAULT and is_reader_gone():
+            return 7
+        os.write(2, said)
+        if status == 6 and len(words) > 1:
+            self.say_names(words, said)
+        return status
+
+    def write_all(self, folder):
+        """Writes each worksheet as CSV into a file of a folder: the status."""
+        worksheets = self.worksheets()
+        try:
+            os.makedirs(folder, exist_ok=True)
+            with tempfile.TemporaryDirectory(dir=folder) as made:
+                for name in worksheets:
+                    self.write_one(name, os.path.join(made, file_of(name)))
+                for name in worksheets:
+                    file = file_of(name)
+                    os.replace(os.path.join(made, file), os.path.join(folder, file))
+        except OSError as error:
+            raise Ended(7, f"{folder} can't be written: {error.strerror}") from None
+        return 0
+
+    def write_one(self, name, path):
+        with open(path, "xb") as output:
+            status, said = self.program.run(["csv", name], self.package.input(), output.fileno())
+        if status:
+            raise Refused(status, f"'{one_line(name)}': ".encode() + said)
+
+
+def is_reader_gone():
+    """Whether nobody reads standard output any more."""
+    poll = select.poll()
+    poll.register(1, 0)
+    return any(event & (select.POLLERR | select.POLLHUP) for _, event in poll.poll(0))
+
+
+def help_page(memory):
+    """Writes the page, in front of the program's own, which is written where it is built."""
+    try:
+        text = of_words.page(memory, PROVING, UNPROVED).encode()
+        while text:
+            text = text[os.write(1, text) :]
+    except OSError:
+        raise Refused(7, b"" if is_reader_gone() else WRITE_FAULT) from None
+
+
+def file_and_words(words):
+    """The workbook file among words, if any, and the words behind it, which are a command."""
+    if not words:
+        raise Refused(2, of_words.USAGE.encode())
+    first = words[0]
+    has_file = first == of_words.STANDARD_INPUT or os.path.exists(first)
+    if of_words.is_command(words) or not has_file and not is_file_name(first):
+        of_words.check(words)
+        return None, words
+    rest = words[1:]
+    if first in of_words.COMMANDS and not of_words.is_command(rest):
+        # A file of a command's name is there, but it is the command that lacks words.
+        of_words.check(words)
+    if rest != ["csv"]:
+        of_words.check(rest, first)
+    return first, rest
+
+
+def is_file_name(word):
+    """Whether a word has the ending of a workbook's name."""
+    return re.search(r"\.(?:xls|xls[xmb])$", word, re.IGNORECASE) is not None
+
+
+def memory_of(word):
+    """The MiB that a text says, or 0 for no bound."""
+    if not (word.isascii() and word.isdigit() and len(word) < 13):
+        raise of_words.Faulty(f"XLSX_MEMORY is '{word}': it takes a number of MiB, or 0 for no bound")
+    return int(word)
+
+
+def package_of(path, words, stack):
+    """The package text that is read: that of a file, or standard input."""
+    if path is not None:
+        return Book(path, stack).package()
+    if words[0] not in of_words.PAGES and words[0] != "sample" and os.isatty(0):
+        say(f"waiting for a package text at the terminal; ./xlsx FILE.xlsx {words[0]} .. reads a file")
+    package = Package(standard_input())
+    if package.is_repeated() or not (of_words.has_number(words) or of_words.is_all(words)):
+        return package
+    return Package(kept(package.file, LIMIT + 1))
+
+
+def answered(words):
+    """The status of a call."""
+    is_proved = words[:1] != ["--unproved"]
+    memory = memory_of(os.environ.get("XLSX_MEMORY", MEMORY))
+    path, words = file_and_words(words if is_proved else words[1:])
+    if words == ["--help"]:
+        help_page(os.environ.get("XLSX_MEMORY", MEMORY))
+        if not is_fresh():
+            return 0
+    with contextlib.ExitStack() as stack:
+        package = package_of(path, words, stack)
+        if is_fresh():
+            is_proved = True
+        elif is_proved:
+            build()
+        else:
+            say(UNPROVED_SAYS)
+        front = Front(Program(is_proved, memory), package)
+        return front.write_all(words[2]) if of_words.is_all(words) else front.answer(words)
+
+
+def end(number, frame):
+    """Ends by a signal, with the status that tells of it."""
+    sys.exit(128 + number)
+
+
+def main(words):
+    for number in (signal.SIGHUP, signal.SIGINT, signal.SIGTERM):
+        if signal.getsignal(number) != signal.SIG_IGN:
+            signal.signal(number, end)
+    try:
+        os.fstat(0)
+    except OSError:
+        # What is opened next would be standard input.
+        os.open(os.devnull, os.O_RDONLY)
+    try:
+        return answered(words)
+    except of_words.Faulty as fault:
+        say(str(fault))
+        say("./xlsx --help says which words there are")
+        return 2
+    except Ended as ended:
+        for line in ended.lines:
+            say(line)
+        return ended.status
+    except Refused as refused:
+        os.write(2, refused.said)
+        return refused.status
+
+
+if __name__ == "__main__":
+    sys.exit(main(sys.argv[1:]))

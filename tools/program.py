@@ -1,0 +1,174 @@
+"""The proved program xlsx_tool: whether it is there, how it is built, and how it is run."""
+
+import contextlib
+import os
+import pathlib
+import resource
+import shutil
+import subprocess
+import sys
+import tempfile
+
+from words import one_line
+
+TOP = pathlib.Path(__file__).resolve().parent.parent
+CRATE = TOP / "crates" / "xlsx_tool"
+PROGRAM = CRATE / "out" / "xlsx_tool"
+
+# How long the first proof takes, and an answer without one, on four processors.
+PROVING = "twenty to forty minutes"
+UNPROVED = "a minute or two"
+
+UNPROVED_SAYS = "this answer is not proved; past 1 MiB of lines or a minute's run there is none"
+
+WRITE_FAULT = b"write fault\n"
+
+
+class Ended(Exception):
+    """The end of ./xlsx with a status, and lines for standard error."""
+
+    def __init__(self, status, *lines):
+        super().__init__("\n".join(lines))
+        self.status, self.lines = status, lines
+
+
+def say(text):
+    """Says a line on standard error."""
+    os.write(2, f"xlsx: {one_line(text)}\n".encode(errors="backslashreplace"))
+
+
+def find(command, what):
+    """Sees that a command is there."""
+    if shutil.which(command) is None:
+        raise Ended(1, f"{command}, {what}, is not among the commands (PATH)")
+
+
+def newer(folder, moment):
+    """Whether a folder or something in it is newer than a moment, in nanoseconds."""
+    try:
+        if os.stat(folder).st_mtime_ns > moment:
+            return True
+        with os.scandir(folder) as entries:
+            return any(
+                newer(entry.path, moment)
+                if entry.is_dir(follow_symlinks=False)
+                else entry.stat(follow_symlinks=False).st_mtime_ns > moment
+                for entry in entries
+            )
+    except FileNotFoundError:
+        return False
+
+
+def is_fresh():
+    """Whether the program is there, and not older than what it is made from."""
+    from prove import needs_of
+
+    if not os.access(PROGRAM, os.X_OK):
+        return False
+    moment = PROGRAM.stat().st_mtime_ns
+    table = TOP / "crates.txt"
+    return table.stat().st_mtime_ns <= moment and not any(
+        newer(TOP / "crates" / crate / folder, moment)
+        for crate in needs_of("xlsx_tool", table.read_text())
+        for folder in ("src", "specs", "proofs")
+    )
+
+
+@contextlib.contextmanager
+def ending(child):
+    """A child that ends with this process: it is ended where what is done with it doesn't end."""
+    try:
+        yield child
+    except BaseException:
+        child.terminate()
+        child.wait()
+        raise
+
+
+def status_of(child):
+    """The status that a child ends with, as a shell tells it."""
+    status = child.wait()
+    return 128 - status if status < 0 else status
+
+
+def build():
+    """Proves and builds the program."""
+    find("rt", "the command of the Rattle kit")
+    out = PROGRAM.parent
+    log = out / "proving.log"
+    say(f"no proved program is there yet: proving takes {PROVING}; --unproved answers in {UNPROVED}")
+    say(f"proving; what rt says goes to {log}")
+    try:
+        out.mkdir(exist_ok=True)
+        with tempfile.NamedTemporaryFile(dir=out) as began:
+            moment = os.stat(began.name).st_mtime_ns
+    except OSError as error:
+        raise Ended(1, f"{out} can't be written: {error.strerror}") from None
+    proving = subprocess.Popen(
+        [sys.executable, "tools/prove.py", "xlsx_tool", log],
+        cwd=TOP,
+        stdin=subprocess.DEVNULL,
+        stdout=2,
+    )
+    with ending(proving) as child:
+        status = status_of(child)
+    if status:
+        raise Ended(1, f"xlsx_tool could not be built: the end of {log} says why")
+    # What changes during a build counts as newer than the program.
+    os.utime(PROGRAM, ns=(moment, moment))
+    say("built")
+
+
+class Program:
+    """How the program is run: proved, within so many MiB of address space, or unproved."""
+
+    def __init__(self, is_proved, memory):
+        self.is_proved, self.memory = is_proved, memory
+
+    def bound(self):
+        """Gives this process the address space that the program may have, in KiB as a shell does.
+        Where less is allowed already, that stays."""
+        size = self.memory * 1024 * 1024
+        if size:
+            try:
+                resource.setrlimit(resource.RLIMIT_AS, (size, size))
+            except (OSError, ValueError, OverflowError):
+                pass
+
+    def run(self, words, package, output):
+        """Runs words on the package text of an open file, by its number, and has the lines go to
+        another. The status, and what is said of a refusal."""
+        if not self.is_proved:
+            return self.run_unproved(words, package, output)
+        running = subprocess.Popen(
+            [PROGRAM, *words],
+            stdin=package,
+            stdout=output,
+            stderr=subprocess.PIPE,
+            preexec_fn=self.bound,
+        )
+        with running.stderr, ending(running) as child:
+            said = child.stderr.read()
+            return status_of(child), said
+
+    def run_unproved(self, words, package, output):
+        """The same by a run without a proof, where that gives an answer."""
+        with tempfile.TemporaryFile() as lines, tempfile.TemporaryFile() as errors:
+            running = subprocess.Popen(
+                ["rt", "try", "--", *words], cwd=CRATE, stdin=package, stdout=lines, stderr=errors
+            )
+            with ending(running) as child:
+                status = status_of(child)
+            errors.seek(0)
+            # The last line tells whether the program ended, and the one before it how.
+            rows = errors.read().splitlines(keepends=True)
+            last = b"".join(rows[-1:])
+            if not last.startswith(b"run=ended status=%d " % status):
+                raise Ended(1, f"no answer without a proof: {last.decode(errors='replace').strip()}")
+            lines.seek(0)
+            try:
+                with open(os.dup(output), "wb") as out:
+                    shutil.copyfileobj(lines, out)
+            except OSError:
+                return 7, WRITE_FAULT
+        return status, b"".join(rows[:-2])
