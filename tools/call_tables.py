@@ -1,5 +1,6 @@
 """Cases of calls: tables of texts, packages of noted markup, and what call_answers says of them."""
 
+import functools
 import json
 import pathlib
 import subprocess
@@ -116,3 +117,18 @@ def answers(build, cases):
 
 def is_wanted(found, wanted):
     return found in wanted if isinstance(wanted, list) else found == wanted
+
+
+def checked(cases):
+    """The test that each build answers all calls of these cases as they want it."""
+
+    @functools.wraps(cases)
+    def test(self):
+        made = list(cases(self))
+        for build in BUILDS:
+            for case, found in zip(made, answers(build, made), strict=True):
+                for (words, wanted), answer in zip(case.calls, found, strict=True):
+                    with self.subTest(build=build, shown=case.shown, call=words):
+                        self.assertTrue(is_wanted(answer, wanted), f"{answer} for {wanted}")
+
+    return test

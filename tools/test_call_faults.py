@@ -88,8 +88,8 @@ class Faults(unittest.TestCase):
         return joined(found[1 + len(load) :])
 
     def opening_calls(self, build, book):
-        """How many calls of the package an opening makes. Where one of them fails, this is told, and
-        the values of the sheet are then read of the package that is handed back."""
+        """How many calls of the package an opening makes. Where one of them fails, this is told,
+        and the values of the sheet are then read of the package that is handed back."""
         own, values = package_cut(book), ("range", SHEETS[book])
         wanted = self.whole(build, own, None, [values])
         words = [("open",), ("faults",), ("open",), values]

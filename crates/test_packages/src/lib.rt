@@ -4,8 +4,5 @@
 mod markup;
 mod minimal;
 
-pub use markup::{Part, add_front, events_of, package_front, package_of};
-pub use minimal::{
-    RELATIONSHIPS, ROOT, SHEET, SHEET_NAME, STRINGS_NAME, WORKBOOK, WORKBOOK_NAME, package_with,
-    sheet_part,
-};
+pub use markup::{Part, events_of, package_front, package_of};
+pub use minimal::{SHEET_NAME, package_with, sheet_part};
