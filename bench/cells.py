@@ -144,21 +144,34 @@ class OneMaster:
 
     frame = FRAME
     columns = list(zip("ABCDEFGHIJ", "KLMNOPQRST"))
+    master = "K$1:K1"
 
     def row_events(self, row):
         yield start("row", "")
         for place in range(len(self.columns)):
             own, inside = ' t="shared" si="0"', []
             if row == 1 and place == 0:
-                own, inside = own + ' ref="A1:J1048576"', [["t", "SUM(K$1:K1)"]]
+                own, inside = own + ' ref="A1:J1048576"', [["t", f"SUM({self.master})"]]
             yield from cell_events("", ("f", own, inside))
         yield end("row")
 
     def row_lines(self, row):
         return "".join(
-            line_of(f"{column}{row}", formula=f"SUM({summed}$1:{summed}{row})")
+            line_of(f"{column}{row}", formula=f"SUM({self.moved(summed, row)})")
             for column, summed in self.columns
         )
+
+    def moved(self, column, row):
+        return f"{column}$1:{column}{row}"
+
+
+class Leaving(OneMaster):
+    """The same, where what is summed leaves the worksheet from the second row on."""
+
+    master = "K$1:K1048576"
+
+    def moved(self, column, row):
+        return f"{column}$1:{column}1048576" if row == 1 else "#REF!"
 
 
 def number(value):
@@ -315,6 +328,7 @@ MIXES = {
     "texts": Texts,
     "shared": Shared,
     "one_master": OneMaster,
+    "leaving": Leaving,
     "values": Values,
     "styled": Styled,
     "fills": Fills,

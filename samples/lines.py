@@ -82,8 +82,9 @@ def shared_formulas():
         sums = f"SUM(B:C)+SUM({first}:{second})+SUM($1:{second})"
         yield line(f"A{row}", None, f"{sums}+'Q1'!A{first}")
         if row > 8:
-            # What would leave the worksheet stays.
-            yield line(f"C{row}", None, f"A{row - 8}+B1048576")
+            # A reference that leaves the worksheet becomes an error.
+            last = "B1048576" if row == 9 else "#REF!"
+            yield line(f"C{row}", None, f"A{row - 8}+{last}")
 
 
 def tinted(color, tint):

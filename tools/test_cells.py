@@ -208,6 +208,12 @@ FORMULAS = [
         "C1\t-\t=A1\t-\nC2\t-\t=B2\t-\n",
     ),
     (
+        "a reference that leaves the worksheet becomes an error, but in the master's own formula",
+        '<row r="1"><c r="C1"><f t="shared" ref="B1:C3" si="7">A1048576</f></c></row><row r="2">'
+        '<c r="C2"><f t="shared" si="7"/></c></row>',
+        "C1\t-\t=A1048576\t-\nC2\t-\t=#REF!\t-\n",
+    ),
+    (
         "the last master before a derived formula counts, also one that says nothing",
         '<row r="1"><c r="A1"><f t="shared" si="0"/></c><c r="B1">'
         '<f t="shared" ref="B1:D1" si="0">Z1</f></c><c r="C1"><f t="shared" si="0">X9</f></c>'

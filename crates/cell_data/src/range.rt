@@ -9,7 +9,7 @@ use crate::cell::Cell;
 use crate::gathered::gathered;
 use crate::range_iterators::{Cells, Rows, UsedCells};
 use cell_refs::{Dimensions, MAX_COLUMNS, MAX_ROWS};
-use sorted_cells::{PlacedCells, SortedCells};
+use sorted_cells::{AreaCells, PlacedCells, SortedCells};
 use std::alloc::{AllocError, Global};
 
 /// An area of a sheet and its used cells, with a value that every other cell of the area has.
@@ -46,6 +46,7 @@ impl<T> Range<T> {
     ghost use Rattle.cell_data.specs.Range.{start_of};
     ghost use Rattle.cell_refs.specs.Positions.{lie_from};
     ghost use Rattle.cell_data.specs.Cells.{IsInSheet, AreInSheet};
+    ghost use Rattle.sorted_cells.specs.Area.{area_left};
     ghost use Rattle.sorted_cells.specs.Placed.{placed_left};
     ghost use Rattle.cell_refs.specs.Positions.{position_cmp, last_of_each, least_area};
     ghost use Rattle.cell_refs.specs.Positions.{is_in_bounds};
@@ -224,6 +225,16 @@ impl<T> Range<T> {
         ensures inside { IsTrue (lie_inside (bounds_of self.now) (cells_of self.now)) }
     {
         self.cells.iter()
+    }
+
+    /// The used cells between a first and a last position of the sheet, each a row and a column
+    /// counted from 0, with their positions, row by row. They are found by halving.
+    pub fn used_in(&self, start: (u32, u32), end: (u32, u32)) -> AreaCells<'_, T>
+        ensures { area_left result ≡ filter
+            (λ cell. is_in_area (record { start = start; end = end }) cell.0)
+            (cells_of self.now) }
+    {
+        self.cells.cells_in(start, end)
     }
 
     /// How many used cells there are.

@@ -11,7 +11,6 @@ mod font;
 mod laws;
 mod number_format;
 mod protection;
-mod steps;
 mod style;
 mod style_cells;
 mod style_range;
@@ -21,6 +20,7 @@ mod styled_cells;
 pub use alignment::{Alignment, HorizontalAlignment, TextRotation, VerticalAlignment};
 pub use border::{Border, BorderStyle, Borders};
 pub use color::Color;
+pub use counted_steps::Steps;
 pub use fill::{Fill, FillPattern};
 pub use font::{Font, FontStyle, FontWeight, UnderlineStyle};
 pub use laws::{
@@ -29,7 +29,6 @@ pub use laws::{
 };
 pub use number_format::NumberFormat;
 pub use protection::Protection;
-pub use steps::Steps;
 pub use style::Style;
 pub use style_cells::StyleRangeCells;
 pub use style_range::{StyleRange, copied_palette};

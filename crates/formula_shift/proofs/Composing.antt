@@ -1,28 +1,31 @@
--- Moving a text twice is moving it once, where no reference leaves the worksheet on either way.
-use Rattle.std.proofs.Common.{◌≡◌, ℕ, ◌<◌, ◌⊎◌, ◌&&◌, Bool, true, false, cond, not, eqb, List, []}
+-- Moving a text twice is moving it once, where no reference leaves the worksheet on the first way.
+use Rattle.std.proofs.Common.{◌≡◌, ℕ, ◌<◌, ◌&&◌, Bool, true, false, cond, not, eqb, List, []}
 use Rattle.std.proofs.Common.{◌∷◌, ◌++◌, length, Option, None, Some, sym, refl, ap, ◌∙◌, subst, inl}
-use Rattle.std.proofs.Common.{inr, arith, add-zero}
-use Rattle.std.specs.Prelude.{IfSome, IsSome, All, ℤ, pos, negsuc, ◌+ℤ◌, ◌-ℤ◌, unwrap_or}
-use Rattle.std.specs.Prelude.{option_map, option_and_then, option_to_list}
+use Rattle.std.proofs.Common.{inr, arith}
+use Rattle.std.specs.Prelude.{IfSome, IsSome, All, ℤ, pos, negsuc, ◌+ℤ◌, ◌-ℤ◌}
+use Rattle.std.specs.Prelude.{option_map, option_to_list}
 use Rattle.std.proofs.lemmas.Bool.Decides.{nat_tests}
 use Rattle.std.proofs.lemmas.Int.{ints}
 use Rattle.std.specs.List.{list_all}
-use Rattle.std.proofs.lemmas.List.Elements.{All-head, All-tail, All-cons, All-nil}
+use Rattle.std.proofs.lemmas.List.Elements.{All-head, All-tail}
 use Rattle.cell_refs.specs.declared.TheConstants.{MAX_ROWS, MAX_COLUMNS}
 use Rattle.formula_shift.specs.declared.corner.Corner.{Corner}
 use Rattle.formula_shift.specs.declared.corner.Corner.TheVariants.{Cell, Row, Column}
 use Rattle.formula_shift.specs.declared.reference.Reference.{Reference}
 use Rattle.formula_shift.specs.Pieces.{word_kind, PieceText, is_word_byte, pieces, joined_pieces}
-use Rattle.formula_shift.specs.References.{cell_corner, IsCornerInside, IsInWorksheet, place_within}
+use Rattle.formula_shift.specs.References.{cell_corner, IsInWorksheet, place_within}
 use Rattle.formula_shift.specs.References.{displaced_place, displaced_corner, both_corners}
 use Rattle.formula_shift.specs.References.{displaced_by, displaced, same_kind, word_reference}
 use Rattle.formula_shift.specs.References.{spelling}
 use Rattle.formula_shift.specs.Relocation.{offset_between, is_word, is_name_before, first_byte}
-use Rattle.formula_shift.specs.Relocation.{piece_reference, references, NoneLeaves, word_of}
-use Rattle.formula_shift.specs.Relocation.{moved_piece, moved_pieces, moved}
-use Rattle.formula_shift.proofs.Recutting.{word_is, StandsBefore, AreCut, are_cut-pieces}
-use Rattle.formula_shift.proofs.Spellings.{IsWordText, displaced_inside, word_reference_inside}
-use Rattle.formula_shift.proofs.Moving.{first_in_word, is_moved, piece_reference_word, pieces-moved}
+use Rattle.formula_shift.specs.Relocation.{piece_reference, references, NoneLeaves, word_of, image}
+use Rattle.formula_shift.specs.Relocation.{image_or, moved_piece, moved_pieces, moved, is_other}
+use Rattle.formula_shift.specs.Relocation.{before_others, joined_others}
+use Rattle.formula_shift.proofs.Recutting.{word_is, AreCut, are_cut-pieces}
+use Rattle.formula_shift.proofs.Joining.{starts_other, before_others-apart, cut_apart}
+use Rattle.formula_shift.proofs.Spellings.{displaced_inside, word_reference_inside}
+use Rattle.formula_shift.proofs.Moving.{first_in_word, IsMovedFrom, is_moved, piece_reference_word}
+use Rattle.formula_shift.proofs.Moving.{pieces-moved}
 use Rattle.formula_shift.proofs.ReadBack.{AreFormed, IsFormed, formed_pair, pair_formed}
 use Rattle.formula_shift.proofs.ReadBack.{word_reference_formed, reference_reads_back}
 
@@ -162,8 +165,9 @@ reference_twice d e first (Some second) there is formed =
           (corner_twice d e second parts.0 parts.2 i)),
     )
 
-displaced_twice : (d e : ℤ × ℤ) (reference there : Reference) → displaced d reference ≡ Some there →
-    IsFormed reference → IsFormed there × (displaced e there ≡ displaced (offsets d e) reference)
+pub displaced_twice : (d e : ℤ × ℤ) (reference there : Reference) →
+    displaced d reference ≡ Some there → IsFormed reference →
+    IsFormed there × (displaced e there ≡ displaced (offsets d e) reference)
 unfolding displaced
 displaced_twice d e reference there is formed =
     reference_twice d e reference.first reference.second there is formed
@@ -171,7 +175,7 @@ displaced_twice d e reference there is formed =
 -- ---- pieces
 
 -- the reference that a piece is depends on what is behind it only by whether a name ends there
-piece_reference_alike : (p : PieceText) (behind behind' : Option ℕ) →
+pub piece_reference_alike : (p : PieceText) (behind behind' : Option ℕ) →
     is_name_before behind ≡ is_name_before behind' →
     piece_reference p behind ≡ piece_reference p behind'
 unfolding piece_reference
@@ -179,7 +183,7 @@ piece_reference_alike p behind behind' alike =
     ap (λ b. cond (is_word p.kind && not b) (word_reference p.bytes) None) alike
 
 -- a piece that is a reference: it is formed, and nothing that makes it a name is behind it
-piece_reference_formed : (p : PieceText) (behind : Option ℕ) →
+pub piece_reference_formed : (p : PieceText) (behind : Option ℕ) →
     IfSome (piece_reference p behind) (λ r. IsFormed r × (is_name_before behind ≡ false))
 unfolding piece_reference
 piece_reference_formed p behind =
@@ -193,7 +197,7 @@ piece_reference_formed p behind =
       by_tests false b o formed = tt
 
 -- the Word that spells a reference is that reference
-piece_reference_spelled : (r : Reference) (behind : Option ℕ) → IsInWorksheet r → IsFormed r →
+pub piece_reference_spelled : (r : Reference) (behind : Option ℕ) → IsInWorksheet r → IsFormed r →
     is_name_before behind ≡ false → piece_reference (word_of r) behind ≡ Some r
 unfolding piece_reference
 piece_reference_spelled r behind inside formed none =
@@ -208,97 +212,92 @@ first_of : (bytes rest : List ℕ) (b : ℕ) (bs : List ℕ) → bytes ≡ b ∷
     first_byte (bytes ++ rest) ≡ Some b
 first_of bytes rest b bs are = ap (λ t. first_byte (t ++ rest)) are
 
-name_kept : (d : ℤ × ℤ) (ps : List PieceText) → AreCut ps →
+pub name_kept : (d : ℤ × ℤ) (ps : List PieceText) → AreCut ps →
     is_name_before (first_byte (joined_pieces ps))
     ≡ is_name_before (first_byte (joined_pieces (moved_pieces d ps)))
 name_kept d [] cut = refl
 name_kept d (p ∷ ps) cut =
-    by_piece (moved_piece d p (first_byte (joined_pieces ps)))
+    by_image (moved_piece d p (first_byte (joined_pieces ps)))
     (is_moved d p (first_byte (joined_pieces ps))) where
-      stands : StandsBefore p (joined_pieces ps)
-      stands = cut.0
-
       rest' : List ℕ
       rest' = joined_pieces (moved_pieces d ps)
 
-      by_bytes : (q : PieceText) (bs : List ℕ) → q.bytes ≡ bs → 0 < length bs →
-          list_all is_word_byte bs ≡ true →
-          is_name_before (first_byte (q.bytes ++ joined_pieces (moved_pieces d ps))) ≡ false
-      by_bytes q [] are nonempty all = absurd (omega arith)
-      by_bytes q (w ∷ ws) are nonempty all =
-          ap is_name_before (first_of q.bytes (joined_pieces (moved_pieces d ps)) w ws are)
-          ∙ word_is_no_name w (first_in_word w ws all)
+      own : (rest : List ℕ) → first_byte (p.bytes ++ rest) ≡ Some cut.0.first
+      own rest = first_of p.bytes rest cut.0.first cut.0.behind cut.0.bytes_are
 
-      by_piece : (q : PieceText) →
-          (q ≡ p) ⊎ ((p.kind ≡ word_kind) × (q.kind ≡ word_kind) × IsWordText 25 q.bytes) →
+      by_bytes : (bs : List ℕ) → 0 < length bs → list_all is_word_byte bs ≡ true →
+          is_name_before (first_byte (bs ++ joined_pieces (moved_pieces d ps))) ≡ false
+      by_bytes [] nonempty all = absurd (omega arith)
+      by_bytes (w ∷ ws) nonempty all = word_is_no_name w (first_in_word w ws all)
+
+      by_image : (qs : List PieceText) → IsMovedFrom p qs →
           is_name_before (first_byte (p.bytes ++ joined_pieces ps))
-          ≡ is_name_before (first_byte (q.bytes ++ joined_pieces (moved_pieces d ps)))
-      by_piece q (inl same) =
-          ap is_name_before (first_of p.bytes
-          (joined_pieces ps) cut.0.first cut.0.behind cut.0.bytes_are)
-          ∙ sym (ap is_name_before
-          (first_of q.bytes (joined_pieces (moved_pieces d ps)) cut.0.first cut.0.behind
-          (ap (λ q. q.bytes) same ∙ cut.0.bytes_are)))
-      by_piece q (inr words) =
-          let word : is_word_byte cut.0.first ≡ true = sym (word_is cut.0.first)
-          ∙ ap is_word (sym cut.0.kind_is ∙ words.0) in
-          ap is_name_before (first_of p.bytes
-          (joined_pieces ps) cut.0.first cut.0.behind cut.0.bytes_are)
-          ∙ word_is_no_name cut.0.first word
-          ∙ sym (by_bytes q q.bytes refl words.2.nonempty words.2.in_word)
+          ≡ is_name_before (first_byte (joined_pieces (qs ++ moved_pieces d ps)))
+      by_image qs (inl same) =
+          ap is_name_before (own (joined_pieces ps) ∙ sym (own rest'))
+          ∙ ap (λ qs. is_name_before (first_byte (joined_pieces (qs ++ moved_pieces d ps))))
+          (sym same)
+      by_image qs (inr word) =
+          let in_word : is_word_byte cut.0.first ≡ true = sym (word_is cut.0.first)
+          ∙ ap is_word (sym cut.0.kind_is ∙ word.0) in
+          ap is_name_before (own (joined_pieces ps)) ∙ word_is_no_name cut.0.first in_word
+          ∙ sym (elim word.1 [
+            | inl lost ↦
+                ap (λ qs. is_name_before (first_byte (joined_pieces (qs ++ moved_pieces d ps))))
+                lost
+            | inr moved ↦
+                ap (λ qs. is_name_before (first_byte (joined_pieces (qs ++ moved_pieces d ps))))
+                moved.1 ∙ by_bytes moved.0.bytes moved.3.nonempty moved.3.in_word
+          ])
 
--- a piece moved twice
-module _ (d e : ℤ × ℤ) (p : PieceText) (behind behind' : Option ℕ)
-    (alike : is_name_before behind ≡ is_name_before behind') where
-  stays_plain : (f : ℤ × ℤ) (after : Option ℕ) → piece_reference p after ≡ None →
-      moved_piece f p after ≡ p
-  stays_plain f after none =
-      ap (λ o. unwrap_or (option_map word_of (option_and_then (displaced f) o)) p) none
-
-  becomes : (f : ℤ × ℤ) (q : PieceText) (after : Option ℕ) (r s : Reference) →
-      piece_reference q after ≡ Some r → displaced f r ≡ Some s → moved_piece f q after ≡ word_of s
-  becomes f q after r s is there =
-      ap (λ o. unwrap_or (option_map word_of (option_and_then (displaced f) o)) q) is
-      ∙ ap (λ o. unwrap_or (option_map word_of o) q) there
-
+-- a piece moved twice, in front of others; on the second way it may leave
+module _ (d e : ℤ × ℤ) (p : PieceText) (behind : Option ℕ) (after : List PieceText)
+    (alike : is_name_before behind ≡ is_name_before (first_byte (joined_pieces after))) where
   plain_twice : piece_reference p behind ≡ None →
-      moved_piece e (moved_piece d p behind) behind' ≡ moved_piece (offsets d e) p behind
+      moved_pieces e (moved_piece d p behind ++ after)
+      ≡ moved_piece (offsets d e) p behind ++ moved_pieces e after
   plain_twice none =
-      ap (λ q. moved_piece e q behind') (stays_plain d behind none)
-      ∙ stays_plain e behind' (sym (piece_reference_alike p behind behind' alike) ∙ none)
-      ∙ sym (stays_plain (offsets d e) behind none)
+      let none' : piece_reference p (first_byte (joined_pieces after)) ≡ None =
+      sym (piece_reference_alike p behind (first_byte (joined_pieces after)) alike) ∙ none in
+      ap (λ o. moved_pieces e (image_or p d o ++ after)) none
+      ∙ ap (λ o. image_or p e o ++ moved_pieces e after) none'
+      ∙ ap (λ o. image_or p (offsets d e) o ++ moved_pieces e after) (sym none)
 
-  reference_moved_twice : (r s t : Reference) → piece_reference p behind ≡ Some r →
+  reference_moved_twice : (r s : Reference) → piece_reference p behind ≡ Some r →
       IsInWorksheet r → IsFormed r → is_name_before behind ≡ false → displaced d r ≡ Some s →
-      displaced (offsets d e) r ≡ Some t →
-      moved_piece e (moved_piece d p behind) behind' ≡ moved_piece (offsets d e) p behind
-  reference_moved_twice r s t is inside formed none there further =
+      moved_pieces e (moved_piece d p behind ++ after)
+      ≡ moved_piece (offsets d e) p behind ++ moved_pieces e after
+  reference_moved_twice r s is inside formed none there =
       let on = displaced_twice d e r s there formed in
       let inside' : IsInWorksheet s =
       subst (λ o. IfSome o IsInWorksheet) there (displaced_inside d r inside) in
-      ap (λ q. moved_piece e q behind') (becomes d p behind r s is there)
-      ∙ becomes e (word_of s) behind' s t
-      (piece_reference_spelled s behind' inside' on.0 (sym alike ∙ none)) (on.1 ∙ further)
-      ∙ sym (becomes (offsets d e) p behind r t is further)
+      let read : piece_reference (word_of s) (first_byte (joined_pieces after)) ≡ Some s =
+      piece_reference_spelled s (first_byte (joined_pieces after)) inside' on.0
+      (sym alike ∙ none) in
+      ap (λ o. moved_pieces e (image_or p d o ++ after)) is
+      ∙ ap (λ o. moved_pieces e (image o ++ after)) there
+      ∙ ap (λ o. image_or (word_of s) e o ++ moved_pieces e after) read
+      ∙ ap (λ o. image o ++ moved_pieces e after) on.1
+      ∙ ap (λ o. image_or p (offsets d e) o ++ moved_pieces e after) (sym is)
 
-  pub piece_twice : (o : Option Reference) → piece_reference p behind ≡ o →
-      IfSome o (λ r. IsSome (displaced d r)) → IfSome o (λ r. IsSome (displaced (offsets d e) r)) →
-      moved_piece e (moved_piece d p behind) behind' ≡ moved_piece (offsets d e) p behind
-  piece_twice None is stays stays' = plain_twice is
-  piece_twice (Some r) is stays stays' =
+  piece_twice : (o : Option Reference) → piece_reference p behind ≡ o →
+      IfSome o (λ r. IsSome (displaced d r)) →
+      moved_pieces e (moved_piece d p behind ++ after)
+      ≡ moved_piece (offsets d e) p behind ++ moved_pieces e after
+  piece_twice None is stays = plain_twice is
+  piece_twice (Some r) is stays =
       let known = subst (λ o. IfSome o (λ r. IsInWorksheet r × (p.kind ≡ word_kind))) is
       (piece_reference_word p behind) in
       let formed = subst (λ o. IfSome o (λ r. IsFormed r × (is_name_before behind ≡ false))) is
       (piece_reference_formed p behind) in
-      by_answers (displaced d r)
-      (displaced (offsets d e) r) refl refl stays stays' known.0 formed.0 formed.1 where
-        by_answers : (a b : Option Reference) → displaced d r ≡ a → displaced (offsets d e) r ≡ b →
-            IsSome a → IsSome b → IsInWorksheet r → IsFormed r → is_name_before behind ≡ false →
-            moved_piece e (moved_piece d p behind) behind' ≡ moved_piece (offsets d e) p behind
-        by_answers (Some s) (Some t) there further stays stays' inside formed none =
-            reference_moved_twice r s t is inside formed none there further
-        by_answers (Some s) None there further stays stays' inside formed none = cc
-        by_answers None b there further stays stays' inside formed none = cc
+      by_answer (displaced d r) refl stays known.0 formed.0 formed.1 where
+        by_answer : (a : Option Reference) → displaced d r ≡ a → IsSome a → IsInWorksheet r →
+            IsFormed r → is_name_before behind ≡ false →
+            moved_pieces e (moved_piece d p behind ++ after)
+            ≡ moved_piece (offsets d e) p behind ++ moved_pieces e after
+        by_answer (Some s) there stays inside formed none =
+            reference_moved_twice r s is inside formed none there
+        by_answer None there stays inside formed none = cc
 
 -- ---- texts
 
@@ -314,74 +313,55 @@ front_stays d (Some r) rs stay = (
   All-tail (λ r. IsSome (displaced d r)) r rs stay,
 )
 
-pieces_twice : (d e : ℤ × ℤ) (ps : List PieceText) → AreCut ps → AllStay d (references ps) →
-    AllStay (offsets d e) (references ps) →
-    moved_pieces e (moved_pieces d ps) ≡ moved_pieces (offsets d e) ps
-pieces_twice d e [] cut stay stay' = refl
-pieces_twice d e (p ∷ ps) cut stay stay' =
+-- where none leaves, no Other comes beside another
+stays_one : (d : ℤ × ℤ) (p : PieceText) (o : Option Reference) →
+    IfSome o (λ r. IsInWorksheet r × (p.kind ≡ word_kind)) →
+    IfSome o (λ r. IsSome (displaced d r)) →
+    (q : PieceText) × (image_or p d o ≡ q ∷ []) × (q.kind ≡ p.kind)
+stays_one d p None known stays = (p, refl, refl)
+stays_one d p (Some r) known stays = by_answer (displaced d r) stays where
+  by_answer : (a : Option Reference) → IsSome a →
+      (q : PieceText) × (image a ≡ q ∷ []) × (q.kind ≡ p.kind)
+  by_answer (Some s) stays = (word_of s, refl, sym known.1)
+  by_answer None stays = cc
+
+moved_apart : (d : ℤ × ℤ) (ps : List PieceText) → AreCut ps → AllStay d (references ps) →
+    (joined_others (moved_pieces d ps) ≡ moved_pieces d ps)
+    × (starts_other (moved_pieces d ps) ≡ starts_other ps)
+moved_apart d [] cut stay = (refl, refl)
+moved_apart d (p ∷ ps) cut stay =
     let o = piece_reference p (first_byte (joined_pieces ps)) in
     let here = front_stays d o (references ps) stay in
-    let here' = front_stays (offsets d e) o (references ps) stay' in
-    let one = piece_twice d e p (first_byte (joined_pieces ps))
-    (first_byte (joined_pieces (moved_pieces d ps)))
-    (name_kept d ps cut.1) o refl here.0 here'.0 in
-    let others = pieces_twice d e ps cut.1 here.1 here'.1 in
-    (λ i. one i ∷ others i)
+    let later = moved_apart d ps cut.1 here.1 in
+    let one = stays_one d p o (piece_reference_word p (first_byte (joined_pieces ps))) here.0 in
+    let apart : (is_other one.0.kind && starts_other (moved_pieces d ps)) ≡ false =
+    (λ i. is_other (one.2 i) && later.1 i) ∙ cut_apart p ps cut in (
+      subst (λ qs. joined_others (qs ++ moved_pieces d ps) ≡ qs ++ moved_pieces d ps)
+          (sym one.1)
+          (ap (before_others one.0) later.0
+          ∙ before_others-apart one.0 (moved_pieces d ps) apart),
+      ap (λ qs. starts_other (qs ++ moved_pieces d ps)) one.1 ∙ ap is_other one.2,
+    )
 
-pub moved-moved : (text : List ℕ) (d e : ℤ × ℤ) →
-    All (λ r. IsSome (displaced d r)) (references (pieces text)) →
-    All (λ r. IsSome (displaced (offsets d e) r)) (references (pieces text)) →
+pieces_twice : (d e : ℤ × ℤ) (ps : List PieceText) → AreCut ps → AllStay d (references ps) →
+    moved_pieces e (moved_pieces d ps) ≡ moved_pieces (offsets d e) ps
+pieces_twice d e [] cut stay = refl
+pieces_twice d e (p ∷ ps) cut stay =
+    let behind = first_byte (joined_pieces ps) in
+    let here = front_stays d (piece_reference p behind) (references ps) stay in
+    piece_twice d e p behind (moved_pieces d ps)
+    (name_kept d ps cut.1) (piece_reference p behind) refl here.0
+    ∙ ap (λ qs. moved_piece (offsets d e) p behind ++ qs) (pieces_twice d e ps cut.1 here.1)
+
+moved-moved : (text : List ℕ) (d e : ℤ × ℤ) → NoneLeaves d text →
     moved (moved text d) e ≡ moved text (offsets d e)
 unfolding moved
-moved-moved text d e stay stay' =
-    ap (λ ps. joined_pieces (moved_pieces e ps)) (pieces-moved text d)
-    ∙ ap joined_pieces (pieces_twice d e (pieces text) (are_cut-pieces text) stay stay')
+moved-moved text d e stay =
+    ap (λ ps. joined_pieces (moved_pieces e ps))
+    (pieces-moved text d ∙ (moved_apart d (pieces text) (are_cut-pieces text) stay).0)
+    ∙ ap joined_pieces (pieces_twice d e (pieces text) (are_cut-pieces text) stay)
 
 -- ---- between positions
-
--- a reference inside is not moved by nothing
-place_stays : (limit : ℕ) (absolute : Bool) (p : ℕ) → p < limit →
-    displaced_place limit (pos 0) absolute p ≡ Some p
-place_stays limit true p below = refl
-place_stays limit false p below = ap (λ n. place_within limit (pos n)) (add-zero p) ∙ by_test where
-  by_test : place_within limit (pos p) ≡ Some p
-  by_test = grind (arith, nat_tests)
-
-corner_stays : (corner : Corner) → IsCornerInside corner →
-    displaced_corner (pos 0, pos 0) corner ≡ Some corner
-corner_stays (Cell row col absolute_row absolute_col) inside =
-    λ i. cell_corner absolute_row absolute_col (place_stays MAX_ROWS absolute_row row inside.0 i)
-    (place_stays MAX_COLUMNS absolute_col col inside.1 i)
-corner_stays (Row row absolute) inside =
-    ap (option_map (λ n. Row n absolute)) (place_stays MAX_ROWS absolute row inside)
-corner_stays (Column col absolute) inside =
-    ap (option_map (λ n. Column n absolute)) (place_stays MAX_COLUMNS absolute col inside)
-
-by_parts_stays : (first : Corner) (second : Option Corner) → IsCornerInside first →
-    IfSome second IsCornerInside →
-    displaced_by (pos 0, pos 0) first second ≡ Some (record { first = first; second = second })
-by_parts_stays first None inside inside' =
-    ap (option_map (λ moved. record { first = moved; second = None })) (corner_stays first inside)
-by_parts_stays first (Some second) inside inside' =
-    λ i. both_corners (corner_stays first inside i) (corner_stays second inside' i)
-
-reference_stays : (r : Reference) → IsInWorksheet r → IsSome (displaced (pos 0, pos 0) r)
-unfolding displaced
-reference_stays r inside =
-    subst IsSome (sym (by_parts_stays r.first r.second inside.0 inside.1)) refl
-
-pieces_stay : (ps : List PieceText) → AllStay (pos 0, pos 0) (references ps)
-pieces_stay [] = All-nil (λ r. IsSome (displaced (pos 0, pos 0) r))
-pieces_stay (p ∷ ps) =
-    one (piece_reference p (first_byte (joined_pieces ps)))
-    (piece_reference_word p (first_byte (joined_pieces ps))) (pieces_stay ps) where
-      one : (o : Option Reference) → IfSome o (λ r. IsInWorksheet r × (p.kind ≡ word_kind)) →
-          AllStay (pos 0, pos 0) (references ps) →
-          AllStay (pos 0, pos 0) (option_to_list o ++ references ps)
-      one None inside stay = stay
-      one (Some r) inside stay =
-          All-cons (λ r. IsSome (displaced (pos 0, pos 0) r)) r (references ps)
-          (reference_stays r inside.0) stay
 
 way : (a b c : ℕ × ℕ) → offsets (offset_between a b) (offset_between b c) ≡ offset_between a c
 way a b c =
@@ -398,18 +378,13 @@ no_way a =
     (λ i. (rows i, columns i))
 
 pub compose : (text : List ℕ) (a b c : ℕ × ℕ) → NoneLeaves (offset_between a b) text →
-    NoneLeaves (offset_between a c) text →
     moved (moved text (offset_between a b)) (offset_between b c) ≡ moved text (offset_between a c)
-compose text a b c stay stay' =
-    moved-moved text (offset_between a b) (offset_between b c) stay
-    (subst (λ d. NoneLeaves d text) (sym (way a b c)) stay') ∙ ap (moved text) (way a b c)
+compose text a b c stay =
+    moved-moved text (offset_between a b) (offset_between b c) stay ∙ ap (moved text) (way a b c)
 
 pub there_and_back : (text : List ℕ) (a b : ℕ × ℕ) → NoneLeaves (offset_between a b) text →
     moved (moved text (offset_between a b)) (offset_between b a) ≡ moved text (pos 0, pos 0)
-there_and_back text a b stay =
-    compose text a b a stay
-    (subst (λ d. NoneLeaves d text) (sym (no_way a)) (pieces_stay (pieces text)))
-    ∙ ap (moved text) (no_way a)
+there_and_back text a b stay = compose text a b a stay ∙ ap (moved text) (no_way a)
 
 -- what a Word names is spelled so that it reads back
 pub word_reads_back : (word : List ℕ) →

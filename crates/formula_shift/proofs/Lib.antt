@@ -2,9 +2,11 @@ pub mod Cutting
 pub mod PieceEnds
 pub mod Steps
 pub mod Recutting
+pub mod Joining
 pub mod Spellings
 pub mod Moving
 pub mod Numbers
 pub mod Positions
 pub mod ReadBack
+pub mod Leaving
 pub mod Composing

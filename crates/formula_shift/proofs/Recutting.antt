@@ -1,27 +1,23 @@
--- Pieces that are cut alike: where each piece ends, whatever follows of the same kind.
-use Rattle.std.proofs.Common.{◌≡◌, ℕ, zero, suc, ◌<◌, Bool, true, false, cond, not, ◌||◌, eqb, List}
-use Rattle.std.proofs.Common.{[], ◌∷◌, ◌++◌, length, take, drop, Option, None, Some, sym, refl, ap}
-use Rattle.std.proofs.Common.{◌∙◌, subst, inl, inr, arith}
+-- Pieces that are cut alike: where each piece ends, whatever follows that begins alike.
+use Rattle.std.proofs.Common.{◌≡◌, ℕ, zero, suc, ◌<◌, ◌⊎◌, Bool, true, false, cond, not, ◌||◌, eqb}
+use Rattle.std.proofs.Common.{List, [], ◌∷◌, ◌++◌, length, take, drop, Option, None, Some, sym, refl}
+use Rattle.std.proofs.Common.{ap, ◌∙◌, subst, inl, inr, arith}
 use Rattle.std.proofs.lemmas.Bool.{cases_eq}
 use Rattle.std.proofs.lemmas.Bool.Decides.{nat_tests}
 use Rattle.std.proofs.lemmas.List.{take-append-drop, length-take-le, take_at, drop_at}
-use Rattle.std.specs.List.{prefix_len}
+use Rattle.std.specs.List.{prefix_len, list_all}
 use Rattle.formula_shift.specs.Pieces.{PieceKind, string_kind, quoted_kind, group_kind, word_kind}
 use Rattle.formula_shift.specs.Pieces.{other_kind, PieceText, piece_kind, string_length}
 use Rattle.formula_shift.specs.Pieces.{quoted_length}
 use Rattle.formula_shift.specs.Pieces.{group_length, is_word_byte, is_other_byte, length_behind}
 use Rattle.formula_shift.specs.Pieces.{pieces_behind, pieces, joined_pieces}
-use Rattle.formula_shift.specs.Relocation.{is_word}
+use Rattle.formula_shift.specs.Relocation.{is_word, is_other}
 use Rattle.formula_shift.proofs.Cutting.{length_behind-le, joined_pieces-pieces_behind, pieces-nil}
 use Rattle.formula_shift.proofs.Cutting.{pieces-cons}
 
-abbrev is_quoted : PieceKind → Bool
+abbrev pub is_quoted : PieceKind → Bool
 is_quoted quoted_kind = true
 is_quoted _ = false
-
-abbrev is_other : PieceKind → Bool
-is_other other_kind = true
-is_other _ = false
 
 -- a fact of a byte and its kind, from the three bytes that begin a kind alone and from all others
 kind_by : (P : ℕ → PieceKind → Type 0) → P 34 string_kind → P 39 quoted_kind → P 91 group_kind →
@@ -43,7 +39,7 @@ kind_by P quote apostrophe bracket others c =
       ]
     ]
 
-quoted_is : (c : ℕ) → is_quoted (piece_kind c) ≡ eqb c 39
+pub quoted_is : (c : ℕ) → is_quoted (piece_kind c) ≡ eqb c 39
 quoted_is c = kind_by (λ c k. is_quoted k ≡ eqb c 39) refl refl refl
     (λ c a b d. by_word c (is_word_byte c) b) c where
       by_word : (c : ℕ) (w : Bool) → eqb c 39 ≡ false →
@@ -58,7 +54,7 @@ word_is c = kind_by (λ c k. is_word k ≡ is_word_byte c) refl refl refl
       by_word true = refl
       by_word false = refl
 
-other_is : (c : ℕ) → is_other (piece_kind c) ≡ is_other_byte c
+pub other_is : (c : ℕ) → is_other (piece_kind c) ≡ is_other_byte c
 other_is c = kind_by (λ c k. is_other k ≡ is_other_byte c) refl refl refl
     (λ c a b d. by_word (is_word_byte c) (eqb c 34) (eqb c 39) (eqb c 91) a b d) c where
       by_word : (w a b d : Bool) → a ≡ false → b ≡ false → d ≡ false →
@@ -82,9 +78,20 @@ group_positive inner c [] = omega arith
 group_positive zero c (d ∷ r) = grind arith
 group_positive (suc inner) c (d ∷ r) = grind arith
 
--- Where a piece's bytes end before one text, they end before any other that begins with a piece of
--- the same kind, or is empty with it. bs are the bytes behind the first.
-string_keeps : (bs rest rest' : List ℕ) → first_kind rest ≡ first_kind rest' →
+-- whether a text begins with a byte that passes
+abbrev pub begins : (ℕ → Bool) → List ℕ → Bool
+begins p [] = false
+begins p (b ∷ bs) = p b
+
+abbrev is_some : List ℕ → Bool
+is_some text = begins (λ c. true) text
+
+abbrev is_apostrophe_first : List ℕ → Bool
+is_apostrophe_first text = begins (λ c. eqb c 39) text
+
+-- Where a piece's bytes end before one text, they end before any other that begins like it, as far
+-- as matters for the kind of the piece. bs are the bytes behind the first.
+string_keeps : (bs rest rest' : List ℕ) → is_some rest ≡ is_some rest' →
     string_length (bs ++ rest) ≡ length bs → string_length (bs ++ rest') ≡ length bs
 unfolding string_length
 string_keeps [] [] [] alike ends = refl
@@ -92,24 +99,27 @@ string_keeps [] [] (c' ∷ r') alike ends = cc
 string_keeps [] (c ∷ r) rest' alike ends = absurd (grind arith)
 string_keeps (b ∷ bs) rest rest' alike ends = grind (arith, string_keeps bs rest rest' alike)
 
-quoted_keeps : (bs rest rest' : List ℕ) → first_kind rest ≡ first_kind rest' →
+quoted_keeps : (bs rest rest' : List ℕ) → is_some rest ≡ is_some rest' →
+    is_apostrophe_first rest ≡ is_apostrophe_first rest' →
     quoted_length (bs ++ rest) ≡ length bs → quoted_length (bs ++ rest') ≡ length bs
 unfolding quoted_length
-quoted_keeps [] [] [] alike ends = refl
-quoted_keeps [] [] (c' ∷ r') alike ends = cc
-quoted_keeps [] (c ∷ []) rest' alike ends = absurd (grind arith)
-quoted_keeps [] (c ∷ d ∷ r) rest' alike ends = absurd (grind arith)
-quoted_keeps (b ∷ []) [] [] alike ends = refl
-quoted_keeps (b ∷ []) [] (c' ∷ r') alike ends = cc
-quoted_keeps (b ∷ []) (c ∷ r) [] alike ends = cc
-quoted_keeps (b ∷ []) (c ∷ r) (c' ∷ r') alike ends =
-    let same : piece_kind c ≡ piece_kind c' = cc in
-    let apostrophes : eqb c 39 ≡ eqb c' 39 = sym (quoted_is c) ∙ ap is_quoted same ∙ quoted_is c' in
-    grind (arith, quoted_positive c r)
-quoted_keeps (b ∷ c ∷ bs) rest rest' alike ends =
-    grind (arith, quoted_keeps bs rest rest' alike, quoted_keeps (c ∷ bs) rest rest' alike)
+quoted_keeps [] [] [] alike apostrophes ends = refl
+quoted_keeps [] [] (c' ∷ r') alike apostrophes ends = cc
+quoted_keeps [] (c ∷ []) rest' alike apostrophes ends = absurd (grind arith)
+quoted_keeps [] (c ∷ d ∷ r) rest' alike apostrophes ends = absurd (grind arith)
+quoted_keeps (b ∷ []) [] [] alike apostrophes ends = refl
+quoted_keeps (b ∷ []) [] (c' ∷ r') alike apostrophes ends = cc
+quoted_keeps (b ∷ []) (c ∷ r) [] alike apostrophes ends = cc
+quoted_keeps (b ∷ []) (c ∷ r) (c' ∷ r') alike apostrophes ends =
+    grind (arith, apostrophes, quoted_positive c r)
+quoted_keeps (b ∷ c ∷ bs) rest rest' alike apostrophes ends =
+    grind (
+      arith,
+      quoted_keeps bs rest rest' alike apostrophes,
+      quoted_keeps (c ∷ bs) rest rest' alike apostrophes,
+    )
 
-group_keeps : (inner : ℕ) (bs rest rest' : List ℕ) → first_kind rest ≡ first_kind rest' →
+group_keeps : (inner : ℕ) (bs rest rest' : List ℕ) → is_some rest ≡ is_some rest' →
     group_length inner (bs ++ rest) ≡ length bs → group_length inner (bs ++ rest') ≡ length bs
 unfolding group_length
 group_keeps inner [] [] [] alike ends = refl
@@ -145,11 +155,6 @@ group_keeps (suc inner) (b ∷ c ∷ bs) rest rest' alike ends =
       group_keeps (suc inner) (c ∷ bs) rest rest' alike,
     )
 
--- whether a text begins with a byte that passes
-abbrev pub begins : (ℕ → Bool) → List ℕ → Bool
-begins p [] = false
-begins p (b ∷ bs) = p b
-
 run_keeps : (p : ℕ → Bool) (bs rest rest' : List ℕ) → begins p rest ≡ begins p rest' →
     prefix_len p (bs ++ rest) ≡ length bs → prefix_len p (bs ++ rest') ≡ length bs
 run_keeps p [] [] [] alike ends = refl
@@ -158,27 +163,72 @@ run_keeps p [] (c ∷ r) [] alike ends = grind arith
 run_keeps p [] (c ∷ r) (c' ∷ r') alike ends = grind arith
 run_keeps p (b ∷ bs) rest rest' alike ends = grind (arith, run_keeps p bs rest rest' alike)
 
-pub begins_alike : (p : ℕ → Bool) (q : PieceKind → Bool) → ((c : ℕ) → q (piece_kind c) ≡ p c) →
-    (rest rest' : List ℕ) → first_kind rest ≡ first_kind rest' → begins p rest ≡ begins p rest'
-begins_alike p q is [] [] alike = refl
-begins_alike p q is [] (c' ∷ r') alike = cc
-begins_alike p q is (c ∷ r) [] alike = cc
-begins_alike p q is (c ∷ r) (c' ∷ r') alike =
-    let same : piece_kind c ≡ piece_kind c' = cc in sym (is c)
-    ∙ ap q same ∙ is c'
+-- the texts begin alike, as far as the end of a piece of a kind before them depends on it
+abbrev pub EndsAlike : PieceKind → List ℕ → List ℕ → Type 0
+EndsAlike string_kind rest rest' = is_some rest ≡ is_some rest'
+EndsAlike quoted_kind rest rest' =
+    (is_some rest ≡ is_some rest') × (is_apostrophe_first rest ≡ is_apostrophe_first rest')
+EndsAlike group_kind rest rest' = is_some rest ≡ is_some rest'
+EndsAlike word_kind rest rest' = begins is_word_byte rest ≡ begins is_word_byte rest'
+EndsAlike other_kind rest rest' = begins is_other_byte rest ≡ begins is_other_byte rest'
 
-pub length_behind_keeps : (kind : PieceKind) (bs rest rest' : List ℕ) →
-    first_kind rest ≡ first_kind rest' → length_behind kind (bs ++ rest) ≡ length bs →
-    length_behind kind (bs ++ rest') ≡ length bs
+pub length_behind_keeps : (kind : PieceKind) (bs rest rest' : List ℕ) → EndsAlike kind rest rest' →
+    length_behind kind (bs ++ rest) ≡ length bs → length_behind kind (bs ++ rest') ≡ length bs
 length_behind_keeps string_kind bs rest rest' alike ends = string_keeps bs rest rest' alike ends
-length_behind_keeps quoted_kind bs rest rest' alike ends = quoted_keeps bs rest rest' alike ends
+length_behind_keeps quoted_kind bs rest rest' alike ends =
+    quoted_keeps bs rest rest' alike.0 alike.1 ends
 length_behind_keeps group_kind bs rest rest' alike ends = group_keeps 0 bs rest rest' alike ends
 length_behind_keeps word_kind bs rest rest' alike ends =
-    run_keeps is_word_byte bs rest rest'
-    (begins_alike is_word_byte is_word word_is rest rest' alike) ends
+    run_keeps is_word_byte bs rest rest' alike ends
 length_behind_keeps other_kind bs rest rest' alike ends =
-    run_keeps is_other_byte bs rest rest'
-    (begins_alike is_other_byte is_other other_is rest rest' alike) ends
+    run_keeps is_other_byte bs rest rest' alike ends
+
+-- whether there is a kind that passes
+abbrev pub passes : (PieceKind → Bool) → Option PieceKind → Bool
+passes q None = false
+passes q (Some kind) = q kind
+
+begins_by : (p : ℕ → Bool) (q : PieceKind → Bool) → ((c : ℕ) → q (piece_kind c) ≡ p c) →
+    (text : List ℕ) → begins p text ≡ passes q (first_kind text)
+begins_by p q is [] = refl
+begins_by p q is (c ∷ r) = sym (is c)
+
+begins_word : (text : List ℕ) → begins is_word_byte text ≡ passes is_word (first_kind text)
+begins_word = begins_by is_word_byte is_word word_is
+
+pub begins_other : (text : List ℕ) → begins is_other_byte text ≡ passes is_other (first_kind text)
+begins_other = begins_by is_other_byte is_other other_is
+
+-- two texts begin with pieces of one kind, or both are empty, or the Word with which the one begins
+-- has become an Other
+abbrev pub BeginsAlike : List ℕ → List ℕ → Type 0
+BeginsAlike rest rest' = (first_kind rest ≡ first_kind rest')
+    ⊎ ((first_kind rest ≡ Some word_kind) × (first_kind rest' ≡ Some other_kind))
+
+pub alike_by : (p : ℕ → Bool) (q : PieceKind → Bool) → ((c : ℕ) → q (piece_kind c) ≡ p c) →
+    q word_kind ≡ q other_kind → (rest rest' : List ℕ) → BeginsAlike rest rest' →
+    begins p rest ≡ begins p rest'
+alike_by p q is same rest rest' alike = begins_by p q is rest
+    ∙ (elim alike [
+      | inl same_kind ↦ ap (passes q) same_kind
+      | inr lost ↦ ap (passes q) lost.0 ∙ same ∙ sym (ap (passes q) lost.1)
+    ]) ∙ sym (begins_by p q is rest')
+
+-- behind a Word no Word begins, and none begins where one has become an Other
+pub run_stops : (p : ℕ → Bool) (bs rest : List ℕ) → prefix_len p (bs ++ rest) ≡ length bs →
+    begins p rest ≡ false
+run_stops p [] [] ends = refl
+run_stops p [] (c ∷ r) ends = grind arith
+run_stops p (b ∷ bs) rest ends = grind (arith, run_stops p bs rest)
+
+pub word_stops : (bs rest rest' : List ℕ) → prefix_len is_word_byte (bs ++ rest) ≡ length bs →
+    BeginsAlike rest rest' → begins is_word_byte rest' ≡ false
+word_stops bs rest rest' ends alike = begins_word rest'
+    ∙ (elim alike [
+      | inl same_kind ↦ sym (ap (passes is_word) same_kind) ∙ sym (begins_word rest)
+          ∙ run_stops is_word_byte bs rest ends
+      | inr lost ↦ ap (passes is_word) lost.1
+    ])
 
 -- a piece stands before a text where its bytes are what belongs to the first piece of both together
 pub record StandsBefore (p : PieceText) (rest : List ℕ) : Type 0 where
@@ -187,6 +237,16 @@ pub record StandsBefore (p : PieceText) (rest : List ℕ) : Type 0 where
   pub bytes_are : p.bytes ≡ first ∷ behind
   pub kind_is : p.kind ≡ piece_kind first
   pub ends : length_behind p.kind (behind ++ rest) ≡ length behind
+
+-- an Other before an Other, of whose bytes each may stand in an Other
+pub record GrowsBefore (p : PieceText) (rest : List ℕ) : Type 0 where
+  pub first : ℕ
+  pub behind : List ℕ
+  pub bytes_are : p.bytes ≡ first ∷ behind
+  pub kind_is : p.kind ≡ piece_kind first
+  pub is_other_kind : is_other p.kind ≡ true
+  pub in_other : list_all is_other_byte behind ≡ true
+  pub grows : begins is_other_byte rest ≡ true
 
 -- each piece stands before those behind it
 abbrev pub AreCut : List PieceText → Type 0

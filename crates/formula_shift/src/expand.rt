@@ -1,8 +1,8 @@
 ghost use Rattle.std.specs.Prelude.{◌≡◌, ◌+◌, ◌<◌, ◌≤◌, ◌++◌, [], length, IfOk, IfSome, OnOk};
-ghost use Rattle.std.specs.Prelude.{OnErr, IsOk, option_and_then, string_bytes, string_len};
-ghost use Rattle.std.specs.Prelude.{string_capacity};
-ghost use Rattle.formula_shift.specs.Pieces.{piece_text};
-ghost use Rattle.formula_shift.specs.References.{displaced, IsInWorksheet};
+ghost use Rattle.std.specs.Prelude.{OnErr, IsOk, string_bytes, string_len, string_capacity};
+ghost use Rattle.formula_shift.specs.Pieces.{piece_text, joined_pieces};
+ghost use Rattle.formula_shift.specs.MovedReference.{pieces_found, IsFoundInside};
+ghost use Rattle.formula_shift.specs.References.{IsInWorksheet};
 ghost use Rattle.formula_shift.specs.Relocation.{offset_between, first_byte, is_name_before};
 ghost use Rattle.formula_shift.specs.Relocation.{piece_reference, moved_piece, moved};
 
@@ -10,9 +10,20 @@ use crate::piece::{Piece, Pieces};
 use crate::reference::Reference;
 use std::alloc::{AllocError, Global};
 
+/// What stands for a reference that leaves the worksheet.
+const LOST: &str = "#REF!";
+
+/// What a piece is where a formula is moved.
+enum MovedReference {
+    NoReference,
+    Moved(Reference),
+    /// A reference of which a part leaves the worksheet.
+    Leaves,
+}
+
 /// The formula of the cell at `start`, a row and a column counted from 0, as it stands in the cell
-/// at `end`: each reference is moved by the way between them and spelled anew, but one that would
-/// leave the worksheet stays, as all else does.
+/// at `end`: each reference is moved by the way between them and spelled anew, or becomes `#REF!`
+/// where a part of it leaves the worksheet. All else stays.
 pub fn expand_shared_formula(
     alloc: Global,
     formula: &str,
@@ -90,49 +101,64 @@ fn push_moved(out: &mut String, formula: &str, offset: (i64, i64)) -> Result<(),
     Ok(())
 }
 
-/// Appends a piece, moved where it is a reference that does not leave the worksheet. `rest` is what
-/// stands behind it.
+/// Appends a piece, or what a reference becomes. `rest` is what stands behind it.
 pub(crate) fn push_piece(
     out: &mut String,
     piece: Piece<'_>,
     rest: &str,
     offset: (i64, i64),
 ) -> Result<(), AllocError>
-    ensures ok { OnOk result (string_bytes out.new ≡ string_bytes out.old
-        ++ (moved_piece offset (piece_text piece.entry) (first_byte rest.now)).bytes) }
-    ensures len { OnOk result (string_len out.new ≡ string_len out.old
-        + length (moved_piece offset (piece_text piece.entry) (first_byte rest.now)).bytes) }
+    ensures ok { OnOk result (string_bytes out.new ≡ string_bytes out.old ++ joined_pieces
+        (moved_piece offset (piece_text piece.entry) (first_byte rest.now))) }
+    ensures len { OnOk result (string_len out.new ≡ string_len out.old + length (joined_pieces
+        (moved_piece offset (piece_text piece.entry) (first_byte rest.now)))) }
     ensures capacity { string_capacity out.old ≤ string_capacity out.new }
-    ensures full { OnErr result (string_capacity out.old < string_len out.old
-        + length (moved_piece offset (piece_text piece.entry) (first_byte rest.now)).bytes) }
+    ensures full { OnErr result (string_capacity out.old < string_len out.old + length
+        (joined_pieces (moved_piece offset (piece_text piece.entry) (first_byte rest.now)))) }
 {
     match moved_reference(piece, rest, offset) {
-        Some(reference) => reference.push_to(out)?,
-        None => out.push_str(piece.as_str())?,
+        MovedReference::NoReference => out.push_str(piece.as_str())?,
+        MovedReference::Moved(reference) => reference.push_to(out)?,
+        MovedReference::Leaves => out.push_str(LOST)?,
     }
     Ok(())
 }
 
 /// How many bytes `push_piece` appends.
 fn moved_len(piece: Piece<'_>, rest: &str, offset: (i64, i64)) -> usize
-    ensures { result ≡ length
-        (moved_piece offset (piece_text piece.entry) (first_byte rest.now)).bytes }
+    ensures { result ≡ length (joined_pieces
+        (moved_piece offset (piece_text piece.entry) (first_byte rest.now))) }
 {
     match moved_reference(piece, rest, offset) {
-        Some(reference) => reference.spelled_len(),
-        None => piece.as_str().len(),
+        MovedReference::NoReference => piece.as_str().len(),
+        MovedReference::Moved(reference) => reference.spelled_len(),
+        MovedReference::Leaves => LOST.len(),
     }
 }
 
-/// The reference that a piece is, moved, where it is one and does not leave the worksheet.
+/// The reference that a piece is, moved, where it is one that stays in the worksheet.
+fn moved_reference(piece: Piece<'_>, rest: &str, offset: (i64, i64)) -> MovedReference
+    ensures pieces { pieces_found (piece_text piece.entry) result
+        ≡ moved_piece offset (piece_text piece.entry) (first_byte rest.now) }
+    ensures inside { IsFoundInside result }
+{
+    let Some(reference) = piece_reference(piece, rest) else {
+        return MovedReference::NoReference;
+    };
+    match reference.displaced(offset) {
+        Some(moved) => MovedReference::Moved(moved),
+        None => MovedReference::Leaves,
+    }
+}
+
+/// The reference that a piece is, if any.
 #[tactic(auto, unfolding(crate::specs::Relocation::piece_reference))]
-fn moved_reference(piece: Piece<'_>, rest: &str, offset: (i64, i64)) -> Option<Reference>
-    ensures value { result ≡ option_and_then (displaced offset)
-        (piece_reference (piece_text piece.entry) (first_byte rest.now)) }
+fn piece_reference(piece: Piece<'_>, rest: &str) -> Option<Reference>
+    ensures value { result ≡ piece_reference (piece_text piece.entry) (first_byte rest.now) }
     ensures inside { IfSome result IsInWorksheet }
 {
     match piece {
-        Piece::Word(word) if !is_name_before(rest) => Reference::parse(word)?.displaced(offset),
+        Piece::Word(word) if !is_name_before(rest) => Reference::parse(word),
         _ => None,
     }
 }

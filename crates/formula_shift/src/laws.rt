@@ -7,7 +7,8 @@ ghost use Rattle.cell_refs.specs.Reference.{reference, row_reference};
 ghost use Rattle.formula_shift.specs.References.{corner_of, corner_spelling, word_reference};
 ghost use Rattle.formula_shift.specs.References.{spelling};
 ghost use Rattle.formula_shift.specs.Relocation.{NoneLeaves, offset_between, moved_pieces};
-ghost use Rattle.formula_shift.specs.Relocation.{references, moved};
+ghost use Rattle.formula_shift.specs.Relocation.{joined_others, references, moved};
+ghost use Rattle.formula_shift.specs.Relocation.{moved_references};
 
 use crate::Corner;
 
@@ -30,11 +31,18 @@ pub fn apostrophe_takes_a_character(c: char)
         ≡ suc (length (encode_utf8 c) + group_length inner rest) }
 {}
 
-/// A moved text is cut into the pieces of the text, where each reference that does not leave the
-/// worksheet is replaced by the Word that spells it moved.
+/// A moved text is cut into the pieces of the text, where each reference is replaced by the Word
+/// that spells it moved, or by the pieces of `#REF!`, and neighbouring Other pieces are one.
 pub fn moved_text_is_cut_into_the_moved_pieces()
     ensures { (text : List ℕ) (offset : ℤ × ℤ) →
-        pieces (moved text offset) ≡ moved_pieces offset (pieces text) }
+        pieces (moved text offset) ≡ joined_others (moved_pieces offset (pieces text)) }
+{}
+
+/// The references of a moved text are those of the text, moved, in order. Those that leave the
+/// worksheet are left out, and `#REF!` has none.
+pub fn references_of_a_moved_text_are_moved()
+    ensures { (text : List ℕ) (offset : ℤ × ℤ) →
+        references (pieces (moved text offset)) ≡ moved_references text offset }
 {}
 
 /// A text without a reference is its own expansion.
@@ -49,11 +57,10 @@ pub fn spelling_reads_back()
         IfSome (word_reference word) (λ r. word_reference (spelling r) ≡ Some r) }
 {}
 
-/// Where no reference of a text leaves the worksheet from a to b, and none from a to c, expanding
-/// from a to b and then from b to c gives the expansion from a to c.
+/// Where no reference of a text leaves the worksheet from a to b, expanding from a to b and then
+/// from b to c gives the expansion from a to c. One that leaves from a to c is `#REF!` either way.
 pub fn expansions_compose()
-    ensures { (text : List ℕ) (a b c : ℕ × ℕ) →
-        NoneLeaves (offset_between a b) text → NoneLeaves (offset_between a c) text →
+    ensures { (text : List ℕ) (a b c : ℕ × ℕ) → NoneLeaves (offset_between a b) text →
         moved (moved text (offset_between a b)) (offset_between b c)
         ≡ moved text (offset_between a c) }
 {}

@@ -18,7 +18,7 @@ pub use laws::{
     apostrophe_takes_a_character, corners_are_positions,
     expansion_and_back_is_the_canonical_spelling, expansions_compose,
     moved_text_is_cut_into_the_moved_pieces, pieces_by_the_first, pieces_joined_are_the_text,
-    spelling_reads_back, text_without_reference_stays,
+    references_of_a_moved_text_are_moved, spelling_reads_back, text_without_reference_stays,
 };
 pub use piece::{Piece, Pieces};
 pub use reference::Reference;

@@ -1,7 +1,7 @@
 -- The cells of an area.
-use Rattle.std.proofs.Common.{◌≡◌, ℕ, Bool, true, false, cond, List, [], ◌∷◌, refl, sym, ap}
+use Rattle.std.proofs.Common.{◌≡◌, ℕ, true, List, refl, sym, ap}
 use Rattle.std.proofs.Common.{◌∙◌, subst}
-use Rattle.std.specs.Prelude.{◌&&◌, nat_le, length}
+use Rattle.std.specs.Prelude.{nat_le, length}
 use Rattle.std.specs.FinMap.Entries.{is_sorted-where_key}
 use Rattle.std.specs.List.{filter}
 use Rattle.cell_refs.specs.Positions.{position_cmp, is_rising, is_in_area}
@@ -11,6 +11,8 @@ use Rattle.sorted_cells.specs.declared.row.ColumnCell.{ColumnCell}
 use Rattle.sorted_cells.specs.Rows.{cells_by, are_rows, numbers_rise, first_of_rows}
 use Rattle.sorted_cells.specs.Thinned.{is_between, cells_between, thinned}
 use Rattle.cell_refs.proofs.PositionOrder.{to_T, from_T}
+use Rattle.sorted_cells.proofs.Between.{and_turned}
+use Rattle.sorted_cells.proofs.Filters.{filter_both}
 use Rattle.sorted_cells.proofs.Pushing.{AreKept}
 use Rattle.sorted_cells.proofs.Thinning.{thinned_cells, thinned_rise}
 
@@ -26,32 +28,25 @@ module _ {X : Type 0} (area : Dimensions) where
   abbrev in_area : List ((ℕ × ℕ) × X) → List ((ℕ × ℕ) × X)
   in_area es = filter (λ (e : (ℕ × ℕ) × X). is_in_area area e.0) es
 
+  -- an area is cut at its rows and at its sides
+  pub cut_columns : (es : List ((ℕ × ℕ) × X)) →
+      in_columns (filter (λ (e : (ℕ × ℕ) × X). is_between area.start.0 area.end.0 e.0.0) es)
+      ≡ in_area es
+  cut_columns es =
+      filter_both (λ (e : (ℕ × ℕ) × X). is_between area.start.1 area.end.1 e.0.1)
+      (λ (e : (ℕ × ℕ) × X). is_between area.start.0 area.end.0 e.0.0)
+      (λ (e : (ℕ × ℕ) × X). is_in_area area e.0)
+      (λ e. and_turned (is_between area.start.1 area.end.1 e.0.1)
+      (is_between area.start.0 area.end.0 e.0.0)) es
+
   -- an area is cut below, above and at its sides
   cut_area : (es : List ((ℕ × ℕ) × X)) → in_columns (in_rows es) ≡ in_area es
-  cut_area [] = refl
-  cut_area (e ∷ es) =
-      by (nat_le area.start.0 e.0.0) (nat_le e.0.0 area.end.0)
-      (is_between area.start.1 area.end.1 e.0.1) refl refl (cut_area es)
-    where
-      by : (above below beside : Bool) → nat_le area.start.0 e.0.0 ≡ above →
-          is_between area.start.1 area.end.1 e.0.1 ≡ beside →
-          in_columns (in_rows es) ≡ in_area es →
-          in_columns (filter (λ (e : (ℕ × ℕ) × X). nat_le area.start.0 e.0.0)
-          (cond below (e ∷ filter (λ (e : (ℕ × ℕ) × X). nat_le e.0.0 area.end.0) es)
-          (filter (λ (e : (ℕ × ℕ) × X). nat_le e.0.0 area.end.0) es)))
-          ≡ cond ((above && below) && beside) (e ∷ in_area es) (in_area es)
-      by true false beside start side same = same
-      by false false beside start side same = same
-      by false true beside start side same =
-          ap (λ (t : Bool). in_columns (cond t (e ∷ in_rows es) (in_rows es))) start ∙ same
-      by true true true start side same =
-          ap (λ (t : Bool). in_columns (cond t (e ∷ in_rows es) (in_rows es))) start
-          ∙ (ap (λ (t : Bool). cond t (e ∷ in_columns (in_rows es)) (in_columns (in_rows es))) side
-          ∙ ap (λ (rest : List ((ℕ × ℕ) × X)). e ∷ rest) same)
-      by true true false start side same =
-          ap (λ (t : Bool). in_columns (cond t (e ∷ in_rows es) (in_rows es))) start
-          ∙ (ap (λ (t : Bool). cond t (e ∷ in_columns (in_rows es)) (in_columns (in_rows es))) side
-          ∙ same)
+  cut_area es =
+      ap in_columns
+      (filter_both (λ (e : (ℕ × ℕ) × X). nat_le area.start.0 e.0.0)
+      (λ (e : (ℕ × ℕ) × X). nat_le e.0.0 area.end.0)
+      (λ (e : (ℕ × ℕ) × X). is_between area.start.0 area.end.0 e.0.0) (λ e. refl) es)
+      ∙ cut_columns es
 
   -- the rows and the cells that are left, and what they say
   pub record IsArea (rows left : List Row) (cells others : List (ColumnCell X)) : Type 0 where

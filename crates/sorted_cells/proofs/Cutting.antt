@@ -265,14 +265,14 @@ module _ {X : Type 0} where
       ∙ (ap (λ (es : List ((ℕ × ℕ) × X)). es ++ filter (λ (e : (ℕ × ℕ) × X). p e.0.0) back) none
       ∙ kept)))
 
--- numbers do not fall from one row to one behind it
-numbers_order : (rows : List Row) (i j : ℕ) (d : Row) → numbers_rise rows ≡ true → i ≤ j →
-    j < length rows → (get_or rows i d).number ≤ (get_or rows j d).number
-numbers_order rows i j d rise before within = elim (cases_lt i j) [
+-- keys do not fall from one element to one behind it
+keys_order : {A Y : Type 0} (key : A → ℕ × Y) (xs : List A) (i j : ℕ) (d : A) →
+    is_sorted nat_cmp (map key xs) ≡ true → i ≤ j → j < length xs →
+    (key (get_or xs i d)).0 ≤ (key (get_or xs j d)).0
+keys_order key xs i j d rise before within = elim (cases_lt i j) [
   | inl less ↦
-      below (get_or rows i d).number (get_or rows j d).number
-      (rising_at nat_cmp nat_cmp_total nat_cmp-IsAntisymmetric row_place rows i j d rise less
-      within)
+      below (key (get_or xs i d)).0 (key (get_or xs j d)).0
+      (rising_at nat_cmp nat_cmp_total nat_cmp-IsAntisymmetric key xs i j d rise less within)
   | inr more ↦
       let same : i ≡ j = omega arith in
       rw same (omega arith)
@@ -289,19 +289,19 @@ numbers_cut k rows rise =
     (sym (map-append row_place (take k rows) (drop k rows)))
     ∙ (ap numbers_rise (take-append-drop k rows) ∙ rise))
 
--- rows that go up to a number, and those behind it
-pub parted_behind : (last : ℕ) (rows : List Row) → numbers_rise rows ≡ true →
-    IsPartitionedBy (λ (row : Row). nat_le row.number last) rows
-parted_behind last rows rise i j d before within passes =
-    let order : (get_or rows i d).number ≤ (get_or rows j d).number =
-    numbers_order rows i j d rise before within in
+-- elements whose keys go up to a number, and those behind it
+pub parted_behind : {A Y : Type 0} (key : A → ℕ × Y) (last : ℕ) (xs : List A) →
+    is_sorted nat_cmp (map key xs) ≡ true → IsPartitionedBy (λ (x : A). nat_le (key x).0 last) xs
+parted_behind key last xs rise i j d before within passes =
+    let order : (key (get_or xs i d)).0 ≤ (key (get_or xs j d)).0 =
+    keys_order key xs i j d rise before within in
     grind (arith, nat_tests, order, passes)
 
-pub parted_before : (first : ℕ) (rows : List Row) → numbers_rise rows ≡ true →
-    IsPartitionedBy (λ (row : Row). nat_lt row.number first) rows
-parted_before first rows rise i j d before within passes =
-    let order : (get_or rows i d).number ≤ (get_or rows j d).number =
-    numbers_order rows i j d rise before within in
+pub parted_before : {A Y : Type 0} (key : A → ℕ × Y) (first : ℕ) (xs : List A) →
+    is_sorted nat_cmp (map key xs) ≡ true → IsPartitionedBy (λ (x : A). nat_lt (key x).0 first) xs
+parted_before key first xs rise i j d before within passes =
+    let order : (key (get_or xs i d)).0 ≤ (key (get_or xs j d)).0 =
+    keys_order key xs i j d rise before within in
     grind (arith, nat_tests, order, passes)
 
 -- what a search for the place of the cut says
@@ -330,7 +330,7 @@ module _ {X : Type 0} (k end : ℕ) (rows seen left : List Row) (cells others : 
         let cut : IsCut 0 k rows cells end end = cut_at are within ends in
         let parted =
         subst (λ (rs : List Row). Parts (λ (row : Row). nat_le row.number last) rs k) same parts
-        (parted_behind last rows rise) in
+        (parted_behind row_place last rows rise) in
         let kept : AreLeft (λ n. nat_le n last) 0 rows (take k rows) cells (take end cells) =
         record {
           shared = cut.front;
@@ -353,7 +353,7 @@ module _ {X : Type 0} (k end : ℕ) (rows seen left : List Row) (cells others : 
         let cut : IsCut 0 k rows cells end end = cut_at are within ends in
         let parted =
         subst (λ (rs : List Row). Parts (λ (row : Row). nat_lt row.number first) rs k) same parts
-        (parted_before first rows rise) in
+        (parted_before row_place first rows rise) in
         let kept : AreLeft (λ n. nat_le first n) end rows (drop k rows) cells (drop end cells) =
         record {
           shared = cut.back;

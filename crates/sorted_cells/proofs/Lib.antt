@@ -1,5 +1,7 @@
+pub mod Between
 pub mod CutAreas
 pub mod Cutting
+pub mod Filters
 pub mod Finding
 pub mod Handing
 pub mod Orders

@@ -210,7 +210,7 @@ module _ {X : Type 0} where
       ∙ ap (λ (t : Bool). is_lt (nat_cmp column cell.column) && t)
       (below_by_column number column cells)
 
-  rises_by_column : (number : ℕ) (cells : List (ColumnCell X)) →
+  pub rises_by_column : (number : ℕ) (cells : List (ColumnCell X)) →
       is_rising (map (row_entry number) cells) ≡ columns_rise cells
   rises_by_column number [] = refl
   rises_by_column number (cell ∷ cells) =

@@ -116,10 +116,10 @@ row_here rows at left d within are =
     (drop_more rows at d within) are
 
 module _ {X : Type 0} (first last : ℕ) where
-  abbrev pub entries_between : List ((ℕ × ℕ) × X) → List ((ℕ × ℕ) × X)
+  abbrev entries_between : List ((ℕ × ℕ) × X) → List ((ℕ × ℕ) × X)
   entries_between all = filter (λ (entry : (ℕ × ℕ) × X). is_between first last entry.0.1) all
 
-  of_row : (number : ℕ) (cells : List (ColumnCell X)) →
+  pub of_row : (number : ℕ) (cells : List (ColumnCell X)) →
       map (row_entry number) (cells_between first last cells)
       ≡ entries_between (map (row_entry number) cells)
   of_row number [] = refl

@@ -22,6 +22,56 @@ fn drop_front<T: Drop>(list: &mut Vec<T>, count: usize)
     list.truncate(left);
 }
 
+/// The rows up to this one, and their cells.
+fn rows_up_to<'a, T>(
+    rows: &'a [Row],
+    cells: &'a [ColumnCell<T>],
+    last: u32,
+) -> (&'a [Row], &'a [ColumnCell<T>])
+    requires shared { are_rows 0 rows.now (length cells.now) ≡ true }
+    requires numbers { numbers_rise rows.now ≡ true }
+    ensures { AreLeft (λ number. nat_le number last) 0 rows.now result.0.now
+        cells.now result.1.now }
+{
+    let behind = rows.partition_point(|row| row.number <= last);
+    let (own, _) = cells.split_at(rows_end(rows, behind, cells.len()));
+    let (left, _) = rows.split_at(behind);
+    (left, own)
+}
+
+/// The rows from this one on, and their cells.
+fn rows_from<'a, T>(
+    rows: &'a [Row],
+    cells: &'a [ColumnCell<T>],
+    first: u32,
+) -> (&'a [Row], &'a [ColumnCell<T>])
+    requires shared { are_rows 0 rows.now (length cells.now) ≡ true }
+    requires numbers { numbers_rise rows.now ≡ true }
+    ensures { AreLeft (λ number. nat_le first number) (first_of_rows result.0.now) rows.now
+        result.0.now cells.now result.1.now }
+{
+    let before = rows.partition_point(|row| row.number < first);
+    let (_, own) = cells.split_at(rows_end(rows, before, cells.len()));
+    let (_, left) = rows.split_at(before);
+    (left, own)
+}
+
+/// The rows between these, both of them among them, and their cells.
+pub fn rows_between<'a, T>(
+    rows: &'a [Row],
+    cells: &'a [ColumnCell<T>],
+    first: u32,
+    last: u32,
+) -> (&'a [Row], &'a [ColumnCell<T>])
+    requires shared { are_rows 0 rows.now (length cells.now) ≡ true }
+    requires numbers { numbers_rise rows.now ≡ true }
+    ensures { AreLeft (λ number. is_between first last number) (first_of_rows result.0.now)
+        rows.now result.0.now cells.now result.1.now }
+{
+    let (rows, cells) = rows_up_to(rows, cells, last);
+    rows_from(rows, cells, first)
+}
+
 /// Drops the rows behind this one, and their cells.
 pub fn cut_behind<T: Drop>(rows: &mut Vec<Row>, cells: &mut Vec<ColumnCell<T>>, last: u32)
     requires shared { are_rows 0 rows.old.items (length cells.old.items) ≡ true }

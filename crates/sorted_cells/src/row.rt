@@ -5,6 +5,7 @@ ghost use Rattle.std.specs.Option.{option_copied};
 ghost use Rattle.std.specs.Ordering.{nat_cmp};
 ghost use Rattle.sorted_cells.specs.Rows.{is_last, with_row, column_entry, columns_rise};
 ghost use Rattle.sorted_cells.specs.Rows.{are_rows, row_size, rows_end};
+ghost use Rattle.sorted_cells.specs.Thinned.{cells_between};
 
 use std::alloc::AllocError;
 
@@ -76,4 +77,16 @@ pub fn value_in<T>(cells: &[ColumnCell<T>], column: u32) -> Option<&T>
         Ok(place) => Some(&cells[place].val),
         Err(_) => None,
     }
+}
+
+/// The cells of a row whose columns lie between these, both of them among them.
+pub fn columns_between<T>(cells: &[ColumnCell<T>], first: u32, last: u32) -> &[ColumnCell<T>]
+    requires { columns_rise cells.now ≡ true }
+    ensures { result.now ≡ cells_between first last cells.now }
+{
+    let behind = cells.partition_point(|cell| cell.column <= last);
+    let (front, _) = cells.split_at(behind);
+    let before = front.partition_point(|cell| cell.column < first);
+    let (_, between) = front.split_at(before);
+    between
 }

@@ -2,7 +2,8 @@ ghost use Rattle.std.specs.Prelude.{IsTrue, length};
 ghost use Rattle.sorted_cells.specs.Rows.{are_rows, numbers_rise, cells_by};
 ghost use Rattle.cell_refs.specs.Positions.{is_rising};
 
-use crate::keeping::{cut_before, cut_behind, is_between, keep_columns};
+use crate::area_cells::AreaCells;
+use crate::keeping::{cut_before, cut_behind, is_between, keep_columns, rows_between};
 use crate::owned_cells::OwnedCells;
 use crate::placed_cells::PlacedCells;
 use crate::row::{ColumnCell, Row, begin_row, rows_end, value_in};
@@ -31,6 +32,7 @@ impl<T> SortedCells<T> {
     ghost use Rattle.std.specs.Option.{option_copied};
     ghost use Rattle.cell_refs.specs.Positions.{position_cmp, is_in_area};
     ghost use Rattle.sorted_cells.specs.Rows.{cells_of_row, rows_end};
+    ghost use Rattle.sorted_cells.specs.Area.{area_left};
     ghost use Rattle.sorted_cells.specs.Kept.{kept_cells};
     ghost use Rattle.sorted_cells.specs.Owned.{owned_left};
     ghost use Rattle.sorted_cells.specs.Placed.{placed_left};
@@ -140,6 +142,18 @@ impl<T> SortedCells<T> {
         ensures rising { is_rising (kept_cells self) ≡ true }
     {
         OwnedCells::new(self.rows, self.cells)
+    }
+
+    /// The cells between a first and a last position, rows and columns counted from 0, with their
+    /// positions, row by row. Its rows and, in each of these, its columns are found by halving. It
+    /// takes no memory.
+    pub fn cells_in(&self, start: (u32, u32), end: (u32, u32)) -> AreaCells<'_, T>
+        ensures { area_left result ≡ filter
+            (λ cell. is_in_area (record { start = start; end = end }) cell.0)
+            (kept_cells self.now) }
+    {
+        let (rows, cells) = rows_between(&self.rows, &self.cells, start.0, end.0);
+        AreaCells::new(rows, cells, start.1, end.1)
     }
 
     /// The cells between a first and a last position, rows and columns counted from 0: each of them

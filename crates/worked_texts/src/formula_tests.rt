@@ -2,6 +2,7 @@ use formula_shift::{
     Corner, CutFormula, Piece, Pieces, Reference, expand_shared_formula,
     expand_shared_formula_into, expanded_len,
 };
+use std::alloc::Global;
 use std::test::Fail;
 use test_tables::{assert_text, cases, cut};
 
@@ -35,7 +36,7 @@ SUM(A1:XFE1)
 
 A1:A1048576
 = 1 1
-= A1:A1048576
+= #REF!
 
 Valid: A1 Invalid: A1B1 A1$ $$A1 $A$$1 A$$1 A:1 1:A 1 A A1:1 A1:B A$A1 A1$2 $1 $A Valid: C1:D1
 = 1 1
@@ -55,11 +56,11 @@ a01
 
 A1
 = 4294967295 0
-= A1
+= #REF!
 
 A1
 = 4294967295 4294967295
-= A1
+= #REF!
 
 éA1
 = 0 1
@@ -122,12 +123,114 @@ NO1..VARIABLE+A1
 = NO1..VARIABLE+B1
 "#;
 
-#[test]
-fn references_move_and_all_else_stays(rt: HostRuntime) -> Result<(), Fail> {
-    let alloc = rt.alloc();
+/// As `MOVED`, with references that leave the worksheet.
+const LEAVING: &str = r##"
+SUM(A1:A1048576)+B2
+= 1 0
+= SUM(#REF!)+B3
+
+A1048576
+= 1 0
+= #REF!
+
+XFD1+A1
+= 0 1
+= #REF!+B1
+
+A1+XFD1
+= 0 1
+= B1+#REF!
+
+XFD1,XFD1
+= 0 1
+= #REF!,#REF!
+
+A1 A1
+= 4294967295 0
+= #REF! #REF!
+
+"x"A1"y"
+= 4294967295 0
+= "x"#REF!"y"
+
+A1"x A1
+= 4294967295 0
+= #REF!"x A1
+
+'n'A1'm'
+= 4294967295 0
+= 'n'#REF!'m'
+
+A1'n A1
+= 4294967295 0
+= #REF!'n A1
+
+[g]A1[h]
+= 4294967295 0
+= [g]#REF![h]
+
+A1[g A1
+= 4294967295 0
+= #REF![g A1
+
+(A1)
+= 4294967295 0
+= (#REF!)
+
+'S'!A1
+= 4294967295 0
+= 'S'!#REF!
+
+S!A1
+= 4294967295 0
+= S!#REF!
+
+S!A1!B2
+= 4294967295 0
+= S!A1!#REF!
+
+A1(
+= 4294967295 0
+= A1(
+
+A1!
+= 4294967295 0
+= A1!
+
+A1:XFD3
+= 0 1
+= #REF!
+
+$A1:B$2
+= 0 16383
+= #REF!
+
+1:1+A:A
+= 4294967295 0
+= #REF!+A:A
+
+XFD:XFD+1:1
+= 0 1
+= #REF!+1:1
+
+A$1+$A$1+$1:$1
+= 4294967295 0
+= A$1+$A$1+$1:$1
+
+Sheet1!#REF!*$A$1
+= 1 0
+= Sheet1!#REF!*$A$1
+
+éXFD1é
+= 0 1
+= é#REF!é
+"##;
+
+/// The formulas of a table are moved by each call, and their length is known.
+fn assert_moved(alloc: Global, table: &str) -> Result<(), Fail> {
     let mut out = String::new(alloc);
     let mut out_of_cut = String::from_str(alloc, "what the buffer holds")?;
-    for case in cases(MOVED) {
+    for case in cases(table) {
         let (formula, place) = cut(case);
         let (place, expanded) = cut(place);
         let end = place_of(place)?;
@@ -138,8 +241,31 @@ fn references_move_and_all_else_stays(rt: HostRuntime) -> Result<(), Fail> {
         CutFormula::new(alloc, formula)?.expand_into((0, 0), end, &mut out_of_cut)?;
         assert_text(&out_of_cut, expanded, formula)?;
         let length = expanded_len(formula, (0, 0), end);
-        assert!(rt; length == expanded.len() as u128, "{formula}");
+        if length != expanded.len() as u128 {
+            return Err(Fail::new(format_args!("{formula}: {length} bytes")));
+        }
     }
+    Ok(())
+}
+
+#[test]
+fn references_move_and_all_else_stays(rt: HostRuntime) -> Result<(), Fail> {
+    assert_moved(rt.alloc(), MOVED)
+}
+
+#[test]
+fn references_that_leave_become_an_error(rt: HostRuntime) -> Result<(), Fail> {
+    assert_moved(rt.alloc(), LEAVING)
+}
+
+#[test]
+fn an_error_stays_however_often_it_stands(rt: HostRuntime) -> Result<(), Fail> {
+    let mut formula = String::new(rt.alloc());
+    for _ in 0..1_000_000 {
+        formula.push_str("#REF!")?;
+    }
+    let text = expand_shared_formula(rt.alloc(), &formula, (0, 0), (1, 1))?;
+    assert!(rt; text == formula);
     Ok(())
 }
 
@@ -148,8 +274,15 @@ fn formulas_move_by_the_way_from_start_to_end(rt: HostRuntime) -> Result<(), Fai
     let ways = [
         ("B3+$B$3", (4, 2), (5, 1), "A4+$B$3"),
         ("B3:C4", (7, 7), (5, 6), "A1:B2"),
-        ("A1", (3, 0), (2, 0), "A1"),
-        ("A1:B3", (3, 0), (2, 0), "A1:B3"),
+        ("A1", (3, 0), (2, 0), "#REF!"),
+        ("A1:B3", (3, 0), (2, 0), "#REF!"),
+        ("Sheet1!A1*$A$1", (1, 0), (0, 0), "Sheet1!#REF!*$A$1"),
+        (
+            "XFD1048576+$B$2",
+            (4_294_967_295, 4_294_967_295),
+            (0, 0),
+            "#REF!+$B$2",
+        ),
     ];
     for (formula, start, end, expanded) in ways {
         let text = expand_shared_formula(rt.alloc(), formula, start, end)?;

@@ -2,7 +2,7 @@ use Rattle.std.proofs.Common.{◌++◌, append-nil, append_assoc, string_bytes}
 use Rattle.std.proofs.Common.{rules, refl, sym, ap, ◌∙◌, arith}
 use Rattle.std.proofs.Math.ListN.{drop_of_length-le}
 use Rattle.std.proofs.lemmas.Result.{MatchResult-from_err}
-use Rattle.formula_shift.specs.Pieces.{piece_text, pieces}
+use Rattle.formula_shift.specs.Pieces.{piece_text, pieces, joined_pieces}
 use Rattle.formula_shift.specs.Relocation.{first_byte, moved_piece, moved}
 use Rattle.formula_shift.proofs.Moving.{moved-nil, moved-next, length-moved-next}
 use Rattle.formula_shift.proofs.PieceEnds.{end_found, ends_behind, no_ends}
@@ -36,7 +36,7 @@ pub loop-end-preserved : goal.loop-end-preserved
 loop-end-preserved c =
     let behind = c.cut_first.result.1.now in
     let own = piece_text c.cut_first.result.0 in
-    let piece = moved_piece c.args.offset own (first_byte behind) in
+    let image = joined_pieces (moved_piece c.args.offset own (first_byte behind)) in
     let next = moved-next c.loop-end.rest.now behind behind c.args.offset own
     c.cut_first.ensures refl in
     let longer = length-moved-next c.loop-end.rest.now behind behind c.args.offset own
@@ -47,7 +47,7 @@ loop-end-preserved c =
           c.loop-end.rest.now (omega arith) c.loop-end.invariant.places own behind
           c.cut_first.ensures;
       bytes = ap (λ t. t ++ moved behind c.args.offset) c.in_ok-push_piece.ensures.ok
-          ∙ append_assoc (string_bytes c.loop-end.out) piece.bytes (moved behind c.args.offset)
+          ∙ append_assoc (string_bytes c.loop-end.out) image (moved behind c.args.offset)
           ∙ ap (λ t. string_bytes c.loop-end.out ++ t) (sym next) ∙ c.loop-end.invariant.bytes;
       len = omega (arith, longer, c.in_ok-push_piece.ensures.len, c.loop-end.invariant.len);
       capacity = omega (

@@ -1,7 +1,7 @@
 use Rattle.std.proofs.Common.{◌+◌, ◌++◌, length, append-nil, append_assoc, string_bytes, string_len}
 use Rattle.std.proofs.Common.{sym, ap, ◌∙◌, arith}
 use Rattle.std.proofs.lemmas.Result.{MatchResult-from_err}
-use Rattle.formula_shift.specs.Pieces.{piece_text}
+use Rattle.formula_shift.specs.Pieces.{piece_text, joined_pieces}
 use Rattle.formula_shift.specs.Relocation.{first_byte, moved_piece, moved}
 use Rattle.formula_shift.proofs.Moving.{moved-nil, moved-next, length-moved-next}
 use Rattle.formula_shift.proofs.expand.push_moved.Goals as goal
@@ -20,15 +20,15 @@ pub loop-piece-preserved : goal.loop-piece-preserved
 loop-piece-preserved c =
     let text = c.loop-piece.pieces.rest.now in
     let rest = c.next.new.self.rest.now in
-    let piece = moved_piece c.args.offset (piece_text c.in-Some.piece)
-    (first_byte c.as_str.result.now) in
+    let image = joined_pieces (moved_piece c.args.offset (piece_text c.in-Some.piece)
+    (first_byte c.as_str.result.now)) in
     let next = moved-next text rest c.as_str.result.now c.args.offset
     (piece_text c.in-Some.piece) c.in-Some.ensures.steps c.as_str.ensures in
     let longer = length-moved-next text rest c.as_str.result.now c.args.offset
     (piece_text c.in-Some.piece) c.in-Some.ensures.steps c.as_str.ensures in
     record {
       bytes = ap (λ t. t ++ moved rest c.args.offset) c.in_ok-push_piece.ensures.ok
-          ∙ append_assoc (string_bytes c.loop-piece.out) piece.bytes (moved rest c.args.offset)
+          ∙ append_assoc (string_bytes c.loop-piece.out) image (moved rest c.args.offset)
           ∙ ap (λ t. string_bytes c.loop-piece.out ++ t) (sym next) ∙ c.loop-piece.invariant.bytes;
       len = omega (arith, longer, c.in_ok-push_piece.ensures.len);
       capacity = omega (arith, c.in_ok-push_piece.ensures.capacity);
