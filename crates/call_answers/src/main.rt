@@ -7,6 +7,12 @@
 //! is a call. Between the words of a line stand tabs.
 //!
 //! An answer is a text, with the escapes of docs/FORMAT.md. A refusal in it is `!` with the error.
+//!
+//! Rooms: `runs` (the package of a run, as it is or opened as a workbook), `words` (those of a
+//! line), `package` (the calls on a package), `book` (those on an open workbook, by `ranges`,
+//! `cells`, `areas`, `links`, `properties`, `tables`, `pivots` and `facts`) and `values` (texts of
+//! values and refusals). The program promises only that it is safe and ends. The cases stand in
+//! tables of texts, tools/calls, of which `test_calls.py` and `test_call_faults.py` make runs.
 #![tactic(auto)]
 
 mod areas;

@@ -1,4 +1,7 @@
 //! Packages written as markup, for the crates of tests.
+//!
+//! Rooms: `markup` (markup as events, a part or its front, a package of parts) and `minimal` (the
+//! parts of the smallest workbook, and packages with a part in front of these).
 #![tactic(auto)]
 
 mod markup;
