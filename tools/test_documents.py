@@ -10,10 +10,7 @@ DOCUMENTS = [TOP / "README.md", TOP / "CONTRIBUTING.md", *sorted((TOP / "docs").
 OF_TESTS = {
     "test_packages",
     "test_tables",
-    "worked_lists",
-    "worked_rows",
     "worked_styles",
-    "worked_tables",
     "worked_values",
 }
 

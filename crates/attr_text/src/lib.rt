@@ -1,5 +1,14 @@
 //! The text of XML attributes and of character data: attribute items and lookups, references, line
 //! ends and `_xHHHH_`.
+//!
+//! Rooms: `fault` (the two fault types), `cuts` (a text cut at its first mark or at white space, in
+//! the words of the definitions), `items` (one item, the iterator), `lookup` (local names, one key,
+//! the trait `RawAttributes`), `values` (several keys in one reading; `get_attrs!`), `uses` (a use
+//! of each of the macro's lines), `entity` (characters of names, `decode_attr`, `push_entity`),
+//! `line_ends`, `escapes` (`_xHHHH_`), `equality` (`==` of the faults).
+//!
+//! A use of `get_attrs!` expands to one of `two_values` to `six_values` over `attributes_raw()`, so
+//! that a caller gets `lookup` of its keys without a proof.
 #![tactic(auto)]
 
 mod cuts;

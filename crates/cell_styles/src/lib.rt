@@ -1,5 +1,20 @@
 //! The style of cells: colors, borders, fonts, alignment, fills, number formats and protection, and
 //! which style each cell of a worksheet has.
+//!
+//! Rooms: `color`, `border`, `font`, `alignment`, `fill`, `number_format`, `protection`, `style` (a
+//! type or family each, with its questions), `laws` (equalities, copies, defaults, colors as
+//! numbers), `style_runs` (ids kept as runs), `filling` (from entries to ids), `style_range`,
+//! `style_cells` and `styled_cells` (its iterators).
+//!
+//! Runs are known to `style_runs` alone, which is seen as the list of ids; none is empty and
+//! neighbours differ, so that equal lists have equal runs. `from_style_ids` sorts the entries by
+//! place with std's stable sort and puts each id behind zeros, so it keeps memory by entries and
+//! never by the area. `get_counted` searches by halves, and its only comparison with a run's end is
+//! the one that ticks; `get` is that search with a counter that takes no bytes. The counter is
+//! `Steps` of `counted_steps`.
+//!
+//! Fonts and number formats are seen with their texts as bytes, so that capacity is no part of what
+//! is compared.
 #![tactic(auto)]
 
 mod alignment;

@@ -1,4 +1,13 @@
 //! Exact decimal numbers: a whole number, times ten to a power.
+//!
+//! Rooms: `decimal` (`Decimal`), `significand` (the digits read so far), `decimal_text` (the other
+//! pieces of a decimal's text), `decimal_printing`, `laws` (what the form of a decimal says, and
+//! what `==` and a copy are).
+//!
+//! **A decimal's digits are read once.** `Significand` keeps the number without the zeros at its
+//! end, and their count. A zero is only counted; another digit brings the zeros before it into the
+//! number, or the number doesn't fit and reading ends. So no number grows beyond 128 bits, and each
+//! zero is brought in once. A power stops at 2^100, which no text is long enough to bring back.
 #![tactic(auto)]
 
 mod decimal;

@@ -1,4 +1,18 @@
 //! Formulas of cells: their pieces, the references in them, and their text moved to another cell.
+//!
+//! Rooms: `piece` (the cutting), `corner` and `reference` (reading, displacing, spelling),
+//! `spelling` (rows and columns with their `$` into a buffer, and how many bytes they take),
+//! `expand` (both expansions and the length), `cut_formula` (a formula that keeps where its pieces
+//! end), `areas` (the area that a reference names), `equality`, `laws`.
+//!
+//! There is one pass over the text: each piece is found by one scan of its bytes and copied as a
+//! run; only a Word is read a second time, as a reference. Nothing is allocated but the growth of
+//! the result.
+//!
+//! A formula that is moved to many cells is cut once: a `CutFormula` keeps the places behind its
+//! pieces. Contracts see its text alone, and its invariant is that the places are those of that
+//! text (`piece_ends`). So moving it scans for no end, and what is done with one piece is the same
+//! function as before (`push_piece`).
 #![tactic(auto)]
 
 mod areas;

@@ -1,4 +1,6 @@
 //! The lines of lists, from plain values (docs/FORMAT.md).
+//!
+//! One room, `lines`: a line for each kind of list, from texts.
 #![tactic(auto)]
 
 mod lines;

@@ -1,4 +1,46 @@
 //! Markup events of a package's parts.
+//!
+//! Rooms: `event` (`PartEvent`, `StartTag`), `package` (the trait `Package`), `stored` (how a part
+//! keeps its events), `part_names` (an ordered map from folded names to parts), `memory`
+//! (`MemoryPackage`), `failing` (`FailingPackage`), `quiet` (`QuietPackage`), `open_names` (the
+//! names of the open elements), `cursor` (what a reader keeps beside its package), `text` (an
+//! element's text), `walk` (the step through a section, and the loop to its next wanted start),
+//! `reader` (`XlReader`), `fault` (`XmlFault`, `StreamError`), `equality` (`==` of the faults),
+//! `laws`.
+//!
+//! The trait `Package` has one ghost member, `state`: what the package is to its reader
+//! (`PackageState`). Whether a package tells its content to proofs is its own choice (`is_told`).
+//! Clauses on content have that as their premise; those on the counts, on the current event and on
+//! faults hold always. So a package over a file may keep its content to itself and still be read
+//! safely, and a package in memory tells all.
+//!
+//! A part in memory keeps the texts of its events in one text, and for each event where its texts
+//! lie in it, so that an event takes no allocation of its own.
+//!
+//! An event is a start, an end, or a leaf, which nests nothing (text, character data, a reference,
+//! anything else): what is said of nesting has three equations. A start and an element carry how
+//! many events of their list stand behind them. That number stays the same while a loop takes
+//! events, so a refusal can tell the very event that is at fault.
+//!
+//! **What every reading call keeps is one record by its answer**, `Reads`: `ReadsOn` where it is
+//! Ok, `StopsReading` where it is refused. What a call means, and when it is refused, are clauses
+//! of their own.
+//!
+//! **An event's way to a kept value.** `Package::advance` and `event` give it; `Cursor::next`
+//! counts it and keeps the names of the open elements; `Cursor::next_inside`, by which every
+//! section is read, tells whether it lies in the section, or closes it; `Cursor::walk` goes by this
+//! step, and passes it or answers it as a wanted start; the element's own function, in a crate
+//! above, reads what it keeps. What a reader answers is said of `ahead`: what is to come up to the
+//! first end that breaks the nesting.
+//!
+//! The logic lies in `Cursor`, which holds no package: its calls take one. `XlReader` is a `&mut`
+//! to the package beside a `Cursor` and nothing more, so that a caller knows what became of its
+//! package once the reader is gone. The names of open elements are kept in one text and a list of
+//! lengths, so that opening an element seldom asks for memory. No event is copied.
+//!
+//! Its lemma files: `Onward` (how calls follow one another), `Walking` (a walk's way over a
+//! section), `Sections` (how a section and an element in it go together) and `Nested` (wholeness,
+//! from one event to the next).
 #![tactic(auto)]
 
 mod cursor;

@@ -89,7 +89,7 @@ pub fn events_of(alloc: Global, markup: &str) -> Result<Vec<PartEvent<'_>>, Xlsx
 }
 
 /// Adds a part with the first events of this markup. Markup that `events_of` refuses is refused.
-pub fn add_front(
+fn add_front(
     package: &mut MemoryPackage,
     alloc: Global,
     (name, markup): Part<'_>,

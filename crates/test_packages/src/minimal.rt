@@ -12,10 +12,7 @@ const ROOT_NAME: &str = "_rels/.rels";
 const RELATIONSHIPS_NAME: &str = "xl/_rels/workbook.xml.rels";
 
 /// The name of the workbook's own part.
-pub const WORKBOOK_NAME: &str = "xl/workbook.xml";
-
-/// The name of the part of the shared strings, which the minimal package lacks.
-pub const STRINGS_NAME: &str = "xl/sharedStrings.xml";
+const WORKBOOK_NAME: &str = "xl/workbook.xml";
 
 /// The name of the sheet's part.
 pub const SHEET_NAME: &str = "xl/worksheets/sheet1.xml";
@@ -25,17 +22,17 @@ const ROOT_MARKUP: &str =
     r#"<Relationships><Relationship Id="rId1" Type="http://schemas.openxmlformats.org/officeDocument/2006/relationships/officeDocument" Target="xl/workbook.xml"></Relationship></Relationships>"#;
 
 /// The part of the package's relationships.
-pub const ROOT: Part<'static> = (ROOT_NAME, ROOT_MARKUP);
+const ROOT: Part<'static> = (ROOT_NAME, ROOT_MARKUP);
 
 /// The markup of the workbook's relationships: one, to the sheet, whose Id is `rId1`.
 const RELATIONSHIPS_MARKUP: &str =
     r#"<Relationships><Relationship Id="rId1" Type="http://schemas.openxmlformats.org/officeDocument/2006/relationships/worksheet" Target="worksheets/sheet1.xml"></Relationship></Relationships>"#;
 
 /// The part of the workbook's relationships.
-pub const RELATIONSHIPS: Part<'static> = (RELATIONSHIPS_NAME, RELATIONSHIPS_MARKUP);
+const RELATIONSHIPS: Part<'static> = (RELATIONSHIPS_NAME, RELATIONSHIPS_MARKUP);
 
 /// The workbook's own part: one sheet, named `S`.
-pub const WORKBOOK: Part<'static> = (
+const WORKBOOK: Part<'static> = (
     WORKBOOK_NAME,
     r#"<workbook><sheets><sheet name="S" sheetId="1" r:id="rId1"></sheet></sheets></workbook>"#,
 );
@@ -45,7 +42,7 @@ const SHEET_MARKUP: &str =
     r#"<worksheet><sheetData><row r="1"><c r="A1" t="str"><v>nut</v></c></row></sheetData></worksheet>"#;
 
 /// The sheet's part.
-pub const SHEET: Part<'static> = (SHEET_NAME, SHEET_MARKUP);
+const SHEET: Part<'static> = (SHEET_NAME, SHEET_MARKUP);
 
 /// The minimal package with this part in front. Markup that `events_of` refuses is refused.
 pub fn package_with(alloc: Global, part: Part<'_>) -> Result<MemoryPackage, XlsxError> {

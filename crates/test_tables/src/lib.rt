@@ -4,6 +4,9 @@
 //! An empty line stands between two cases. The first field of a case begins it, and each other
 //! stands on lines of its own, the first of which begins with `=` and a blank. An empty line more
 //! is an empty first field, and `=` alone any other that is empty.
+//!
+//! One room: the cases of a table (`cases`), the fields of a case (`cut`), and a comparison that
+//! tells the case (`assert_text`).
 #![tactic(auto)]
 
 use std::str::Split;

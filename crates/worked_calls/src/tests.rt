@@ -1,7 +1,9 @@
 use crate::{formula_count, full_cells};
 use cell_data::CellFormat;
+use cell_refs::Dimensions;
 use std::test::Fail;
 use test_packages::{SHEET_NAME, package_with, sheet_part};
+use xlsx_formulas::XlsxFormulaMetadata;
 use xlsx_values::Book;
 
 #[test]
@@ -35,5 +37,26 @@ fn full_cells_are_counted_in_one_pass(rt: HostRuntime) -> Result<(), Fail> {
     };
     assert_eq!(rt; full_cells(alloc, &mut package, SHEET_NAME, book)?, 1);
     assert_eq!(rt; full_cells(alloc, &mut package, "none", book)?, 0);
+    Ok(())
+}
+
+#[test]
+fn formulas_tell_their_group_and_equal_their_copies(rt: HostRuntime) -> Result<(), Fail> {
+    let alloc = rt.alloc();
+    let own = XlsxFormulaMetadata::Normal {
+        formula: String::from_str(alloc, "B1")?,
+    };
+    let master = XlsxFormulaMetadata::Shared {
+        shared_index: 7,
+        range: Some(Dimensions::default()),
+        formula: String::from_str(alloc, "B1")?,
+    };
+    let derived = XlsxFormulaMetadata::SharedDerived { shared_index: 8 };
+    let other = XlsxFormulaMetadata::SharedDerived { shared_index: 7 };
+    for (formula, group) in [(own, None), (master, Some(7)), (derived, Some(8))] {
+        assert!(rt; formula.shared_index() == group);
+        assert!(rt; formula.clone_in(alloc)? == formula);
+        assert!(rt; formula != other);
+    }
     Ok(())
 }

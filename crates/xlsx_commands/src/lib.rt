@@ -1,5 +1,32 @@
 //! The commands: which words ask for one, what each prints of a package, and why it can't
 //! (docs/FORMAT.md).
+//!
+//! Rooms: `command` (the words that ask for a command), `cell_lines`, `book_lists`, `merge_lines`,
+//! `link_lines`, `property_lines`, `table_lines`, `pivot_lines`, `pivot_rows`, `sheet_rows`,
+//! `table_rows` and `sample_lines` (what each command prints), `output` (each command's own
+//! package, where it has one, and its output), `laws`, and `error` (`ToolError`).
+//!
+//! **A command is a row of a few tables**: of the words that ask for it (`command_of`), of the
+//! package that it works on where it reads no input (`own_parts`), of its output (`IsOutput`), of
+//! why its workbook refuses it (`RefusedWorkbookCause`), of why an area does that has too many
+//! cells (`IsTooLarge`), and of the law that an output and a cause exclude each other
+//! (`causes_leave_no_output`). The tables are closed to what stands above, so that a further
+//! command changes none of its clauses, definitions and proofs.
+//!
+//! What a command asks of the first sheet of a name is said by the path of its part (`OpensAt`),
+//! and why it isn't had by one relation over what refuses it there (`NamedCause`), so that a list
+//! of a sheet adds its own half alone. The lemmas `NamedSheets` join the two halves, `AreasInside`
+//! and `LinksInside` say that areas lie in a worksheet, where their lines may be asked for, and
+//! `PropertiesListed` that an ordered map is a list by name. What is asked of all sheets has one
+//! relation of causes, too (`ListedCause`), and `SheetsOpened` its lemmas; `TablesListed`,
+//! `TablesNamed` and `PivotsListed` say what an open workbook has of tables and pivot tables, by
+//! the parts alone.
+//!
+//! **Rows are said by values and an area** (`rows_placed`), and not by a range, so that a sheet
+//! that is read has one text of rows, or too many cells for it, whatever range its values were put
+//! in. That the rows of a range are these is the lemma `rows_meant` of `RowsPlaced`. The rows of a
+//! table are said so too, by the area that its part says and behind a header of that width
+//! (`table_records`), and `TablesPlaced` brings the range that was read to them.
 #![tactic(auto)]
 
 mod book_lists;

@@ -1,4 +1,50 @@
 //! What a workbook's worksheets hold.
+//!
+//! Rooms: `xlsx` (`Xlsx`, `OpenFailure`), `worksheets` (the calls of `Xlsx` that read a worksheet),
+//! `worksheet_list` (the one that reads all), `placed_sheet` (the sheet of a name, and its part),
+//! `standing` (the last cell of each position, from the header row on), `ranges` (cells as ranges),
+//! `sheet_reading` (`read_sheet`, `SheetReading`, `SheetAnswer`), `merges` (the calls on merged
+//! cells), `links` (those on hyperlinks), `properties` (the one on properties), `table_list`
+//! (tables that are loaded and listed), `table_data` (their data by their names), `pivots` (the
+//! call on pivot tables), `lists` (what was loaded), `laws`.
+//!
+//! A cause is one of opening or one of the sheet's part (`SheetPartCause`), so that each layer
+//! below says its own half.
+//!
+//! `read_sheet` takes the package and hands it back, whatever it answers. The logic is a call of
+//! `Xlsx` on its open workbook; what it says, it says of the paths and strings that are kept, and
+//! `HoldsOpening` makes them those of the parts. Cells that were gathered become a range by
+//! `last_below` and so by `last_of_each`, which goes with what the values mean.
+//!
+//! All calls that read a sheet are one, `read_placed`, with another `Wants`. It answers values,
+//! formulas and style ids as they came, and `HoldsWanted` says of each what it is where it was
+//! wanted, so that a sheet whose formulas are at fault has values. It takes no more events than the
+//! part has (`Uses`, `placed_events`), and each call above hands that on, `read_sheet` behind what
+//! opening takes (`TakesSheet`). The public calls make a range of one of the three, and take a part
+//! that is no worksheet for one without cells. `worksheet_cells_reader` is two calls:
+//! `enter_worksheet` opens the part in the same way (`open_placed`) and lends nothing, so it says
+//! what a refusal leaves; `resume_worksheet` hands the cursor to a reader, and can't fail.
+//!
+//! Values are kept with shared strings by their places, and a range is made of them as they are, or
+//! behind a loop that puts the texts in; formulas go through one that writes them out. Both loops
+//! take what stands at last and no other cell, so that a long text that many cells of one position
+//! name is made once. Each puts its values into new sorted cells, which lie in an area exactly
+//! where the old ones do (`HaveSamePlaces`). Then `range_of` takes the least area, or that which
+//! begins with the header row, and `Range::in_area` makes the range. What stands above a header row
+//! was cut off before (`last_below`, by `keep_area`), so that no text is made of it. That this
+//! gives the range of all cells is the lemmas `StandingRanges`. Every range is said by a meaning of
+//! its cells (`IsRangeOf`), so that the two ranges of values, and that of formulas, have one
+//! definition and one lemma. `worksheets` finds the first sheet of each name in an ordered map,
+//! which is filled from the last sheet to the first.
+//!
+//! A table that is loaded keeps the number of its sheet, and is said with that sheet's name
+//! (`loaded_tables`), by which its data are read: where two sheets have one name, those of the
+//! first. Its texts are copied before its sheet is read, since the reading is lent the whole
+//! workbook.
+//!
+//! Styles are said of every palette, the list that `Xlsx` keeps. `IsPaletteOf` ties it to the
+//! styles of the opening. `read_sheet` moves the styles of its workbook into the range.
+//! `worksheet_style`, which is lent the workbook, copies them, and only where a cell has a style.
 #![tactic(auto)]
 
 mod laws;

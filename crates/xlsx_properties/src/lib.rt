@@ -1,5 +1,12 @@
 //! The properties of a workbook: those of its core part and of its program's (ECMA-376 part 2,
 //! section 11, and part 1, section 22.2), and those that users named (section 22.3).
+//!
+//! Rooms: `property` (the names of properties), `workbook_properties` (`WorkbookProperties`),
+//! `laws`, `open_property` and `property_part` (the core part and the program's), `open_custom` and
+//! `custom_part` (those that users named), `read` (the three parts). Both walks go event by event
+//! over a whole part. What is said by keys, of which the last text stands, has one invariant and
+//! three lemmas for any such walk: `EventsSaid`. The refusals of reading are one for all keys
+//! (`AreRefused`).
 #![tactic(auto)]
 
 mod custom_part;

@@ -1,4 +1,15 @@
 //! Relationships and paths: where the parts of a package lead (ECMA-376 part 2, section 9.3).
+//!
+//! Rooms: `paths` (the pieces of a path), `relationships` (what one start says),
+//! `relationship_parts` (a part of them), `link_targets` (where the hyperlinks of a sheet lead).
+//! The folder of the workbook loses a slash at its front (`folder_of`), that of any other part
+//! keeps it (`part_folder`).
+//!
+//! **Targets are said as a list of pairs and kept in a map.** `link_targets_in` gives an Id and a
+//! target for each relationship that counts, in order, and `target_in` finds the last of an Id. So
+//! a refusal is one whatever Id is asked for. The lemma file is `TargetsKept`. `targets` has where
+//! a target leads, `related` where the relationships of one type lead, by the target of each
+//! (`typed_target`); the lemma file of these two is `RelatedRead`.
 #![tactic(auto)]
 
 mod link_targets;

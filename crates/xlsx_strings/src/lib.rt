@@ -1,4 +1,11 @@
 //! String elements, and the shared strings of a workbook (ECMA-376 part 1, section 18.4).
+//!
+//! Rooms: `string_element` (the text of an `si` or an `is`), `trim` (blanks at the ends of a text),
+//! `shared` (the part of shared strings). A text is read into a buffer that its caller lends, cut
+//! at its blanks, and only where it has an underscore are its escapes undone in a text of their
+//! own. A shared string takes the bytes of its text.
+//!
+//! The lemma file is `Sound`.
 #![tactic(auto)]
 
 mod shared;

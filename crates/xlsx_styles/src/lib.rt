@@ -1,5 +1,18 @@
 //! The styles of a workbook: the theme's colors, tints, and what the elements of the styles part
 //! say.
+//!
+//! Rooms: `theme`, `tint`, `laws`, `texts` (truth values and small numbers), `color_text` (the
+//! color of a start), `alignment` (alignments and protections), `fill`, `font` and `font_parts`,
+//! `border` (a side, then its border), and `parsing` (the same over an `XlReader`). A tint is read
+//! in parts of 10^20 (`size_of`), and each channel is one fraction of whole numbers of 128 bits,
+//! divided once at the end (`nearest`).
+//!
+//! **An element is a chain of changes.** What stands in a font, a fill or a border changes it one
+//! by one (`all_changes`): a later start of a kind takes the place of an earlier one, and one that
+//! says nothing changes nothing. Starts in a font and a fill count at any depth; the sides of a
+//! border are its outermost ones, and the color of a side is that of the last start in it that
+//! names one. A loop keeps that what is left makes of what is kept is what the whole makes of the
+//! default.
 #![tactic(auto)]
 
 mod alignment;

@@ -1,4 +1,10 @@
 //! Tables: the areas of cells that have a name (ECMA-376 part 1, section 18.5).
+//!
+//! Rooms: `table_start` (what the start of a table says), `table_part` (a table's part), `loaded`
+//! (a table that is kept), `tables` (those of a sheet), `laws`. A table is told by its own start,
+//! so its part is read by its first element, and not by a section. What is kept of a table has an
+//! area that lies in a worksheet, which its type knows; the lemmas `AreasInside` say so of what a
+//! text names.
 #![tactic(auto)]
 
 mod laws;

@@ -1,4 +1,16 @@
 //! Prints what a worksheet of a package holds (docs/FORMAT.md).
+//!
+//! Rooms: `source` and `sink` (the traits, the forms in memory, the forms over the system's reader
+//! and writer), `input` (the bytes up to the limit), `run` (the package that a command works on,
+//! and its output), `program` (a page or a command, and the status and the text at the end), and
+//! `main`, which joins them to the system.
+//!
+//! `run` is generic in its source and its sink, so what is proved of it holds of each. `StdSource`
+//! and `StdSink` are generic in a reader and a writer of std. Their own clauses say what became of
+//! the bytes that these tell of. As a source and a sink they tell no bytes: a reader may begin or
+//! cease to tell them, and a writer may hold a piece whose flush failed. `MemorySource` and
+//! `MemorySink` tell all, give and take their bytes in pieces of any size, and fail at the calls
+//! that they are told.
 #![tactic(auto)]
 
 mod input;

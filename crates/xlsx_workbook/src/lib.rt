@@ -1,5 +1,14 @@
 //! The workbook's own part: its sheets, its defined names, and how its dates count (ECMA-376 part
 //! 1, section 18.2).
+//!
+//! Rooms: `paths` (the name of the workbook's part, and `KeptPath`), `workbook` (its section),
+//! `sheet_element`, `sheet` (`Sheet`, `Metadata`). The events of the section are looked at once;
+//! those inside a defined name are taken as events of the section, too.
+//!
+//! **Of a sheet's path its pieces are kept** (`KeptPath`): the workbook's folder and the target of
+//! the sheet's relationship, each shared with all that name it. What it says is the path
+//! (`path_kept`), and so the layers above speak of paths alone. Finding the sheet of a name joins
+//! none; the call that opens its part joins one.
 #![tactic(auto)]
 
 mod paths;

@@ -1,6 +1,0 @@
-use Rattle.xlsx_cells.specs.CellsReader.{stream_by}
-use Rattle.xlsx_cells.specs.Stream.{IsStreaming}
-use Rattle.worked_rows.proofs.reader_tests.told.Given as goal
-
-abbrev pub invariant-calls : goal.invariant-calls
-invariant-calls g l = IsStreaming (stream_by g.P.Package.state l.reader)
