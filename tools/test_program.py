@@ -1,6 +1,7 @@
 """Tries the built program through real pipes and files, by the texts of docs/FORMAT.md."""
 
 import fcntl
+import json
 import os
 import pathlib
 import re

@@ -64,13 +64,8 @@ PAIR = re.compile(r"""\s+([^\s=]+)\s*=\s*(?:"([^"]*)"|'([^']*)')""")
 
 def parted(events):
     """The events of version 1, of those of version 2."""
-    return [
-        one
-        for event in events
-        for one in (
-            [["s", *event[1:]], ["e", event[1]]] if event[0] == "b" else [event]
-        )
-    ]
+    both = ([["s", *event[1:]], ["e", event[1]]] if event[0] == "b" else [event] for event in events)
+    return [event for some in both for event in some]
 
 
 def package_text(path, *words):
