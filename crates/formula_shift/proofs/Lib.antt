@@ -10,3 +10,4 @@ pub mod Positions
 pub mod ReadBack
 pub mod Leaving
 pub mod Composing
+pub mod OwnReferences
