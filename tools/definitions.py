@@ -30,7 +30,8 @@ class Definition:
 
 def crates(top=TOP):
     """The names of the crates, in the order of crates.txt."""
-    lines = (line.split("#")[0].partition(":") for line in (top / "crates.txt").open())
+    table = (top / "crates.txt").read_text(encoding="utf-8").splitlines()
+    lines = (line.split("#")[0].partition(":") for line in table)
     return [name.split()[0] for name, colon, _ in lines if colon]
 
 
