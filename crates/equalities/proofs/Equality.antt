@@ -1,10 +1,10 @@
 -- A comparison of what has parts holds exactly of equal values where those of its parts do.
 use Rattle.std.proofs.Common.{◌≡◌, Bool, true, false, ◌&&◌, refl, ap, sym, ◌∙◌, subst, rules}
-use Rattle.std.proofs.Common.{Some, None, nat_eq}
+use Rattle.std.proofs.Common.{Some, None, nat_eq, ◌⊎◌, inl, inr, ⊎_elim}
 use Rattle.std.specs.Bool.{beq}
 use Rattle.std.specs.Cmp.Lexicographic.{pointwise}
 use Rattle.std.specs.Option.{option_eq}
-use Rattle.equalities.specs.Equality.{IsEquality}
+use Rattle.equalities.specs.Equality.{IsEquality, IsEqualityBy}
 
 both_true : (p q : Bool) → (p && q) ≡ true → (p ≡ true) × (q ≡ true)
 both_true true q h = (refl, h)
@@ -48,3 +48,23 @@ of_number a b = search rules
 
 pub of_text : IsEquality (pointwise nat_eq)
 of_text a b = search rules
+
+-- a comparison of one of two kinds of values, which is false of two of different kinds
+abbrev pub sum_eq : {X Y : Type 0} → (X → X → Bool) → (Y → Y → Bool) → X ⊎ Y → X ⊎ Y → Bool
+sum_eq eq eq' a b =
+    ⊎_elim (λ x. ⊎_elim (λ x'. eq x x') (λ _. false) b)
+    (λ y. ⊎_elim (λ _. false) (λ y'. eq' y y') b) a
+
+-- what is seen of one of two kinds of values
+abbrev pub sum_seen : {X Y V W : Type 0} → (X → V) → (Y → W) → X ⊎ Y → V ⊎ W
+sum_seen seen seen' a = ⊎_elim (λ x. inl (seen x)) (λ y. inr (seen' y)) a
+
+pub of_sums : {X Y V W : Type 0} {seen : X → V} {seen' : Y → W} {eq : X → X → Bool}
+    {eq' : Y → Y → Bool} → IsEqualityBy seen eq → IsEqualityBy seen' eq'
+    → IsEqualityBy (sum_seen seen seen') (sum_eq eq eq')
+of_sums first second (inl x) (inl x') =
+    (λ h. ap inl ((first x x').0 h), λ h. (first x x').1 (cc))
+of_sums first second (inl x) (inr y') = (λ h. absurd (cc), λ h. absurd (cc))
+of_sums first second (inr y) (inl x') = (λ h. absurd (cc), λ h. absurd (cc))
+of_sums first second (inr y) (inr y') =
+    (λ h. ap inr ((second y y').0 h), λ h. (second y y').1 (cc))
