@@ -20,8 +20,9 @@ use Rattle.cell_data.specs.declared.value.Data.TheVariants as owned
 use Rattle.cell_data.specs.declared.value.DataRef.{DataRef}
 use Rattle.cell_data.specs.declared.value.DataRef.TheVariants as shared
 use Rattle.decimals.specs.Decimal.{number_of}
-use Rattle.decimals.specs.Equality.{IsEquality}
-use Rattle.decimals.proofs.Equality.{of_pairs, of_image, same_decimal, of_decimal}
+use Rattle.equalities.specs.Equality.{IsEquality}
+use Rattle.equalities.proofs.Equality.{of_pairs, of_image, of_bool}
+use Rattle.decimals.proofs.Equality.{same_decimal, of_decimal}
 use Rattle.cell_data.specs.CellValue.{value_of_data, value_of_data_ref, time_value}
 use Rattle.cell_data.specs.CellValue.{integer, number, text, shared_text, truth}
 use Rattle.cell_data.specs.CellValue.{iso_time, failure}
@@ -49,9 +50,6 @@ of_error a b = search rules
 
 of_kind : IsEquality kind_eq
 of_kind a b = search rules
-
-of_bool : IsEquality beq
-of_bool a b = search rules
 
 pub of_time : IsEquality time_eq
 of_time = of_image (λ (t : ExcelDateTime). (t.value, (t.kind, t.is_1904)))

@@ -1,7 +1,7 @@
 //! What `==`, a copy and a default of what cells hold are. Texts are the same by their bytes, and
 //! anything else is by what it is.
 ghost use Rattle.std.specs.Prelude.{◌≡◌, ◌↔◌, true};
-ghost use Rattle.decimals.specs.Equality.{IsEquality, CopiesItself};
+ghost use Rattle.equalities.specs.Equality.{IsEquality, CopiesItself};
 ghost use Rattle.cell_data.specs.CellValue.{value_of_data, value_of_data_ref};
 ghost use Rattle.cell_data.specs.declared.value.Data.{Data};
 ghost use Rattle.cell_data.specs.declared.value.DataRef.{DataRef};

@@ -1,1 +1,2 @@
 pub mod PackageText
+pub mod WrittenPackage

@@ -20,7 +20,7 @@ texts_of no_items = Some []
 texts_of (item value rest) =
     option_and_then (λ first. option_map (λ texts. first ∷ texts) (texts_of rest)) (as_str value)
 
--- the start of an element by its name and the text of its attributes
+-- a start of this name and attribute text
 abbrev pub start_of : List ℕ → List ℕ → Event
 start_of name attributes = start (record { name = name; attributes = attributes })
 
@@ -28,7 +28,7 @@ start_of name attributes = start (record { name = name; attributes = attributes 
 abbrev pub empty_element : List ℕ → List ℕ → List Event
 empty_element name attributes = start_of name attributes ∷ end name ∷ []
 
--- the events of a kind and its texts: one, or the two of an empty element, where a version has these
+-- the events of a kind and its texts: one, or where a version has them the two of an empty element
 abbrev pub events_of_texts : Bool → List (List ℕ) → Option (List Event)
 events_of_texts has_empty [] = None
 events_of_texts has_empty (kind ∷ []) =
@@ -44,7 +44,7 @@ events_of_texts has_empty (kind ∷ name ∷ attributes ∷ []) =
     then (if has_empty then Some (empty_element name attributes) else None) else None)
 events_of_texts has_empty (kind ∷ first ∷ second ∷ third ∷ more) = None
 
--- the events of a JSON value, if it spells some
+-- the events of a JSON value, if it spells one or an empty element
 abbrev pub events_of_value : Bool → Data → Option (List Event)
 events_of_value has_empty value =
     option_and_then (events_of_texts has_empty) (option_and_then texts_of (as_array value))
@@ -109,8 +109,8 @@ members_have_float_beside key (member own value members) =
     if bytes_eq key own then members_have_float members
     else has_float value || members_have_float_beside key members
 
--- whether a number in a value is no integer of 64 bits, where its first member of this key is
--- left aside
+-- whether a number in a value is no integer of 64 bits, where its first member of this key is left
+-- aside
 abbrev pub has_float_beside : List ℕ → Data → Bool
 has_float_beside key (object members) = members_have_float_beside key members
 has_float_beside key value = has_float value

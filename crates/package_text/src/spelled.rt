@@ -83,6 +83,19 @@ pub enum SpelledEvent<'a> {
     Empty(StartTag<'a>),
 }
 
+impl SpelledEvent<'_> {
+    /// How many events it stands for.
+    pub fn count(&self) -> usize
+        ensures { result ≡ length (events_of self.now) }
+    {
+        match self {
+            SpelledEvent::One(_) => 1,
+            SpelledEvent::Empty(_) => 2,
+        }
+    }
+}
+
+/// What a value of a list of events stands for, or None where it is no event of the version.
 fn event_from(value: &Value, has_empty: bool) -> Option<SpelledEvent<'_>>
     ensures { option_map (λ event. events_of event) result
         ≡ events_of_value has_empty (view value.now) }
@@ -103,6 +116,7 @@ fn event_from(value: &Value, has_empty: bool) -> Option<SpelledEvent<'_>>
     }
 }
 
+/// An event of a kind without a text.
 fn plain_event(kind: &str) -> Option<SpelledEvent<'_>>
     ensures { option_map (λ event. events_of event) result
         ≡ events_of_texts false (kind.now ∷ []) }
@@ -113,6 +127,7 @@ fn plain_event(kind: &str) -> Option<SpelledEvent<'_>>
     }
 }
 
+/// An event of a kind and a text.
 fn text_event<'a>(kind: &str, content: &'a str) -> Option<SpelledEvent<'a>>
     ensures { let texts = kind.now ∷ content.now ∷ [] in
         option_map (λ event. events_of event) result ≡ events_of_texts false texts }
@@ -127,6 +142,7 @@ fn text_event<'a>(kind: &str, content: &'a str) -> Option<SpelledEvent<'a>>
     Some(SpelledEvent::One(event))
 }
 
+/// A start, or an element with nothing in it.
 fn start_event<'a>(
     has_empty: bool,
     kind: &str,

@@ -38,6 +38,28 @@ fn held_package(
     Ok(package)
 }
 
+/// The events of a part by their numbers, each as one word.
+fn told_events(
+    rt: &impl Abort,
+    alloc: Global,
+    package: &MemoryPackage,
+    part: usize,
+) -> Result<String, AllocError> {
+    assert!(rt; part < package.part_count());
+    let mut told = String::from_str(alloc, package.part_name(part))?;
+    for event in 0..package.event_count(part) {
+        match package.event_at(part, event) {
+            PartEvent::Start(tag) => write!(told, " <{}|{}>", tag.name, tag.attributes)?,
+            PartEvent::End(name) => write!(told, " </{name}>")?,
+            PartEvent::Text(text) => write!(told, " {text}")?,
+            PartEvent::CharData(text) => write!(told, " [{text}]")?,
+            PartEvent::EntityRef(name) => write!(told, " &{name};")?,
+            PartEvent::Other => told.push_str(" !")?,
+        }
+    }
+    Ok(told)
+}
+
 /// The events of a part, up to its end.
 fn count_events<P: Package>(
     alloc: Global,
@@ -200,6 +222,35 @@ fn parts_are_opened_read_and_skipped(rt: HostRuntime) -> Result<(), Fail> {
             "end at {at}"
         );
     }
+    Ok(())
+}
+
+#[test]
+fn an_empty_element_is_a_start_and_an_end(rt: HostRuntime) -> Result<(), Fail> {
+    let alloc = rt.alloc();
+    let before = [
+        start("a"),
+        PartEvent::Text("t"),
+        PartEvent::CharData("c"),
+        PartEvent::EntityRef("amp"),
+        PartEvent::Other,
+    ];
+    let mut package = held_package(&rt, alloc, "part", &before, 5)?;
+    for (name, attributes) in [("x:b", " k=\"v\""), ("b", ""), ("", "é")] {
+        assert!(rt; package.part_count() == 2);
+        package.push_empty(name, attributes)?;
+    }
+    package.push_event(PartEvent::End("a"))?;
+    let want = "part <a|> t [c] &amp; ! <x:b| k=\"v\"> </x:b> <b|> </b> <|é> </> </a>";
+    assert_text(
+        &told_events(&rt, alloc, &package, 1)?,
+        want,
+        "the last part",
+    )?;
+    let other = told_events(&rt, alloc, &package, 0)?;
+    assert_text(&other, "xl/other.xml", "the first part")?;
+    assert!(rt; count_events(alloc, &mut package, "part") == Ok(Some(12)));
+    assert!(rt; package.taken() == 12);
     Ok(())
 }
 

@@ -9,4 +9,5 @@ abbrev pub invariant-loop-part : goal.invariant-loop-part
 invariant-loop-part l =
     (l.«package» ≡ closed l.«package».parts 0)
     × (let left = parts_beside l.has_empty (items_view (drop l.part-index l.part-items)) in
-    option_map (λ rest. l.«package».parts ++ rest) left ≡ parts_beside l.has_empty (items_view l.part-items))
+    option_map (λ rest. l.«package».parts ++ rest) left
+    ≡ parts_beside l.has_empty (items_view l.part-items))
