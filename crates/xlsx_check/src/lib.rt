@@ -2,8 +2,10 @@
 //! hold.
 #![tactic(auto)]
 
+mod denotation;
 mod laws;
 mod token;
+mod tokens;
 
 pub use laws::{
     descent_reads_the_tree_that_is_split, leftmost_trees_are_those_of_their_tokens,
