@@ -4,6 +4,7 @@
 #![tactic(auto)]
 
 mod area_cells;
+mod equality;
 mod keeping;
 mod owned_cells;
 mod placed_cells;
@@ -11,6 +12,7 @@ mod row;
 mod sorted;
 
 pub use area_cells::AreaCells;
+pub use equality::copies_are_the_same;
 pub use owned_cells::OwnedCells;
 pub use placed_cells::PlacedCells;
 pub use sorted::SortedCells;
