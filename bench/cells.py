@@ -1,6 +1,6 @@
 #!/usr/bin/env python3
-"""Measures `cells S` or `csv S` of xlsx_tool beside json.load of the same text, and prints one
-table (docs/PERFORMANCE.md)."""
+"""Measures `cells S`, `csv S` or `upgrade` of xlsx_tool beside json.load of the same text, and
+prints one table (docs/PERFORMANCE.md)."""
 
 import argparse
 import csv
@@ -11,6 +11,7 @@ import sys
 import tempfile
 
 from measure import (
+    FORMS,
     LIMIT,
     OFFICE,
     Listing,
@@ -29,6 +30,7 @@ from measure import (
     spelled,
     start,
     table,
+    upgraded,
 )
 
 KINDS = ["nut", "bolt", "washer", "hex key", "tab\there", "back\\slash"]
@@ -335,20 +337,23 @@ MIXES = {
 }
 
 
-# What a command prints of a row of a mix; `csv` takes those of values alone.
+# What a command prints of a row of a mix; `csv` takes those of values alone, and what `upgrade`
+# prints isn't told by rows.
 PRINTED = {
     "cells": lambda mix, row: mix.row_lines(row),
     "csv": lambda mix, row: record_of(mix.row_fields(row)),
+    "upgrade": lambda mix, row: "",
 }
 
 
-def write_package(path, limit, mix, printed):
+def write_package(path, limit, mix, printed, version=1):
     """Writes a package with as many rows as fit into the limit. Answers its size, its rows and what
     is printed of them."""
+    form = FORMS[version]
     frame = "".join(
-        f"{spelled({'name': name, 'events': events})}," for name, events in mix.frame
+        f"{spelled({'name': name, 'events': list(form(events))})}," for name, events in mix.frame
     )
-    front = f'{{"version":1,"parts":[{frame}{{"name":"xl/worksheets/sheet1.xml","events":['
+    front = f'{{"version":{version},"parts":[{frame}{{"name":"xl/worksheets/sheet1.xml","events":['
     head = ",".join(map(spelled, [start("worksheet"), start("sheetData")]))
     tail = "," + ",".join(map(spelled, [end("sheetData"), end("worksheet")])) + "]}]}"
     listing, rows = Listing(), 0
@@ -356,7 +361,7 @@ def write_package(path, limit, mix, printed):
     with open(path, "w", encoding="ascii", newline="") as out:
         out.write(front + head)
         while True:
-            text = "".join("," + spelled(event) for event in mix.row_events(rows + 1))
+            text = "".join("," + spelled(event) for event in form(mix.row_events(rows + 1)))
             if size + len(text) > limit:
                 break
             rows += 1
@@ -371,10 +376,14 @@ def write_package(path, limit, mix, printed):
 
 
 class Size(Measured):
-    def __init__(self, folder, program, limit, mix, command):
-        super().__init__(folder, limit, [program, command, "S"])
-        written = write_package(self.package, limit, mix, PRINTED[command])
+    def __init__(self, folder, program, limit, mix, command, version):
+        words = [program, command] if command == "upgrade" else [program, command, "S"]
+        super().__init__(folder, limit, words)
+        written = write_package(self.package, limit, mix, PRINTED[command], version)
         self.size, self.rows, self.listing = written
+        if command == "upgrade":
+            self.listing = Listing()
+            self.listing.add(upgraded(self.package))
 
 
 # The runs that end with a stage: what the stage gives, whether the text is a package, the sheet,
@@ -392,7 +401,7 @@ def stage_rows(size, repeats):
     shutil.copyfile(size.package, other)
     with open(other, "r+b") as text:
         # The same JSON with another version is no package.
-        text.write(b'{"version":2')
+        text.write(b'{"version":3')
     runs = {name: [] for name, *_ in STAGES}
     for _ in range(repeats):
         for name, is_package, sheet, status in STAGES:
@@ -423,6 +432,13 @@ def main():
     )
     parser.add_argument("--mix", choices=MIXES, default="texts", help="what the cells hold")
     parser.add_argument(
+        "--version",
+        type=int,
+        choices=FORMS,
+        default=1,
+        help="the version of the texts (default: 1)",
+    )
+    parser.add_argument(
         "--command", choices=PRINTED, default="cells", help="what prints them (default: cells)"
     )
     parser.add_argument(
@@ -440,12 +456,14 @@ def main():
         mix = MIXES[asked.mix]()
         if asked.command == "csv" and not hasattr(mix, "row_fields"):
             parser.error("csv is measured of values and texts")
+        if asked.command == "upgrade" and asked.stages:
+            parser.error("the stages are those of cells and csv")
         if asked.stages:
-            whole = Size(folder, program, asked.bytes, mix, asked.command)
+            whole = Size(folder, program, asked.bytes, mix, asked.command, asked.version)
             table(STAGE_HEAD, list(stage_rows(whole, asked.repeats)))
             return
-        half = Size(folder, program, asked.bytes // 2, mix, asked.command)
-        whole = Size(folder, program, asked.bytes, mix, asked.command)
+        half = Size(folder, program, asked.bytes // 2, mix, asked.command, asked.version)
+        whole = Size(folder, program, asked.bytes, mix, asked.command, asked.version)
         for _ in range(asked.repeats):
             half.run()
             whole.run()

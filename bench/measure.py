@@ -47,6 +47,38 @@ def spelled(value):
     return json.dumps(value, separators=(",", ":"))
 
 
+def joined(events):
+    """Events of version 1 in version 2: a start and the end of its name behind it are one."""
+    held = None
+    for event in events:
+        if held is not None and event == ["e", held[1]]:
+            yield ["b", *held[1:]]
+            held = None
+            continue
+        if held is not None:
+            yield held
+        held = event if event[0] == "s" else None
+        if held is None:
+            yield event
+    if held is not None:
+        yield held
+
+
+# What makes the events of a version of those of version 1.
+FORMS = {1: iter, 2: joined}
+
+
+def upgraded(path):
+    """The text in version 2 of a package text of version 1, as Python writes it, and a line feed."""
+    with open(path, encoding="utf-8") as text:
+        value = json.load(text)
+    for part in value["parts"]:
+        part["events"] = list(joined(part["events"]))
+    value["version"] = 2
+    text = json.dumps(value, ensure_ascii=False, separators=(",", ":"), sort_keys=True)
+    return f"{text}\n".encode()
+
+
 def write_part(out, name, events):
     """Writes a part, and answers the number of its events."""
     out.write(f'{{"name":{spelled(name)},"events":[')

@@ -1,6 +1,6 @@
 #!/usr/bin/env python3
-"""Runs `cells Sales` over the shipped package, `sample 5`, and each other command over a sample
-workbook, with its first allocation refused, then with its second, and so on, until none is left to
+"""Runs `cells Sales` and `upgrade` over the shipped package, `sample 5`, and each other command over
+a sample workbook, with its first allocation refused, then with its second, and so on, until none is left to
 refuse. Each of these runs must end with the status and the text of want of memory and print
 nothing, and the last one must print the stored lines."""
 
@@ -29,6 +29,9 @@ COMMANDS = [
     (["pivots"], "pivot_table", "pivot_table.pivots"),
     (["pivot", "Report", "Sold & paid"], "pivot_table", "pivot_table.pivot"),
 ]
+
+# The shipped package in version 2.
+UPGRADED = TOP / "tools" / "shipped.upgraded.json"
 
 SAMPLE_LINES = b"cells 15\nformulas 5\nstyled 3\nruns 5\nlast B5 =A5*2\n"
 
@@ -120,6 +123,7 @@ def main():
         library = compiled(folder)
         words = [program, *(TOOL / "args").read_text().split()]
         refuse_each(words, TOOL / "stdin", (TOOL / "stdout").read_bytes(), library)
+        refuse_each([program, "upgrade"], TOOL / "stdin", UPGRADED.read_bytes(), library)
         refuse_each([program, "sample", "5"], os.devnull, SAMPLE_LINES, library)
         for words, book, name in COMMANDS:
             lines = (SAMPLES / f"{name}.lines").read_bytes()

@@ -4,6 +4,7 @@ import io
 import zipfile
 
 from markup import events, spelled
+from package_text import FORMS
 
 TYPES = "http://schemas.openxmlformats.org/officeDocument/2006/relationships/"
 
@@ -163,12 +164,12 @@ def archive(parts, **how):
     return held.getvalue()
 
 
-def part_text(name, markup):
-    each = (",".join(some) for some in events([markup.encode()]) if some)
+def part_text(name, markup, version):
+    each = filter(None, FORMS[version](events([markup.encode()])))
     return f'{{"name":{spelled(name)},"events":[{",".join(each)}]}}'
 
 
-def package_text(parts):
+def package_text(parts, version=1):
     """The package text of these parts, as bytes."""
-    each = ",".join(part_text(*part) for part in parts.items())
-    return f'{{"version":1,"parts":[{each}]}}'.encode()
+    each = ",".join(part_text(*part, version) for part in parts.items())
+    return f'{{"version":{version},"parts":[{each}]}}'.encode()

@@ -1,6 +1,7 @@
 """Cuts the markup of a part into the events of a package text (docs/FORMAT.md), each as JSON.
 
-Nothing is normalised: names, attribute texts and texts are as written. Nesting is the reader's.
+Nothing is normalised: names, attribute texts and texts are as written. Nesting is the reader's. A
+tag that ends in `/` is one event, as in version 2; two tags are two.
 """
 
 import codecs
@@ -82,9 +83,9 @@ def decoded(pieces):
 
 
 def start_of(name, attributes):
-    """A start, or a start and an end where the tag ends in `/`."""
+    """A start, or an element with nothing in it where the tag ends in `/`."""
     if attributes.endswith("/"):
-        return f'["s",{spelled(name)},{spelled(attributes[:-1])}],["e",{spelled(name)}]'
+        return f'["b",{spelled(name)},{spelled(attributes[:-1])}]'
     return f'["s",{spelled(name)},{spelled(attributes)}]'
 
 
@@ -101,7 +102,7 @@ def reference_of(name):
 
 
 def tag_of(tag):
-    """The events of what stands between a tag's brackets, or None where it makes no tag."""
+    """The event of what stands between a tag's brackets, or None where it makes no tag."""
     if tag.startswith("/"):
         return end_of(tag[1:]) if len(tag) > 1 else None
     name = NAME.match(tag)
@@ -114,13 +115,13 @@ def tag_of(tag):
 
 
 class Tags:
-    """Tells the events of tags, and keeps those of tags without attributes."""
+    """Tells the event of a tag, and keeps those of tags without attributes."""
 
     def __init__(self):
         self.plain, self.names = {}, set()
 
     def get(self, tag):
-        """The events of a tag with its quotes, all of one kind, in pairs. None for other tags."""
+        """The event of a tag with its quotes, all of one kind, in pairs. None for other tags."""
         if tag in self.plain:
             return self.plain[tag]
         one, other = ("'", '"') if "'" in tag else ('"', "'")
@@ -239,7 +240,7 @@ class Cutter:
     def plain(self, buffer, at, safe, out):
         """Cuts texts, references and most tags. Answers where other markup begins, or the safe
         place."""
-        add, tag_events, size = out.append, self.tags.get, FEWEST
+        add, tag_event, size = out.append, self.tags.get, FEWEST
         while at < safe:
             stop = buffer.find("<", at + size, safe)
             size = min(2 * size, MOST)
@@ -248,7 +249,7 @@ class Cutter:
             at += len(text)
             for part in parts:
                 tag, closed, text = part.partition(">")
-                found = tag_events(tag) if closed else None
+                found = tag_event(tag) if closed else None
                 if found is None:
                     return at
                 add(found)

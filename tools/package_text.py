@@ -89,6 +89,12 @@ CONTENTLESS = re.compile(rb"<[!?]")
 UTF_16 = (b"\xff\xfe", b"\xfe\xff")
 DECLARATION = re.compile(rb"(?:\xef\xbb\xbf)?(?:<\?xml [^>]*\?>)?")
 
+# How events begin, and one of an element with nothing in it. A quote in a text stands behind a
+# backslash, so that no event begins in a text.
+START, END, EMPTY = '["s",', '["e",', '["b",'
+TEXT = r'"[^"\\]*(?:\\.[^"\\]*)*"'
+EMPTY_EVENT = re.compile(rf'\["b",({TEXT}),({TEXT})\]')
+
 # How the content of an OpenDocument file's first entry, `mimetype`, begins.
 OPEN_DOCUMENT = b"application/vnd.oasis.opendocument"
 
@@ -116,6 +122,34 @@ class TooLarge(Exception):
 
 def too_large(limit):
     return f"input too large: its package text has more than {limit:,} bytes"
+
+
+def joined(lists):
+    """The events of version 2, of those that were cut, list by list with commas between them: a
+    start and the end of its name behind it are one, also where these are of two lists."""
+    held = []
+    for some in lists:
+        some = held + some
+        pairs = zip(some, some[1:])
+        ends = [at for at, (one, two) in enumerate(pairs, 1) if two[2] == "e" and one[2] == "s"]
+        for at in ends:
+            start, name = some[at - 1], some[at][len(END) : -1]
+            if start.startswith(f"{START}{name},"):
+                some[at - 1], some[at] = EMPTY + start[len(START) :], ""
+        # A start waits for what stands behind it.
+        held = [some.pop()] if some and some[-1].startswith(START) else []
+        yield ",".join(filter(None, some))
+    yield "".join(held)
+
+
+def parted(lists):
+    """The events of version 1: an element with nothing in it is two."""
+    for some in lists:
+        yield EMPTY_EVENT.sub(r'["s",\1,\2],["e",\1]', ",".join(some))
+
+
+# What makes the events of a version of those that were cut.
+FORMS = {1: parted, 2: joined}
 
 
 def folded(path):
@@ -224,7 +258,7 @@ def archive_of(file):
 
 def targets_of(event):
     """The file names that a relationship leads to, each with its type, where that is wanted."""
-    if event[0] != "s" or event[1].split(":")[-1] != "Relationship":
+    if event[0] not in ("s", "b") or event[1].split(":")[-1] != "Relationship":
         return set()
     # The reader takes some of these texts as written, and others with their references resolved.
     pairs = [
@@ -239,8 +273,8 @@ def targets_of(event):
 class Workbook:
     """The parts of a workbook file that are written."""
 
-    def __init__(self, archive, is_all, limit):
-        self.archive, self.is_all, self.limit = archive, is_all, limit
+    def __init__(self, archive, is_all, limit, version):
+        self.archive, self.is_all, self.limit, self.version = archive, is_all, limit, version
         # Of entries with one name the last stands, since an archive is added to at its end.
         self.entries = {
             entry.filename: entry for entry in archive.infolist() if not is_foreign(entry.filename)
@@ -322,7 +356,8 @@ class Workbook:
                 kept = refused.enter_context(tempfile.TemporaryFile(buffering=0))
             output = Output(kept, self.limit)
             try:
-                output.add_package((name, self.events(self.entries[name])) for name in names)
+                parts = ((name, self.events(self.entries[name])) for name in names)
+                output.add_package(self.version, parts)
             except TooLarge:
                 raise self.too_large(names) from None
             with written():
@@ -339,17 +374,19 @@ class Workbook:
     def fits(self, names):
         """Whether the text of parts can be short enough, for all that the archive says of their
         sizes. What is too large is told so before it is cut."""
-        if sum(self.entries[name].file_size for name in names) <= self.limit:
+        # The name of an element with nothing in it may stand twice in markup, and once in version 2.
+        most = self.limit if self.version == 1 else 2 * self.limit
+        if sum(self.entries[name].file_size for name in names) <= most:
             return True
         least = 0
         for name in names:
-            least += self.least(self.entries[name], self.limit - least)
-            if least > self.limit:
+            least += self.least(self.entries[name], most - least)
+            if least > most:
                 return False
         return True
 
     def least(self, entry, most):
-        """How many bytes the text of a part has at least, as far as they aren't more than `most`:
+        """How many bytes a part has at least in version 1, as far as they aren't more than `most`:
         as many as its markup behind a declaration, but for white space, or none where it has
         anything that may be left out."""
         size, before = 0, b""
@@ -368,9 +405,7 @@ class Workbook:
     def events(self, entry):
         """The events of a part, as texts of one or more with commas between them."""
         try:
-            for some in events(self.pieces(entry), self.limit):
-                if some:
-                    yield ",".join(some)
+            yield from filter(None, FORMS[self.version](events(self.pieces(entry), self.limit)))
         except MarkupFault as fault:
             raise Refusal(13, f"{entry.filename} is broken: {fault}") from None
         except TooLong:
@@ -403,9 +438,9 @@ class Output:
             raise TooLarge
         send(piece, self.kept.fileno())
 
-    def add_package(self, parts):
+    def add_package(self, version, parts):
         between = ""
-        self.add('{"version":1,"parts":[')
+        self.add(f'{{"version":{version},"parts":[')
         for name, some_events in parts:
             self.add(f'{between}\n{{"name":{spelled(name)},"events":[')
             between = ""
@@ -418,19 +453,20 @@ class Output:
 
 
 @contextlib.contextmanager
-def workbook_of(source, is_all=False, limit=sys.maxsize):
-    """A workbook file, told by its name or as the number of an open one."""
+def workbook_of(source, is_all=False, limit=sys.maxsize, version=2):
+    """A workbook file, told by its name or as the number of an open one, whose package text is
+    written in a version."""
     with contextlib.ExitStack() as stack:
         with read("the file"):
             file = stack.enter_context(opened(source))
-        yield Workbook(stack.enter_context(archive_of(file)), is_all, limit)
+        yield Workbook(stack.enter_context(archive_of(file)), is_all, limit, version)
 
 
-def write(path, is_all, limit, descriptor, sheets=Sheets.ALL):
+def write(path, is_all, limit, descriptor, sheets=Sheets.ALL, version=2):
     with written():
         # A closed one would be that of the next file which is opened.
         os.fstat(descriptor)
-    with workbook_of(path, is_all, limit) as workbook, workbook.text(sheets) as kept:
+    with workbook_of(path, is_all, limit, version) as workbook, workbook.text(sheets) as kept:
         with written():
             for piece in iter(lambda: kept.read(PIECE), b""):
                 send(piece, descriptor)
@@ -481,6 +517,14 @@ def asked_of(words):
         metavar="PART",
         help="of the worksheets' own parts write this one alone, or with `none' no such part",
     )
+    parser.add_argument(
+        "--version-1",
+        dest="version",
+        action="store_const",
+        const=1,
+        default=2,
+        help="write version 1, in which an element with nothing in it is two events",
+    )
     return parser.parse_args(words)
 
 
@@ -490,7 +534,7 @@ def main():
     try:
         asked = asked_of(sys.argv[1:])
         name = asked.file
-        write(asked.file, asked.all, asked.limit, 1, asked.sheets)
+        write(asked.file, asked.all, asked.limit, 1, asked.sheets, asked.version)
         return 0
     except Refusal as refusal:
         status, text = refusal.status, str(refusal)

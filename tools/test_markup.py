@@ -9,6 +9,7 @@ import unittest
 from xml.parsers import expat
 
 from markup import Cutter, MarkupFault, TooLong, events
+from package_text import FORMS
 
 # All kinds of markup at once.
 MIXED = """\
@@ -23,10 +24,10 @@ def pieces_of(data, size):
     return [data[at : at + size] for at in range(0, len(data), size)]
 
 
-def cut(data, size=None):
-    """The events that the bytes spell, where they come in pieces of this size."""
+def cut(data, size=None, version=1):
+    """The events that the bytes spell in a version, where they come in pieces of this size."""
     lists = events(pieces_of(data, size or max(1, len(data))))
-    return json.loads("[" + ",".join(",".join(some) for some in lists if some) + "]")
+    return json.loads("[" + ",".join(filter(None, FORMS[version](lists))) + "]")
 
 
 class Events(unittest.TestCase):
@@ -55,6 +56,38 @@ class Events(unittest.TestCase):
 
     def test_an_empty_element_is_a_start_and_an_end(self):
         self.check("<x:v/>", [["s", "x:v", ""], ["e", "x:v"]])
+
+    def test_an_empty_element_is_one_event_of_version_2(self):
+        """Written as one tag or as two, which may be cut in two; also where its texts have quotes,
+        backslashes and what an event is begun with."""
+        for markup, wanted in (
+            ("<x:v/>", [["b", "x:v", ""]]),
+            ("<v ></v >", [["b", "v", " "]]),
+            ("<a/><a></a><a/>", [["b", "a", ""]] * 3),
+            ("<a><a/></a>", [["s", "a", ""], ["b", "a", ""], ["e", "a"]]),
+            ("<a><a></a></a>", [["s", "a", ""], ["b", "a", ""], ["e", "a"]]),
+            ("<a></b>", [["s", "a", ""], ["e", "b"]]),
+            ("<a></aa>", [["s", "a", ""], ["e", "aa"]]),
+            ("<aa></a>", [["s", "aa", ""], ["e", "a"]]),
+            ("<x:a></a>", [["s", "x:a", ""], ["e", "a"]]),
+            ("</a><a>", [["e", "a"], ["s", "a", ""]]),
+            ("<a> </a>", [["s", "a", ""], ["t", " "], ["e", "a"]]),
+            ("<a><!----></a>", [["s", "a", ""], ["o"], ["e", "a"]]),
+            (
+                """<c k='"a",\\"],["e","c"]'></c>],["e","c"]<c/>""",
+                [
+                    ["b", "c", """ k='"a",\\"],["e","c"]'"""],
+                    ["t", '],["e","c"]'],
+                    ["b", "c", ""],
+                ],
+            ),
+            ("<\u00e9 k='\U0001f330'></\u00e9>", [["b", "\u00e9", " k='\U0001f330'"]]),
+        ):
+            data = markup.encode()
+            two = [[["s", *one[1:]], ["e", one[1]]] if one[0] == "b" else [one] for one in wanted]
+            for size in (None, *range(1, len(data))):
+                self.assertEqual(cut(data, size, 2), wanted, (markup, size))
+                self.assertEqual(cut(data, size), list(itertools.chain(*two)), (markup, size))
 
     def test_attribute_text_of_an_empty_element_ends_before_the_slash(self):
         self.check('<c r="A1" />', [["s", "c", ' r="A1" '], ["e", "c"]])

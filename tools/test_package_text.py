@@ -18,6 +18,8 @@ from package_text import Refusal, Sheets, workbook_of, write
 
 HERE = pathlib.Path(__file__).resolve().parent
 SHIPPED = HERE.parent / "crates" / "xlsx_tool" / "stdin"
+# The same package in version 2.
+UPGRADED = HERE / "shipped.upgraded.json"
 
 
 def with_parts(**parts):
@@ -95,7 +97,9 @@ class Files(unittest.TestCase):
 class Parts(Files):
     def test_the_markup_of_the_shipped_package_gives_the_shipped_package(self):
         wanted = json.loads(SHIPPED.read_text(encoding="utf-8"))
-        self.assertEqual(self.package_of(archive(SALES)), wanted)
+        self.assertEqual(self.package_of(archive(SALES), "--version-1"), wanted)
+        upgraded = json.loads(UPGRADED.read_text(encoding="utf-8"))
+        self.assertEqual(self.package_of(archive(SALES)), upgraded)
 
     def test_parts_keep_their_order(self):
         turned = dict(reversed(MINIMAL.items()))
@@ -302,13 +306,19 @@ class Parts(Files):
         self.assertEqual(parts, [{"name": "_rels/.rels", "events": []}])
 
     def test_an_archive_without_parts(self):
-        self.assertEqual(self.package_of(archive({})), {"version": 1, "parts": []})
+        for words, version in (([], 2), (["--version-1"], 1)):
+            wanted = {"version": version, "parts": []}
+            self.assertEqual(self.package_of(archive({}), *words), wanted)
 
     def test_a_long_part_is_one_list(self):
         row = '<row r="1"/>'
         more = {"xl/worksheets/sheet1.xml": row * 100_000}
-        part = self.package_of(with_parts(**more))["parts"][3]
-        self.assertEqual(part["events"], [["s", "row", ' r="1"'], ["e", "row"]] * 100_000)
+        for words, wanted in (
+            ([], [["b", "row", ' r="1"']]),
+            (["--version-1"], [["s", "row", ' r="1"'], ["e", "row"]]),
+        ):
+            part = self.package_of(with_parts(**more), *words)["parts"][3]
+            self.assertTrue(part["events"] == wanted * 100_000, words)
 
 
 class Refusals(Files):
@@ -447,15 +457,16 @@ class Refusals(Files):
             self.check_refused(data, 4, said, "--limit=1000000", preexec_fn=bounded(60_000_000))
 
     def test_what_is_too_large_is_told_before_it_is_cut(self):
-        """The part of the workbook is broken, and is cut before that of the sheet."""
-        rows = '<row r="1"/>' * 100_000
+        """The part of the workbook is broken, and is cut before that of the sheet. A text of
+        version 2 may have half the bytes of its markup."""
+        rows = '<row r="1"/>' * 200_000
         broken = "xl/workbook.xml is broken: markup without an end, at character 0"
         for part, status, text in (
             (f"<worksheet>{rows}", 4, LONG_SHEET),
             (f"\ufeff<?xml version='1.0'?>\r\n<worksheet>{rows}", 4, LONG_SHEET),
             # What may be left out of the text counts nothing.
             (f"<worksheet><!--{rows}-->", 13, broken),
-            (f"<worksheet></worksheet{' ' * 1_200_000}>", 13, broken),
+            (f"<worksheet></worksheet{' ' * 2_400_000}>", 13, broken),
             (f"<worksheet>{rows}".encode("utf-16"), 13, broken),
             (f"<worksheet>{rows}".encode("utf-16-be"), 13, broken),
         ):

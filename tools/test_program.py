@@ -1,6 +1,7 @@
 """Tries the built program through real pipes and files, by the texts of docs/FORMAT.md."""
 
 import fcntl
+import json
 import os
 import pathlib
 import re
@@ -176,6 +177,8 @@ class Edge:
             self.assertEqual(self.run_on(PACKAGE, words), refusal(2), words)
         for words in (["links"], ["links", "S", "S"], ["Links", "S"], ["csv"], ["csv", "S", "S"]):
             self.assertEqual(self.run_on(PACKAGE, words), refusal(2), words)
+        for words in (["upgrade", "S"], ["Upgrade"], ["upgrades"], ["upgrade", "--version-1"]):
+            self.assertEqual(self.run_on(PACKAGE, words), refusal(2), words)
         for words in (["csv-table"], ["csv-table", "S", "S"], ["csv_table", "S"], ["csv-", "S"]):
             self.assertEqual(self.run_on(PACKAGE, words), refusal(2), words)
         for rows in ("0", "20001", "18446744073709551621", "+5", "-5", "5.0", " 5", "5 ", "", "x"):
@@ -213,7 +216,12 @@ class Edge:
             PACKAGE + b"]",
             b"\xef\xbb\xbf" + PACKAGE,
             PACKAGE.replace(b"nut", b"n\xff"),
-            PACKAGE.replace(b'"version":1', b'"version":2'),
+            PACKAGE.replace(b'"version":1', b'"version":0'),
+            PACKAGE.replace(b'"version":1', b'"version":3'),
+            PACKAGE.replace(b'"version":1', b'"version":2.0'),
+            PACKAGE.replace(b'"version":1', b'"version":"2"'),
+            PACKAGE.replace(b'"version":1', b'"version":2,"version":3'),
+            package_text(MINIMAL, 2).replace(b'"version":2', b'"version":1'),
             PACKAGE.replace(b'"version":1', b'"version":1,"x":0.5'),
             PACKAGE.replace(b'["t","nut"]', b'["u","nut"]'),
         ):
@@ -232,7 +240,18 @@ class Edge:
         )
 
     def test_values_and_formulas(self):
-        self.assertEqual(self.run_on(package_text(MIXED)), (0, MIXED_LINES, b""))
+        for version in (1, 2):
+            self.assertEqual(self.run_on(package_text(MIXED, version)), (0, MIXED_LINES, b""))
+
+    def test_packages_are_upgraded(self):
+        """To what Python writes of the same value, which has the lines of the package."""
+        for parts, lines in ((MINIMAL, LINES), (MIXED, MIXED_LINES)):
+            value = json.loads(package_text(parts, 2))
+            text = json.dumps(value, ensure_ascii=False, separators=(",", ":"), sort_keys=True)
+            wanted = text.encode() + b"\n"
+            for data in (package_text(parts), package_text(parts, 2), wanted):
+                self.assertEqual(self.run_on(data, ["upgrade"]), (0, wanted, b""))
+            self.assertEqual(self.run_on(wanted), (0, lines, b""))
 
     def test_cells_that_are_refused(self):
         for cell, text in (

@@ -57,9 +57,15 @@ CORE = (
 PROGRAM = "Application AppVersion Company Template Manager".split()
 
 # How many texts stand behind the mark of an event.
-FORMS = {"s": 2, "e": 1, "t": 1, "d": 1, "r": 1, "o": 0}
+FORMS = {"s": 2, "e": 1, "b": 2, "t": 1, "d": 1, "r": 1, "o": 0}
 NAMED = {"amp": "&", "lt": "<", "gt": ">", "quot": '"', "apos": "'"}
 PAIR = re.compile(r"""\s+([^\s=]+)\s*=\s*(?:"([^"]*)"|'([^']*)')""")
+
+
+def parted(events):
+    """The events of version 1, of those of version 2."""
+    both = ([["s", *event[1:]], ["e", event[1]]] if event[0] == "b" else [event] for event in events)
+    return [event for some in both for event in some]
 
 
 def package_text(path, *words):
@@ -78,7 +84,7 @@ def add_text(told, text):
 def told_by_events(events):
     """Starts, ends and the texts in the outermost element, with their references resolved."""
     told, depth = [], 0
-    for kind, *texts in events:
+    for kind, *texts in parted(events):
         depth += {"s": 1, "e": -1}.get(kind, 0)
         if kind == "s":
             pairs = {key: html.unescape(a or b) for key, a, b in PAIR.findall(texts[1])}
@@ -111,18 +117,30 @@ class Samples(unittest.TestCase):
         for path in WORKBOOKS:
             package = json.loads(package_text(path).decode())
             self.assertGreaterEqual(len(package["parts"]), 4)
-            self.assertEqual((list(package), package["version"]), (["version", "parts"], 1))
+            self.assertEqual((list(package), package["version"]), (["version", "parts"], 2))
             for part in package["parts"]:
                 self.assertEqual(list(part), ["name", "events"])
                 for kind, *texts in part["events"]:
                     self.assertEqual(len(texts), FORMS[kind])
                     self.assertTrue(all(isinstance(text, str) for text in texts))
 
+    def test_both_versions_have_the_same_events(self):
+        """And in version 2 no start stands before the end of its name."""
+        for path in WORKBOOKS:
+            package = json.loads(package_text(path).decode())
+            for part in package["parts"]:
+                events = part["events"]
+                for one, two in zip(events, events[1:]):
+                    self.assertFalse((one[0], two[0]) == ("s", "e") and one[1] == two[1])
+                part["events"] = parted(events)
+            wanted = {**package, "version": 1}
+            self.assertEqual(json.loads(package_text(path, "--version-1").decode()), wanted)
+
     def test_ends_match_starts(self):
         for path in WORKBOOKS:
             for part in json.loads(package_text(path, "--all").decode())["parts"]:
                 still_open = []
-                for event in part["events"]:
+                for event in parted(part["events"]):
                     if event[0] == "s":
                         still_open.append(event[1])
                     elif event[0] == "e":
@@ -153,12 +171,20 @@ class Samples(unittest.TestCase):
         self.assertEqual(answer, (0, wanted, b""), (path.name, words))
 
     def test_workbooks_give_their_lines(self):
-        """From the parts that are written without being asked for, and from all."""
+        """From the parts that are written without being asked for, and from all, in each version."""
         self.assertEqual({path.stem for path in SAMPLES.glob("*.lines")}, set(LINES))
         for name, words in LINES.items():
             path = SAMPLES / f"{name.partition('.')[0]}.xlsx"
-            for options in ([], ["--all"]):
+            for options in ([], ["--all"], ["--version-1"]):
                 self.check(path, words, (SAMPLES / f"{name}.lines").read_bytes(), *options)
+
+    def test_workbooks_are_upgraded(self):
+        """From each version to the text that Python writes of the value of version 2."""
+        for path in WORKBOOKS:
+            value = json.loads(package_text(path).decode())
+            text = json.dumps(value, ensure_ascii=False, separators=(",", ":"), sort_keys=True)
+            for options in ([], ["--version-1"]):
+                self.check(path, ["upgrade"], f"{text}\n".encode(), *options)
 
     def test_sheets_and_names_are_those_that_another_parser_tells(self):
         for path in WORKBOOKS:

@@ -110,6 +110,15 @@ COMMANDS = {
             ),
         ),
         Command(
+            "upgrade",
+            (),
+            NOTHING,
+            (
+                "prints the package text in version 2, where an empty element is one",
+                "event",
+            ),
+        ),
+        Command(
             "sample",
             ("N",),
             "a number of rows, from 1 to 20,000",
@@ -133,7 +142,7 @@ STANDARD_INPUT = "-"
 USAGE = """\
 usage: ./xlsx FILE.xlsx cells NAME       (or merges, links, csv, csv-table or table NAME,
                                           pivot SHEET NAME, or sheets, names, tables,
-                                          pivots or props)
+                                          pivots, props or upgrade)
        ./xlsx FILE.xlsx csv --all FOLDER
        ./xlsx cells NAME < package.json
        ./xlsx sample N

@@ -39,7 +39,7 @@ fn held_package(
 }
 
 /// The events of a part by their numbers, each as one word.
-fn told_events(
+pub fn told_events(
     rt: &impl Abort,
     alloc: Global,
     package: &MemoryPackage,
@@ -61,7 +61,7 @@ fn told_events(
 }
 
 /// The events of a part, up to its end.
-fn count_events<P: Package>(
+pub fn count_events<P: Package>(
     alloc: Global,
     package: &mut P,
     name: &str,
@@ -240,6 +240,7 @@ fn an_empty_element_is_a_start_and_an_end(rt: HostRuntime) -> Result<(), Fail> {
         assert!(rt; package.part_count() == 2);
         package.push_empty(name, attributes)?;
     }
+    assert!(rt; package.part_count() == 2);
     package.push_event(PartEvent::End("a"))?;
     let want = "part <a|> t [c] &amp; ! <x:b| k=\"v\"> </x:b> <b|> </b> <|é> </> </a>";
     assert_text(

@@ -28,6 +28,7 @@ pub data Command : Type 0 where
   table : List ℕ → Command
   pivots : Command
   pivot : List ℕ → List ℕ → Command
+  upgrade : Command
   sample : ℕ → Command
 
 -- the command that was asked, by the texts of its names
@@ -44,6 +45,7 @@ command_meant asked.Tables = tables
 command_meant (asked.Table name) = table name.now
 command_meant asked.Pivots = pivots
 command_meant (asked.Pivot sheet name) = pivot sheet.now name.now
+command_meant asked.Upgrade = upgrade
 command_meant (asked.Sample rows) = sample rows
 
 -- so many rows are those of a sample
@@ -61,7 +63,8 @@ bare_command word =
     else (if bytes_eq word (codes "names") then Some names
     else (if bytes_eq word (codes "props") then Some props
     else (if bytes_eq word (codes "tables") then Some tables
-    else (if bytes_eq word (codes "pivots") then Some pivots else None))))
+    else (if bytes_eq word (codes "pivots") then Some pivots
+    else (if bytes_eq word (codes "upgrade") then Some upgrade else None)))))
 
 -- a command of two
 abbrev pub named_command : List ℕ → List ℕ → Option Command
@@ -102,4 +105,5 @@ own_parts tables = None
 own_parts (table name) = None
 own_parts pivots = None
 own_parts (pivot sheet name) = None
+own_parts upgrade = None
 own_parts (sample rows) = Some (sample_parts rows)

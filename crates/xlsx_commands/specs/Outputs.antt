@@ -1,16 +1,17 @@
 -- What each command prints of a package, and why it can't: a row for each command.
-use Rattle.std.specs.Prelude.{◌≡◌, ℕ, List}
+use Rattle.std.specs.Prelude.{◌≡◌, ℕ, List, [], ◌∷◌, ◌++◌}
 use Rattle.part_events.specs.Package.{Part}
 use Rattle.xlsx_error.specs.declared.error.XlsxError.{XlsxError}
 use Rattle.cell_data.specs.CellValue.{CellValue}
 use Rattle.cell_styles.specs.StyleMap.{StyleMap}
 use Rattle.sheet_listing.specs.SheetListing.{listing}
+use Rattle.package_text.specs.WrittenPackage.{written_package}
 use Rattle.xlsx_open.specs.Opening.{OpeningCause}
 use Rattle.xlsx_core.specs.SheetReading.{ReadsAs, SheetCause}
 use Rattle.xlsx_commands.specs.BookLists.{AreSheetLines, AreNameLines}
 use Rattle.xlsx_commands.specs.Command.{Command, cells, sheets, names, merges, links, props, csv}
 use Rattle.xlsx_commands.specs.CacheRows.{ArePivotRows, NamedPivotCause}
-use Rattle.xlsx_commands.specs.Command.{csv_table, tables, table, pivots, pivot, sample}
+use Rattle.xlsx_commands.specs.Command.{csv_table, tables, table, pivots, pivot, upgrade, sample}
 use Rattle.xlsx_commands.specs.PivotLists.{ArePivotLines, ListedPivotsCause}
 use Rattle.xlsx_commands.specs.PropertyLists.{ArePropertyLines, ListedPropertiesCause}
 use Rattle.xlsx_commands.specs.SampleLines.{AreSampleLines, sample_name}
@@ -32,6 +33,10 @@ pub record AreLinesOf (parts : List Part) (name lines : List ℕ) : Type 0 where
   pub reads : ReadsAs parts name values formulas styles
   pub listed : lines ≡ listing values formulas styles
 
+-- the text of the package in version 2, and a line feed
+abbrev pub IsUpgrade : List Part → List ℕ → Type 0
+IsUpgrade parts output = output ≡ written_package parts ++ 10 ∷ []
+
 -- ---- the rows
 
 -- these bytes are the output of a command on a package of these parts
@@ -48,6 +53,7 @@ IsOutput tables parts output = AreTableLines parts output
 IsOutput (table name) parts output = AreTableValueLines parts name output
 IsOutput pivots parts output = ArePivotLines parts output
 IsOutput (pivot sheet name) parts output = ArePivotRows parts sheet name output
+IsOutput upgrade parts output = IsUpgrade parts output
 IsOutput (sample rows) parts output = AreSampleLines rows parts output
 
 -- why its workbook refuses it
@@ -64,6 +70,7 @@ RefusedWorkbookCause tables parts error = ListedTablesCause parts error
 RefusedWorkbookCause (table name) parts error = NamedTableCause parts name error
 RefusedWorkbookCause pivots parts error = ListedPivotsCause parts error
 RefusedWorkbookCause (pivot sheet name) parts error = NamedPivotCause parts sheet name error
+RefusedWorkbookCause upgrade parts error = ⊥
 RefusedWorkbookCause (sample rows) parts error = SheetCause parts sample_name error
 
 -- why it is refused because an area has too many cells
@@ -80,6 +87,7 @@ IsTooLarge tables parts = ⊥
 IsTooLarge (table name) parts = ⊥
 IsTooLarge pivots parts = ⊥
 IsTooLarge (pivot sheet name) parts = ⊥
+IsTooLarge upgrade parts = ⊥
 IsTooLarge (sample rows) parts = ⊥
 
 -- ---- what the rows make

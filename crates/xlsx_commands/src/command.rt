@@ -34,6 +34,8 @@ pub enum Command<'a> {
     Pivots,
     /// The rows of the cache of the pivot table of the second name, on the worksheet of the first.
     Pivot(&'a str, &'a str),
+    /// The package text of version 2.
+    Upgrade,
     /// What is read of a workbook with so many rows.
     Sample(u32),
 }
@@ -58,6 +60,7 @@ fn bare_command(word: &str) -> Option<Command<'_>>
         "props" => Some(Command::Props),
         "tables" => Some(Command::Tables),
         "pivots" => Some(Command::Pivots),
+        "upgrade" => Some(Command::Upgrade),
         _ => None,
     }
 }

@@ -44,6 +44,7 @@ mod sample_lines;
 mod sheet_rows;
 mod table_lines;
 mod table_rows;
+mod upgraded_text;
 
 pub use command::{Command, command_of};
 pub use error::ToolError;

@@ -15,6 +15,7 @@ use crate::sample_lines::sample_lines;
 use crate::sheet_rows::sheet_rows;
 use crate::table_lines::{table_lines, table_value_lines};
 use crate::table_rows::table_rows;
+use crate::upgraded_text::upgraded_text;
 use part_events::MemoryPackage;
 use std::alloc::{AllocError, Global};
 use xlsx_sample::sample_package;
@@ -38,6 +39,7 @@ pub fn own_package(alloc: Global, command: Command<'_>) -> Result<Option<MemoryP
         Command::Table(_) => None,
         Command::Pivots => None,
         Command::Pivot(_, _) => None,
+        Command::Upgrade => None,
         Command::Sample(rows) => Some(sample_package(alloc, rows)?),
     };
     Ok(package)
@@ -67,6 +69,7 @@ pub fn output_of(
         Command::Table(name) => table_value_lines(alloc, package, name),
         Command::Pivots => pivot_lines(alloc, package),
         Command::Pivot(sheet, name) => pivot_rows(alloc, package, sheet, name),
+        Command::Upgrade => upgraded_text(alloc, package),
         Command::Sample(rows) => sample_lines(alloc, package, rows),
     }
 }

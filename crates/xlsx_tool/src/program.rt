@@ -28,6 +28,7 @@ Usage: xlsx_tool cells NAME < package.json
        xlsx_tool tables < package.json
        xlsx_tool pivots < package.json
        xlsx_tool props < package.json
+       xlsx_tool upgrade < package.json
        xlsx_tool sample N
 
 One line is printed, of the worksheet NAME or of the workbook, for each
@@ -46,6 +47,8 @@ One line is printed, of the worksheet NAME or of the workbook, for each
   props      property of the workbook: its name, its text
 
 The fields of a line have tabs between them, and those of CSV commas.
+
+upgrade prints the package text in version 2: an empty element is one event.
 
 sample makes a package of 1 to 20,000 rows and prints how much is read of it.
 ";

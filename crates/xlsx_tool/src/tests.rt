@@ -169,7 +169,7 @@ cells S
 = 5 not a package
 
 cells S
-= {"version":2,"parts":[]}
+= {"version":3,"parts":[]}
 = 5 not a package
 
 cells S
@@ -223,6 +223,57 @@ fn each_refusal_has_its_cause(rt: HostRuntime) -> Result<(), Fail> {
     }
     let told = run_on(alloc, "cells S", b"\xff", EASY)?;
     assert_text(&told, "5 not a package", "no UTF-8")?;
+    Ok(())
+}
+
+/// The words of a run on a package text, and how it ends.
+const UPGRADED: &str = r#"
+upgrade
+= {"version":1,"parts":[{"name":"a","events":[["s","x",""],["e","x"],["o"]]}]}
+= {"parts":[{"events":[["b","x",""],["o"]],"name":"a"}],"version":2}
+0
+
+upgrade
+= {"parts":[{"events":[["b","x",""],["o"]],"name":"a"}],"version":2}
+= {"parts":[{"events":[["b","x",""],["o"]],"name":"a"}],"version":2}
+0
+
+upgrade
+= {"parts":[{"events":[["b","x",""],["o"]],"name":"a"}],"version":1}
+= 5 not a package
+
+upgrade S
+= {"version":1,"parts":[]}
+= 2 usage
+
+cells S
+= {"parts":[{"events":[["b","x",""],["o"]],"name":"a"}],"version":2}
+= 6 File not found '_rels/.rels'
+
+cells S
+= {"parts":[{"events":[["b","x",""],["o"]],"name":"a"}],"version":1}
+= 5 not a package
+
+cells S
+= {"parts":[{"events":[["b","x",""],["o"]],"name":"a"}],"version":3}
+= 5 not a package
+"#;
+
+#[test]
+fn a_package_is_upgraded(rt: HostRuntime) -> Result<(), Fail> {
+    let alloc = rt.alloc();
+    for case in cases(UPGRADED) {
+        let (words, input) = cut(case);
+        let (input, wanted) = cut(input);
+        let told = run_on(alloc, words, input.as_bytes(), EASY)?;
+        assert_text(&told, wanted, case)?;
+    }
+    let input = package_of(alloc, NUTS)?;
+    let told = run_on(alloc, "upgrade", input.as_bytes(), EASY)?;
+    let upgraded = told.as_str().strip_suffix("\n0").unwrap_or("");
+    let listed = format!(in alloc; "{NUTS_LINES}0")?;
+    let told = run_on(alloc, "cells S", upgraded.as_bytes(), EASY)?;
+    assert_text(&told, &listed, "the cells of an upgraded package")?;
     Ok(())
 }
 
