@@ -4,6 +4,8 @@ import pathlib
 import re
 import unittest
 
+from definitions import definitions
+
 TOP = pathlib.Path(__file__).resolve().parent.parent
 DOCUMENTS = [TOP / "README.md", TOP / "CONTRIBUTING.md", *sorted((TOP / "docs").glob("*.md"))]
 # Crates of tests, whose functions promise nothing.
@@ -85,6 +87,10 @@ class Documents(unittest.TestCase):
                 if NAME.fullmatch(quoted) and not quoted.endswith("NAME"):
                     absent = set(WORD.findall(quoted)) - self.words
                     self.assertEqual(absent, set(), f"{name}: {quoted}")
+
+    def test_every_definition_says_what_it_is(self):
+        bare = [f"{own.path}: {own.name}" for own in definitions() if not own.comment]
+        self.assertEqual(bare, [])
 
     def test_every_file_that_a_document_names_is_there(self):
         for document in DOCUMENTS:

@@ -2,6 +2,8 @@
 use Rattle.std.specs.Prelude.{codes, ◌++◌, ◌≡◌, ⊤, ℕ, List, None, IsSome, Err}
 use Rattle.std.specs.Fmt.{decimal}
 use Rattle.attr_text.specs.Text.{entity_character, decoded}
+use Rattle.attr_text.specs.declared.fault.AttrFault.{AttrFault}
+use Rattle.attr_text.specs.declared.fault.AttrFault.TheVariants.{ExpectedEq, UnquotedValue}
 use Rattle.attr_text.specs.declared.fault.TextFault.{TextFault}
 use Rattle.attr_text.specs.declared.fault.TextFault.TheVariants.{Entity, OutOfMemory}
 
@@ -19,3 +21,18 @@ EntityFails name OutOfMemory = IsSome (entity_character name)
 abbrev pub fault_text : TextFault → List ℕ
 fault_text (Entity at) = codes "unknown entity at " ++ decimal at
 fault_text OutOfMemory = codes "out of memory"
+
+-- what is wrong with the attributes, in words
+abbrev pub attribute_description : AttrFault → List ℕ
+attribute_description (ExpectedEq at) = codes "expected '='"
+attribute_description (UnquotedValue at) = codes "unquoted value"
+
+-- the byte at which it is wrong
+abbrev pub attribute_place : AttrFault → ℕ
+attribute_place (ExpectedEq at) = at
+attribute_place (UnquotedValue at) = at
+
+-- the text of a fault of attributes: what is wrong, and where
+abbrev pub attribute_text : AttrFault → List ℕ
+attribute_text fault =
+    attribute_description fault ++ (codes " at " ++ decimal (attribute_place fault))

@@ -9,11 +9,34 @@ use thiserror::Error;
 #[derive(Clone, Copy, Debug, PartialEq, Eq, Hash, Error)]
 pub enum AttrFault {
     /// No `=` follows the key that begins here.
-    #[error("expected '=' at {0}")]
+    #[error("{} at {}", self.description(), self.place())]
     ExpectedEq(usize),
     /// The value that is expected here does not begin with a quote.
-    #[error("unquoted value at {0}")]
+    #[error("{} at {}", self.description(), self.place())]
     UnquotedValue(usize),
+}
+
+impl AttrFault {
+    ghost use Rattle.attr_text.specs.TextFaults.{attribute_description, attribute_place};
+
+    /// What is wrong, in words.
+    pub fn description(&self) -> &'static str
+        ensures { result.now ≡ attribute_description self.now }
+    {
+        match self {
+            AttrFault::ExpectedEq(_) => "expected '='",
+            AttrFault::UnquotedValue(_) => "unquoted value",
+        }
+    }
+
+    /// The byte of the attribute text at which it is wrong, counted from 0.
+    pub fn place(&self) -> usize
+        ensures { result ≡ attribute_place self.now }
+    {
+        match *self {
+            AttrFault::ExpectedEq(place) | AttrFault::UnquotedValue(place) => place,
+        }
+    }
 }
 
 /// Why a text could not be decoded.

@@ -10,7 +10,7 @@ use crate::words::{number, word, words_behind};
 use anyhow::Result;
 use cell_data::{CellFormat, Data};
 use cell_refs::Dimensions;
-use cell_styles::Style;
+use cell_styles::{Style, StyleRange};
 use part_events::{FailingPackage, Package, PartEvent, XlReader};
 use sheet_listing::listing_of;
 use std::alloc::Global;
@@ -52,6 +52,15 @@ pub fn push_reading<P: Package + Drop>(
     Ok(package)
 }
 
+/// How many positions have a style id above 0.
+fn styled_count(styles: &StyleRange) -> u64 {
+    let mut count = 0u64;
+    for _ in styles.styled() {
+        count = count.saturating_add(1);
+    }
+    count
+}
+
 /// How many values, formulas, styled positions and runs of styles a sheet has, or why it is
 /// refused, and the package that is handed back.
 pub fn push_counts<P: Package + Drop>(
@@ -64,7 +73,7 @@ pub fn push_counts<P: Package + Drop>(
     match result {
         Ok(reading) => {
             let (values, formulas) = (reading.values.used_count(), reading.formulas.used_count());
-            let styled = reading.styles.styled().count();
+            let styled = styled_count(&reading.styles);
             let runs = reading.styles.run_count();
             write!(out, "{values} {formulas} {styled} {runs}")?;
         }

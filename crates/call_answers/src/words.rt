@@ -27,5 +27,8 @@ pub fn number(words: &[&str], place: usize) -> usize {
 
 /// The words behind the first `count`.
 pub fn words_behind<'a, 'b>(words: &'b [&'a str], count: usize) -> &'b [&'a str] {
-    words.get(count..).unwrap_or(&[])
+    if count > words.len() {
+        return &[];
+    }
+    &words[count..]
 }

@@ -1,9 +1,9 @@
 -- `==` of what cells hold is true exactly where the values are the same.
-use Rattle.std.proofs.Common.{◌≡◌, Bool, true, refl, ap, rules}
+use Rattle.std.proofs.Common.{◌≡◌, Bool, true, ◌&&◌, ◌↔◌, nat_eq, refl, ap, rules}
 use Rattle.std.specs.Bool.{Decides}
 use Rattle.std.specs.Cmp.{booleans_Decides, signed_Decides, unsigned_Decides}
 use Rattle.std.specs.Prelude.{string_bytes}
-use Rattle.std.specs.Bool.{beq}
+use Rattle.std.proofs.lemmas.Bool.Decides.{Decides-and}
 use Rattle.std.proofs.lemmas.Slice.Eq.{bytes_eq-Decides}
 use Rattle.decimals.specs.contracts.decimal.DecimalPartialEq.TheImpl.{ghosts as decimal_ghosts}
 use Rattle.cell_data.specs.contracts.value.CellErrorTypePartialEq.TheImpl.{ghosts as error_ghosts}
@@ -20,8 +20,10 @@ use Rattle.cell_data.specs.declared.value.Data.TheVariants as owned
 use Rattle.cell_data.specs.declared.value.DataRef.{DataRef}
 use Rattle.cell_data.specs.declared.value.DataRef.TheVariants as shared
 use Rattle.decimals.specs.Decimal.{number_of}
-use Rattle.decimals.specs.Equality.{IsEquality}
-use Rattle.decimals.proofs.Equality.{of_pairs, of_image, same_decimal, of_decimal}
+use Rattle.equalities.specs.Equality.{IsEquality}
+use Rattle.equalities.proofs.Equality.{of_pairs, of_image, of_bool, of_number}
+use Rattle.decimals.proofs.Equality.{same_decimal, of_decimal}
+use Rattle.cell_data.specs.declared.cell.Cell.{Cell}
 use Rattle.cell_data.specs.CellValue.{value_of_data, value_of_data_ref, time_value}
 use Rattle.cell_data.specs.CellValue.{integer, number, text, shared_text, truth}
 use Rattle.cell_data.specs.CellValue.{iso_time, failure}
@@ -49,9 +51,6 @@ of_error a b = search rules
 
 of_kind : IsEquality kind_eq
 of_kind a b = search rules
-
-of_bool : IsEquality beq
-of_bool a b = search rules
 
 pub of_time : IsEquality time_eq
 of_time = of_image (λ (t : ExcelDateTime). (t.value, (t.kind, t.is_1904)))
@@ -132,3 +131,12 @@ ref_to _ _ same = absurd (cc)
 pub data_ref_law : (a b : DataRef) →
     Decides (ref_eq a b) (value_of_data_ref a ≡ value_of_data_ref b)
 data_ref_law a b = (ref_from a b, ref_to a b)
+
+-- cells by their positions and by what `==` says of their values
+pub cell_law : {X : Type 0} (eq : X → X → Bool) (a b : Cell X)
+    → (((nat_eq a.pos.0 b.pos.0 && nat_eq a.pos.1 b.pos.1) && eq a.val b.val) ≡ true)
+    ↔ ((a.pos ≡ b.pos) × (eq a.val b.val ≡ true))
+cell_law eq a b =
+    let all = Decides-and _ (eq a.val b.val) (of_pairs of_number of_number a.pos b.pos)
+    (λ h. h, λ h. h) in
+    all

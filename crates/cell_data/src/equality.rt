@@ -1,12 +1,14 @@
 //! What `==`, a copy and a default of what cells hold are. Texts are the same by their bytes, and
 //! anything else is by what it is.
 ghost use Rattle.std.specs.Prelude.{◌≡◌, ◌↔◌, true};
-ghost use Rattle.decimals.specs.Equality.{IsEquality, CopiesItself};
+ghost use Rattle.equalities.specs.Equality.{IsEquality, CopiesItself};
 ghost use Rattle.cell_data.specs.CellValue.{value_of_data, value_of_data_ref};
+ghost use Rattle.cell_data.specs.declared.cell.Cell.{Cell};
 ghost use Rattle.cell_data.specs.declared.value.Data.{Data};
 ghost use Rattle.cell_data.specs.declared.value.DataRef.{DataRef};
 ghost use Rattle.cell_data.specs.declared.value.HeaderRow.{HeaderRow};
 
+use crate::cell::Cell;
 use crate::format::CellFormat;
 use crate::value::{
     CellErrorType, Data, DataRef, ExcelDateTime, ExcelDateTimeType, HeaderRow, UnknownCellError,
@@ -23,6 +25,13 @@ pub fn equality_is_by_all_fields()
     ensures failure { IsEquality ⟦<CellErrorType as PartialEq>⟧.eq }
     ensures format { IsEquality ⟦<CellFormat as PartialEq>⟧.eq }
     ensures header_row { IsEquality ⟦<HeaderRow as PartialEq>⟧.eq }
+    ensures unknown { IsEquality ⟦<UnknownCellError as PartialEq>⟧.eq }
+{}
+
+/// `a == b` exactly where both cells have the same position, and `==` holds of their values.
+pub fn cells_are_equal_by_both_fields<T: PartialEq>()
+    ensures { (a b : Cell T) → (⟦<Cell<T> as PartialEq>⟧.eq a b ≡ true)
+        ↔ ((a.pos ≡ b.pos) × (⟦<T as PartialEq>⟧.eq a.val b.val ≡ true)) }
 {}
 
 /// A copy of a value is that value, at each type of this crate that is `Copy`.

@@ -43,7 +43,8 @@ pub use area::least_area;
 pub use cell::Cell;
 pub use decimals::Decimal;
 pub use equality::{
-    copies_are_the_same, equality_is_by_all_fields, the_first_row_with_a_value_is_the_default,
+    cells_are_equal_by_both_fields, copies_are_the_same, equality_is_by_all_fields,
+    the_first_row_with_a_value_is_the_default,
 };
 pub use format::{
     CellFormat, builtin_format_by_id, builtin_format_code_by_id, detect_custom_number_format,

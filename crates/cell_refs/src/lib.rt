@@ -23,6 +23,7 @@ mod reference_text;
 
 pub use column::{ColumnName, column_names_read_back, column_number_to_name};
 pub use dimensions::{Dimensions, get_dimension};
+pub use equality::{copies_are_the_same, equality_is_by_all_fields};
 pub use error::RefError;
 pub use position::{get_row, get_row_column};
 pub use reference_text::{

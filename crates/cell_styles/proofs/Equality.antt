@@ -4,8 +4,10 @@ use Rattle.std.proofs.Common.{rules}
 use Rattle.std.specs.Bool.{beq}
 use Rattle.std.specs.Option.{option_eq}
 use Rattle.std.specs.Cmp.Lexicographic.{pointwise}
-use Rattle.decimals.specs.Equality.{IsEquality}
-use Rattle.decimals.proofs.Equality.{of_pairs, of_image, of_decimal}
+use Rattle.equalities.specs.Equality.{IsEquality}
+use Rattle.equalities.proofs.Equality.{of_pairs, of_image, of_options, of_bool, of_number}
+use Rattle.equalities.proofs.Equality.{of_text}
+use Rattle.decimals.proofs.Equality.{of_decimal}
 use Rattle.cell_styles.specs.Font.{FontFields}
 use Rattle.cell_styles.specs.StyleFormats.{NumberFormatFields}
 use Rattle.cell_styles.specs.declared.alignment.Alignment.{Alignment}
@@ -31,13 +33,6 @@ use Rattle.cell_styles.specs.contracts.font.UnderlineStylePartialEq.TheImpl as u
 use Rattle.cell_styles.specs.contracts.number_format.NumberFormatPartialEq.TheImpl as number_format
 use Rattle.cell_styles.specs.contracts.protection.ProtectionPartialEq.TheImpl as protection
 use Rattle.cell_styles.specs.contracts.style.StylePartialEq.TheImpl as style
-
--- a comparison of options
-pub of_options : {X : Type 0} {eq : X → X → Bool} → IsEquality eq → IsEquality (option_eq eq)
-of_options whole None None = (λ h. refl, λ h. refl)
-of_options whole None (Some y) = (λ h. absurd (cc), λ h. absurd (cc))
-of_options whole (Some x) None = (λ h. absurd (cc), λ h. absurd (cc))
-of_options whole (Some x) (Some y) = (λ h. ap Some ((whole x y).0 h), λ h. (whole x y).1 cc)
 
 of_border_style : IsEquality border_style.ghosts.eq
 of_border_style a b = search rules
@@ -82,12 +77,6 @@ of_vertical a b = search rules
 of_rotation : IsEquality rotation.ghosts.eq
 of_rotation a b = search rules
 
-of_bool : IsEquality beq
-of_bool a b = search rules
-
-of_number : IsEquality nat_eq
-of_number a b = search rules
-
 pub of_alignment : IsEquality alignment.ghosts.eq
 of_alignment = of_image
     (λ (x : Alignment). (
@@ -104,9 +93,6 @@ of_alignment = of_image
     }) (λ _. refl)
     (of_pairs of_horizontal (of_pairs of_vertical (of_pairs of_rotation (of_pairs of_bool
     (of_pairs (of_options of_number) of_bool)))))
-
-of_text : IsEquality (pointwise nat_eq)
-of_text a b = search rules
 
 of_weight : IsEquality weight.ghosts.eq
 of_weight a b = search rules

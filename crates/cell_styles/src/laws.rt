@@ -1,7 +1,7 @@
 ghost use Rattle.std.specs.Prelude.{◌≡◌, ℕ, ◌^◌, ◌<◌, List, length};
 ghost use Rattle.cell_refs.specs.Dimensions.{cell_count, IsInArea};
 ghost use Rattle.cell_refs.specs.declared.dimensions.Dimensions.{Dimensions};
-ghost use Rattle.decimals.specs.Equality.{IsEquality, CopiesItself};
+ghost use Rattle.equalities.specs.Equality.{IsEquality, CopiesItself};
 ghost use Rattle.cell_styles.specs.Color.{argb_of, color_of_argb};
 ghost use Rattle.cell_styles.specs.Default.{IsOnly, default_color, default_border, default_borders};
 ghost use Rattle.cell_styles.specs.Default.{default_font, default_alignment, default_fill};

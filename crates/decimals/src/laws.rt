@@ -3,7 +3,7 @@ ghost use Rattle.std.specs.Str.{all_ascii_digits};
 ghost use Rattle.std.specs.Str.Parse.{digits_value};
 ghost use Rattle.decimals.specs.Decimal.{number_of};
 ghost use Rattle.decimals.specs.Decimals.{trailing_zeros, without_trailing_zeros};
-ghost use Rattle.decimals.specs.Equality.{IsEquality, CopiesItself};
+ghost use Rattle.equalities.specs.Equality.{IsEquality, CopiesItself};
 ghost use Rattle.decimals.specs.declared.decimal.Decimal.{Decimal};
 
 use crate::Decimal;

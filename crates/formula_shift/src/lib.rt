@@ -27,6 +27,7 @@ mod spelling;
 
 pub use corner::Corner;
 pub use cut_formula::CutFormula;
+pub use equality::{copies_are_the_same, equality_is_by_all_fields};
 pub use expand::{expand_shared_formula, expand_shared_formula_into, expanded_len};
 pub use laws::{
     apostrophe_takes_a_character, corners_are_positions,

@@ -78,3 +78,15 @@ table_line name sheet area columns =
     escaped name
     ++ (next_field (escaped sheet) ++ (next_field (optional_area area)
     ++ (column_fields columns ++ codes "\n")))
+
+-- a field for each area
+abbrev pub area_fields : List Dimensions → List ℕ
+area_fields areas = flat_map (λ area. next_field (area_field area)) areas
+
+-- the line of a position alone
+abbrev pub position_line : ℕ × ℕ → List ℕ
+position_line position = reference position ++ codes "\n"
+
+-- the line of a position and areas: of a cell and what its formula names
+abbrev pub position_areas_line : ℕ × ℕ → List Dimensions → List ℕ
+position_areas_line position areas = reference position ++ (area_fields areas ++ codes "\n")

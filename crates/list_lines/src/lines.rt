@@ -1,9 +1,13 @@
-ghost use Rattle.std.specs.Prelude.{◌≡◌, ◌++◌, map, string_bytes, OnOk, IfSome};
+ghost use Rattle.std.specs.Prelude.{◌≡◌, ◌++◌, map, string_bytes, OnOk, IfSome, true};
 ghost use Rattle.std.specs.Option.{option_copied};
+ghost use Rattle.std.specs.List.{list_all};
+ghost use Rattle.cell_refs.specs.Positions.{is_sheet_area};
 ghost use Rattle.list_lines.specs.Lines.{next_field, text_field, optional_field, area_field};
 ghost use Rattle.list_lines.specs.Lines.{LiesInWorksheet, sheet_line, pair_line, area_line};
 ghost use Rattle.list_lines.specs.Lines.{link_line, property_line, custom_line};
 ghost use Rattle.list_lines.specs.Lines.{optional_area, column_fields, table_line};
+ghost use Rattle.list_lines.specs.Lines.{IsCellOfWorksheet, area_fields, position_line};
+ghost use Rattle.list_lines.specs.Lines.{position_areas_line};
 
 use cell_refs::{Dimensions, push_reference};
 use escaped_text::push_escaped;
@@ -170,5 +174,44 @@ pub fn push_table_line(
     out.push_str("\t")?;
     push_optional_area(out, area)?;
     push_columns(out, columns)?;
+    out.push_str("\n")
+}
+
+/// Appends the line of a position alone, whose row and column are counted from 0.
+pub fn push_position_line(out: &mut String, pos: (u32, u32)) -> Result<(), AllocError>
+    requires { IsCellOfWorksheet pos }
+    ensures { OnOk result (string_bytes out.new ≡ string_bytes out.old ++ position_line pos) }
+{
+    push_reference(out, pos.0, pos.1)?;
+    out.push_str("\n")
+}
+
+/// Appends areas, each behind a tab.
+fn push_areas(out: &mut String, areas: &[Dimensions]) -> Result<(), AllocError>
+    requires { list_all is_sheet_area areas.now ≡ true }
+    ensures { OnOk result
+        (string_bytes out.new ≡ string_bytes out.old ++ area_fields areas.now) }
+{
+    for area in areas {
+        out.push_str("\t")?;
+        push_area(out, *area)?;
+    }
+    Ok(())
+}
+
+/// Appends the line of a position, whose row and column are counted from 0, and of areas, each by
+/// the references of its two corners with a colon between them.
+pub fn push_position_areas_line(
+    out: &mut String,
+    pos: (u32, u32),
+    areas: &[Dimensions],
+) -> Result<(), AllocError>
+    requires position { IsCellOfWorksheet pos }
+    requires areas { list_all is_sheet_area areas.now ≡ true }
+    ensures { OnOk result
+        (string_bytes out.new ≡ string_bytes out.old ++ position_areas_line pos areas.now) }
+{
+    push_reference(out, pos.0, pos.1)?;
+    push_areas(out, areas)?;
     out.push_str("\n")
 }

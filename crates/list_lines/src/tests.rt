@@ -1,6 +1,6 @@
 use crate::{
-    push_area_line, push_custom_line, push_link_line, push_pair_line, push_property_line,
-    push_sheet_line, push_table_line,
+    push_area_line, push_custom_line, push_link_line, push_pair_line, push_position_areas_line,
+    push_position_line, push_property_line, push_sheet_line, push_table_line,
 };
 use cell_refs::Dimensions;
 use std::test::Fail;
@@ -77,6 +77,22 @@ fn tables_have_their_lines(rt: HostRuntime) -> Result<(), Fail> {
     }
     push_table_line(&mut out, "tab\there", "back\\", Some(ONE_CELL), &columns)?;
     let wanted = "lists:\nT1\tS\t-\ntab\\there\tback\\\\\tD1:D1\tName\ttwo\\nlines\t\n";
+    assert_eq!(rt; out.as_str(), wanted);
+    Ok(())
+}
+
+const COLUMN: Dimensions = Dimensions {
+    start: (0, 2),
+    end: (1_048_575, 2),
+};
+
+#[test]
+fn positions_have_their_lines(rt: HostRuntime) -> Result<(), Fail> {
+    let mut out = String::from_str(rt.alloc(), "lists:\n")?;
+    push_position_line(&mut out, (6, 27))?;
+    push_position_areas_line(&mut out, (1_048_575, 16_383), &[])?;
+    push_position_areas_line(&mut out, (0, 0), &[COLUMN, ONE_CELL])?;
+    let wanted = "lists:\nAB7\nXFD1048576\nA1\tC1:C1048576\tD1:D1\n";
     assert_eq!(rt; out.as_str(), wanted);
     Ok(())
 }

@@ -7,6 +7,7 @@ pub mod Opened
 pub mod Outermost
 pub mod PartNames
 pub mod Parts
+pub mod SameValues
 pub mod Sections
 pub mod Steps
 pub mod StoredTexts

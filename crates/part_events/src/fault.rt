@@ -10,14 +10,39 @@ use thiserror::Error;
 #[derive(Clone, Copy, Debug, PartialEq, Eq, Error)]
 pub enum XmlFault {
     /// An end whose whole name is not that of the innermost open element.
-    #[error("end tag mismatch at {at}")]
+    #[error("{} at {}", self.description(), self.place())]
     EndMismatch { at: u64 },
     /// The part has `at` events, and ends inside an element that was to be read to its end.
-    #[error("unclosed element at {at}")]
+    #[error("{} at {}", self.description(), self.place())]
     Unclosed { at: u64 },
     /// A reference without a character.
-    #[error("unknown entity at {at}")]
+    #[error("{} at {}", self.description(), self.place())]
     Entity { at: u64 },
+}
+
+impl XmlFault {
+    ghost use Rattle.part_events.specs.StreamFaults.{markup_description, markup_place};
+
+    /// What is wrong, in words.
+    pub fn description(&self) -> &'static str
+        ensures { result.now ≡ markup_description self.now }
+    {
+        match self {
+            XmlFault::EndMismatch { .. } => "end tag mismatch",
+            XmlFault::Unclosed { .. } => "unclosed element",
+            XmlFault::Entity { .. } => "unknown entity",
+        }
+    }
+
+    /// The number of the event at which it is wrong, counted from 0.
+    pub fn place(&self) -> u64
+        ensures { result ≡ markup_place self.now }
+    {
+        match *self {
+            XmlFault::EndMismatch { at } | XmlFault::Unclosed { at } | XmlFault::Entity { at } =>
+                at,
+        }
+    }
 }
 
 /// Why a part could not be read on.
@@ -31,14 +56,15 @@ pub enum StreamError {
 }
 
 impl fmt::Display for StreamError {
+    ghost use Rattle.std.specs.Prelude.{Some};
     ghost use Rattle.part_events.specs.StreamFaults.{stream_text};
 
-    ghost output = { stream_text };
+    ghost output = { λ error. Some (stream_text error) };
 
     fn fmt<W: fmt::Write>(&self, f: &mut fmt::Formatter<W>) -> fmt::Result {
         match self {
             StreamError::Io => f.write_str("the package could not be read"),
-            StreamError::Xml(fault) => write!(f, "{fault}"),
+            StreamError::Xml(fault) => write!(f, "{} at {}", fault.description(), fault.place()),
             StreamError::OutOfMemory => f.write_str("out of memory"),
         }
     }

@@ -60,6 +60,7 @@ mod text;
 mod walk;
 
 pub use cursor::Cursor;
+pub use equality::{copies_are_the_same, equality_is_by_all_fields};
 pub use event::{PartEvent, StartTag};
 pub use failing::FailingPackage;
 pub use fault::{StreamError, XmlFault};

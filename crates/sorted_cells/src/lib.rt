@@ -31,6 +31,7 @@
 #![tactic(auto)]
 
 mod area_cells;
+mod equality;
 mod keeping;
 mod owned_cells;
 mod placed_cells;
@@ -38,6 +39,7 @@ mod row;
 mod sorted;
 
 pub use area_cells::AreaCells;
+pub use equality::copies_are_the_same;
 pub use owned_cells::OwnedCells;
 pub use placed_cells::PlacedCells;
 pub use sorted::SortedCells;

@@ -1,5 +1,5 @@
 -- What the program ends with after each refusal: a status and a text.
-use Rattle.std.specs.Prelude.{ℕ, List, codes, Option, Some}
+use Rattle.std.specs.Prelude.{ℕ, List, codes}
 use Rattle.xlsx_error.specs.XlsxError.{text_of}
 use Rattle.xlsx_error.specs.declared.error.XlsxError.{XlsxError}
 use Rattle.xlsx_error.specs.declared.error.XlsxError.TheVariants as workbook
@@ -24,15 +24,15 @@ status_of OutOfMemory = 8
 status_of BoxTooLarge = 10
 
 -- the text of an error of the program
-abbrev pub error_text : ToolError → Option (List ℕ)
-error_text Usage = Some (codes "usage")
-error_text ReadFault = Some (codes "read fault")
-error_text InputTooLarge = Some (codes "input too large")
-error_text NotAPackage = Some (codes "not a package")
+abbrev pub error_text : ToolError → List ℕ
+error_text Usage = codes "usage"
+error_text ReadFault = codes "read fault"
+error_text InputTooLarge = codes "input too large"
+error_text NotAPackage = codes "not a package"
 error_text (Workbook error) = text_of error
-error_text WriteFault = Some (codes "write fault")
-error_text OutOfMemory = Some (codes "out of memory")
-error_text BoxTooLarge = Some (codes "box too large")
+error_text WriteFault = codes "write fault"
+error_text OutOfMemory = codes "out of memory"
+error_text BoxTooLarge = codes "box too large"
 
 -- what the refusal of a workbook becomes
 abbrev pub of_workbook : XlsxError → ToolError

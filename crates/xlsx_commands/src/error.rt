@@ -48,9 +48,10 @@ impl ToolError {
 }
 
 impl fmt::Display for ToolError {
+    ghost use Rattle.std.specs.Prelude.{Some};
     ghost use Rattle.xlsx_commands.specs.Status.{error_text};
 
-    ghost output = { error_text };
+    ghost output = { λ error. Some (error_text error) };
 
     fn fmt<W: fmt::Write>(&self, f: &mut fmt::Formatter<W>) -> fmt::Result {
         match self {

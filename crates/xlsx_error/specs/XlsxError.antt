@@ -1,8 +1,12 @@
 -- The refusals of reading a workbook: their texts, and what the refusals of the layers below
 -- become.
-use Rattle.std.specs.Prelude.{ℕ, List, ◌++◌, codes, string_bytes, true, Option, Some, None}
+use Rattle.std.specs.Prelude.{ℕ, List, ◌++◌, codes, string_bytes, true}
 use Rattle.std.specs.Fmt.{decimal, digits}
+use Rattle.attr_text.specs.TextFaults.{attribute_text}
+use Rattle.attr_text.specs.declared.fault.AttrFault.{AttrFault}
+use Rattle.part_events.specs.StreamFaults.{markup_text}
 use Rattle.part_events.specs.declared.fault.StreamError.{StreamError}
+use Rattle.part_events.specs.declared.fault.XmlFault.{XmlFault}
 use Rattle.part_events.specs.declared.fault.StreamError.TheVariants as stream
 use Rattle.cell_refs.specs.declared.error.RefError.{RefError}
 use Rattle.cell_refs.specs.declared.error.RefError.TheVariants as ref
@@ -38,39 +42,94 @@ of_reference ref.ColumnNumberOverflow = ColumnNumberOverflow
 of_reference ref.RowNumberOverflow = RowNumberOverflow
 of_reference (ref.DimensionCount count) = DimensionCount count
 
--- the text of a refusal; those of markup and of attributes end in the text of their fault, which is
--- shown by tests
-abbrev pub text_of : XlsxError → Option (List ℕ)
-text_of OutOfMemory = Some (codes "out of memory")
-text_of Failed = Some (codes "the reader has failed before")
-text_of Io = Some (codes "I/O error")
-text_of (Xml fault) = None
-text_of (XmlAttr fault) = None
-text_of (ParseFloat text) = Some (codes "Parse float error: " ++ string_bytes text)
-text_of (ParseInt text) = Some (codes "Parse integer error: " ++ string_bytes text)
+-- the text of a refusal
+abbrev pub text_of : XlsxError → List ℕ
+text_of OutOfMemory = codes "out of memory"
+text_of Failed = codes "the reader has failed before"
+text_of Io = codes "I/O error"
+text_of (Xml fault) = codes "Xml error: " ++ markup_text fault
+text_of (XmlAttr fault) = codes "Xml attribute error: " ++ attribute_text fault
+text_of (ParseFloat text) = codes "Parse float error: " ++ string_bytes text
+text_of (ParseInt text) = codes "Parse integer error: " ++ string_bytes text
 text_of (XmlEof name) =
-    Some (codes "Unexpected end of xml, expecting '</" ++ (name.now ++ codes ">'"))
-text_of (UnexpectedNode name) = Some (codes "Expecting '" ++ (name.now ++ codes "' node"))
-text_of (FileNotFound name) = Some (codes "File not found '" ++ (string_bytes name ++ codes "'"))
-text_of RelationshipNotFound = Some (codes "Relationship not found")
+    codes "Unexpected end of xml, expecting '</" ++ (name.now ++ codes ">'")
+text_of (UnexpectedNode name) = codes "Expecting '" ++ (name.now ++ codes "' node")
+text_of (FileNotFound name) = codes "File not found '" ++ (string_bytes name ++ codes "'")
+text_of RelationshipNotFound = codes "Relationship not found"
 text_of (Alphanumeric byte) =
-    Some (codes "Expecting alphanumeric character, got " ++ digits 16 true byte)
-text_of RangeWithoutColumnComponent = Some (codes "Range is missing the expected column component.")
-text_of RangeWithoutRowComponent = Some (codes "Range is missing the expected row component.")
-text_of ColumnNumberOverflow = Some (codes "column number overflow")
-text_of RowNumberOverflow = Some (codes "row number overflow")
+    codes "Expecting alphanumeric character, got " ++ digits 16 true byte
+text_of RangeWithoutColumnComponent = codes "Range is missing the expected column component."
+text_of RangeWithoutRowComponent = codes "Range is missing the expected row component."
+text_of ColumnNumberOverflow = codes "column number overflow"
+text_of RowNumberOverflow = codes "row number overflow"
 text_of (DimensionCount count) =
-    Some (codes "Range dimension must be lower than 2. Got " ++ decimal count)
+    codes "Range dimension must be lower than 2. Got " ++ decimal count
 text_of (CellTAttribute typ) =
-    Some (codes "Unknown cell 't' attribute: \"" ++ (string_bytes typ ++ codes "\""))
-text_of (Unexpected text) = Some text.now
+    codes "Unknown cell 't' attribute: \"" ++ (string_bytes typ ++ codes "\"")
+text_of (Unexpected text) = text.now
 text_of (Unrecognized typ val) =
-    Some (codes "Unrecognized " ++ (typ.now ++ (codes ": " ++ string_bytes val)))
+    codes "Unrecognized " ++ (typ.now ++ (codes ": " ++ string_bytes val))
 text_of (CellError text) =
-    Some (codes "Unsupported cell error value '" ++ (string_bytes text ++ codes "'"))
+    codes "Unsupported cell error value '" ++ (string_bytes text ++ codes "'")
 text_of (WorksheetNotFound name) =
-    Some (codes "Worksheet '" ++ (string_bytes name ++ codes "' not found"))
-text_of (TableNotFound name) = Some (codes "Table '" ++ (string_bytes name ++ codes "' not found"))
-text_of (NotAWorksheet name) = Some (codes "Expecting a worksheet, got " ++ string_bytes name)
+    codes "Worksheet '" ++ (string_bytes name ++ codes "' not found")
+text_of (TableNotFound name) = codes "Table '" ++ (string_bytes name ++ codes "' not found")
+text_of (NotAWorksheet name) = codes "Expecting a worksheet, got " ++ string_bytes name
 text_of (PivotTableNotFound name) =
-    Some (codes "Pivot Table '" ++ (string_bytes name ++ codes "' was not found on worksheet"))
+    codes "Pivot Table '" ++ (string_bytes name ++ codes "' was not found on worksheet")
+
+-- a refusal as it is seen: which one, its texts by their bytes
+pub data Refusal : Type 0 where
+  out_of_memory : Refusal
+  failed : Refusal
+  io : Refusal
+  xml : XmlFault → Refusal
+  xml_attr : AttrFault → Refusal
+  parse_float : List ℕ → Refusal
+  parse_int : List ℕ → Refusal
+  xml_eof : List ℕ → Refusal
+  unexpected_node : List ℕ → Refusal
+  file_not_found : List ℕ → Refusal
+  relationship_not_found : Refusal
+  alphanumeric : ℕ → Refusal
+  range_without_column_component : Refusal
+  range_without_row_component : Refusal
+  column_number_overflow : Refusal
+  row_number_overflow : Refusal
+  dimension_count : ℕ → Refusal
+  cell_t_attribute : List ℕ → Refusal
+  unexpected : List ℕ → Refusal
+  unrecognized : List ℕ → List ℕ → Refusal
+  cell_error : List ℕ → Refusal
+  worksheet_not_found : List ℕ → Refusal
+  table_not_found : List ℕ → Refusal
+  not_a_worksheet : List ℕ → Refusal
+  pivot_table_not_found : List ℕ → Refusal
+
+-- what is seen of a refusal
+abbrev pub refusal_seen : XlsxError → Refusal
+refusal_seen OutOfMemory = out_of_memory
+refusal_seen Failed = failed
+refusal_seen Io = io
+refusal_seen (Xml fault) = xml fault
+refusal_seen (XmlAttr fault) = xml_attr fault
+refusal_seen (ParseFloat text) = parse_float (string_bytes text)
+refusal_seen (ParseInt text) = parse_int (string_bytes text)
+refusal_seen (XmlEof name) = xml_eof name.now
+refusal_seen (UnexpectedNode name) = unexpected_node name.now
+refusal_seen (FileNotFound name) = file_not_found (string_bytes name)
+refusal_seen RelationshipNotFound = relationship_not_found
+refusal_seen (Alphanumeric byte) = alphanumeric byte
+refusal_seen RangeWithoutColumnComponent = range_without_column_component
+refusal_seen RangeWithoutRowComponent = range_without_row_component
+refusal_seen ColumnNumberOverflow = column_number_overflow
+refusal_seen RowNumberOverflow = row_number_overflow
+refusal_seen (DimensionCount count) = dimension_count count
+refusal_seen (CellTAttribute typ) = cell_t_attribute (string_bytes typ)
+refusal_seen (Unexpected text) = unexpected text.now
+refusal_seen (Unrecognized typ val) = unrecognized typ.now (string_bytes val)
+refusal_seen (CellError text) = cell_error (string_bytes text)
+refusal_seen (WorksheetNotFound name) = worksheet_not_found (string_bytes name)
+refusal_seen (TableNotFound name) = table_not_found (string_bytes name)
+refusal_seen (NotAWorksheet name) = not_a_worksheet (string_bytes name)
+refusal_seen (PivotTableNotFound name) = pivot_table_not_found (string_bytes name)

@@ -62,17 +62,24 @@ pub enum XlsxError {
 }
 
 impl fmt::Display for XlsxError {
+    ghost use Rattle.std.specs.Prelude.{Some};
     ghost use Rattle.xlsx_error.specs.XlsxError.{text_of};
 
-    ghost output = { text_of };
+    ghost output = { λ error. Some (text_of error) };
 
     fn fmt<W: fmt::Write>(&self, f: &mut fmt::Formatter<W>) -> fmt::Result {
         match self {
             XlsxError::OutOfMemory => f.write_str("out of memory"),
             XlsxError::Failed => f.write_str("the reader has failed before"),
             XlsxError::Io => f.write_str("I/O error"),
-            XlsxError::Xml(fault) => write!(f, "Xml error: {fault}"),
-            XlsxError::XmlAttr(fault) => write!(f, "Xml attribute error: {fault}"),
+            XlsxError::Xml(fault) => {
+                let (what, place) = (fault.description(), fault.place());
+                write!(f, "Xml error: {what} at {place}")
+            }
+            XlsxError::XmlAttr(fault) => {
+                let (what, place) = (fault.description(), fault.place());
+                write!(f, "Xml attribute error: {what} at {place}")
+            }
             XlsxError::ParseFloat(text) => write!(f, "Parse float error: {text}"),
             XlsxError::ParseInt(text) => write!(f, "Parse integer error: {text}"),
             XlsxError::XmlEof(name) => { write!(f, "Unexpected end of xml, expecting '</{name}>'") }

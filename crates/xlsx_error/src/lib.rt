@@ -5,6 +5,8 @@
 //! decimals.
 #![tactic(auto)]
 
+mod equality;
 mod error;
 
+pub use equality::equality_is_by_all_fields;
 pub use error::XlsxError;

@@ -10,6 +10,7 @@
 #![tactic(auto)]
 
 mod custom_part;
+mod equality;
 mod laws;
 mod open_custom;
 mod open_property;
@@ -18,6 +19,7 @@ mod property_part;
 mod read;
 mod workbook_properties;
 
+pub use equality::{copies_are_the_same, equality_is_by_all_fields};
 pub use laws::properties_have_no_cause_of_a_refusal;
 pub use property::{Property, named_properties};
 pub use read::read_properties;

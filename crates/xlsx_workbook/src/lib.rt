@@ -11,11 +11,13 @@
 //! none; the call that opens its part joins one.
 #![tactic(auto)]
 
+mod equality;
 mod paths;
 mod sheet;
 mod sheet_element;
 mod workbook;
 
+pub use equality::{copies_are_the_same, equality_is_by_all_fields};
 pub use paths::{KeptPath, file_of};
 pub use sheet::{Metadata, Sheet, SheetEntry, SheetType, SheetVisible};
 pub use workbook::{SheetPlaces, WorkbookContents, read_contents};

@@ -1,0 +1,6 @@
+pub mod Denoting
+pub mod Evaluation
+pub mod Reading
+pub mod TokenView
+pub mod Tokens
+pub mod Trees

@@ -1,0 +1,91 @@
+-- A tree read from the left, by recursive descent: the steps that the code takes, on lists of tokens.
+use Rattle.std.specs.Prelude.{ℕ, zero, suc, Bool, if◌then◌else◌, List, [], ◌∷◌, length, Option}
+use Rattle.std.specs.Prelude.{Some, None, option_map, option_and_then}
+use Rattle.formula_shift.specs.declared.reference.Reference.{Reference}
+use Rattle.xlsx_check.specs.Tokens.{Token, constant, refers, sum, sign, opens, closes, comma}
+use Rattle.xlsx_check.specs.Trees.{Tree, literal, total, negated, grouped, joined_by}
+use Rattle.xlsx_check.specs.Trees.{is_comparison, is_addition, is_multiplication, cell_alone}
+
+-- a tree, and the tokens behind it
+pub record Read : Type 0 where
+  pub tree : Tree
+  pub rest : List Token
+
+abbrev pub read : Tree → List Token → Read
+read tree rest = record { tree = tree; rest = rest }
+
+abbrev pub read_as : (Tree → Tree) → Read → Read
+read_as f r = read (f r.tree) r.rest
+
+-- A tree goes on by each operator of a kind behind it, with the tree that `inner` reads behind that.
+-- `turns` is at least the number of tokens.
+abbrev pub chain_on : (Token → Bool) → (List Token → Option Read) → ℕ → Tree → List Token
+    → Option Read
+chain_on wanted inner zero left tokens = Some (read left tokens)
+chain_on wanted inner (suc turns) left [] = Some (read left [])
+chain_on wanted inner (suc turns) left (token ∷ tokens) =
+    if wanted token then option_and_then (λ r. option_and_then
+    (λ tree. chain_on wanted inner turns tree r.rest) (joined_by token left r.tree)) (inner tokens)
+    else Some (read left (token ∷ tokens))
+
+abbrev pub chain_read : (Token → Bool) → (List Token → Option Read) → List Token → Option Read
+chain_read wanted inner tokens =
+    option_and_then (λ r. chain_on wanted inner (length r.rest) r.tree r.rest) (inner tokens)
+
+abbrev pub product_read : (List Token → Option Read) → List Token → Option Read
+product_read factor tokens = chain_read is_multiplication factor tokens
+
+abbrev pub sum_read : (List Token → Option Read) → List Token → Option Read
+sum_read factor tokens = chain_read is_addition (product_read factor) tokens
+
+-- a sum goes on by one comparison behind it
+abbrev pub compared_on : (List Token → Option Read) → Tree → List Token → Option Read
+compared_on factor left [] = Some (read left [])
+compared_on factor left (token ∷ tokens) =
+    if is_comparison token then option_and_then (λ r. option_map
+    (λ tree. read tree r.rest) (joined_by token left r.tree)) (sum_read factor tokens)
+    else Some (read left (token ∷ tokens))
+
+abbrev pub comparison_read : (List Token → Option Read) → List Token → Option Read
+comparison_read factor tokens =
+    option_and_then (λ r. compared_on factor r.tree r.rest) (sum_read factor tokens)
+
+abbrev pub cell_read : List Token → Option Tree → Option Read
+cell_read rest tree = option_map (λ t. read t rest) tree
+
+abbrev pub closed_by : Tree → List Token → Option Read
+closed_by tree (closes ∷ rest) = Some (read (grouped tree) rest)
+closed_by tree _ = None
+
+-- references, and the tokens behind the parenthesis that closes them
+pub record ReferencesRead : Type 0 where
+  pub references : List Reference
+  pub rest : List Token
+
+abbrev pub with_first : Reference → ReferencesRead → ReferencesRead
+with_first r others = record { references = r ∷ others.references; rest = others.rest }
+
+-- references between commas, up to a closing parenthesis
+abbrev pub references_read : List Token → Option ReferencesRead
+references_read (refers r ∷ closes ∷ rest) = Some (record { references = r ∷ []; rest = rest })
+references_read (refers r ∷ comma ∷ tokens) = option_map (with_first r) (references_read tokens)
+references_read _ = None
+
+abbrev pub factor_read : ℕ → List Token → Option Read
+factor_read zero tokens = None
+factor_read (suc levels) (constant number ∷ rest) = Some (read (literal number) rest)
+factor_read (suc levels) (refers r ∷ rest) = cell_read rest (cell_alone r r.second)
+factor_read (suc levels) (sign ∷ tokens) = option_map (read_as negated) (factor_read levels tokens)
+factor_read (suc levels) (opens ∷ tokens) =
+    option_and_then (λ r. closed_by r.tree r.rest) (comparison_read (factor_read levels) tokens)
+factor_read (suc levels) (sum ∷ opens ∷ tokens) =
+    option_map (λ r. read (total r.references) r.rest) (references_read tokens)
+factor_read (suc levels) _ = None
+
+abbrev pub if_all : Tree → List Token → Option Tree
+if_all tree [] = Some tree
+if_all tree (token ∷ rest) = None
+
+unfoldable pub tree_read : List Token → Option Tree
+tree_read tokens =
+    option_and_then (λ r. if_all r.tree r.rest) (comparison_read (factor_read 65) tokens)

@@ -1,0 +1,122 @@
+-- The tokens of a formula that can be checked.
+use Rattle.std.specs.Prelude.{ℕ, ◌==◌, ◌&&◌, ◌||◌, Bool, true, false, if◌then◌else◌}
+use Rattle.std.specs.Prelude.{List, [], ◌∷◌, ◌++◌, codes, Option, Some, None, ℤ}
+use Rattle.std.specs.Char.{is_ascii_digit}
+use Rattle.std.specs.List.{list_all}
+use Rattle.std.specs.Str.{bytes_eq, str_to_ascii_lowercase}
+use Rattle.decimals.specs.Decimals.{decimal_of}
+use Rattle.formula_shift.specs.Pieces.{PieceKind, word_kind, other_kind, string_kind, quoted_kind}
+use Rattle.formula_shift.specs.Pieces.{group_kind, PieceText, pieces, joined_pieces}
+use Rattle.formula_shift.specs.Relocation.{piece_reference, first_byte}
+use Rattle.formula_shift.specs.declared.reference.Reference.{Reference}
+use Rattle.xlsx_check.specs.declared.token.Comparison.{Comparison}
+use Rattle.xlsx_check.specs.declared.token.Comparison.TheVariants.{Equal, Unequal, Below, Above}
+use Rattle.xlsx_check.specs.declared.token.Comparison.TheVariants.{UpTo, From}
+
+-- a token; a stray one is anything else, and stands in no formula that can be checked
+pub data Token : Type 0 where
+  constant : ℤ × ℤ → Token
+  refers : Reference → Token
+  sum : Token
+  plus : Token
+  minus : Token
+  sign : Token
+  times : Token
+  opens : Token
+  closes : Token
+  comma : Token
+  compares : Comparison → Token
+  stray : Token
+
+-- space, tab, LF and CR
+abbrev pub is_space : ℕ → Bool
+is_space b = b == 32 || (b == 9 || (b == 10 || b == 13))
+
+-- a token of one character
+abbrev pub symbol : ℕ → Token
+symbol b =
+    if b == 43 then plus
+    else (if b == 45 then minus
+    else (if b == 42 then times
+    else (if b == 40 then opens
+    else (if b == 41 then closes
+    else (if b == 44 then comma
+    else (if b == 61 then compares Equal
+    else (if b == 60 then compares Below
+    else (if b == 62 then compares Above
+    else stray))))))))
+
+-- a token of two characters
+abbrev pub pair_symbol : ℕ → ℕ → Option Token
+pair_symbol b c =
+    if b == 60 && c == 61 then Some (compares UpTo)
+    else (if b == 60 && c == 62 then Some (compares Unequal)
+    else (if b == 62 && c == 61 then Some (compares From)
+    else None))
+
+abbrev pub before_symbols : Option Token → ℕ → List Token → List Token → List Token
+before_symbols (Some token) b behind_one behind_two = token ∷ behind_two
+before_symbols None b behind_one behind_two = symbol b ∷ behind_one
+
+-- the tokens of a piece that is no Word, where the longest counts and white space is passed over
+abbrev pub symbols : List ℕ → List Token
+symbols [] = []
+symbols (b ∷ []) = if is_space b then [] else symbol b ∷ []
+symbols (b ∷ c ∷ bs) =
+    if is_space b then symbols (c ∷ bs)
+    else before_symbols (pair_symbol b c) b (symbols (c ∷ bs)) (symbols bs)
+
+abbrev pub is_sum : List ℕ → Option ℕ → Bool
+is_sum word None = false
+is_sum word (Some b) = b == 40 && bytes_eq (str_to_ascii_lowercase word) (codes "sum")
+
+-- digits with at most one point
+abbrev pub is_plain_number : List ℕ → Bool
+is_plain_number word = list_all (λ b. is_ascii_digit b || b == 46) word
+
+abbrev pub constant_or_stray : Option (ℤ × ℤ) → Token
+constant_or_stray (Some number) = constant number
+constant_or_stray None = stray
+
+-- the token of a Word that is no reference, where this byte is behind it
+abbrev pub word_token : List ℕ → Option ℕ → Token
+word_token word behind =
+    if is_plain_number word then constant_or_stray (decimal_of word)
+    else (if is_sum word behind then sum else stray)
+
+abbrev pub refers_or : Option Reference → Token → Token
+refers_or (Some reference) other = refers reference
+refers_or None other = other
+
+abbrev pub tokens_by : PieceKind → PieceText → Option ℕ → List Token
+tokens_by word_kind piece behind =
+    refers_or (piece_reference piece behind) (word_token piece.bytes behind) ∷ []
+tokens_by other_kind piece behind = symbols piece.bytes
+tokens_by string_kind piece behind = stray ∷ []
+tokens_by quoted_kind piece behind = stray ∷ []
+tokens_by group_kind piece behind = stray ∷ []
+
+abbrev pub tokens_of : List PieceText → List Token
+tokens_of [] = []
+tokens_of (p ∷ ps) = tokens_by p.kind p (first_byte (joined_pieces ps)) ++ tokens_of ps
+
+-- a number, a reference or a closing parenthesis
+abbrev pub is_operand_end : Token → Bool
+is_operand_end (constant number) = true
+is_operand_end (refers reference) = true
+is_operand_end closes = true
+is_operand_end _ = false
+
+abbrev pub signed : Bool → Token → Token
+signed false minus = sign
+signed behind_operand token = token
+
+-- a `-` that doesn't stand behind an operand is a sign
+abbrev pub with_signs : Bool → List Token → List Token
+with_signs behind_operand [] = []
+with_signs behind_operand (token ∷ tokens) =
+    signed behind_operand token ∷ with_signs (is_operand_end token) tokens
+
+-- the tokens of a formula
+unfoldable pub formula_tokens : List ℕ → List Token
+formula_tokens text = with_signs false (tokens_of (pieces text))
