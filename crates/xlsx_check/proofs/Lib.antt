@@ -6,7 +6,8 @@ pub mod Joins
 pub mod Judging
 pub mod Numbers
 pub mod Options
+pub mod Placing
+pub mod SameOutcomes
 pub mod Splitting
 pub mod Symbols
-pub mod Placing
 pub mod Whole

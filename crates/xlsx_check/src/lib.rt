@@ -6,6 +6,7 @@ mod ahead;
 mod checking;
 mod denotation;
 mod descent;
+mod equality;
 mod laws;
 mod outcome;
 mod token;
@@ -13,6 +14,7 @@ mod tokens;
 mod values;
 
 pub use checking::{compute, verdict};
+pub use equality::{copies_are_the_same, equality_is_by_all_fields};
 pub use laws::{
     descent_reads_the_tree_that_is_split, leftmost_trees_are_those_of_their_tokens,
     trees_are_spelled_as_their_tokens,
