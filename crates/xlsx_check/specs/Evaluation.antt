@@ -29,6 +29,7 @@ pub data Denoted : Type 0 where
   truth_past : Denoted
   unsupported : Denoted
 
+-- a number, or that it is past what is kept of one
 abbrev pub number_or_past : Option (ℤ × ℤ) → Denoted
 number_or_past (Some n) = a_number n
 number_or_past None = number_past
@@ -37,6 +38,7 @@ number_or_past None = number_past
 abbrev pub if_fits : ℤ → ℤ × ℤ → Denoted
 if_fits whole n = if has_bits 127 whole then number_or_past (decimal_from n) else number_past
 
+-- a number is 0
 abbrev pub is_zero : ℤ × ℤ → Bool
 is_zero n = nat_abs n.0 == 0
 
@@ -48,6 +50,7 @@ lower a b = if int_lt a b then a else b
 abbrev pub taken_to : ℤ → ℤ × ℤ → ℤ
 taken_to power n = n.0 *ℤ pos (10 ^ nat_abs (n.1 -ℤ power))
 
+-- the number with the other sign
 abbrev pub negative_of : ℤ × ℤ → Denoted
 negative_of n = if_fits (neg_ℤ n.0) (neg_ℤ n.0, n.1)
 
@@ -61,24 +64,29 @@ abbrev pub if_both_fit : ℤ → ℤ → ℤ → ℤ → Denoted
 if_both_fit power a b whole =
     if has_bits 127 a && has_bits 127 b then if_fits whole (whole, power) else number_past
 
+-- the sum of two numbers that are taken to the same power
 abbrev pub sum_at : ℤ → ℤ → ℤ → Denoted
 sum_at power a b = if_both_fit power a b (a +ℤ b)
 
+-- the difference of two numbers that are taken to the same power
 abbrev pub difference_at : ℤ → ℤ → ℤ → Denoted
 difference_at power a b = if_both_fit power a b (a -ℤ b)
 
+-- the sum of two numbers, exactly, or that it is past what is kept
 abbrev pub sum_of : ℤ × ℤ → ℤ × ℤ → Denoted
 sum_of a b =
     if is_zero b then a_number a
     else (if is_zero a then a_number b
     else sum_at (lower a.1 b.1) (taken_to (lower a.1 b.1) a) (taken_to (lower a.1 b.1) b))
 
+-- the difference of two numbers, exactly, or that it is past what is kept
 abbrev pub difference_of : ℤ × ℤ → ℤ × ℤ → Denoted
 difference_of a b =
     if is_zero b then a_number a
     else (if is_zero a then negative_of b
     else difference_at (lower a.1 b.1) (taken_to (lower a.1 b.1) a) (taken_to (lower a.1 b.1) b))
 
+-- the product of two numbers, exactly, or that it is past what is kept
 abbrev pub product_of : ℤ × ℤ → ℤ × ℤ → Denoted
 product_of a b = if_fits (a.0 *ℤ b.0) (a.0 *ℤ b.0, a.1 +ℤ b.1)
 
@@ -107,6 +115,7 @@ of_two f past number_past (a_number b) = past
 of_two f past number_past number_past = past
 of_two f past _ _ = unsupported
 
+-- what a sign makes of what stands behind it
 abbrev pub of_one : Denoted → Denoted
 of_one (a_number n) = negative_of n
 of_one number_past = number_past
@@ -134,14 +143,17 @@ abbrev pub values_within : List ((ℕ × ℕ) × CellValue) → Dimensions → L
 values_within values area =
     map (λ entry. entry.1) (filter (λ entry. is_in_area area entry.0) values)
 
+-- the sum of the values in the areas of these references
 abbrev pub total_of : List ((ℕ × ℕ) × CellValue) → List Reference → Denoted
 total_of values rs =
     fold with_value (a_number (pos 0, pos 0))
     (flat_map (λ r. values_within values (area_named r)) rs)
 
+-- the value at a position, or nothing
 abbrev pub value_placed : List ((ℕ × ℕ) × CellValue) → ℕ × ℕ → CellValue
 value_placed values position = unwrap_or (find position_cmp position values) nothing
 
+-- what a tree comes to, over the values of cells
 abbrev pub result_of : List ((ℕ × ℕ) × CellValue) → Tree → Denoted
 result_of values (literal n) = a_number n
 result_of values (cell r) = number_in (value_placed values (area_named r).start)
@@ -157,6 +169,7 @@ result_of values (product l r) =
 result_of values (compared c l r) =
     of_two (λ a b. a_truth (holds c (gap a b))) truth_past (result_of values l) (result_of values r)
 
+-- the same of a formula that may have no tree
 abbrev pub of_tree : List ((ℕ × ℕ) × CellValue) → Option Tree → Denoted
 of_tree values (Some t) = result_of values t
 of_tree values None = unsupported

@@ -1,19 +1,22 @@
 -- A tree read from the left, by recursive descent: the steps that the code takes, on lists of tokens.
-use Rattle.std.specs.Prelude.{ℕ, zero, suc, Bool, if◌then◌else◌, List, [], ◌∷◌, length, Option}
+use Rattle.std.specs.Prelude.{ℕ, zero, suc, Bool, true, false, not, if◌then◌else◌, List, [], ◌∷◌, length, Option}
 use Rattle.std.specs.Prelude.{Some, None, option_map, option_and_then}
 use Rattle.formula_shift.specs.declared.reference.Reference.{Reference}
 use Rattle.xlsx_check.specs.Tokens.{Token, constant, refers, sum, sign, opens, closes, comma}
 use Rattle.xlsx_check.specs.Trees.{Tree, literal, total, negated, grouped, joined_by}
 use Rattle.xlsx_check.specs.Trees.{is_comparison, is_addition, is_multiplication, cell_alone}
+use Rattle.xlsx_check.specs.Trees.{is_closing}
 
 -- a tree, and the tokens behind it
 pub record Read : Type 0 where
   pub tree : Tree
   pub rest : List Token
 
+-- a tree, and the tokens behind it
 abbrev pub read : Tree → List Token → Read
 read tree rest = record { tree = tree; rest = rest }
 
+-- what was read, changed, and the tokens behind it
 abbrev pub read_as : (Tree → Tree) → Read → Read
 read_as f r = read (f r.tree) r.rest
 
@@ -28,13 +31,16 @@ chain_on wanted inner (suc turns) left (token ∷ tokens) =
     (λ tree. chain_on wanted inner turns tree r.rest) (joined_by token left r.tree)) (inner tokens)
     else Some (read left (token ∷ tokens))
 
+-- operands with operators of a kind between them, each taking what stands to its left
 abbrev pub chain_read : (Token → Bool) → (List Token → Option Read) → List Token → Option Read
 chain_read wanted inner tokens =
     option_and_then (λ r. chain_on wanted inner (length r.rest) r.tree r.rest) (inner tokens)
 
+-- factors with `*` between them
 abbrev pub product_read : (List Token → Option Read) → List Token → Option Read
 product_read factor tokens = chain_read is_multiplication factor tokens
 
+-- products with `+` or `-` between them
 abbrev pub sum_read : (List Token → Option Read) → List Token → Option Read
 sum_read factor tokens = chain_read is_addition (product_read factor) tokens
 
@@ -46,22 +52,42 @@ compared_on factor left (token ∷ tokens) =
     (λ tree. read tree r.rest) (joined_by token left r.tree)) (sum_read factor tokens)
     else Some (read left (token ∷ tokens))
 
+-- sums, with at most one comparison between two
 abbrev pub comparison_read : (List Token → Option Read) → List Token → Option Read
 comparison_read factor tokens =
     option_and_then (λ r. compared_on factor r.tree r.rest) (sum_read factor tokens)
 
+-- the tree of a cell, if it is one, and the tokens behind it
 abbrev pub cell_read : List Token → Option Tree → Option Read
 cell_read rest tree = option_map (λ t. read t rest) tree
 
+-- a closing parenthesis stands in front
+abbrev pub closes_first : List Token → Bool
+closes_first [] = false
+closes_first (token ∷ tokens) = is_closing token
+
+-- a tree whose parenthesis is closed, and the tokens behind that
 abbrev pub closed_by : Tree → List Token → Option Read
-closed_by tree (closes ∷ rest) = Some (read (grouped tree) rest)
-closed_by tree _ = None
+closed_by tree [] = None
+closed_by tree (token ∷ rest) =
+    if is_closing token then Some (read (grouped tree) rest) else None
+
+-- a comparison in parentheses, of which the first was read
+abbrev pub group_read : (List Token → Option Read) → List Token → Option Read
+group_read factor tokens =
+    option_and_then (λ r. closed_by r.tree r.rest) (comparison_read factor tokens)
+
+-- the reference that stands in front, if one does
+abbrev pub first_reference : List Token → Option Reference
+first_reference (refers r ∷ tokens) = Some r
+first_reference _ = None
 
 -- references, and the tokens behind the parenthesis that closes them
 pub record ReferencesRead : Type 0 where
   pub references : List Reference
   pub rest : List Token
 
+-- a reference in front of others
 abbrev pub with_first : Reference → ReferencesRead → ReferencesRead
 with_first r others = record { references = r ∷ others.references; rest = others.rest }
 
@@ -71,21 +97,28 @@ references_read (refers r ∷ closes ∷ rest) = Some (record { references = r �
 references_read (refers r ∷ comma ∷ tokens) = option_map (with_first r) (references_read tokens)
 references_read _ = None
 
+-- a factor, inside fewer than so many parentheses and signs
 abbrev pub factor_read : ℕ → List Token → Option Read
 factor_read zero tokens = None
 factor_read (suc levels) (constant number ∷ rest) = Some (read (literal number) rest)
 factor_read (suc levels) (refers r ∷ rest) = cell_read rest (cell_alone r r.second)
 factor_read (suc levels) (sign ∷ tokens) = option_map (read_as negated) (factor_read levels tokens)
-factor_read (suc levels) (opens ∷ tokens) =
-    option_and_then (λ r. closed_by r.tree r.rest) (comparison_read (factor_read levels) tokens)
+factor_read (suc levels) (opens ∷ tokens) = group_read (factor_read levels) tokens
 factor_read (suc levels) (sum ∷ opens ∷ tokens) =
     option_map (λ r. read (total r.references) r.rest) (references_read tokens)
 factor_read (suc levels) _ = None
 
+-- a tree, where no token is left behind it
 abbrev pub if_all : Tree → List Token → Option Tree
 if_all tree [] = Some tree
 if_all tree (token ∷ rest) = None
 
+-- the tree that a descent reads of all tokens of a formula
 unfoldable pub tree_read : List Token → Option Tree
 tree_read tokens =
     option_and_then (λ r. if_all r.tree r.rest) (comparison_read (factor_read 65) tokens)
+
+-- no token of a kind stands in front
+abbrev pub stops : (Token → Bool) → List Token → Bool
+stops wanted [] = true
+stops wanted (token ∷ tokens) = not (wanted token)

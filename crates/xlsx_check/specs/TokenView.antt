@@ -8,6 +8,7 @@ use Rattle.xlsx_check.specs.declared.tokens.Tokens.{Tokens}
 use Rattle.xlsx_check.specs.Tokens.{Token, constant, refers, sum, plus, minus, sign, times, opens}
 use Rattle.xlsx_check.specs.Tokens.{closes, comma, compares, stray, symbols, tokens_of, with_signs}
 
+-- the token that is kept
 abbrev pub token_of : CodeToken → Token
 token_of (code.Constant number) = constant (number_of number)
 token_of (code.Refers reference) = refers reference

@@ -54,6 +54,7 @@ pair_symbol b c =
     else (if b == 62 && c == 61 then Some (compares From)
     else None))
 
+-- a token of two bytes in front of the tokens behind it, or one of the first byte alone
 abbrev pub before_symbols : Option Token → ℕ → List Token → List Token → List Token
 before_symbols (Some token) b behind_one behind_two = token ∷ behind_two
 before_symbols None b behind_one behind_two = symbol b ∷ behind_one
@@ -66,6 +67,7 @@ symbols (b ∷ c ∷ bs) =
     if is_space b then symbols (c ∷ bs)
     else before_symbols (pair_symbol b c) b (symbols (c ∷ bs)) (symbols bs)
 
+-- a word in front of an opening parenthesis is `SUM`, in letters of either case
 abbrev pub is_sum : List ℕ → Option ℕ → Bool
 is_sum word None = false
 is_sum word (Some b) = b == 40 && bytes_eq (str_to_ascii_lowercase word) (codes "sum")
@@ -74,6 +76,7 @@ is_sum word (Some b) = b == 40 && bytes_eq (str_to_ascii_lowercase word) (codes 
 abbrev pub is_plain_number : List ℕ → Bool
 is_plain_number word = list_all (λ b. is_ascii_digit b || b == 46) word
 
+-- a constant, or a stray token
 abbrev pub constant_or_stray : Option (ℤ × ℤ) → Token
 constant_or_stray (Some number) = constant number
 constant_or_stray None = stray
@@ -84,10 +87,12 @@ word_token word behind =
     if is_plain_number word then constant_or_stray (decimal_of word)
     else (if is_sum word behind then sum else stray)
 
+-- a reference, or the other token
 abbrev pub refers_or : Option Reference → Token → Token
 refers_or (Some reference) other = refers reference
 refers_or None other = other
 
+-- the tokens of a piece, by its kind and the byte behind it
 abbrev pub tokens_by : PieceKind → PieceText → Option ℕ → List Token
 tokens_by word_kind piece behind =
     refers_or (piece_reference piece behind) (word_token piece.bytes behind) ∷ []
@@ -96,6 +101,7 @@ tokens_by string_kind piece behind = stray ∷ []
 tokens_by quoted_kind piece behind = stray ∷ []
 tokens_by group_kind piece behind = stray ∷ []
 
+-- the tokens of pieces
 abbrev pub tokens_of : List PieceText → List Token
 tokens_of [] = []
 tokens_of (p ∷ ps) = tokens_by p.kind p (first_byte (joined_pieces ps)) ++ tokens_of ps
@@ -107,6 +113,7 @@ is_operand_end (refers reference) = true
 is_operand_end closes = true
 is_operand_end _ = false
 
+-- a minus is a sign, unless it stands behind an operand
 abbrev pub signed : Bool → Token → Token
 signed false minus = sign
 signed behind_operand token = token

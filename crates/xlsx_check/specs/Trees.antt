@@ -9,6 +9,7 @@ use Rattle.xlsx_check.specs.declared.token.Comparison.{Comparison}
 use Rattle.xlsx_check.specs.Tokens.{Token, constant, refers, sum, plus, minus, sign}
 use Rattle.xlsx_check.specs.Tokens.{times, opens, closes, comma, compares}
 
+-- what a formula computes: constants, cells, sums of areas, and operators on trees
 pub data Tree : Type 0 where
   literal : ℤ × ℤ → Tree
   cell : Reference → Tree
@@ -32,9 +33,11 @@ pub record Cut : Type 0 where
   pub token : Token
   pub behind : List Token
 
+-- a token in front of those before a cut
 abbrev pub onto_front : Token → Cut → Cut
 onto_front token cut = record { front = token ∷ cut.front; token = cut.token; behind = cut.behind }
 
+-- a later cut, or one at this token, if it may be cut here
 abbrev pub or_cut_here : Option Cut → Bool → Token → List Token → Option Cut
 or_cut_here (Some later) here token behind = Some (onto_front token later)
 or_cut_here None here token behind =
@@ -47,15 +50,18 @@ last_cut wanted opened (token ∷ tokens) =
     or_cut_here (last_cut wanted (open_behind opened token) tokens)
     (opened == 0 && wanted token) token tokens
 
+-- a token compares
 abbrev pub is_comparison : Token → Bool
 is_comparison (compares c) = true
 is_comparison _ = false
 
+-- a token is `+` or `-` between operands
 abbrev pub is_addition : Token → Bool
 is_addition plus = true
 is_addition minus = true
 is_addition _ = false
 
+-- a token is `*`
 abbrev pub is_multiplication : Token → Bool
 is_multiplication times = true
 is_multiplication _ = false
@@ -68,6 +74,7 @@ joined_by times left right = Some (product left right)
 joined_by (compares c) left right = Some (compared c left right)
 joined_by _ left right = None
 
+-- two trees joined by the token between them, where both are there
 abbrev pub both_trees : Token → Option Tree → Option Tree → Option Tree
 both_trees token (Some left) (Some right) = joined_by token left right
 both_trees token (Some left) None = None
@@ -87,9 +94,11 @@ chained wanted inner zero tokens = None
 chained wanted inner (suc turns) tokens =
     cut_by inner (chained wanted inner turns) tokens (last_cut wanted 0 tokens)
 
+-- the tree of tokens that are cut at tokens of a kind
 abbrev pub chain_of : (Token → Bool) → (List Token → Option Tree) → List Token → Option Tree
 chain_of wanted inner tokens = chained wanted inner (suc (length tokens)) tokens
 
+-- the tree of tokens that are cut at their one comparison
 abbrev pub compared_at : (List Token → Option Tree) → List Token → Option Cut → Option Tree
 compared_at inner tokens None = inner tokens
 compared_at inner tokens (Some cut) =
@@ -105,6 +114,7 @@ abbrev pub cell_alone : Reference → Option Corner → Option Tree
 cell_alone r None = Some (cell r)
 cell_alone r (Some second) = None
 
+-- a token closes a parenthesis
 abbrev pub is_closing : Token → Bool
 is_closing closes = true
 is_closing _ = false
@@ -147,11 +157,13 @@ formula_tree tokens = tree_within 65 tokens
 
 -- ---- what trees are spelled as
 
+-- the tokens of references with commas between them
 abbrev pub references_spelled : List Reference → List Token
 references_spelled [] = []
 references_spelled (r ∷ []) = refers r ∷ []
 references_spelled (r ∷ next ∷ others) = refers r ∷ comma ∷ references_spelled (next ∷ others)
 
+-- the tokens of a tree
 abbrev pub spelled : Tree → List Token
 spelled (literal number) = constant number ∷ []
 spelled (cell r) = refers r ∷ []

@@ -2,13 +2,20 @@
 //! hold.
 #![tactic(auto)]
 
+mod ahead;
+mod checking;
 mod denotation;
+mod descent;
 mod laws;
+mod outcome;
 mod token;
 mod tokens;
+mod values;
 
+pub use checking::{compute, verdict};
 pub use laws::{
     descent_reads_the_tree_that_is_split, leftmost_trees_are_those_of_their_tokens,
     trees_are_spelled_as_their_tokens,
 };
+pub use outcome::{Computed, Outcome, Verdict};
 pub use token::Comparison;

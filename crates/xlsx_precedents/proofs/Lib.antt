@@ -1,0 +1,5 @@
+pub mod OwnAreas
+pub mod Numbering
+pub mod Merging
+pub mod Finding
+pub mod Gathering
