@@ -10,6 +10,7 @@ DOCUMENTS = [TOP / "README.md", TOP / "CONTRIBUTING.md", *sorted((TOP / "docs").
 OF_TESTS = {
     "test_packages",
     "test_tables",
+    "worked_checks",
     "worked_lists",
     "worked_rows",
     "worked_styles",
