@@ -1,4 +1,5 @@
 //! Formulas that are checked.
+ghost use Rattle.std.specs.Prelude.{◌<◌, IfOk};
 
 use cell_data::{Cell, CellErrorType, Data, Decimal, ExcelDateTime, ExcelDateTimeType, Range};
 use std::alloc::{AllocError, Global};
@@ -119,7 +120,9 @@ fn value(alloc: Global, kind: &str, text: &str) -> Result<Data, Fail> {
 }
 
 /// A row, a column and a word, with blanks between them.
-fn placed(text: &str) -> Result<((u32, u32), &str), Fail> {
+fn placed(text: &str) -> Result<((u32, u32), &str), Fail>
+    ensures { IfOk result (λ placed. (placed.0.0 < 65536) × (placed.0.1 < 256)) }
+{
     if let Some((row, rest)) = text.split_once(' ') {
         if let Some((column, word)) = rest.split_once(' ') {
             if let (Ok(row), Ok(column)) = (row.parse::<u16>(), column.parse::<u8>()) {
