@@ -6,7 +6,7 @@ use cell_data::Range;
 use std::alloc::{AllocError, Global};
 use std::test::Fail;
 use test_tables::{assert_text, cases, cut};
-use xlsx_precedents::{DependencyIndex, areas_of};
+use xlsx_precedents::{DependencyIndex, areas_of, push_dependents, push_precedents};
 
 /// Two formulas of a sheet.
 const TWO: &str = "A1 SUM(B1:C2)+$D$4+Other!E5\nB1 A:A";
@@ -104,6 +104,19 @@ fn an_index_finds_what_all_areas_give(rt: HostRuntime) -> Result<(), Fail> {
         }
     }
     Ok(())
+}
+
+#[test]
+fn lines_tell_what_formulas_name(rt: HostRuntime) -> Result<(), Fail> {
+    let alloc = rt.alloc();
+    let formulas = sheet(alloc, "B2 1+1\nA1 SUM(B1:C2)+$D$4+Other!E5\nB1 A:A")?;
+    let mut out = String::from_str(alloc, "lines:\n")?;
+    push_precedents(&mut out, &formulas)?;
+    push_dependents(&mut out, &formulas, (6, 0))?;
+    push_dependents(&mut out, &formulas, (4, 4))?;
+    push_dependents(&mut out, &formulas, (0, 1))?;
+    let wanted = "lines:\nA1\tB1:C2\tD4:D4\nB1\tA1:A1048576\nB2\nB1\nA1\n";
+    assert_text(&out, wanted, "three formulas")
 }
 
 #[test]
