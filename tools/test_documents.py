@@ -13,6 +13,7 @@ OF_TESTS = {
     "test_packages",
     "test_tables",
     "worked_checks",
+    "worked_precedents",
     "worked_styles",
     "worked_values",
 }

@@ -3,3 +3,4 @@ pub mod Numbering
 pub mod Merging
 pub mod Finding
 pub mod Gathering
+pub mod Standing
