@@ -69,7 +69,7 @@ FORMS = {1: iter, 2: joined}
 
 
 def upgraded(path):
-    """The text in version 2 of a package text of version 1, as Python writes it, and a line feed."""
+    """The text in version 2 of a package text, as Python writes it, and a line feed."""
     with open(path, encoding="utf-8") as text:
         value = json.load(text)
     for part in value["parts"]:

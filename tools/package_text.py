@@ -374,7 +374,7 @@ class Workbook:
     def fits(self, names):
         """Whether the text of parts can be short enough, for all that the archive says of their
         sizes. What is too large is told so before it is cut."""
-        # The name of an element with nothing in it may stand twice in markup, and once in version 2.
+        # Of an element with nothing in it version 2 has the name once, and markup may have it twice.
         most = self.limit if self.version == 1 else 2 * self.limit
         if sum(self.entries[name].file_size for name in names) <= most:
             return True

@@ -265,7 +265,7 @@ class Parts(Files):
             data = archive([*MINIMAL.items(), ("xl/workbook.xml", "<b/>")])
         parts = {part["name"]: part["events"] for part in self.package_of(data)["parts"]}
         self.assertEqual(list(parts), list(MINIMAL))
-        self.assertEqual(parts["xl/workbook.xml"], [["s", "b", ""], ["e", "b"]])
+        self.assertEqual(parts["xl/workbook.xml"], [["b", "b", ""]])
 
     def test_parts_whose_names_differ_in_case_are_both_written(self):
         self.assertEqual(

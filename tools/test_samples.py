@@ -64,8 +64,11 @@ PAIR = re.compile(r"""\s+([^\s=]+)\s*=\s*(?:"([^"]*)"|'([^']*)')""")
 
 def parted(events):
     """The events of version 1, of those of version 2."""
-    both = ([["s", *event[1:]], ["e", event[1]]] if event[0] == "b" else [event] for event in events)
-    return [event for some in both for event in some]
+    told = []
+    for event in events:
+        kind, *texts = event
+        told += [["s", *texts], ["e", texts[0]]] if kind == "b" else [event]
+    return told
 
 
 def package_text(path, *words):
@@ -171,7 +174,7 @@ class Samples(unittest.TestCase):
         self.assertEqual(answer, (0, wanted, b""), (path.name, words))
 
     def test_workbooks_give_their_lines(self):
-        """From the parts that are written without being asked for, and from all, in each version."""
+        """From the parts that are written without being asked for, in each version, and from all."""
         self.assertEqual({path.stem for path in SAMPLES.glob("*.lines")}, set(LINES))
         for name, words in LINES.items():
             path = SAMPLES / f"{name.partition('.')[0]}.xlsx"

@@ -1,5 +1,5 @@
 -- Texts as they are printed: on one line, without tabs.
-use Rattle.std.specs.Prelude.{◌≡◌, false, ℕ, ◌==◌, ◌&&◌, not, List, [], ◌∷◌, Bool}
+use Rattle.std.specs.Prelude.{◌≡◌, false, ℕ, ◌==◌, ◌&&◌, not, List, [], ◌∷◌, ◌++◌, Bool}
 use Rattle.std.specs.Prelude.{if◌then◌else◌, codes}
 use Rattle.std.specs.List.{flat_map}
 
@@ -23,3 +23,8 @@ is_unescaped byte = not (byte == 92) && not (byte == 9) && not (byte == 10) && n
 abbrev pub StartsEscaped : List ℕ → Type 0
 StartsEscaped [] = Unit {0}
 StartsEscaped (byte ∷ bytes) = is_unescaped byte ≡ false
+
+-- the new text is the old one, or has more behind it
+pub record Extends (old new : List ℕ) : Type 0 where
+  pub more : List ℕ
+  pub joined : new ≡ old ++ more

@@ -1,6 +1,8 @@
-ghost use Rattle.std.specs.Prelude.{◌≡◌, ◌++◌, false, string_bytes, OnOk, IsUtf8};
+ghost use Rattle.std.specs.Prelude.{◌≡◌, ◌≤◌, ◌++◌, false, length, take, string_bytes};
+ghost use Rattle.std.specs.Prelude.{OnOk, OnErr, IsUtf8};
 ghost use Rattle.std.specs.List.{prefix_len};
-ghost use Rattle.escaped_text.specs.Escaped.{escaped_byte, escaped, is_unescaped, StartsEscaped};
+ghost use Rattle.std.specs.String.Boundary.{IsSplitPoint};
+ghost use Rattle.escaped_text.specs.Escaped.{escaped_byte, escaped, is_unescaped, StartsEscaped, Extends};
 
 use std::alloc::AllocError;
 
@@ -38,9 +40,11 @@ fn split_unescaped(text: &str) -> (&str, &str)
     text.split_at(unescaped_len(text.as_bytes()))
 }
 
-/// Appends the text, with `\`, tab, LF and CR in two characters each.
-pub fn push_escaped(out: &mut String, text: &str) -> Result<(), AllocError>
-    ensures { OnOk result (string_bytes out.new ≡ string_bytes out.old ++ escaped text.now) }
+/// Appends the pieces of the text, those that are escaped among them. A refusal may leave a front of
+/// them behind.
+fn push_pieces(out: &mut String, text: &str) -> Result<(), AllocError>
+    ensures ok { OnOk result (string_bytes out.new ≡ string_bytes out.old ++ escaped text.now) }
+    ensures err { OnErr result (Extends (string_bytes out.old) (string_bytes out.new)) }
 {
     let mut rest = text;
     'pieces: while !rest.is_empty() {
@@ -53,4 +57,34 @@ pub fn push_escaped(out: &mut String, text: &str) -> Result<(), AllocError>
         rest = &behind[1..];
     }
     Ok(())
+}
+
+/// Gives back what an append came to, and cuts the text back to its first `len` bytes where it was
+/// refused.
+pub fn or_cut_back(
+    out: &mut String,
+    len: usize,
+    appended: Result<(), AllocError>,
+) -> Result<(), AllocError>
+    requires { OnErr appended (IsSplitPoint (string_bytes out.old) len) }
+    ensures same { result ≡ appended }
+    ensures ok { OnOk result (string_bytes out.new ≡ string_bytes out.old) }
+    ensures err { OnErr result (string_bytes out.new ≡ take len (string_bytes out.old)) }
+{
+    if appended.is_err() {
+        out.truncate(len);
+    }
+    appended
+}
+
+/// Appends the text, with `\`, tab, LF and CR in two characters each. A refusal leaves the text that
+/// it is appended to as it was.
+#[tactic(auto, using(crate::proofs::Extending::cut_back))]
+pub fn push_escaped(out: &mut String, text: &str) -> Result<(), AllocError>
+    ensures ok { OnOk result (string_bytes out.new ≡ string_bytes out.old ++ escaped text.now) }
+    ensures err { OnErr result (string_bytes out.new ≡ string_bytes out.old) }
+{
+    let len = out.len();
+    let appended = push_pieces(out, text);
+    or_cut_back(out, len, appended)
 }

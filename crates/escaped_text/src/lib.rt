@@ -5,4 +5,4 @@
 
 mod escaping;
 
-pub use escaping::push_escaped;
+pub use escaping::{or_cut_back, push_escaped};

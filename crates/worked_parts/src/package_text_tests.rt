@@ -17,7 +17,8 @@ const SPELLED: &str = r#"
 {"parts":[],"version":1}
 =
 
-{"version":1,"made by":["x",-3],"parts":[{"name":"a","events":[["o"],["r","amp"],["d","x"]],"more":null}]}
+{"version":1,"made by":["x",-3],"parts":[
+{"name":"a","events":[["o"],["r","amp"],["d","x"]],"more":null}]}
 = a ! &amp; [x];
 
 {"version":1,"parts":[{"name":"a","events":[]},{"name":"a","events":[["t",""]]}]}
@@ -167,8 +168,11 @@ const UPGRADED: &str = r#"
 {"version":1,"parts":[]}
 = {"parts":[],"version":2}
 
-{"version":1,"parts":[{"name":"a","events":[]},{"name":"a","events":[["d","d"],["r","amp"]]},{"name":"","events":[["t",""]]}]}
-= {"parts":[{"events":[],"name":"a"},{"events":[["d","d"],["r","amp"]],"name":"a"},{"events":[["t",""]],"name":""}],"version":2}
+{"version":1,"parts":[{"name":"a","events":[]},{"name":"a","events":[["d","d"],["r","amp"]]}]}
+= {"parts":[{"events":[],"name":"a"},{"events":[["d","d"],["r","amp"]],"name":"a"}],"version":2}
+
+{"version":1,"parts":[{"name":"","events":[["t",""]]}]}
+= {"parts":[{"events":[["t",""]],"name":""}],"version":2}
 
 {"version":2,"parts":[{"name":"a","events":[["b","",""],["s","b","k"],["e","b"]]}]}
 = {"parts":[{"events":[["b","",""],["b","b","k"]],"name":"a"}],"version":2}
@@ -185,7 +189,8 @@ const UPGRADED: &str = r#"
 {"version":1,"parts":[{"name":"a","events":[["s","a",""],["o"],["e","a"]]}]}
 = {"parts":[{"events":[["s","a",""],["o"],["e","a"]],"name":"a"}],"version":2}
 
-{"version":1,"parts":[{"name":"a\/b","events":[["s","a"," k=\"\\\u0001\u000a\u001f\ud83d\ude00\""],["e","a"]]}]}
+{"version":1,"parts":[
+{"name":"a\/b","events":[["s","a"," k=\"\\\u0001\u000a\u001f\ud83d\ude00\""],["e","a"]]}]}
 = {"parts":[{"events":[["b","a"," k=\"\\\u0001\n\u001f😀\""]],"name":"a/b"}],"version":2}
 "#;
 

@@ -5,6 +5,8 @@ use Rattle.std.specs.Cmp.{unsigned_Decides}
 use Rattle.std.specs.Option.{option_eq}
 use Rattle.std.specs.Prelude.{option_map, string_bytes, ◌↔◌}
 use Rattle.std.proofs.lemmas.Slice.Eq.{bytes_eq-Decides}
+use Rattle.equalities.specs.Equality.{IsEquality}
+use Rattle.equalities.proofs.Equality.{of_pairs, of_image, of_bool}
 use Rattle.cell_data.proofs.Equalities.{data_ref_law}
 use Rattle.xlsx_formulas.specs.Described.{description_seen}
 use Rattle.xlsx_formulas.proofs.SameMetadata.{metadata_law}
@@ -12,6 +14,8 @@ use Rattle.xlsx_cells.specs.Records.{formula_cell, metadata_cell}
 use Rattle.xlsx_cells.specs.contracts.cell_records.XlsxCellFormulaPartialEq.TheImpl as formula
 use Rattle.xlsx_cells.specs.contracts.cell_records.XlsxCellFormulaMetadataRecordPartialEq.TheImpl
     as metadata
+use Rattle.xlsx_cells.specs.contracts.children.WantsPartialEq.TheImpl as wants
+use Rattle.xlsx_cells.specs.declared.children.Wants.{Wants}
 use Rattle.xlsx_cells.specs.declared.cell_records.XlsxCellFormula.{XlsxCellFormula}
 use Rattle.xlsx_cells.specs.declared.cell_records.XlsxCellFormulaMetadataRecord.{XlsxCellFormulaMetadataRecord}
 
@@ -70,3 +74,9 @@ metadata_cells_law a b =
         (ap (λ cell. cell.1) same, ap (λ cell. cell.2) same),
       ),
     )
+
+-- what is wanted of each cell
+pub wants_law : IsEquality wants.ghosts.eq
+wants_law = of_image (λ (x : Wants). (x.values, (x.formulas, x.styles)))
+    (λ p. record { values = p.0; formulas = p.1.0; styles = p.1.1 }) (λ _. refl)
+    (of_pairs of_bool (of_pairs of_bool of_bool))

@@ -1,9 +1,4 @@
 //! What single calls answer of a cell.
-ghost use Rattle.std.specs.Prelude.{◌≡◌, ◌↔◌, true};
-ghost use Rattle.xlsx_cells.specs.Records.{formula_cell, metadata_cell};
-ghost use Rattle.xlsx_cells.specs.declared.cell_records.XlsxCellFormula.{XlsxCellFormula};
-ghost use Rattle.xlsx_cells.specs.declared.cell_records.XlsxCellFormulaMetadataRecord.{XlsxCellFormulaMetadataRecord};
-
 use cell_data::DataRef;
 use xlsx_formulas::XlsxFormulaMetadata;
 
@@ -28,12 +23,3 @@ pub struct XlsxCellFormulaMetadataRecord {
     /// None where the cell has no `f`, or an empty one that belongs to no group.
     pub formula: Option<XlsxFormulaMetadata>,
 }
-
-/// `a == b` exactly where both are the same by all that they have.
-pub fn equality_is_by_all_fields()
-    ensures formula { (a b : XlsxCellFormula) → (⟦<XlsxCellFormula as PartialEq>⟧.eq a b ≡ true)
-        ↔ (formula_cell a ≡ formula_cell b) }
-    ensures metadata { (a b : XlsxCellFormulaMetadataRecord) →
-        (⟦<XlsxCellFormulaMetadataRecord as PartialEq>⟧.eq a b ≡ true)
-        ↔ (metadata_cell a ≡ metadata_cell b) }
-{}

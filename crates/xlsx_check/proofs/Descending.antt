@@ -15,7 +15,8 @@ use Rattle.xlsx_check.specs.Trees.{is_multiplication, joined_by, cell_alone, ref
 use Rattle.xlsx_check.specs.Trees.{spelled, looseness, IsLeftmost, enclosures}
 use Rattle.xlsx_check.specs.Reading.{Read, read, read_as, chain_on, chain_read, product_read}
 use Rattle.xlsx_check.specs.Reading.{sum_read, compared_on, comparison_read, cell_read, closed_by}
-use Rattle.xlsx_check.specs.Reading.{ReferencesRead, with_first, references_read, factor_read}
+use Rattle.xlsx_check.specs.Reading.{stops, ReferencesRead, with_first, references_read}
+use Rattle.xlsx_check.specs.Reading.{factor_read}
 use Rattle.xlsx_check.proofs.Joins.{IsKind, Splits, products, sums, comparisons, loosest}
 use Rattle.xlsx_check.proofs.Options.{mapped_from, taken_from}
 use Rattle.xlsx_check.proofs.Splitting.{IsFine, order}
@@ -62,7 +63,8 @@ reads_joined wanted most least levels kind token wants left right tree rest toke
 module _ (wanted : Token → Bool) (least levels : ℕ) (kind : IsKind wanted (suc least) least)
     (inner : List Token → Option Read) where
   on_reads : AreRead least levels inner → (turns : ℕ) (left : Tree) (tokens : List Token)
-      (r : Read) → IsFine (suc least) levels left → chain_on wanted inner turns left tokens ≡ Some r →
+      (r : Read) → IsFine (suc least) levels left →
+      chain_on wanted inner turns left tokens ≡ Some r →
       (spelled r.tree ++ r.rest ≡ spelled left ++ tokens) × IsFine (suc least) levels r.tree
   on_reads reads zero left tokens r fine is =
       let same : read left tokens ≡ r = cc in
@@ -151,11 +153,12 @@ references_back (r ∷ next ∷ others) rest some =
 
 closed_from : (tree : Tree) (tokens : List Token) (r : Read) → closed_by tree tokens ≡ Some r →
     (r.tree ≡ grouped tree) × (tokens ≡ closes ∷ r.rest)
+closed_from tree [] r is = absurd (cc)
 closed_from tree (closes ∷ rest) r is =
     let same : read (grouped tree) rest ≡ r = cc in
     subst (λ (s : Read). (s.tree ≡ grouped tree) × (closes ∷ rest ≡ closes ∷ s.rest)) same
     (refl, refl)
-closed_from tree _ r is = absurd (cc)
+closed_from tree (_ ∷ rest) r is = absurd (cc)
 
 compared_reads : (levels : ℕ) (factor : List Token → Option Read) →
     AreRead 2 levels (sum_read factor) → (left : Tree) (tokens : List Token) (r : Read) →
@@ -296,10 +299,20 @@ factor_reads (suc levels) _ r is = absurd (cc)
 
 -- ---- and back
 
--- no token of a kind stands in front
-abbrev pub stops : (Token → Bool) → List Token → Bool
-stops wanted [] = true
-stops wanted (token ∷ tokens) = not (wanted token)
+pub not_so : (t : Bool) → not t ≡ true → t ≡ false
+not_so true is = absurd (cc)
+not_so false is = refl
+
+-- a chain ends where no operator of its kind stands in front
+pub chain_stops : (wanted : Token → Bool) (inner : List Token → Option Read) (turns : ℕ)
+    (tree : Tree) (rest : List Token) → stops wanted rest ≡ true →
+    chain_on wanted inner turns tree rest ≡ Some (read tree rest)
+chain_stops wanted inner zero tree rest ends = refl
+chain_stops wanted inner (suc turns) tree [] ends = refl
+chain_stops wanted inner (suc turns) tree (token ∷ rest) ends =
+    ap (λ (t : Bool). cond t (option_and_then (λ s. option_and_then
+    (λ t. chain_on wanted inner turns t s.rest) (joined_by token tree s.tree)) (inner rest))
+    (Some (read tree (token ∷ rest)))) (not_so (wanted token) ends)
 
 module _ (wanted : Token → Bool) (least levels : ℕ) (kind : IsKind wanted (suc least) least)
     (inner : List Token → Option Read) (Stops : List Token → Type 0)
@@ -402,25 +415,12 @@ module _ (wanted : Token → Bool) (least levels : ℕ) (kind : IsKind wanted (s
         (kind.splits tree fine.leftmost same)
   ]
 
-  on_stops : (turns : ℕ) (tree : Tree) (rest : List Token) → stops wanted rest ≡ true →
-      chain_on wanted inner turns tree rest ≡ Some (read tree rest)
-  on_stops zero tree rest ends = refl
-  on_stops (suc turns) tree [] ends = refl
-  on_stops (suc turns) tree (token ∷ rest) ends =
-      ap (λ (t : Bool). cond t (option_and_then (λ s. option_and_then
-      (λ t. chain_on wanted inner turns t s.rest) (joined_by token tree s.tree)) (inner rest))
-      (Some (read tree (token ∷ rest)))) (not_so (wanted token) ends)
-    where
-      not_so : (t : Bool) → not t ≡ true → t ≡ false
-      not_so true is = absurd (cc)
-      not_so false is = refl
-
   chain_back : (tree : Tree) (rest : List Token) → IsFine (suc least) levels tree → Stops rest →
       stops wanted rest ≡ true →
       chain_read wanted inner (spelled tree ++ rest) ≡ Some (read tree rest)
   chain_back tree rest fine ends stop =
       let on = goes_on (length (spelled tree)) tree rest (omega arith) fine ends in
-      on.is ∙ on_stops on.turns tree rest stop
+      on.is ∙ chain_stops wanted inner on.turns tree rest stop
 
 abbrev FactorBack : ℕ → (List Token → Option Read) → Type 0
 FactorBack levels factor =
@@ -467,10 +467,6 @@ module _ (levels : ℕ) (factor : List Token → Option Read) (known : FactorBac
     | inl same ↦ split (comparisons.splits tree fine.leftmost same)
   ]
     where
-      not_so : (t : Bool) → not t ≡ true → t ≡ false
-      not_so true is = absurd (cc)
-      not_so false is = refl
-
       on : (ts : List Token) → stops is_comparison ts ≡ true →
           compared_on factor tree ts ≡ Some (read tree ts)
       on [] end = refl

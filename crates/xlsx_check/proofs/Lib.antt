@@ -1,8 +1,13 @@
 pub mod Agreeing
 pub mod Cuts
 pub mod Descending
+pub mod Going
 pub mod Joins
+pub mod Judging
 pub mod Numbers
 pub mod Options
+pub mod Placing
+pub mod SameOutcomes
 pub mod Splitting
 pub mod Symbols
+pub mod Whole

@@ -4,3 +4,4 @@ pub mod Reading
 pub mod TokenView
 pub mod Tokens
 pub mod Trees
+pub mod Verdicts

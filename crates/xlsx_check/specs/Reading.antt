@@ -1,10 +1,13 @@
--- A tree read from the left, by recursive descent: the steps that the code takes, on lists of tokens.
-use Rattle.std.specs.Prelude.{ℕ, zero, suc, Bool, if◌then◌else◌, List, [], ◌∷◌, length, Option}
+-- A tree read from the left, by recursive descent: the steps that the code takes, on lists of
+-- tokens.
+use Rattle.std.specs.Prelude.{ℕ, zero, suc, Bool, true, false, not, if◌then◌else◌, List, [], ◌∷◌}
+use Rattle.std.specs.Prelude.{length, Option}
 use Rattle.std.specs.Prelude.{Some, None, option_map, option_and_then}
 use Rattle.formula_shift.specs.declared.reference.Reference.{Reference}
 use Rattle.xlsx_check.specs.Tokens.{Token, constant, refers, sum, sign, opens, closes, comma}
 use Rattle.xlsx_check.specs.Trees.{Tree, literal, total, negated, grouped, joined_by}
 use Rattle.xlsx_check.specs.Trees.{is_comparison, is_addition, is_multiplication, cell_alone}
+use Rattle.xlsx_check.specs.Trees.{is_closing}
 
 -- a tree, and the tokens behind it
 pub record Read : Type 0 where
@@ -19,8 +22,8 @@ read tree rest = record { tree = tree; rest = rest }
 abbrev pub read_as : (Tree → Tree) → Read → Read
 read_as f r = read (f r.tree) r.rest
 
--- A tree goes on by each operator of a kind behind it, with the tree that `inner` reads behind that.
--- `turns` is at least the number of tokens.
+-- A tree goes on by each operator of a kind behind it, with the tree that `inner` reads behind
+-- that. `turns` is at least the number of tokens.
 abbrev pub chain_on : (Token → Bool) → (List Token → Option Read) → ℕ → Tree → List Token
     → Option Read
 chain_on wanted inner zero left tokens = Some (read left tokens)
@@ -60,10 +63,26 @@ comparison_read factor tokens =
 abbrev pub cell_read : List Token → Option Tree → Option Read
 cell_read rest tree = option_map (λ t. read t rest) tree
 
+-- a closing parenthesis stands in front
+abbrev pub closes_first : List Token → Bool
+closes_first [] = false
+closes_first (token ∷ tokens) = is_closing token
+
 -- a tree whose parenthesis is closed, and the tokens behind that
 abbrev pub closed_by : Tree → List Token → Option Read
-closed_by tree (closes ∷ rest) = Some (read (grouped tree) rest)
-closed_by tree _ = None
+closed_by tree [] = None
+closed_by tree (token ∷ rest) =
+    if is_closing token then Some (read (grouped tree) rest) else None
+
+-- a comparison in parentheses, of which the first was read
+abbrev pub group_read : (List Token → Option Read) → List Token → Option Read
+group_read factor tokens =
+    option_and_then (λ r. closed_by r.tree r.rest) (comparison_read factor tokens)
+
+-- the reference that stands in front, if one does
+abbrev pub first_reference : List Token → Option Reference
+first_reference (refers r ∷ tokens) = Some r
+first_reference _ = None
 
 -- references, and the tokens behind the parenthesis that closes them
 pub record ReferencesRead : Type 0 where
@@ -86,8 +105,7 @@ factor_read zero tokens = None
 factor_read (suc levels) (constant number ∷ rest) = Some (read (literal number) rest)
 factor_read (suc levels) (refers r ∷ rest) = cell_read rest (cell_alone r r.second)
 factor_read (suc levels) (sign ∷ tokens) = option_map (read_as negated) (factor_read levels tokens)
-factor_read (suc levels) (opens ∷ tokens) =
-    option_and_then (λ r. closed_by r.tree r.rest) (comparison_read (factor_read levels) tokens)
+factor_read (suc levels) (opens ∷ tokens) = group_read (factor_read levels) tokens
 factor_read (suc levels) (sum ∷ opens ∷ tokens) =
     option_map (λ r. read (total r.references) r.rest) (references_read tokens)
 factor_read (suc levels) _ = None
@@ -101,3 +119,8 @@ if_all tree (token ∷ rest) = None
 unfoldable pub tree_read : List Token → Option Tree
 tree_read tokens =
     option_and_then (λ r. if_all r.tree r.rest) (comparison_read (factor_read 65) tokens)
+
+-- no token of a kind stands in front
+abbrev pub stops : (Token → Bool) → List Token → Bool
+stops wanted [] = true
+stops wanted (token ∷ tokens) = not (wanted token)

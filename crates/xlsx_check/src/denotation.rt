@@ -4,12 +4,14 @@ ghost use Rattle.std.specs.Int.{w128};
 ghost use Rattle.std.specs.Ordering.{int_cmp};
 ghost use Rattle.decimals.specs.Decimal.{number_of};
 ghost use Rattle.decimals.specs.Decimals.{decimal_from};
-ghost use Rattle.xlsx_check.specs.Denoting.{denoted_by};
+ghost use Rattle.xlsx_check.specs.Denoting.{denoted_by, is_unsupported, joined_result};
+ghost use Rattle.xlsx_check.specs.TokenView.{token_of};
 ghost use Rattle.xlsx_check.specs.Evaluation.{number_or_past, from_whole, lower, taken_to};
 ghost use Rattle.xlsx_check.specs.Evaluation.{negative_of, holds_by};
 ghost use Rattle.xlsx_check.specs.Evaluation.{sum_of, difference_of, product_of, gap};
+ghost use Rattle.xlsx_check.specs.Evaluation.{of_one, a_number, number_past};
 
-use crate::token::Comparison;
+use crate::token::{Comparison, Token};
 use cell_data::Decimal;
 use decimals::scaled;
 use std::cmp::Ordering;
@@ -26,7 +28,7 @@ pub enum Denotation {
 }
 
 /// The number of a whole number and a power, where both fit.
-fn number_from(whole: i128, power: i64) -> Denotation
+pub fn number_from(whole: i128, power: i64) -> Denotation
     ensures { denoted_by result ≡ number_or_past (decimal_from (whole, power)) }
 {
     match Decimal::from_parts(whole, power) {
@@ -165,5 +167,67 @@ fn negative_of(number: Decimal) -> Denotation
     match number.mantissa().checked_neg() {
         Some(whole) => number_from(whole, i64::from(number.exponent())),
         None => Denotation::NumberPast,
+    }
+}
+
+impl Denotation {
+    /// Whether something in it isn't computed.
+    pub fn is_unsupported(self) -> bool
+        ensures { result ≡ is_unsupported (denoted_by self) }
+    {
+        matches!(self, Denotation::Unsupported)
+    }
+
+    /// The negative of a number.
+    pub fn negated(self) -> Denotation
+        ensures { denoted_by result ≡ of_one (denoted_by self) }
+    {
+        match self {
+            Denotation::Number(number) => negative_of(number),
+            Denotation::NumberPast => Denotation::NumberPast,
+            _ => Denotation::Unsupported,
+        }
+    }
+
+    /// What two results come to that an operator joins.
+    pub fn joined(self, token: Token, other: Denotation) -> Denotation
+        ensures { denoted_by result
+            ≡ joined_result (token_of token) (denoted_by self) (denoted_by other) }
+    {
+        match (self, other) {
+            (Denotation::Number(a), Denotation::Number(b)) => joined_numbers(token, a, b),
+            (
+                Denotation::Number(_) | Denotation::NumberPast,
+                Denotation::Number(_) | Denotation::NumberPast,
+            ) => joined_past(token),
+            _ => Denotation::Unsupported,
+        }
+    }
+}
+
+/// What two numbers come to that an operator joins.
+fn joined_numbers(token: Token, a: Decimal, b: Decimal) -> Denotation
+    ensures { denoted_by result
+        ≡ joined_result (token_of token) (a_number (number_of a)) (a_number (number_of b)) }
+{
+    match token {
+        Token::Plus => sum_of(a, b),
+        Token::Minus => difference_of(a, b),
+        Token::Times => product_of(a, b),
+        Token::Compares(comparison) => {
+            Denotation::Truth(holds(comparison, compare_numbers(a, b)))
+        }
+        _ => Denotation::Unsupported,
+    }
+}
+
+/// What an operator gives where a number past the limits is among its two.
+fn joined_past(token: Token) -> Denotation
+    ensures { denoted_by result ≡ joined_result (token_of token) number_past number_past }
+{
+    match token {
+        Token::Plus | Token::Minus | Token::Times => Denotation::NumberPast,
+        Token::Compares(_) => Denotation::TruthPast,
+        _ => Denotation::Unsupported,
     }
 }

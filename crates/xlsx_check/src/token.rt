@@ -4,6 +4,7 @@ ghost use Rattle.formula_shift.specs.Pieces.{word_kind};
 ghost use Rattle.formula_shift.specs.Relocation.{piece_reference, is_name_before};
 ghost use Rattle.xlsx_check.specs.Tokens.{symbol, pair_symbol, is_space, is_plain_number};
 ghost use Rattle.xlsx_check.specs.Tokens.{word_token, refers_or, is_operand_end, signed};
+ghost use Rattle.xlsx_check.specs.Denoting.{wanted_by};
 ghost use Rattle.xlsx_check.specs.TokenView.{token_of};
 
 use cell_data::Decimal;
@@ -37,7 +38,33 @@ pub enum Token {
     Stray,
 }
 
+/// A kind of operators, the loosest one first.
+#[derive(Clone, Copy)]
+pub enum Kind {
+    Comparison,
+    Addition,
+    Multiplication,
+}
+
+/// What stands behind a reference in a total.
+#[derive(Clone, Copy)]
+pub enum Separator {
+    Comma,
+    Closing,
+}
+
 impl Token {
+    /// Whether it is an operator of this kind.
+    pub fn is_of_kind(self, kind: Kind) -> bool
+        ensures { result ≡ wanted_by kind (token_of self) }
+    {
+        match kind {
+            Kind::Comparison => matches!(self, Token::Compares(_)),
+            Kind::Addition => matches!(self, Token::Plus | Token::Minus),
+            Kind::Multiplication => matches!(self, Token::Times),
+        }
+    }
+
     /// Whether an operand ends with it, so that a `-` behind it is no sign.
     pub fn is_operand_end(self) -> bool
         ensures { result ≡ is_operand_end (token_of self) }

@@ -8,6 +8,7 @@ pub mod OutputLemmas
 pub mod PivotsListed
 pub mod PropertiesListed
 pub mod RowsPlaced
+pub mod SameErrors
 pub mod SheetsOpened
 pub mod TablesListed
 pub mod TablesNamed

@@ -1,6 +1,6 @@
 -- What the program ends with after each refusal: a status and a text.
 use Rattle.std.specs.Prelude.{ℕ, List, codes}
-use Rattle.xlsx_error.specs.XlsxError.{text_of}
+use Rattle.xlsx_error.specs.XlsxError.{text_of, Refusal, refusal_seen}
 use Rattle.xlsx_error.specs.declared.error.XlsxError.{XlsxError}
 use Rattle.xlsx_error.specs.declared.error.XlsxError.TheVariants as workbook
 use Rattle.xlsx_commands.specs.declared.error.ToolError.{ToolError}
@@ -43,3 +43,25 @@ of_workbook error = Workbook error
 abbrev pub of_rows : CsvError → ToolError
 of_rows rows.BoxTooLarge = BoxTooLarge
 of_rows rows.OutOfMemory = OutOfMemory
+
+-- an error of the program as it is seen: which one, and the refusal of a workbook by its texts
+pub data SeenError : Type 0 where
+  usage : SeenError
+  read_fault : SeenError
+  input_too_large : SeenError
+  not_a_package : SeenError
+  of_book : Refusal → SeenError
+  write_fault : SeenError
+  out_of_memory : SeenError
+  box_too_large : SeenError
+
+-- what is seen of an error
+abbrev pub error_seen : ToolError → SeenError
+error_seen Usage = usage
+error_seen ReadFault = read_fault
+error_seen InputTooLarge = input_too_large
+error_seen NotAPackage = not_a_package
+error_seen (Workbook error) = of_book (refusal_seen error)
+error_seen WriteFault = write_fault
+error_seen OutOfMemory = out_of_memory
+error_seen BoxTooLarge = box_too_large

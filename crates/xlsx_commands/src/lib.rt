@@ -32,6 +32,7 @@
 mod book_lists;
 mod cell_lines;
 mod command;
+mod equality;
 mod error;
 mod laws;
 mod link_lines;
@@ -47,6 +48,7 @@ mod table_rows;
 mod upgraded_text;
 
 pub use command::{Command, command_of};
+pub use equality::{copies_are_the_same, equality_is_by_all_fields};
 pub use error::ToolError;
 pub use laws::{
     causes_leave_no_output, readable_sheets_have_lines, readable_sheets_have_rows,

@@ -1,12 +1,18 @@
-//! What `==` of what formulas tell is.
-ghost use Rattle.std.specs.Prelude.{◌≡◌, ◌↔◌, true};
+//! What `==` and a copy of the types of this crate are.
+ghost use Rattle.equalities.specs.Equality.{IsEquality, IsEqualityBy, CopiesItself};
 ghost use Rattle.xlsx_formulas.specs.Described.{description_seen};
-ghost use Rattle.xlsx_formulas.specs.declared.metadata.XlsxFormulaMetadata.{XlsxFormulaMetadata};
 
+use crate::formula::Share;
 use crate::metadata::XlsxFormulaMetadata;
 
-/// `a == b` exactly where both tell the same.
+/// `a == b` exactly where all fields are the same, at each type of this crate, texts by their
+/// bytes.
 pub fn equality_is_by_all_fields()
-    ensures { (a b : XlsxFormulaMetadata) → (⟦<XlsxFormulaMetadata as PartialEq>⟧.eq a b ≡ true)
-        ↔ (description_seen a ≡ description_seen b) }
+    ensures metadata { IsEqualityBy description_seen ⟦<XlsxFormulaMetadata as PartialEq>⟧.eq }
+    ensures share { IsEquality ⟦<Share as PartialEq>⟧.eq }
+{}
+
+/// A copy of a value is that value, at each type of this crate that is `Copy`.
+pub fn copies_are_the_same()
+    ensures { CopiesItself ⟦<Share as Clone>⟧.is_clone ⟦<Share as Clone>⟧.is_infallible }
 {}

@@ -30,7 +30,7 @@ mod masters;
 mod metadata;
 
 pub use cell_formula::CellFormula;
-pub use equality::equality_is_by_all_fields;
+pub use equality::{copies_are_the_same, equality_is_by_all_fields};
 pub use formula::{Formula, Share, read_formula, share_of};
 pub use masters::{Master, Masters};
 pub use metadata::{XlsxFormulaMetadata, metadata_of};

@@ -76,11 +76,9 @@ abbrev pub ending_status : Result (Unit {0}) ToolError → ℕ
 ending_status (Ok done) = 0
 ending_status (Err error) = status_of error
 
--- a line of errors: the text of the refusal, where that is told, and a line feed
-pub record IsErrorLine (error : ToolError) (line : List ℕ) : Type 0 where
-  pub text : List ℕ
-  pub told : IfSome (error_text error) (λ own. text ≡ own)
-  pub whole : line ≡ text ++ codes "\n"
+-- a line of errors: the text of the refusal, and a line feed
+abbrev pub IsErrorLine : ToolError → List ℕ → Type 0
+IsErrorLine error line = line ≡ error_text error ++ codes "\n"
 
 -- the bytes were written, or a front of them, and the sink failed
 abbrev pub IsOffered : List ℕ → SinkState → SinkState → Type 0

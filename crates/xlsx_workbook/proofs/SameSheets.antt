@@ -12,7 +12,7 @@ use Rattle.xlsx_workbook.specs.contracts.sheet.SheetPartialEq.TheImpl as sheet
 use Rattle.xlsx_workbook.specs.contracts.sheet.SheetTypePartialEq.TheImpl as typ
 use Rattle.xlsx_workbook.specs.contracts.sheet.SheetVisiblePartialEq.TheImpl as visible
 
-of_string : IsEqualityBy string_bytes string_eq
+of_string : IsEqualityBy (string_bytes {Z = Global}) string_eq
 of_string a b = bytes_eq-Decides (string_bytes a) (string_bytes b)
 
 of_type : IsEquality typ.ghosts.eq

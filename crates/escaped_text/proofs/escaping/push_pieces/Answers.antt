@@ -2,7 +2,7 @@ use Rattle.std.proofs.Common.{◌<◌, length, arith}
 use Rattle.std.proofs.lemmas.Bool.Decides.{nat_tests}
 use Rattle.std.proofs.lemmas.Str.{IsCharBoundary-after_ascii}
 use Rattle.escaped_text.proofs.EscapedLemmas.{first_special}
-use Rattle.escaped_text.proofs.escaping.push_escaped.Goals as goal
+use Rattle.escaped_text.proofs.escaping.push_pieces.Goals as goal
 
 pub range_from-rest-requires : goal.range_from-rest-requires
 range_from-rest-requires c =

@@ -1,0 +1,151 @@
+"""Tries the sources for what no clause can say: where want of memory is told of, and that each
+public type with `==` or copies has its law."""
+
+import pathlib
+import re
+import unittest
+
+TOP = pathlib.Path(__file__).resolve().parent.parent
+OF_TESTS = re.compile(r"(worked|test)_\w+")
+
+# Where want of memory is told of beside the conversions from the kit's own, and why it can be
+# nothing else there: a file, its function and the lines that say so.
+PASSED_ON = "a refusal of memory is passed on"
+OF_WRITER = "a writer into memory fails only where memory is wanting"
+TOLD = {
+    ("attr_text/fault.rt", "fmt", 1): "its text",
+    ("part_events/fault.rt", "fmt", 1): "its text",
+    ("part_events/text.rt", "text_error", 1): PASSED_ON,
+    ("xlsx_areas/merged_parts.rt", "merges_or_none", 1): PASSED_ON,
+    ("xlsx_commands/error.rt", "fmt", 1): "its text",
+    ("xlsx_commands/error.rt", "from", 2): PASSED_ON,
+    ("xlsx_commands/error.rt", "status", 1): "its status",
+    ("xlsx_core/worksheet_list.rt", "ends_listing", 1): "it is asked for",
+    ("xlsx_error/error.rt", "fmt", 1): "its text",
+    ("xlsx_error/error.rt", "from", 1): PASSED_ON,
+    ("xlsx_rows/error.rt", "fmt", 1): "its text",
+    ("xlsx_rows/record.rt", "end_record", 1): OF_WRITER,
+    ("xlsx_rows/record.rt", "write_bytes", 1): OF_WRITER,
+    ("xlsx_rows/rows.rt", "written_rows", 1): OF_WRITER,
+    ("xlsx_sections/decode.rt", "decode_at", 1): PASSED_ON,
+    ("xlsx_sections/decode.rt", "push_text_at", 1): PASSED_ON,
+    ("xlsx_tool/main.rt", "words_of", 2): "the system says that it has none for the words",
+    ("xlsx_tool/run.rt", "value_from", 1): "the reader of JSON says that it has none",
+}
+
+FUNCTION = re.compile(r"\bfn (\w+)")
+CONVERSION = re.compile(
+    r"^impl(?:<[^>]*>)? From<Alloc(?:Error|Failed<\w+>)> for \w+ \{$.*?^\}$", re.M | re.S
+)
+ENUM = re.compile(r"^pub enum \w+ \{$.*?^\}$", re.M | re.S)
+CLAUSE = re.compile(r"^\s*(?:ensures|requires|ghost)\b")
+EXPORTED = re.compile(r"^pub use (?:crate::)?(?:\w+::)*(\{[^}]*\}|\w+);", re.M)
+TYPE = re.compile(r"^((?:#\[.*\]\n)*)pub (?:struct|enum) (\w+)", re.M)
+WRITTEN = re.compile(r"^impl\b.*?\b(PartialEq|Clone) for (\w+)", re.M)
+LAW = re.compile(r"⟦<(\w+)(?:<[^⟧]*>)? as (PartialEq|Clone)>⟧")
+
+
+def text(path):
+    return path.read_text(encoding="utf-8")
+
+
+def crates():
+    for folder in sorted((TOP / "crates").iterdir()):
+        if not OF_TESTS.fullmatch(folder.name):
+            yield folder
+
+
+def without(pattern, code):
+    """The code with what matches left empty, line for line."""
+    return pattern.sub(lambda found: "\n" * found.group().count("\n"), code)
+
+
+def without_clauses(code):
+    """The code without comments and contracts, each of which is closed by its own brace."""
+    kept = []
+    depth = 0
+    for line in code.splitlines():
+        line = re.sub(r"//.*", "", line)
+        if depth == 0 and not CLAUSE.match(line):
+            kept.append(line)
+            continue
+        if "{" not in line and depth == 0:
+            depth = 0 if line.rstrip().endswith(";") else 1
+            kept.append("")
+            continue
+        depth = max(0, depth) + line.count("{") - line.count("}")
+        kept.append("")
+    return "\n".join(kept)
+
+
+def tells_of_memory(line):
+    """Whether a line makes want of memory, or asks for it, and doesn't only name its type."""
+    if re.match(r"\s*(?:pub )?use ", line):
+        return False
+    if re.search(r"\bOutOfMemory\b", line):
+        return True
+    bare = re.sub(r"[-=]>|:\s*AllocError\b", "", line)
+    while (shorter := re.sub(r"<[^<>]*>", "", bare)) != bare:
+        bare = shorter
+    return bool(re.search(r"\bAllocError\b", bare))
+
+
+def places_of(name, code):
+    """The functions that tell of want of memory, with how many of their lines do."""
+    code = without_clauses(without(ENUM, without(CONVERSION, code)))
+    counts = {}
+    function = None
+    for line in code.splitlines():
+        if named := FUNCTION.search(line):
+            function = named.group(1)
+        if tells_of_memory(line):
+            counts[name, function] = counts.get((name, function), 0) + 1
+    return {(*place, count) for place, count in counts.items()}
+
+
+def exported(root):
+    return {
+        name
+        for listed in EXPORTED.findall(root)
+        for name in re.findall(r"\w+", listed)
+    }
+
+
+class Sources(unittest.TestCase):
+    def test_want_of_memory_is_told_of_in_these_places_alone(self):
+        found = set()
+        for folder in crates():
+            for path in sorted((folder / "src").glob("*.rt")):
+                if not path.stem.endswith("tests"):
+                    found |= places_of(f"{folder.name}/{path.name}", text(path))
+        self.assertEqual(found, set(TOLD))
+
+    def test_a_refusal_of_memory_that_is_made_up_is_found(self):
+        body = "fn wide(row: u32) -> Result<(), AllocError> {\n    %s\n}\n"
+        for made in ("Err(AllocError)", "return Err(E::OutOfMemory);", "let a = AllocError;"):
+            self.assertEqual(places_of("x.rt", body % made), {("x.rt", "wide", 1)}, made)
+        for plain in ("Ok(())", "take(row)?;\n    // Err(AllocError)", "let a: AllocError = b;"):
+            self.assertEqual(places_of("x.rt", body % plain), set(), plain)
+
+    def test_public_types_with_equality_or_copies_have_their_laws(self):
+        for folder in crates():
+            root = folder / "src" / "lib.rt"
+            if not root.exists():
+                continue
+            public = exported(text(root))
+            sources = {path: text(path) for path in sorted((folder / "src").glob("*.rt"))}
+            laws = {law for code in sources.values() for law in LAW.findall(code)}
+            for path, code in sources.items():
+                wanted = {
+                    (name, trait)
+                    for derives, name in TYPE.findall(code)
+                    for trait in ("PartialEq", "Clone")
+                    if re.search(rf"derive\([^)]*\b{trait}\b", derives)
+                }
+                wanted |= {(name, trait) for trait, name in WRITTEN.findall(code)}
+                absent = {law for law in wanted if law[0] in public} - laws
+                self.assertEqual(absent, set(), path.name)
+
+
+if __name__ == "__main__":
+    unittest.main()
