@@ -10,7 +10,7 @@ import sys
 import tempfile
 import unittest
 
-from fixtures import LINES, MINIMAL, archive, package_text
+from fixtures import LINES, MINIMAL, archive, package_text, relationships
 from words import COMMANDS, USAGE
 
 TOP = pathlib.Path(__file__).resolve().parent.parent
@@ -56,6 +56,17 @@ pivot:*) echo "Pivot Table '$3' was not found on worksheet" >&2; exit 6 ;;
 *:no*) echo "Worksheet '$2' not found" >&2; exit 6 ;;
 *) [ ! -e "$FAILING" ] || [ "$2" = First ] || { echo "box too large" >&2; exit 10; }
     printf '%s of %s\\n' "$1" "$2" ;;
+esac
+"""
+# Tells the part of a sheet, the sheet of a table, and else which parts the package has.
+FED = """\
+#!/bin/sh
+parts=$(grep -o '"name":"[^"]*"' | cut -d '"' -f 4 | tr '\\n' ' ')
+case "$1:$2" in
+part:Two) [ "$parts" = "$BOOK" ] || exit 5; echo 'XL\\\\sheets/two.xml' ;;
+part:*) echo "Worksheet '$2' not found" >&2; exit 6 ;;
+tables:) printf 'T\\tTwo\\tA1:B2\\tx\\n' ;;
+*) echo "$parts" ;;
 esac
 """
 # Proves a crate, builds the program of this folder, or runs it unproved.
@@ -121,9 +132,10 @@ class Wrapper(unittest.TestCase):
         self.program.parent.mkdir(exist_ok=True)
         shutil.copy(program or self.folder / "program", self.program)
 
-    def run_on(self, *words, data=b"", path=None, memory=None, **given):
+    def run_on(self, *words, data=b"", path=None, memory=None, about=None, **given):
         path = f"{self.folder / 'bin'}:{os.environ['PATH']}" if path is None else path
-        about = {"STAND_IN": self.folder / "program", "FAILING": self.folder / "failing"}
+        about = dict(about or {})
+        about.update(STAND_IN=self.folder / "program", FAILING=self.folder / "failing")
         if memory is not None:
             about["XLSX_MEMORY"] = memory
         if "stdin" not in given:
@@ -400,6 +412,51 @@ class Wrapper(unittest.TestCase):
         ):
             wanted = 6, b"", f"{first}\nxlsx: there are these {second}\n"
             self.assertEqual(self.run_on("book.xlsx", *words), wanted)
+
+    def test_only_what_a_command_asks_for_is_fed(self):
+        self.build(self.written("fed", FED))
+        book = ["_rels/.rels", "xl/_rels/workbook.xml.rels", "xl/workbook.xml"]
+        sheets = [f"xl/sheets/{name}.xml" for name in ("one", "two", "three")]
+        kinds = (("worksheet", name[len("xl/") :]) for name in sheets)
+        more = {
+            "xl/_rels/workbook.xml.rels": relationships(*kinds),
+            "xl/styles.xml": "<a/>",
+            **dict.fromkeys(sheets, "<a/>"),
+            sheets[0]: "<",
+        }
+        parts = {name: part for name, part in {**MINIMAL, **more}.items() if "sheet1" not in name}
+        self.written("several.xlsx", archive(parts))
+        about = {"BOOK": " ".join(book) + " "}
+        none = [*book, "xl/styles.xml"]
+        for words, wanted in (
+            (["sheets"], none),
+            (["names"], none),
+            (["props"], none),
+            (["pivots"], none),
+            (["pivot", "Two", "T"], none),
+            (["cells", "Two"], [*none, sheets[1]]),
+            (["csv", "Two"], [*none, sheets[1]]),
+            (["merges", "Two"], [*none, sheets[1]]),
+            (["links", "Two"], [*none, sheets[1]]),
+            (["table", "T"], [*none, sheets[1]]),
+            (["csv-table", "T"], [*none, sheets[1]]),
+            # These answer with the program's own refusal, which no sheet's part changes.
+            (["table", "S"], none),
+            (["cells", "One"], none),
+        ):
+            with self.subTest(words=words):
+                ran = self.run_on("several.xlsx", *words, about=about)
+                self.assertEqual(ran, (0, f"{' '.join(wanted)} \n".encode(), ""))
+        said = "several.xlsx: xl/sheets/one.xml is broken: markup without an end, at character 0\n"
+        self.assertEqual(self.run_on("several.xlsx", "package"), (13, b"", said))
+
+    def test_the_whole_package_text(self):
+        self.assertEqual(self.run_on("book.xlsx", "package"), (0, self.text_of_book(), ""))
+        self.assertFalse(self.program.exists())
+        with open("/dev/full", "wb") as full:
+            ran = self.run_on("book.xlsx", "package", stdout=full)
+        self.assertEqual(ran, (7, None, "write fault\n"))
+        self.check_words("package", said="there is no command 'package', and no file of that name")
 
     def test_a_reader_that_goes_away_is_told_nothing(self):
         self.build()

@@ -6,8 +6,12 @@ import re
 CONTROL = re.compile("[\0-\x1f\x7f-\x9f]")
 
 # What a command is told by: its word, the names of what stands behind it, the same as a sentence
-# says it, and the lines of the page.
-Command = collections.namedtuple("Command", "word parameters takes page")
+# says it, the worksheets whose parts it reads, and the lines of the page.
+Command = collections.namedtuple("Command", "word parameters takes sheets page")
+
+# A command reads no worksheet's part, that of the sheet of this name, that of the sheet on which
+# the table of this name stands, or all parts.
+NO_SHEET, THE_SHEET, OF_TABLE, EVERY_SHEET = "none", "sheet", "table", "all"
 
 A_SHEET = "the name of a sheet, or --sheet and its number"
 A_TABLE = "the name of a table"
@@ -20,6 +24,7 @@ COMMANDS = {
             "cells",
             ("NAME",),
             A_SHEET,
+            THE_SHEET,
             (
                 "prints one line for each cell of the worksheet NAME with a value, a",
                 "formula or a style: its position, value, formula and fill, with tabs",
@@ -31,18 +36,21 @@ COMMANDS = {
             "sheets",
             (),
             NOTHING,
+            NO_SHEET,
             ("prints one line for each sheet: its name, type and state",),
         ),
         Command(
             "names",
             (),
             NOTHING,
+            NO_SHEET,
             ("prints one line for each defined name: the name and its text",),
         ),
         Command(
             "merges",
             ("NAME",),
             A_SHEET,
+            THE_SHEET,
             (
                 "prints one line for each area of merged cells of the worksheet NAME,",
                 "by its corners, as in A1:C1",
@@ -52,6 +60,7 @@ COMMANDS = {
             "links",
             ("NAME",),
             A_SHEET,
+            THE_SHEET,
             (
                 "prints one line for each link of the worksheet NAME: its area, target,",
                 "location, displayed text and tooltip, as in",
@@ -62,6 +71,7 @@ COMMANDS = {
             "props",
             (),
             NOTHING,
+            NO_SHEET,
             (
                 "prints one line for each property of the workbook: its name and,",
                 "behind a tab and =, its text",
@@ -71,18 +81,21 @@ COMMANDS = {
             "csv",
             ("NAME",),
             A_SHEET,
+            THE_SHEET,
             ("prints the rows of the values of the worksheet NAME as CSV",),
         ),
         Command(
             "csv-table",
             ("NAME",),
             A_TABLE,
+            OF_TABLE,
             ("prints the names of the columns and the rows of the table NAME as CSV",),
         ),
         Command(
             "tables",
             (),
             NOTHING,
+            NO_SHEET,
             (
                 "prints one line for each table: its name, its sheet, the area of its",
                 "data and the names of its columns",
@@ -92,18 +105,21 @@ COMMANDS = {
             "table",
             ("NAME",),
             A_TABLE,
+            OF_TABLE,
             ("prints one line for each value in the table NAME: position and value",),
         ),
         Command(
             "pivots",
             (),
             NOTHING,
+            NO_SHEET,
             ("prints one line for each pivot table: its sheet and its name",),
         ),
         Command(
             "pivot",
             ("SHEET", "NAME"),
             "two names, of a sheet and of a pivot table",
+            NO_SHEET,
             (
                 "prints one line for each row of the cache of the pivot table NAME on",
                 "SHEET: the names of its fields first, and then the records",
@@ -122,6 +138,7 @@ COMMANDS = {
             "sample",
             ("N",),
             "a number of rows, from 1 to 20,000",
+            NO_SHEET,
             (
                 "makes a package of N rows, at most 20,000, and prints how much is read",
                 "of it",
@@ -129,6 +146,9 @@ COMMANDS = {
         ),
     )
 }
+
+# This one is of ./xlsx alone, and takes a file.
+PACKAGE = "package"
 
 # These ask for a page of the program.
 PAGES = ("--help", "--version")
@@ -164,6 +184,7 @@ In place of the name of a sheet --sheet N is the sheet that stands at N among al
     csv --all FOLDER
                   writes each worksheet as CSV into a file of FOLDER, by its name: none
                   where one of them is refused
+    package       prints the whole package text of FILE
 
 The program is proved and built first, where it is missing or older than its
 sources: from nothing this takes {proving}. With --unproved it answers in
@@ -259,6 +280,8 @@ def check(words, file=None):
     if not words:
         raise Faulty(f"what of {file} is asked for? For one, ./xlsx {file} sheets lists its sheets")
     word = words[0]
+    if words == [PACKAGE] and file is not None:
+        return
     command = COMMANDS.get(word)
     if command is None and word in PAGES and (file is not None or len(words) > 1):
         raise Faulty(f"{word} stands alone")
