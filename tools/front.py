@@ -162,9 +162,9 @@ class Front:
     def __init__(self, program, source):
         self.program, self.source = program, source
 
-    def lines(self, words, package=None):
+    def lines(self, words):
         """The lines of a command, each as its fields."""
-        package = package or self.package(words)
+        package = self.package(words)
         with tempfile.TemporaryFile() as output:
             status, said = self.program.run(words, package.input(), output.fileno())
             if status:
@@ -174,35 +174,14 @@ class Front:
         return [[unescaped(field) for field in line.split("\t")] for line in text.split("\n")[:-1]]
 
     def package(self, words):
-        """The package text for the program's words."""
+        """The package text for the program's words: all that there is, or, where a command reads no
+        worksheet's own part, all but these."""
         command = of_words.COMMANDS.get(words[0])
-        sheets = of_words.NO_SHEET if command is None else command.sheets
-        if sheets == of_words.EVERY_SHEET or not self.source.has_choice():
+        if command is None or command.reads_sheets or not self.source.has_choice():
             return self.source.whole()
         from package_text import Sheets
 
-        name = self.sheet_of_table(words[1]) if sheets == of_words.OF_TABLE else words[1:2]
-        if sheets == of_words.NO_SHEET or not name:
-            return self.source.package(Sheets.NONE)
-        return self.source.package(self.part(*name[:1]))
-
-    def sheet_of_table(self, name):
-        """The name of the sheet on which the first table of a name stands, if any does."""
-        try:
-            return [sheet for table, sheet, *_ in self.lines(["tables"]) if table == name]
-        except Refused:
-            return []
-
-    def part(self, name):
-        """The name of the part that a sheet is read from. Where it can't be told, the answer of a
-        command on it is a refusal, whatever the sheets' parts are."""
-        from package_text import Sheets
-
-        try:
-            ((part,),) = self.lines(["part", name], self.source.package(Sheets.BOOK))
-            return part
-        except Refused:
-            return Sheets.NONE
+        return self.source.package(Sheets.NONE)
 
     def sheet(self, number):
         """The name of the sheet at a place among all, from 1."""

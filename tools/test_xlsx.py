@@ -58,16 +58,11 @@ pivot:*) echo "Pivot Table '$3' was not found on worksheet" >&2; exit 6 ;;
     printf '%s of %s\\n' "$1" "$2" ;;
 esac
 """
-# Tells the part of a sheet, the sheet of a table, and else which parts the package has.
+# Tells which parts the package has.
 FED = """\
 #!/bin/sh
-parts=$(grep -o '"name":"[^"]*"' | cut -d '"' -f 4 | tr '\\n' ' ')
-case "$1:$2" in
-part:Two) [ "$parts" = "$BOOK" ] || exit 5; echo 'XL\\\\sheets/two.xml' ;;
-part:*) echo "Worksheet '$2' not found" >&2; exit 6 ;;
-tables:) printf 'T\\tTwo\\tA1:B2\\tx\\n' ;;
-*) echo "$parts" ;;
-esac
+grep -o '"name":"[^"]*"' | cut -d '"' -f 4 | tr '\\n' ' '
+echo
 """
 # Proves a crate, builds the program of this folder, or runs it unproved.
 RT = """\
@@ -132,10 +127,9 @@ class Wrapper(unittest.TestCase):
         self.program.parent.mkdir(exist_ok=True)
         shutil.copy(program or self.folder / "program", self.program)
 
-    def run_on(self, *words, data=b"", path=None, memory=None, about=None, **given):
+    def run_on(self, *words, data=b"", path=None, memory=None, **given):
         path = f"{self.folder / 'bin'}:{os.environ['PATH']}" if path is None else path
-        about = dict(about or {})
-        about.update(STAND_IN=self.folder / "program", FAILING=self.folder / "failing")
+        about = {"STAND_IN": self.folder / "program", "FAILING": self.folder / "failing"}
         if memory is not None:
             about["XLSX_MEMORY"] = memory
         if "stdin" not in given:
@@ -426,29 +420,14 @@ class Wrapper(unittest.TestCase):
         }
         parts = {name: part for name, part in {**MINIMAL, **more}.items() if "sheet1" not in name}
         self.written("several.xlsx", archive(parts))
-        about = {"BOOK": " ".join(book) + " "}
         none = [*book, "xl/styles.xml"]
-        for words, wanted in (
-            (["sheets"], none),
-            (["names"], none),
-            (["props"], none),
-            (["pivots"], none),
-            (["pivot", "Two", "T"], none),
-            (["cells", "Two"], [*none, sheets[1]]),
-            (["csv", "Two"], [*none, sheets[1]]),
-            (["merges", "Two"], [*none, sheets[1]]),
-            (["links", "Two"], [*none, sheets[1]]),
-            (["table", "T"], [*none, sheets[1]]),
-            (["csv-table", "T"], [*none, sheets[1]]),
-            # These answer with the program's own refusal, which no sheet's part changes.
-            (["table", "S"], none),
-            (["cells", "One"], none),
-        ):
+        for words in (["sheets"], ["names"], ["props"], ["tables"], ["pivots"], ["pivot", "S", "T"]):
             with self.subTest(words=words):
-                ran = self.run_on("several.xlsx", *words, about=about)
-                self.assertEqual(ran, (0, f"{' '.join(wanted)} \n".encode(), ""))
+                ran = self.run_on("several.xlsx", *words)
+                self.assertEqual(ran, (0, f"{' '.join(none)} \n".encode(), ""))
         said = "several.xlsx: xl/sheets/one.xml is broken: markup without an end, at character 0\n"
-        self.assertEqual(self.run_on("several.xlsx", "package"), (13, b"", said))
+        for words in (["package"], ["cells", "Two"], ["table", "T"], ["upgrade"]):
+            self.assertEqual(self.run_on("several.xlsx", *words), (13, b"", said))
 
     def test_the_whole_package_text(self):
         self.assertEqual(self.run_on("book.xlsx", "package"), (0, self.text_of_book(), ""))
@@ -661,6 +640,19 @@ class Wrapper(unittest.TestCase):
                 self.assertEqual(written, wanted)
                 first = self.run_on(path, "csv")
                 self.assertEqual(first, each[names[0]])
+
+    def test_without_sheets_the_samples_answer_the_same(self):
+        """What is asked of no sheet is answered alike on the text that is fed and on the whole."""
+        self.build(PROGRAM)
+        for path in sorted((TOP / "samples").glob("*.xlsx")):
+            whole = self.run_on(path, "package")[1]
+            pivots = self.run_on(path, "pivots")[1].decode().splitlines()
+            asked = [["pivot", *line.split("\t")] for line in pivots]
+            for words in ([word] for word in ("sheets", "names", "props", "tables", "pivots")):
+                asked.append(words)
+            for words in asked:
+                with self.subTest(sample=path.name, words=words):
+                    self.assertEqual(self.run_on(path, *words), self.run_on(*words, data=whole))
 
     def test_the_program_finds_parts_by_names_in_any_case_and_with_backslashes(self):
         self.build(PROGRAM)

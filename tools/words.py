@@ -6,12 +6,11 @@ import re
 CONTROL = re.compile("[\0-\x1f\x7f-\x9f]")
 
 # What a command is told by: its word, the names of what stands behind it, the same as a sentence
-# says it, the worksheets whose parts it reads, and the lines of the page.
-Command = collections.namedtuple("Command", "word parameters takes sheets page")
+# says it, whether it reads worksheets' own parts, and the lines of the page.
+Command = collections.namedtuple("Command", "word parameters takes reads_sheets page")
 
-# A command reads no worksheet's part, that of the sheet of this name, that of the sheet on which
-# the table of this name stands, or all parts.
-NO_SHEET, THE_SHEET, OF_TABLE, EVERY_SHEET = "none", "sheet", "table", "all"
+# Whether a command reads worksheets' own parts, or none.
+SHEETS, NO_SHEET = True, False
 
 A_SHEET = "the name of a sheet, or --sheet and its number"
 A_TABLE = "the name of a table"
@@ -24,7 +23,7 @@ COMMANDS = {
             "cells",
             ("NAME",),
             A_SHEET,
-            THE_SHEET,
+            SHEETS,
             (
                 "prints one line for each cell of the worksheet NAME with a value, a",
                 "formula or a style: its position, value, formula and fill, with tabs",
@@ -50,7 +49,7 @@ COMMANDS = {
             "merges",
             ("NAME",),
             A_SHEET,
-            THE_SHEET,
+            SHEETS,
             (
                 "prints one line for each area of merged cells of the worksheet NAME,",
                 "by its corners, as in A1:C1",
@@ -60,7 +59,7 @@ COMMANDS = {
             "links",
             ("NAME",),
             A_SHEET,
-            THE_SHEET,
+            SHEETS,
             (
                 "prints one line for each link of the worksheet NAME: its area, target,",
                 "location, displayed text and tooltip, as in",
@@ -81,14 +80,14 @@ COMMANDS = {
             "csv",
             ("NAME",),
             A_SHEET,
-            THE_SHEET,
+            SHEETS,
             ("prints the rows of the values of the worksheet NAME as CSV",),
         ),
         Command(
             "csv-table",
             ("NAME",),
             A_TABLE,
-            OF_TABLE,
+            SHEETS,
             ("prints the names of the columns and the rows of the table NAME as CSV",),
         ),
         Command(
@@ -105,7 +104,7 @@ COMMANDS = {
             "table",
             ("NAME",),
             A_TABLE,
-            OF_TABLE,
+            SHEETS,
             ("prints one line for each value in the table NAME: position and value",),
         ),
         Command(
@@ -129,6 +128,7 @@ COMMANDS = {
             "upgrade",
             (),
             NOTHING,
+            SHEETS,
             (
                 "prints the package text in version 2, where an empty element is one",
                 "event",
