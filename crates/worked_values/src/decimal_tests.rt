@@ -135,3 +135,27 @@ fn a_number_is_a_whole_number_times_a_power(rt: HostRuntime) {
         assert!(rt; false);
     }
 }
+
+#[test]
+fn decimals_are_made_of_their_parts(rt: HostRuntime) -> Result<(), Fail> {
+    let alloc = rt.alloc();
+    let parts = [
+        (0, i64::MAX, "0"),
+        (1200, -1, "120"),
+        (10, 2147483646, "1E2147483647"),
+        (10, 2147483647, "none"),
+        (10, -2147483649, "1E-2147483648"),
+        (1, -2147483649, "none"),
+        (100000000000000000000000000000000000000, i64::MAX, "none"),
+        (i128::MIN, 0, "-170141183460469231731687303715884105728"),
+    ];
+    for (mantissa, exponent, wanted) in parts {
+        let mut told = String::new(alloc);
+        match Decimal::from_parts(mantissa, exponent) {
+            Some(number) => number.push_to(&mut told)?,
+            None => told.push_str("none")?,
+        }
+        assert_text(&told, wanted, wanted)?;
+    }
+    Ok(())
+}

@@ -99,6 +99,28 @@ fn an_area_keeps_its_cells(rt: HostRuntime) -> Result<(), Fail> {
     Ok(())
 }
 
+#[test]
+fn the_cells_of_an_area_are_lent(rt: HostRuntime) -> Result<(), Fail> {
+    let alloc = rt.alloc();
+    let cells = three_rows(alloc)?;
+    let areas = [
+        ((0, 0), (9, 9), "1 0 1;1 2 2;3 1 3;4 0 4;4 2 5;"),
+        ((1, 2), (4, 2), "1 2 2;4 2 5;"),
+        ((1, 1), (4, 1), "3 1 3;"),
+        ((2, 0), (3, 9), "3 1 3;"),
+        ((2, 0), (2, 9), ""),
+        ((4, 2), (1, 0), ""),
+    ];
+    for (start, end, wanted) in areas {
+        let mut told = String::new(alloc);
+        for ((row, column), value) in cells.cells_in(start, end) {
+            write!(told, "{row} {column} {value};")?;
+        }
+        assert_text(&told, wanted, wanted)?;
+    }
+    Ok(())
+}
+
 /// What is found at each position where a next cell may stand, in the order of positions.
 fn stepped(alloc: Global, mut left: PlacedCells<'_, u8>) -> Result<String, AllocError> {
     let mut out = String::new(alloc);
