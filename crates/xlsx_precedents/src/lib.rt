@@ -5,6 +5,7 @@ mod areas;
 mod candidates;
 mod index;
 mod laws;
+mod lines;
 mod named_areas;
 mod numbers;
 
@@ -12,3 +13,4 @@ pub use areas::areas_of;
 pub use counted_steps::Steps;
 pub use index::DependencyIndex;
 pub use laws::areas_of_a_moved_text_are_moved;
+pub use lines::{dependent_lines_of, precedent_lines_of};
