@@ -12,6 +12,8 @@ DOCUMENTS = [TOP / "README.md", TOP / "CONTRIBUTING.md", *sorted((TOP / "docs").
 OF_TESTS = {
     "test_packages",
     "test_tables",
+    "worked_checks",
+    "worked_precedents",
     "worked_styles",
     "worked_values",
 }

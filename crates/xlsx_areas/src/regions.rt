@@ -1,4 +1,4 @@
-ghost use Rattle.std.specs.Prelude.{◌≡◌, ◌++◌, List, map, true, Some, OnOk, IfOk, IfErr};
+ghost use Rattle.std.specs.Prelude.{◌≡◌, ◌++◌, List, map, true, Some, OnOk, OnErr, IfErr};
 ghost use Rattle.std.specs.List.{filter};
 ghost use Rattle.part_events.specs.Package.{Uses, CountsUp, event_count};
 ghost use Rattle.xlsx_error.specs.declared.error.XlsxError.TheVariants.{Io, OutOfMemory};
@@ -7,6 +7,7 @@ ghost use Rattle.xlsx_areas.specs.MergeErrors.{IsRegionsError};
 ghost use Rattle.xlsx_parts.specs.SheetPaths.{sheet_at};
 ghost use Rattle.xlsx_areas.specs.Regions.{Region, region_in, region_of, regions_on};
 ghost use Rattle.xlsx_areas.specs.Regions.{SheetRegionsCause, is_of_sheet};
+ghost use Rattle.xlsx_areas.specs.declared.regions.MergedRegion.{MergedRegion};
 
 use crate::merged_parts::read_regions;
 use cell_refs::Dimensions;
@@ -30,9 +31,11 @@ fn push_regions(
     path: &str,
     areas: Vec<Dimensions>,
 ) -> Result<(), AllocError>
-    ensures { let own = sheet_at sheet.now path.now in
+    ensures ok { let own = sheet_at sheet.now path.now in
         OnOk result (map region_of regions.new.items
         ≡ map region_of regions.old.items ++ map (region_in own) areas.items) }
+    ensures err { OnErr result ((more : List MergedRegion)
+        × (regions.new.items ≡ regions.old.items ++ more)) }
 {
     for dimensions in areas {
         regions.push(MergedRegion {
@@ -48,7 +51,8 @@ fn push_regions(
 /// each `mergeCell` start wherever it stands in the part (ECMA-376 part 1, section 18.3.1.54). The
 /// part is read to its end. A part that is absent has none.
 ///
-/// Fails as `read_regions`. After a refusal some of them may be appended.
+/// Fails as `read_regions`. After a refusal some of them may be appended, behind those that were
+/// there.
 pub fn read_sheet_regions<P: Package>(
     alloc: Global,
     package: &mut P,
@@ -72,6 +76,8 @@ pub fn read_sheet_regions<P: Package>(
         let own = sheet_at sheet.now path.now in
         IfErr result (FailsBy (SheetRegionsCause old.parts own) old (P.state «package».new)) }
     ensures kind { IfErr result IsRegionsError }
+    ensures kept { OnErr result ((more : List MergedRegion)
+        × (regions.new.items ≡ regions.old.items ++ more)) }
 {
     if let Some(areas) = read_regions(alloc, package, path)? {
         push_regions(alloc, regions, sheet, path, areas)?;

@@ -15,7 +15,8 @@ use Rattle.xlsx_check.specs.Trees.{is_multiplication, joined_by, cell_alone, ref
 use Rattle.xlsx_check.specs.Trees.{spelled, looseness, IsLeftmost, enclosures}
 use Rattle.xlsx_check.specs.Reading.{Read, read, read_as, chain_on, chain_read, product_read}
 use Rattle.xlsx_check.specs.Reading.{sum_read, compared_on, comparison_read, cell_read, closed_by}
-use Rattle.xlsx_check.specs.Reading.{stops, ReferencesRead, with_first, references_read, factor_read}
+use Rattle.xlsx_check.specs.Reading.{stops, ReferencesRead, with_first, references_read}
+use Rattle.xlsx_check.specs.Reading.{factor_read}
 use Rattle.xlsx_check.proofs.Joins.{IsKind, Splits, products, sums, comparisons, loosest}
 use Rattle.xlsx_check.proofs.Options.{mapped_from, taken_from}
 use Rattle.xlsx_check.proofs.Splitting.{IsFine, order}
@@ -62,7 +63,8 @@ reads_joined wanted most least levels kind token wants left right tree rest toke
 module _ (wanted : Token → Bool) (least levels : ℕ) (kind : IsKind wanted (suc least) least)
     (inner : List Token → Option Read) where
   on_reads : AreRead least levels inner → (turns : ℕ) (left : Tree) (tokens : List Token)
-      (r : Read) → IsFine (suc least) levels left → chain_on wanted inner turns left tokens ≡ Some r →
+      (r : Read) → IsFine (suc least) levels left →
+      chain_on wanted inner turns left tokens ≡ Some r →
       (spelled r.tree ++ r.rest ≡ spelled left ++ tokens) × IsFine (suc least) levels r.tree
   on_reads reads zero left tokens r fine is =
       let same : read left tokens ≡ r = cc in

@@ -1,5 +1,6 @@
 -- What the descent comes to, where it stands before tokens that are still to be read.
-use Rattle.std.proofs.Common.{◌≡◌, ℕ, zero, suc, ◌-◌, ◌≤◌, Bool, true, false, cond, List, [], ◌∷◌, ◌++◌}
+use Rattle.std.proofs.Common.{◌≡◌, ℕ, zero, suc, ◌-◌, ◌≤◌, Bool, true, false, cond, List, [], ◌∷◌}
+use Rattle.std.proofs.Common.{◌++◌}
 use Rattle.std.proofs.Common.{length, Some, None, Option, refl, sym, ap, ◌∙◌, subst, arith}
 use Rattle.std.proofs.Common.{append_assoc, ℤ, pos}
 use Rattle.std.specs.Prelude.{option_map, option_and_then}
@@ -316,7 +317,8 @@ module _ (values : List ((ℕ × ℕ) × CellValue)) where
       split right_is right_behind =
       by (sum_read factor tokens) left_is behind
     where
-      on : (tree : Tree) (o : Option Read) → sum_read factor after ≡ o → left ≡ result_of values tree →
+      on : (tree : Tree) (o : Option Read) → sum_read factor after ≡ o →
+          left ≡ result_of values tree →
           right ≡ value_read values o → (is_unsupported right ≡ false → now ≡ rest_read o) →
           (joined_result token left right
           ≡ value_read values (compared_on factor tree (token ∷ after)))

@@ -9,13 +9,13 @@ use Rattle.xlsx_check.specs.declared.outcome.Verdict.{Verdict}
 
 -- one line more, and those of the formulas behind it
 pub goes_on : (values : List ((ℕ × ℕ) × CellValue)) (formula : (ℕ × ℕ) × List ℕ)
-    (rest left whole : List ((ℕ × ℕ) × List ℕ)) (old new text : List ℕ) (said : Verdict) →
+    (rest left whole : List ((ℕ × ℕ) × List ℕ)) (before old new text : List ℕ) (said : Verdict) →
     text ≡ formula.1 →
     verdict_of said ≡ judged (denotation values text) (value_placed values formula.0) →
     new ≡ old ++ verdict_line formula.0 (verdict_of said) → left ≡ formula ∷ rest →
-    old ++ check_lines values left ≡ check_lines values whole →
-    new ++ check_lines values rest ≡ check_lines values whole
-goes_on values formula rest left whole old new text said is says printed taken same =
+    old ++ check_lines values left ≡ before ++ check_lines values whole →
+    new ++ check_lines values rest ≡ before ++ check_lines values whole
+goes_on values formula rest left whole before old new text said is says printed taken same =
     let line : verdict_of said ≡ judged_at values formula =
     says ∙ ap (λ own. judged (denotation values own) (value_placed values formula.0)) is in
     ap (λ bytes. bytes ++ check_lines values rest)

@@ -1,7 +1,8 @@
 -- Whole numbers that fit 128 bits, and what numbers come to.
 use Rattle.std.proofs.Common.{◌≡◌, ℕ, zero, suc, ◌*◌, ◌^◌, ◌<◌, ◌≤◌, Bool, true, false}
 use Rattle.std.proofs.Common.{cond, ◌&&◌, Some, None, Option, ℤ, pos, negsuc, ◌+ℤ◌, ◌-ℤ◌, ◌*ℤ◌}
-use Rattle.std.proofs.Common.{◌<ℤ◌, neg_ℤ, nat_abs, refl, sym, ap, ◌∙◌, subst, arith, lit<, inl, inr, ◌⊎◌}
+use Rattle.std.proofs.Common.{◌<ℤ◌, neg_ℤ, nat_abs, refl, sym, ap, ◌∙◌, subst, arith, lit<, inl}
+use Rattle.std.proofs.Common.{inr, ◌⊎◌}
 use Rattle.std.specs.Prelude.{FitsSigned, SomeIff, int_lt}
 use Rattle.std.specs.Cmp.{int_cmp_is, int_ranks}
 use Rattle.std.specs.Int.{w128}
@@ -15,7 +16,8 @@ use Rattle.std.proofs.lemmas.Bool.{cases_lt}
 use Rattle.std.proofs.lemmas.Bool.Decides.{nat_tests}
 use Rattle.std.proofs.lemmas.Int.{ints}
 use Rattle.decimals.specs.Decimals.{has_bits, decimal_from}
-use Rattle.xlsx_check.specs.Evaluation.{Denoted, a_number, number_past, number_or_past, if_fits, from_whole}
+use Rattle.xlsx_check.specs.Evaluation.{Denoted, a_number, number_past, number_or_past, if_fits}
+use Rattle.xlsx_check.specs.Evaluation.{from_whole}
 use Rattle.xlsx_check.specs.Evaluation.{is_zero, lower, taken_to, if_both_fit, sum_at, sum_of}
 use Rattle.xlsx_check.specs.Evaluation.{difference_at, difference_of}
 use Rattle.xlsx_check.specs.Evaluation.{negative_of, gap}

@@ -33,6 +33,7 @@ denoted_by code.NumberPast = number_past
 denoted_by code.TruthPast = truth_past
 denoted_by code.Unsupported = unsupported
 
+-- a result isn't computed
 abbrev pub is_unsupported : Denoted → Bool
 is_unsupported unsupported = true
 is_unsupported _ = false
@@ -51,6 +52,7 @@ wanted_by kind.Comparison token = is_comparison token
 wanted_by kind.Addition token = is_addition token
 wanted_by kind.Multiplication token = is_multiplication token
 
+-- the token of a comma or of a closing parenthesis
 abbrev pub separator_token : Separator → Token
 separator_token separator.Comma = comma
 separator_token separator.Closing = closes
@@ -74,6 +76,7 @@ abbrev pub value_read : List ((ℕ × ℕ) × CellValue) → Option Read → Den
 value_read values None = unsupported
 value_read values (Some r) = result_of values r.tree
 
+-- the tokens behind what was read of a tree
 abbrev pub rest_read : Option Read → List Token
 rest_read None = []
 rest_read (Some r) = r.rest
@@ -83,6 +86,7 @@ abbrev pub total_read : List ((ℕ × ℕ) × CellValue) → Option ReferencesRe
 total_read values None = unsupported
 total_read values (Some r) = total_of values r.references
 
+-- the tokens behind references that were read
 abbrev pub references_rest : Option ReferencesRead → List Token
 references_rest None = []
 references_rest (Some r) = r.rest
@@ -91,21 +95,27 @@ references_rest (Some r) = r.rest
 unfoldable pub factor_from : ℕ → List Token → Option Read
 factor_from levels tokens = factor_read levels tokens
 
+-- the same of a product: factors with `*` between them
 unfoldable pub product_from : ℕ → List Token → Option Read
 product_from levels tokens = product_read (factor_read levels) tokens
 
+-- the same of a sum: products with `+` or `-` between them
 unfoldable pub sum_from : ℕ → List Token → Option Read
 sum_from levels tokens = sum_read (factor_read levels) tokens
 
+-- the same of a comparison of two sums, or of one sum
 unfoldable pub comparison_from : ℕ → List Token → Option Read
 comparison_from levels tokens = comparison_read (factor_read levels) tokens
 
+-- the same of a comparison whose closing parenthesis stands behind it
 unfoldable pub group_from : ℕ → List Token → Option Read
 group_from levels tokens = group_read (factor_read levels) tokens
 
+-- what is read of references with commas between them, up to a closing parenthesis
 unfoldable pub references_from : List Token → Option ReferencesRead
 references_from tokens = references_read tokens
 
+-- the same behind an opening parenthesis
 abbrev pub opened_references : List Token → Option ReferencesRead
 opened_references (opens ∷ tokens) = references_from tokens
 opened_references _ = None

@@ -1,5 +1,7 @@
--- A tree read from the left, by recursive descent: the steps that the code takes, on lists of tokens.
-use Rattle.std.specs.Prelude.{ℕ, zero, suc, Bool, true, false, not, if◌then◌else◌, List, [], ◌∷◌, length, Option}
+-- A tree read from the left, by recursive descent: the steps that the code takes, on lists of
+-- tokens.
+use Rattle.std.specs.Prelude.{ℕ, zero, suc, Bool, true, false, not, if◌then◌else◌, List, [], ◌∷◌}
+use Rattle.std.specs.Prelude.{length, Option}
 use Rattle.std.specs.Prelude.{Some, None, option_map, option_and_then}
 use Rattle.formula_shift.specs.declared.reference.Reference.{Reference}
 use Rattle.xlsx_check.specs.Tokens.{Token, constant, refers, sum, sign, opens, closes, comma}
@@ -20,8 +22,8 @@ read tree rest = record { tree = tree; rest = rest }
 abbrev pub read_as : (Tree → Tree) → Read → Read
 read_as f r = read (f r.tree) r.rest
 
--- A tree goes on by each operator of a kind behind it, with the tree that `inner` reads behind that.
--- `turns` is at least the number of tokens.
+-- A tree goes on by each operator of a kind behind it, with the tree that `inner` reads behind
+-- that. `turns` is at least the number of tokens.
 abbrev pub chain_on : (Token → Bool) → (List Token → Option Read) → ℕ → Tree → List Token
     → Option Read
 chain_on wanted inner zero left tokens = Some (read left tokens)

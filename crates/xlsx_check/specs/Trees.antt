@@ -1,4 +1,5 @@
--- The tree of a formula: it is split at its comparison, else at the last + or -, else at the last *.
+-- The tree of a formula: it is split at its comparison, else at the last + or -, else at the last
+-- *.
 use Rattle.std.specs.Prelude.{◌≡◌, ⊤, ℕ, zero, suc, ◌-◌, ◌<◌, ◌≤◌, ◌==◌, ◌&&◌, is_none, max}
 use Rattle.std.specs.Prelude.{Bool}
 use Rattle.std.specs.Prelude.{true, false, if◌then◌else◌, List, [], ◌∷◌, ◌++◌, length, ℤ}

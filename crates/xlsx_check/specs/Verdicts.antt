@@ -27,6 +27,7 @@ outcome_of (outcome.Value value) = computed_of value
 outcome_of outcome.Unsupported = unsupported
 outcome_of outcome.Overflow = number_past
 
+-- a result, of which it isn't told whether a number or a truth value is past the limits
 abbrev pub without_kind : Denoted → Denoted
 without_kind truth_past = number_past
 without_kind (a_number n) = a_number n
@@ -39,6 +40,7 @@ abbrev pub is_number : ℤ × ℤ → Denoted → Bool
 is_number n (a_number m) = nat_abs (gap n m) == 0
 is_number n _ = false
 
+-- two truth values are the same
 abbrev pub is_truth : Bool → Bool → Bool
 is_truth true true = true
 is_truth true false = false
@@ -57,6 +59,7 @@ agrees _ _ = false
 abbrev pub value_or_nothing : Option (Bor Data) → CellValue
 value_or_nothing value = unwrap_or (option_map (λ v. value_of_data v.now) value) nothing
 
+-- what is said of a formula beside the value of its cell
 pub data Judged : Type 0 where
   agreed : Judged
   differing : Denoted → Judged
@@ -64,6 +67,7 @@ pub data Judged : Type 0 where
   not_computed : Judged
   overflowing : Judged
 
+-- what is said of a result that is computed beside the value of its cell
 abbrev pub judged_value : Denoted → CellValue → Judged
 judged_value result nothing = without_value
 judged_value result value = if agrees result value then agreed else differing result

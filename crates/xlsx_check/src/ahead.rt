@@ -91,7 +91,7 @@ impl<'a> Ahead<'a> {
         ensures stays { IfNone result (ahead self.new ≡ ahead self.old) }
     {
         match self.next {
-            Some(token) if token.is(kind) => self.take(),
+            Some(token) if token.is_of_kind(kind) => self.take(),
             _ => None,
         }
     }

@@ -71,7 +71,8 @@ fn agrees(computed: Computed, value: &Data) -> bool
 
 /// What is said of what was computed beside a cell's value.
 fn judged(computed: Computed, value: Option<&Data>) -> Verdict
-    ensures { verdict_of result ≡ judged_value (computed_of computed) (value_or_nothing value.entry) }
+    ensures { verdict_of result
+        ≡ judged_value (computed_of computed) (value_or_nothing value.entry) }
 {
     match value {
         None | Some(Data::Empty) => Verdict::NoValue,

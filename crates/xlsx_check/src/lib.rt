@@ -20,6 +20,6 @@ pub use laws::{
     descent_reads_the_tree_that_is_split, leftmost_trees_are_those_of_their_tokens,
     trees_are_spelled_as_their_tokens,
 };
-pub use lines::check_lines_of;
+pub use lines::push_checks;
 pub use outcome::{Computed, Outcome, Verdict};
 pub use token::Comparison;

@@ -1,5 +1,5 @@
-//! The lines of a sheet's formulas beside the values of their cells.
-ghost use Rattle.std.specs.Prelude.{◌≡◌, ◌<◌, ◌++◌, OnOk, IfOk, string_bytes};
+//! The lines of a sheet's formulas beside the values of their cells (docs/FORMAT.md).
+ghost use Rattle.std.specs.Prelude.{◌≡◌, ◌<◌, ◌++◌, OnOk, string_bytes};
 ghost use Rattle.cell_data.specs.Cells.{IsPlacedInSheet};
 ghost use Rattle.cell_data.specs.Range.{cells_of};
 ghost use Rattle.xlsx_check.specs.Denoting.{values_of};
@@ -11,7 +11,7 @@ use crate::checking::verdict;
 use crate::outcome::{Computed, Verdict};
 use cell_data::{Data, Range};
 use cell_refs::{MAX_COLUMNS, MAX_ROWS, push_reference};
-use std::alloc::{AllocError, Global};
+use std::alloc::AllocError;
 
 /// Appends what was computed, behind its kind.
 fn push_computed(out: &mut String, computed: Computed) -> Result<(), AllocError>
@@ -62,21 +62,19 @@ fn push_verdict_line(
     out.push_str("\n")
 }
 
-/// A line for each used cell of the formulas, row by row: its reference, a tab, and the verdict on
-/// its formula beside the value that it has, in words (docs/FORMAT.md). It goes over the formulas
-/// once.
-pub fn check_lines_of(
-    alloc: Global,
+/// Appends a line for each used cell of the formulas, row by row: its reference, a tab, and the
+/// verdict on its formula beside the value that it has, in words. It goes over the formulas once.
+pub fn push_checks(
+    out: &mut String,
     values: &Range<Data>,
     formulas: &Range<String>,
-) -> Result<String, AllocError>
+) -> Result<(), AllocError>
     ensures { let printed = check_lines (values_of values.now) (formulas_of formulas.now) in
-        IfOk result (λ out. string_bytes out ≡ printed) }
+        OnOk result (string_bytes out.new ≡ string_bytes out.old ++ printed) }
 {
-    let mut out = String::new(alloc);
     for (position, formula) in formulas.used() {
         let said = verdict(values, formula.as_str(), position);
-        push_verdict_line(&mut out, position, said)?;
+        push_verdict_line(out, position, said)?;
     }
-    Ok(out)
+    Ok(())
 }

@@ -55,7 +55,7 @@ pub enum Separator {
 
 impl Token {
     /// Whether it is an operator of this kind.
-    pub fn is(self, kind: Kind) -> bool
+    pub fn is_of_kind(self, kind: Kind) -> bool
         ensures { result ≡ wanted_by kind (token_of self) }
     {
         match kind {

@@ -8,8 +8,8 @@ use crate::cell_lines::reading_of;
 use crate::error::ToolError;
 use part_events::MemoryPackage;
 use std::alloc::Global;
-use xlsx_check::check_lines_of;
-use xlsx_precedents::{dependent_lines_of, precedent_lines_of};
+use xlsx_check::push_checks;
+use xlsx_precedents::{push_dependents, push_precedents};
 
 /// A line for each formula of the sheet of this name: its cell and the areas that it names.
 pub fn precedent_lines(
@@ -21,7 +21,9 @@ pub fn precedent_lines(
     ensures err { IfErr result (CallFails (SheetCause «package».parts name.now)) }
 {
     let reading = reading_of(alloc, package, name)?;
-    Ok(precedent_lines_of(alloc, &reading.formulas)?.into_bytes())
+    let mut out = String::new(alloc);
+    push_precedents(&mut out, &reading.formulas)?;
+    Ok(out.into_bytes())
 }
 
 /// A line for each cell of the sheet of this name whose formula names the cell at a position, a row
@@ -37,7 +39,9 @@ pub fn dependent_lines(
     ensures err { IfErr result (CallFails (SheetCause «package».parts name.now)) }
 {
     let reading = reading_of(alloc, package, name)?;
-    Ok(dependent_lines_of(alloc, &reading.formulas, position)?.into_bytes())
+    let mut out = String::new(alloc);
+    push_dependents(&mut out, &reading.formulas, position)?;
+    Ok(out.into_bytes())
 }
 
 /// A line for each formula of the sheet of this name: its cell, and how what it comes to stands to
@@ -47,5 +51,7 @@ pub fn check_lines(alloc: Global, package: MemoryPackage, name: &str) -> Result<
     ensures err { IfErr result (CallFails (SheetCause «package».parts name.now)) }
 {
     let reading = reading_of(alloc, package, name)?;
-    Ok(check_lines_of(alloc, &reading.values, &reading.formulas)?.into_bytes())
+    let mut out = String::new(alloc);
+    push_checks(&mut out, &reading.values, &reading.formulas)?;
+    Ok(out.into_bytes())
 }

@@ -93,8 +93,8 @@ impl<P: Package> Xlsx<P> {
     /// The rows of the cache of the first of these pivot tables that has this name and is on a
     /// sheet of this name, as `PivotCacheIter` of `xlsx_pivot_cache` gives them.
     ///
-    /// Fails with `PivotTableNotFound` of the name where there is none, before anything is read,
-    /// and else as `PivotCacheIter::open`.
+    /// Fails with `PivotTableNotFound` of the name where there is none, and else as
+    /// `PivotCacheIter::open`.
     pub fn pivot_table_data(
         &mut self,
         pivot_tables: &PivotTables,

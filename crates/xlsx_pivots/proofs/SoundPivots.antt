@@ -18,7 +18,7 @@ use Rattle.xlsx_relationships.specs.RelatedParts.{related_parts, all_lead_to, ta
 use Rattle.xlsx_pivots.specs.PivotParts.{name_said, name_in_part, NameCause}
 use Rattle.xlsx_pivots.specs.Pivots.{PivotSaid, pivot_type, pivot_name_at, pivot_with, pivot_from}
 use Rattle.xlsx_pivots.specs.Pivots.{pivot_named, pivot_at, one_pivot, pivots_at, pivots_by}
-use Rattle.xlsx_pivots.specs.Pivots.{pivots_on, pivots_of, NameAtCause, PivotCause}
+use Rattle.xlsx_pivots.specs.Pivots.{pivots_on, pivots_of, NameAtCause, PivotCause, CacheAtCause}
 use Rattle.xlsx_pivots.specs.Pivots.{PivotsAtCause, PivotsCause}
 use Rattle.xlsx_pivots.specs.Singles.{only_one, Lacks}
 use Rattle.xlsx_pivots.specs.Targets.{definitions_type, records_type, definitions_at, records_at}
@@ -91,6 +91,25 @@ no_target_cause parts wanted single path own error says (inr lacks) =
     not_lacking single (target_beside parts wanted single path) own error
     (one_said (target_beside parts wanted single path) own says) lacks
 
+no_cache_cause : (parts : List Part) (folder sheet path name : List ℕ) (pivot : PivotSaid)
+    (error : XlsxError) → pivot_named parts folder sheet path name ≡ Some pivot
+    → CacheAtCause parts path error → ⊥
+no_cache_cause parts folder sheet path name pivot error says (inl cause) =
+    let lies = and_then_from (pivot_from parts folder sheet name) (definitions_at parts path)
+    pivot says in
+    let target = and_then_from (target_path path)
+    (only_one (target_beside parts definitions_type single.Definitions path)) lies.0 lies.1 in
+    no_target_cause parts definitions_type single.Definitions path target.0 error target.1 cause
+no_cache_cause parts folder sheet path name pivot error says (inr cause) =
+    let lies = and_then_from (pivot_from parts folder sheet name) (definitions_at parts path)
+    pivot says in
+    let records = mapped_from (pivot_with sheet name lies.0) (records_at parts folder lies.0)
+    pivot lies.2 in
+    let target = mapped_from (records_path folder)
+    (only_one (target_beside parts records_type single.Records lies.0)) records.0 records.1 in
+    no_target_cause parts records_type single.Records lies.0 target.0 error target.1
+    (rw lies.1 at cause)
+
 no_pivot_cause : (parts : List Part) (folder sheet path : List ℕ) (pivot : PivotSaid)
     (error : XlsxError) → pivot_at parts folder sheet path ≡ Some pivot
     → PivotCause parts path error → ⊥
@@ -98,25 +117,10 @@ no_pivot_cause parts folder sheet path pivot error says (inl cause) =
     let name = and_then_from (pivot_named parts folder sheet path) (pivot_name_at parts path)
     pivot says in
     no_name_cause parts path name.0 error name.1 cause
-no_pivot_cause parts folder sheet path pivot error says (inr (inl cause)) =
+no_pivot_cause parts folder sheet path pivot error says (inr cause) =
     let name = and_then_from (pivot_named parts folder sheet path) (pivot_name_at parts path)
     pivot says in
-    let lies = and_then_from (pivot_from parts folder sheet name.0) (definitions_at parts path)
-    pivot name.2 in
-    let target = and_then_from (target_path path)
-    (only_one (target_beside parts definitions_type single.Definitions path)) lies.0 lies.1 in
-    no_target_cause parts definitions_type single.Definitions path target.0 error target.1 cause
-no_pivot_cause parts folder sheet path pivot error says (inr (inr cause)) =
-    let name = and_then_from (pivot_named parts folder sheet path) (pivot_name_at parts path)
-    pivot says in
-    let lies = and_then_from (pivot_from parts folder sheet name.0) (definitions_at parts path)
-    pivot name.2 in
-    let records = mapped_from (pivot_with sheet name.0 lies.0) (records_at parts folder lies.0)
-    pivot lies.2 in
-    let target = mapped_from (records_path folder)
-    (only_one (target_beside parts records_type single.Records lies.0)) records.0 records.1 in
-    no_target_cause parts records_type single.Records lies.0 target.0 error target.1
-    (rw lies.1 at cause)
+    no_cache_cause parts folder sheet path name.0 pivot error name.2 (rw name.1 at cause)
 
 no_cause_at : (parts : List Part) (folder sheet path : List ℕ) (all : List PivotSaid)
     (error : XlsxError) → pivots_at parts folder sheet path ≡ Some all

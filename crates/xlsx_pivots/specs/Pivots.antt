@@ -126,14 +126,20 @@ abbrev pub NameAtCause : List Part → List ℕ → XlsxError → Type 0
 NameAtCause parts path error =
     LacksPart parts path error ⊎ IfThere NameCause (part_of parts path) error
 
--- Why the pivot table of the part at a path can't be taken: its name can't, or it can't be said
--- where its definitions lie, or from there, where its records do.
+-- why it can't be said where the definitions of a pivot table lie, or from there, where its records
+-- do
+abbrev pub CacheAtCause : List Part → List ℕ → XlsxError → Type 0
+CacheAtCause parts path error =
+    TargetCause parts definitions_type single.Definitions path error
+    ⊎ MatchOption (definitions_at parts path) ⊥
+    (λ definitions. TargetCause parts records_type single.Records definitions error)
+
+-- why the pivot table of the part at a path can't be taken: its name can't, or behind that, it can't
+-- be said where its cache lies
 abbrev pub PivotCause : List Part → List ℕ → XlsxError → Type 0
 PivotCause parts path error =
     NameAtCause parts path error
-    ⊎ TargetCause parts definitions_type single.Definitions path error
-    ⊎ MatchOption (definitions_at parts path) ⊥
-    (λ definitions. TargetCause parts records_type single.Records definitions error)
+    ⊎ MatchOption (pivot_name_at parts path) ⊥ (λ name. CacheAtCause parts path error)
 
 -- why those of the parts at some paths can't
 abbrev pub PivotsByCause : List Part → List (List ℕ) → XlsxError → Type 0

@@ -12,6 +12,7 @@ ghost use Rattle.xlsx_pivots.specs.Pivots.{pivots_of, PivotCause, PivotsByCause,
 ghost use Rattle.xlsx_pivots.specs.Pivots.{PivotsCause, pivot_events, pivot_sections};
 ghost use Rattle.xlsx_pivots.specs.Pivots.{sheet_events, sheet_sections, all_pivot_events};
 ghost use Rattle.xlsx_pivots.specs.Pivots.{all_pivot_sections};
+ghost use Rattle.xlsx_pivots.specs.declared.pivot_tables.PivotTable.{PivotTable};
 
 use crate::pivot_parts::name_at;
 use crate::pivot_tables::{PivotTable, PivotTables};
@@ -80,6 +81,7 @@ fn push_pivot<P: Package>(
     ensures err { let old = P.state «package».old in
         IfErr result (FailsBy (PivotCause old.parts path.now) old (P.state «package».new)) }
     ensures kind { IfErr result IsPivotsError }
+    ensures kept { (more : List PivotTable) × (pivots.new.items ≡ pivots.old.items ++ more) }
 {
     let pivot = pivot_at(alloc, package, sheet, path, folder)?;
     pivots.push(pivot)?;
@@ -110,6 +112,7 @@ fn push_pivots<P: Package>(
         IfErr result (FailsBy (PivotsByCause old.parts (map string_bytes paths.now)) old
         (P.state «package».new)) }
     ensures kind { IfErr result IsPivotsError }
+    ensures kept { (more : List PivotTable) × (pivots.new.items ≡ pivots.old.items ++ more) }
 {
     let mut left = paths;
     'paths: while let Some((path, others)) = left.split_first() {
@@ -121,7 +124,7 @@ fn push_pivots<P: Package>(
 
 /// Appends the pivot tables of the sheet of this name whose part is at this path, in the workbook's
 /// folder, as `find_pivot_tables` finds those of many sheets. After a refusal some of them may be
-/// appended.
+/// appended, behind those that were there.
 #[tactic(auto, using(crate::proofs::PivotsRead::related_error))]
 pub fn read_sheet_pivots<P: Package>(
     alloc: Global,
@@ -145,6 +148,7 @@ pub fn read_sheet_pivots<P: Package>(
     ensures err { let old = P.state «package».old in
         IfErr result (FailsBy (PivotsAtCause old.parts path.now) old (P.state «package».new)) }
     ensures kind { IfErr result IsPivotsError }
+    ensures kept { (more : List PivotSaid) × (pivots_kept found.new ≡ pivots_kept found.old ++ more) }
 {
     let paths = related_parts(alloc, package, path, PIVOT_TYPE)?;
     push_pivots(alloc, package, &mut found.pivots, sheet, &paths, folder)

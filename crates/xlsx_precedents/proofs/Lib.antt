@@ -1,7 +1,6 @@
 pub mod OwnAreas
-pub mod Listing
-pub mod NamingCells
 pub mod Numbering
 pub mod Merging
 pub mod Finding
 pub mod Gathering
+pub mod Standing

@@ -13,9 +13,9 @@ use cell_refs::Dimensions;
 use formula_shift::{Piece, Pieces, Reference};
 use std::alloc::{AllocError, Global};
 
-/// The areas that a formula names, in order, each by its first and its last cell, rows and columns
-/// counted from 0: those of its references that don't stand directly behind `!`, which is how a
-/// formula names the cells of its own sheet.
+/// The areas that a formula names on its own sheet, in order, each by its first and its last cell,
+/// rows and columns counted from 0. A reference directly behind `!` is another sheet's, and a name
+/// is none.
 pub fn areas_of(alloc: Global, formula: &str) -> Result<Vec<Dimensions>, AllocError>
     ensures value { IfOk result (λ named. named.items ≡ areas formula.now) }
     ensures on_sheet { IfOk result (λ named. list_all is_sheet_area named.items ≡ true) }

@@ -2,6 +2,7 @@
 ghost use Rattle.std.specs.Prelude.{◌≡◌, ◌+◌, ◌<◌, ◌≤◌, [], map, length, IfOk, OnOk};
 ghost use Rattle.std.specs.FinMap.{find};
 ghost use Rattle.std.specs.Option.{unwrap_or};
+ghost use Rattle.cell_data.specs.Cells.{AreInSheet};
 ghost use Rattle.cell_data.specs.Range.{cells_of};
 ghost use Rattle.cell_refs.specs.Positions.{position_cmp};
 ghost use Rattle.sorted_cells.specs.Kept.{kept_cells};
@@ -56,8 +57,9 @@ impl DependencyIndex {
     /// It takes time and memory by the text of the formulas and by the number of their areas: for
     /// each area its corners, its cell and at most 16 numbers.
     pub fn build(alloc: Global, formulas: &Range<String>) -> Result<DependencyIndex, AllocError>
-        ensures { IfOk result
+        ensures entries { IfOk result
             (λ index. index ≡ map named_by (map formula_entry (cells_of formulas.now))) }
+        ensures sheet { IfOk result AreInSheet }
     {
         let (cells, named) = gather(alloc, formulas)?;
         let narrow = narrow_numbers(alloc, named.as_slice())?;
@@ -137,6 +139,8 @@ fn gather(
     ensures entries { IfOk result
         (λ all. map (entry_in all.1.areas.items) (kept_cells all.0)
         ≡ map named_by (map formula_entry (cells_of formulas.now))) }
+    ensures sheet { IfOk result
+        (λ all. AreInSheet (map (entry_in all.1.areas.items) (kept_cells all.0))) }
 {
     let mut cells = SortedCells::with_capacity(alloc, formulas.used_count())?;
     let mut named = NamedAreas::new(alloc);

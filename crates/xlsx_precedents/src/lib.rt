@@ -13,4 +13,4 @@ pub use areas::areas_of;
 pub use counted_steps::Steps;
 pub use index::DependencyIndex;
 pub use laws::areas_of_a_moved_text_are_moved;
-pub use lines::{dependent_lines_of, precedent_lines_of};
+pub use lines::{push_dependents, push_precedents};

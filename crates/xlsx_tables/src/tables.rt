@@ -12,6 +12,7 @@ ghost use Rattle.xlsx_tables.specs.TableParts.{TableSaid, table_kept};
 ghost use Rattle.xlsx_tables.specs.Tables.{table_at, tables_by, tables_at, TablesByCause};
 ghost use Rattle.xlsx_tables.specs.Tables.{TablesAtCause, IsTablesError, on_sheet, loaded_of};
 ghost use Rattle.xlsx_tables.specs.Tables.{table_events, table_sections};
+ghost use Rattle.xlsx_tables.specs.declared.loaded.LoadedTable.{LoadedTable};
 
 use crate::loaded::LoadedTable;
 use crate::table_part::{TablePart, read_table_at};
@@ -30,8 +31,9 @@ fn push_part(
     part: Option<TablePart>,
 ) -> Result<(), AllocError>
     requires { IfSome part (λ own. are_sheet_bounds own.area ≡ true) }
-    ensures { OnOk result (map loaded_of tables.new.items ≡ map loaded_of tables.old.items
+    ensures ok { OnOk result (map loaded_of tables.new.items ≡ map loaded_of tables.old.items
         ++ map (on_sheet sheet) (option_to_list (option_map table_kept part))) }
+    ensures kept { (more : List LoadedTable) × (tables.new.items ≡ tables.old.items ++ more) }
 {
     if let Some(part) = part {
         tables.push(LoadedTable::new(sheet, part))?;
@@ -61,6 +63,7 @@ fn push_table<P: Package>(
         IfErr result (FailsBy (IfThere TableCause (part_of old.parts path.now)) old
         (P.state «package».new)) }
     ensures kind { IfErr result IsTableError }
+    ensures kept { (more : List LoadedTable) × (tables.new.items ≡ tables.old.items ++ more) }
 {
     let part = read_table_at(alloc, package, path)?;
     push_part(tables, sheet, part)?;
@@ -93,6 +96,7 @@ fn push_tables<P: Package>(
         IfErr result (FailsBy (TablesByCause old.parts (map string_bytes paths.now)) old
         (P.state «package».new)) }
     ensures kind { IfErr result IsTableError }
+    ensures kept { (more : List LoadedTable) × (tables.new.items ≡ tables.old.items ++ more) }
 {
     let mut left = paths;
     'paths: while let Some((path, others)) = left.split_first() {
@@ -107,7 +111,7 @@ fn push_tables<P: Package>(
 /// section 18.5.1.2). One that two of them name comes twice, and a part that is absent has none.
 ///
 /// Fails as `related_parts` of this type, and by one of the tables as `read_table_part`. After a
-/// refusal some of them may be appended.
+/// refusal some of them may be appended, behind those that were there.
 pub fn read_sheet_tables<P: Package>(
     alloc: Global,
     package: &mut P,
@@ -130,6 +134,7 @@ pub fn read_sheet_tables<P: Package>(
     ensures err { let old = P.state «package».old in
         IfErr result (FailsBy (TablesAtCause old.parts path.now) old (P.state «package».new)) }
     ensures kind { IfErr result IsTablesError }
+    ensures kept { (more : List LoadedTable) × (tables.new.items ≡ tables.old.items ++ more) }
 {
     let paths = related_parts(alloc, package, path, TABLE_TYPE)?;
     push_tables(alloc, package, tables, sheet, &paths)

@@ -26,7 +26,8 @@ returns-in_default-taken_to c =
     let fits : FitsSigned w128 (taken_to power a) = search rules in
     let past : FitsSigned w128 (taken_to power b) → ⊥ = search rules in
     let order : c.cmp-in_default-taken_to.result ≡ int_cmp (pos 0) b.0 = search rules in
-    second_order a b power c.cmp-in_default-taken_to.result c.lower-power.ensures.value fits past order
+    second_order a b power c.cmp-in_default-taken_to.result c.lower-power.ensures.value fits past
+    order
 
 pub returns : goal.returns
 returns c =

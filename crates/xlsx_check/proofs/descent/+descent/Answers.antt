@@ -13,7 +13,8 @@ use Rattle.xlsx_check.specs.Trees.{Tree, is_comparison, is_addition, is_multipli
 use Rattle.xlsx_check.specs.Trees.{cell_alone}
 use Rattle.decimals.specs.Decimal.{number_of}
 use Rattle.xlsx_check.proofs.Joins.{products, sums, comparisons, IsKind}
-use Rattle.xlsx_check.proofs.Going.{goes_start, goes_step, goes_stop, comparison_off, comparison_stop}
+use Rattle.xlsx_check.proofs.Going.{goes_start, goes_step, goes_stop, comparison_off}
+use Rattle.xlsx_check.proofs.Going.{comparison_stop}
 use Rattle.xlsx_check.proofs.Going.{comparison_step, group_off, group_closed, group_open}
 use Rattle.xlsx_check.proofs.Going.{factor_no_level, factor_no_token, factor_other, factor_constant}
 use Rattle.xlsx_check.proofs.Going.{factor_cell, factor_sign, factor_group, factor_total}
@@ -44,7 +45,8 @@ not_begun token (inr (inr (inr (inr (inr (inl is)))))) =
 not_begun token (inr (inr (inr (inr (inr (inr is)))))) =
     ap (λ (t : CodeToken). begins_factor (token_of t)) is
 
-pub comparison-returns-then-is_unsupported-clause-value : goal.comparison-returns-then-is_unsupported-clause-value
+pub comparison-returns-then-is_unsupported-clause-value :
+    goal.comparison-returns-then-is_unsupported-clause-value
 unfolding sum_from comparison_from
 comparison-returns-then-is_unsupported-clause-value t c =
     comparison_off (values_of c.args.values.now) (factor_read c.args.levels)
@@ -223,7 +225,8 @@ factor-returns-in-Plus t c =
       shorter = omega (arith, ap length c.in-Some.ensures.some);
     }
 
-pub group-returns-then-is_unsupported-clause-value : goal.group-returns-then-is_unsupported-clause-value
+pub group-returns-then-is_unsupported-clause-value :
+    goal.group-returns-then-is_unsupported-clause-value
 unfolding comparison_from group_from
 group-returns-then-is_unsupported-clause-value t c =
     group_off (values_of c.args.values.now) (factor_read c.args.levels) (ahead c.args.tokens.now)

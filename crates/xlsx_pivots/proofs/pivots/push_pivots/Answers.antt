@@ -48,6 +48,11 @@ paths-preserved g c =
                 (rw now.same.parts at (rw c.as_str.ensures.value at found.1))
                 ∙ rw left at before.2,
           );
+      kept = (
+        now.kept.0 ++ own.kept.0,
+        kept_behind c.args.pivots.now.items c.paths.pivots.items c.push_pivot.new.pivots.items
+            now.kept.0 own.kept.0 now.kept.1 own.kept.1,
+      );
       cause = λ error cause. now.cause error (rw left (inr cause));
     }
 

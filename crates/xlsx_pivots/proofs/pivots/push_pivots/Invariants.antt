@@ -6,6 +6,7 @@ use Rattle.xlsx_parts.specs.PartSaid.{put_together}
 use Rattle.xlsx_pivots.specs.PivotTables.{pivot_kept}
 use Rattle.xlsx_pivots.specs.Pivots.{PivotSaid, pivots_by, PivotsByCause, pivot_events}
 use Rattle.xlsx_pivots.specs.Pivots.{pivot_sections}
+use Rattle.xlsx_pivots.specs.declared.pivot_tables.PivotTable.{PivotTable}
 use Rattle.xlsx_pivots.proofs.pivots.push_pivots.Given as goal
 
 abbrev pub invariant-paths : goal.invariant-paths
@@ -30,6 +31,7 @@ invariant-paths g l =
           × (put_together (Some found)
           (pivots_by old.parts l.folder l.sheet (map string_bytes l.left))
           ≡ pivots_by old.parts l.folder l.sheet (map string_bytes l.fn.paths));
+      kept : (more : List PivotTable) × (l.pivots.items ≡ l.fn.pivots.items ++ more);
       cause :
           (error : XlsxError) → PivotsByCause old.parts (map string_bytes l.left) error →
           PivotsByCause old.parts (map string_bytes l.fn.paths) error;

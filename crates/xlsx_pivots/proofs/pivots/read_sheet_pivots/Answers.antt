@@ -1,4 +1,5 @@
-use Rattle.std.proofs.Common.{◌≡◌, ◌∙◌, List, Some, map, string_bytes, codes, inr, rules, subst}
+use Rattle.std.proofs.Common.{◌≡◌, ◌∙◌, List, Some, map, string_bytes, codes, inr, rules, subst, ap}
+use Rattle.std.proofs.lemmas.List.{map-append}
 use Rattle.std.proofs.lemmas.Result.{IfErr-weaker}
 use Rattle.std.specs.List.{sum_by}
 use Rattle.std.specs.Prelude.{OnOk}
@@ -10,6 +11,8 @@ use Rattle.xlsx_sections.proofs.Failing.{fails_by_weaker}
 use Rattle.xlsx_relationships.specs.Paths.{relationships_beside}
 use Rattle.xlsx_relationships.specs.RelatedParts.{related_parts}
 use Rattle.xlsx_relationships.proofs.RelatedTaken.{related_uses, related_ends}
+use Rattle.xlsx_pivots.specs.PivotTables.{pivot_kept}
+use Rattle.xlsx_pivots.specs.declared.pivot_tables.PivotTable.{PivotTable}
 use Rattle.xlsx_pivots.specs.Pivots.{pivot_type, PivotsByCause, PivotsAtCause, pivot_events}
 use Rattle.xlsx_pivots.specs.Pivots.{pivot_sections}
 use Rattle.xlsx_pivots.proofs.pivots.read_sheet_pivots.Goals as goal
@@ -59,3 +62,11 @@ returns-clause-to_end g c = λ told.
     (subst (λ (parts : List Part). OnOk c.push_pivots.result
     (CountsUp (sum_by (pivot_sections parts) paths) mid.taken new.taken))
     same.parts (c.push_pivots.ensures.to_end (same.is_told ∙ told)))
+
+pub returns-clause-kept : goal.returns-clause-kept
+returns-clause-kept g c =
+    let own = c.push_pivots.ensures.kept in (
+      map pivot_kept own.0,
+      ap (λ (all : List PivotTable). map pivot_kept all) own.1
+          ∙ map-append pivot_kept c.args.found.now.pivots.items own.0,
+    )

@@ -1,10 +1,12 @@
-use Rattle.std.proofs.Common.{◌++◌, map, replicate, length, string_bytes, ap, ◌∙◌}
+use Rattle.std.proofs.Common.{◌++◌, map, replicate, length, string_bytes, ap, sym, ◌∙◌, subst}
+use Rattle.cell_data.specs.Cells.{AreInSheet}
 use Rattle.cell_data.specs.Range.{cells_of}
 use Rattle.sorted_cells.specs.Kept.{kept_cells}
 use Rattle.sorted_cells.specs.Placed.{placed_left}
 use Rattle.xlsx_precedents.specs.Precedents.{areas, named_by, formula_entry}
 use Rattle.xlsx_precedents.proofs.Gathering.{paired_in, comes_next, gathers_next, all_gathered}
 use Rattle.xlsx_precedents.proofs.Gathering.{named_rises}
+use Rattle.xlsx_precedents.proofs.Standing.{named_stand}
 use Rattle.xlsx_precedents.proofs.index.gather.Goals as goal
 
 pub push_formula-requires : goal.push_formula-requires
@@ -55,3 +57,13 @@ returns-clause-entries c =
     (map named_by (map formula_entry (cells_of c.args.formulas.now))) c.loop-pos.invariant
     (ap (map formula_entry) c.in-None.ensures.steps.0)
     (named_rises (cells_of c.args.formulas.now) c.used-pos-items.ensures.rising)).1
+
+pub returns-clause-sheet : goal.returns-clause-sheet
+returns-clause-sheet c =
+    let entries = (all_gathered (kept_cells c.loop-pos.cells) c.loop-pos.named
+    (map formula_entry (placed_left c.loop-pos.pos-iterator))
+    (map named_by (map formula_entry (cells_of c.args.formulas.now))) c.loop-pos.invariant
+    (ap (map formula_entry) c.in-None.ensures.steps.0)
+    (named_rises (cells_of c.args.formulas.now) c.used-pos-items.ensures.rising)).1 in
+    subst AreInSheet (sym entries)
+    (named_stand (cells_of c.args.formulas.now) c.used-pos-items.ensures.sheet)

@@ -9,5 +9,5 @@ returns-clause-tables g c = λ told.
     let part = c.in_ok-part.part in (
       option_to_list (option_map table_kept part),
       table_at_is old.parts c.args.path.now part (c.in_ok-part.ensures.table told),
-      c.in_ok-push_part.ensures,
+      c.in_ok-push_part.ensures.ok,
     )

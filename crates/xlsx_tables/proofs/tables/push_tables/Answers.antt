@@ -1,10 +1,12 @@
-use Rattle.std.proofs.Common.{◌≡◌, ◌∷◌, ◌++◌, map, string_bytes, codes, rules, arith, inr, ◌∙◌}
+use Rattle.std.proofs.Common.{◌≡◌, ◌∷◌, ◌++◌, map, string_bytes, codes, rules, arith, inr, ◌∙◌, ap, List}
 use Rattle.std.specs.List.{sum_by}
+use Rattle.std.proofs.lemmas.List.{append_assoc}
 use Rattle.part_events.specs.Package.{event_count}
 use Rattle.xlsx_sections.specs.SectionEvents.{section_events_of}
 use Rattle.xlsx_parts.proofs.ManySaid.{said_of_one}
 use Rattle.xlsx_relationships.proofs.RelatedTaken.{sum_further, counts_further}
 use Rattle.xlsx_tables.specs.Tables.{table_at, loaded_of, on_sheet}
+use Rattle.xlsx_tables.specs.declared.loaded.LoadedTable.{LoadedTable}
 use Rattle.xlsx_tables.proofs.TablesKept.{kept_both}
 use Rattle.xlsx_tables.proofs.tables.push_tables.Goals as goal
 
@@ -48,5 +50,10 @@ paths-preserved g c =
                 (rw now.same.parts at (rw c.as_str.ensures.value at found.1))
                 ∙ rw left at before.2,
           );
+      kept = (
+        now.kept.0 ++ own.kept.0,
+        own.kept.1 ∙ ap (λ (all : List LoadedTable). all ++ own.kept.0) now.kept.1
+            ∙ append_assoc c.args.tables.now.items now.kept.0 own.kept.0,
+      );
       cause = λ error cause. now.cause error (rw left (inr cause));
     }

@@ -7,6 +7,7 @@ use Rattle.xlsx_sections.specs.SectionEvents.{section_events_of}
 use Rattle.xlsx_parts.specs.PartSaid.{put_together}
 use Rattle.xlsx_tables.specs.TableParts.{TableSaid}
 use Rattle.xlsx_tables.specs.Tables.{tables_by, TablesByCause, loaded_of, on_sheet}
+use Rattle.xlsx_tables.specs.declared.loaded.LoadedTable.{LoadedTable}
 use Rattle.xlsx_tables.proofs.tables.push_tables.Given as goal
 
 abbrev pub invariant-paths : goal.invariant-paths
@@ -33,6 +34,7 @@ invariant-paths g l =
           ≡ map loaded_of l.fn.tables.items ++ map (on_sheet l.sheet) found)
           × (put_together (Some found) (tables_by old.parts (map string_bytes l.left))
           ≡ tables_by old.parts (map string_bytes l.fn.paths));
+      kept : (more : List LoadedTable) × (l.tables.items ≡ l.fn.tables.items ++ more);
       cause :
           (error : XlsxError) → TablesByCause old.parts (map string_bytes l.left) error →
           TablesByCause old.parts (map string_bytes l.fn.paths) error;

@@ -33,7 +33,8 @@ rows-preserved g c =
     c.rows.self.rising in
     let empty : c.rows.self.own.now ≡ [] = without_any c.rows.self.own.now (search rules) in
     entered.same c.columns_between-self.ensures
-    ∙ (sym (ap (λ (cells : List (ColumnCell g.row.T.Denot)). map (row_entry c.rows.self.number) cells
+    ∙ (sym (ap (λ (cells : List (ColumnCell g.row.T.Denot)).
+    map (row_entry c.rows.self.number) cells
     ++ entries_between c.rows.self.first c.rows.self.last
     (cells_by c.rows.self.rows.now c.rows.self.behind.now)) empty)
     ∙ c.rows.invariant)

@@ -5,7 +5,7 @@ use Rattle.sorted_cells.specs.Placed.{placed_left}
 use Rattle.xlsx_check.specs.Denoting.{values_of}
 use Rattle.xlsx_check.specs.Lines.{formulas_of}
 use Rattle.xlsx_check.proofs.Listing.{goes_on}
-use Rattle.xlsx_check.proofs.lines.check_lines_of.Goals as goal
+use Rattle.xlsx_check.proofs.lines.push_checks.Goals as goal
 
 pub loop-position-preserved : goal.loop-position-preserved
 loop-position-preserved c =
@@ -14,7 +14,7 @@ loop-position-preserved c =
       printed = goes_on values (c.in-Some.position, string_bytes c.in-Some.formula.now)
           (map (λ cell. (cell.0, string_bytes cell.1)) (placed_left c.next.new.self))
           (map (λ cell. (cell.0, string_bytes cell.1)) (placed_left c.loop-position.position-iterator))
-          (formulas_of c.args.formulas.now)
+          (formulas_of c.args.formulas.now) (string_bytes c.args.out.now)
           (string_bytes c.loop-position.out) (string_bytes c.push_verdict_line.new.out)
           c.as_str.result.now c.verdict-said.result
           c.as_str.ensures.value c.verdict-said.ensures c.in_ok-push_verdict_line.ensures

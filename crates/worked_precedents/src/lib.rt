@@ -1,0 +1,11 @@
+//! What formulas name: tests of `xlsx_precedents` by its public calls.
+#![tactic(auto)]
+
+#[cfg(test)]
+mod area_tests;
+#[cfg(test)]
+mod index_tests;
+mod sheets;
+mod steps;
+
+pub use steps::{a_search_of_a_sheet_takes_four_steps, a_search_passes_other_blocks};

@@ -1,0 +1,45 @@
+//! Searches that count their steps, and how many the bound of one allows.
+ghost use Rattle.std.specs.Prelude.{◌≡◌, ◌<◌, ℕ, IfOk};
+ghost use Rattle.xlsx_precedents.specs.Precedents.{dependents_of, steps_within};
+ghost use Rattle.worked_precedents.specs.Sheets.{two_formulas, narrow_above};
+
+use std::alloc::{AllocError, Global};
+use std::marker::Brand;
+use std::sync::ledger::{Blank, Ledger};
+use xlsx_precedents::{DependencyIndex, Steps};
+
+/// The cells whose formulas name a cell, by a search that counts.
+pub fn counted_dependents(
+    alloc: Global,
+    index: &DependencyIndex,
+    pos: (u32, u32),
+) -> Result<Vec<(u32, u32)>, AllocError>
+    ensures { IfOk result (λ found. found.items ≡ dependents_of index.now pos) }
+{
+    counted_by::<Brand>(alloc, index, pos, Blank::new(1))
+}
+
+fn counted_by<L: Ledger>(
+    alloc: Global,
+    index: &DependencyIndex,
+    pos: (u32, u32),
+    blank: Blank,
+) -> Result<Vec<(u32, u32)>, AllocError>
+    requires name { blank.name ≡ L.name }
+    requires parts { blank.parts ≡ L.parts }
+    requires some { 0 < blank.parts }
+    ensures { IfOk result (λ found. found.items ≡ dependents_of index.now pos) }
+{
+    let mut steps = Steps::<L>::new(blank);
+    index.dependents_counted(alloc, pos, &mut steps)
+}
+
+/// Three areas have rows of the first block, and one is wide.
+pub fn a_search_of_a_sheet_takes_four_steps()
+    ensures { steps_within two_formulas (6, 0) ≡ 4 }
+{}
+
+/// No area of other blocks that isn't wide is looked at, however many there are.
+pub fn a_search_passes_other_blocks()
+    ensures { (count : ℕ) → steps_within (narrow_above count) (1024, 0) ≡ 0 }
+{}

@@ -1,0 +1,28 @@
+use Rattle.std.proofs.Common.{◌≡◌, ◌++◌, suc, map, string_bytes, append_assoc, sym, ap, ◌∙◌, subst}
+use Rattle.std.proofs.Common.{arith}
+use Rattle.cell_data.specs.Cells.{AreInSheet}
+use Rattle.list_lines.specs.Lines.{position_areas_line}
+use Rattle.sorted_cells.specs.Placed.{placed_left}
+use Rattle.xlsx_precedents.specs.Lines.{precedents_lines}
+use Rattle.xlsx_precedents.specs.Precedents.{areas, formula_entry}
+use Rattle.xlsx_precedents.proofs.lines.push_precedents.Goals as goal
+
+pub loop-pos-preserved : goal.loop-pos-preserved
+loop-pos-preserved c =
+    let text = string_bytes c.in-Some.formula.now in
+    let rest = precedents_lines (map formula_entry (placed_left c.next.new.self)) in
+    let named : c.deref.result.now ≡ areas text =
+    c.deref.ensures.value ∙ c.in_ok-push_areas.ensures.ok
+    ∙ ap (λ items. items ++ areas c.as_str.result.now) c.clear.ensures.items
+    ∙ ap areas c.as_str.ensures.value in
+    let all = subst AreInSheet c.in-Some.ensures.steps c.loop-pos.invariant.sheet in
+    record {
+      lines = ap (λ t. t ++ rest) (c.in_ok-push_position_areas_line.ensures
+          ∙ ap (λ names. string_bytes c.loop-pos.out ++ position_areas_line c.in-Some.pos names) named)
+          ∙ append_assoc (string_bytes c.loop-pos.out)
+          (position_areas_line c.in-Some.pos (areas text)) rest
+          ∙ ap (λ left. string_bytes c.loop-pos.out
+          ++ precedents_lines (map formula_entry left)) (sym c.in-Some.ensures.steps)
+          ∙ c.loop-pos.invariant.lines;
+      sheet = λ k d within. all (suc k) d (omega (arith, within));
+    }
