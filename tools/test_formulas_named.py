@@ -2,7 +2,6 @@
 
 import subprocess
 import unittest
-from xml.sax.saxutils import escape
 
 from fixtures import SALES, package_text
 from noted import (
@@ -21,6 +20,8 @@ from test_program import BUILDS, OUT
 from test_rows import STYLES, cell
 
 USAGE = [(2, b"", b"usage\n")]
+# What stands for characters that are no text of noted markup.
+NOTED = str.maketrans({"&": "<!amp>", "<": "<!lt>", ">": "<!gt>"})
 TOP = 170141183460469231731687303715884105727
 BOTTOM = -TOP - 1
 
@@ -28,7 +29,7 @@ BOTTOM = -TOP - 1
 def formula(reference, text, value=None, more=""):
     """A cell with a formula, and with a value if there is one."""
     kept = "" if value is None else f"<v>{value}</v>"
-    return f'<c r="{reference}"{more}><f>{escape(text)}</f>{kept}</c>'
+    return f'<c r="{reference}"{more}><f>{text.translate(NOTED)}</f>{kept}</c>'
 
 
 def sheet(*cells):
