@@ -8,6 +8,7 @@ import contextlib
 import os
 import re
 import select
+import shutil
 import signal
 import stat
 import sys
@@ -109,7 +110,7 @@ def told_of(path):
 class Book:
     """A workbook file, of which a package text is made."""
 
-    def __init__(self, path, stack):
+    def __init__(self, path, limit, stack):
         from package_text import workbook_of, written
 
         self.path = source = path
@@ -117,32 +118,74 @@ class Book:
             if path == of_words.STANDARD_INPUT:
                 with written():
                     source = stack.enter_context(kept(standard_input())).fileno()
-            self.workbook = stack.enter_context(workbook_of(source, limit=LIMIT))
+            self.workbook = stack.enter_context(workbook_of(source, limit=limit))
 
-    def package(self):
-        with told_of(self.path):
-            return Package(self.workbook.text())
+        # What was made of it, by the sheets or the part that it is made for.
+        self.packages = {}
+
+    def has_choice(self):
+        """Whether there are sheets to choose from."""
+        return self.workbook.sheet_count() > 1
+
+    def package(self, sheets):
+        """The package text for some sheets, or for the part of one."""
+        if sheets not in self.packages:
+            with told_of(self.path):
+                self.packages[sheets] = Package(self.workbook.text(sheets))
+        return self.packages[sheets]
+
+    def whole(self):
+        from package_text import Sheets
+
+        return self.package(Sheets.ALL)
+
+
+class Text:
+    """A package text of standard input, which has all that there is."""
+
+    def __init__(self, words):
+        self.text = Package(standard_input())
+        is_read_again = of_words.has_number(words) or of_words.is_all(words)
+        if is_read_again and not self.text.is_repeated():
+            self.text = Package(kept(self.text.file, LIMIT + 1))
+
+    def has_choice(self):
+        return False
+
+    def whole(self):
+        return self.text
 
 
 class Front:
-    """One call: the program, and the package text that it reads."""
+    """One call: the program, and what it reads, a Book or a Text."""
 
-    def __init__(self, program, package):
-        self.program, self.package = program, package
+    def __init__(self, program, source):
+        self.program, self.source = program, source
 
-    def lines(self, *words):
+    def lines(self, words):
         """The lines of a command, each as its fields."""
+        package = self.package(words)
         with tempfile.TemporaryFile() as output:
-            status, said = self.program.run(words, self.package.input(), output.fileno())
+            status, said = self.program.run(words, package.input(), output.fileno())
             if status:
                 raise Refused(status, said)
             output.seek(0)
             text = output.read().decode()
         return [[unescaped(field) for field in line.split("\t")] for line in text.split("\n")[:-1]]
 
+    def package(self, words):
+        """The package text for the program's words: all that there is, or, where a command reads no
+        worksheet's own part, all but these."""
+        command = of_words.COMMANDS.get(words[0])
+        if command is None or command.reads_sheets or not self.source.has_choice():
+            return self.source.whole()
+        from package_text import Sheets
+
+        return self.source.package(Sheets.NONE)
+
     def sheet(self, number):
         """The name of the sheet at a place among all, from 1."""
-        sheets = [name for name, *_ in self.lines("sheets")]
+        sheets = [name for name, *_ in self.lines(["sheets"])]
         if number > len(sheets):
             have = "one sheet" if len(sheets) == 1 else f"{len(sheets)} sheets"
             raise Ended(6, f"there is no sheet {number}: the workbook has {have}")
@@ -153,7 +196,7 @@ class Front:
 
     def worksheets(self):
         """The names of the worksheets, each once."""
-        sheets = self.lines("sheets")
+        sheets = self.lines(["sheets"])
         first = {name: kind for name, kind, _ in reversed(sheets)}
         return [name for name in dict.fromkeys(row[0] for row in sheets) if first[name] == "worksheet"]
 
@@ -175,16 +218,16 @@ class Front:
     def names(self, words, said):
         """What is asked for and not found, and all names that there are of its kind."""
         if said == f"Worksheet '{words[1]}' not found\n".encode():
-            return "sheets", [name for name, *_ in self.lines("sheets")]
+            return "sheets", [name for name, *_ in self.lines(["sheets"])]
         if said == f"Table '{words[1]}' not found\n".encode():
-            return "tables", [name for name, *_ in self.lines("tables")]
+            return "tables", [name for name, *_ in self.lines(["tables"])]
         if said.startswith(b"Pivot Table '") and said.endswith(b"' was not found on worksheet\n"):
-            return "pivot tables", [f"{name}' on '{sheet}" for sheet, name in self.lines("pivots")]
+            return "pivot tables", [f"{name}' on '{sheet}" for sheet, name in self.lines(["pivots"])]
         return "", []
 
     def say_names(self, words, said):
         """Says which names there are where one isn't found."""
-        if not self.package.is_repeated():
+        if not self.package(words).is_repeated():
             if said == f"Worksheet '{words[1]}' not found\n".encode():
                 say("the sheets of a workbook are listed by: ./xlsx FILE.xlsx sheets")
             return
@@ -202,7 +245,7 @@ class Front:
     def answer(self, words):
         """Runs the program on words, onto standard output: the status."""
         words = self.named(words)
-        status, said = self.program.run(words, self.package.input(), 1)
+        status, said = self.program.run(words, self.package(words).input(), 1)
         if status == 7 and said == WRITE_FAULT and is_reader_gone():
             return 7
         os.write(2, said)
@@ -227,7 +270,8 @@ class Front:
 
     def write_one(self, name, path):
         with open(path, "xb") as output:
-            status, said = self.program.run(["csv", name], self.package.input(), output.fileno())
+            words = ["csv", name]
+            status, said = self.program.run(words, self.package(words).input(), output.fileno())
         if status:
             raise Refused(status, f"'{one_line(name)}': ".encode() + said)
 
@@ -279,16 +323,23 @@ def memory_of(word):
     return int(word)
 
 
-def package_of(path, words, stack):
-    """The package text that is read: that of a file, or standard input."""
+def source_of(path, words, stack):
+    """What is read: a workbook file, or a package text of standard input."""
     if path is not None:
-        return Book(path, stack).package()
+        return Book(path, sys.maxsize if words == [of_words.PACKAGE] else LIMIT, stack)
     if words[0] not in of_words.PAGES and words[0] != "sample" and os.isatty(0):
         say(f"waiting for a package text at the terminal; ./xlsx FILE.xlsx {words[0]} .. reads a file")
-    package = Package(standard_input())
-    if package.is_repeated() or not (of_words.has_number(words) or of_words.is_all(words)):
-        return package
-    return Package(kept(package.file, LIMIT + 1))
+    return Text(words)
+
+
+def write_package(book):
+    """Writes the whole package text of a workbook file: the status."""
+    try:
+        with open(1, "wb", closefd=False) as out:
+            shutil.copyfileobj(book.whole().file, out)
+    except OSError:
+        raise Refused(7, b"" if is_reader_gone() else WRITE_FAULT) from None
+    return 0
 
 
 def answered(words):
@@ -301,14 +352,16 @@ def answered(words):
         if not is_fresh():
             return 0
     with contextlib.ExitStack() as stack:
-        package = package_of(path, words, stack)
+        source = source_of(path, words, stack)
+        if words == [of_words.PACKAGE]:
+            return write_package(source)
         if is_fresh():
             is_proved = True
         elif is_proved:
             build()
         else:
             say(UNPROVED_SAYS)
-        front = Front(Program(is_proved, memory), package)
+        front = Front(Program(is_proved, memory), source)
         return front.write_all(words[2]) if of_words.is_all(words) else front.answer(words)
 
 

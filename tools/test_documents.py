@@ -8,6 +8,7 @@ from definitions import definitions
 
 TOP = pathlib.Path(__file__).resolve().parent.parent
 DOCUMENTS = [TOP / "README.md", TOP / "CONTRIBUTING.md", *sorted((TOP / "docs").glob("*.md"))]
+PROMISES = [TOP / "docs" / "PROMISES.md", TOP / "docs" / "CLAUSES.md"]
 # Crates of tests, whose functions promise nothing.
 OF_TESTS = {
     "test_packages",
@@ -47,11 +48,15 @@ def names_behind(words, cell):
         yield from QUOTED.findall(listed)
 
 
-def sources():
+def sources_in(folder):
     for end in ("*.rt", "*.antt"):
-        for path in sorted((TOP / "crates").rglob(end)):
+        for path in sorted(folder.rglob(end)):
             if "out" not in path.parts:
                 yield path
+
+
+def sources():
+    return sources_in(TOP / "crates")
 
 
 class Documents(unittest.TestCase):
@@ -79,16 +84,17 @@ class Documents(unittest.TestCase):
                     absent = (edits - self.edits) | (tests - known)
                     self.assertEqual(absent, set(), f"{document.name}: {cell}")
 
+    def promised(self):
+        """All that the promises quote."""
+        return [quoted for document in PROMISES for quoted in QUOTED.findall(text(document))]
+
     def test_every_edit_is_told_of_in_the_promises(self):
-        told = set(QUOTED.findall(text(TOP / "docs" / "PROMISES.md")))
-        self.assertEqual(sorted(self.edits - told), [])
+        self.assertEqual(sorted(self.edits - set(self.promised())), [])
 
     def test_every_name_that_the_promises_cite_is_there(self):
-        for name in ("PROMISES.md", "DEFINITIONS.md"):
-            for quoted in QUOTED.findall(text(TOP / "docs" / name)):
-                if NAME.fullmatch(quoted) and not quoted.endswith("NAME"):
-                    absent = set(WORD.findall(quoted)) - self.words
-                    self.assertEqual(absent, set(), f"{name}: {quoted}")
+        for quoted in self.promised():
+            if NAME.fullmatch(quoted) and not quoted.endswith("NAME"):
+                self.assertEqual(set(WORD.findall(quoted)) - self.words, set(), quoted)
 
     def test_every_definition_says_what_it_is(self):
         bare = [f"{own.path}: {own.name}" for own in definitions() if not own.comment]
@@ -115,7 +121,7 @@ class Documents(unittest.TestCase):
 
     def test_every_clause_that_the_promises_cite_is_one_of_its_call(self):
         clauses = self.clauses()
-        for cells in rows_of(TOP / "docs" / "PROMISES.md"):
+        for cells in (cells for document in PROMISES for cells in rows_of(document)):
             cell = cells[1] if len(cells) > 1 else ""
             spoken = re.sub(r"\([^()]*\)|ghost fields? (?:`\w+`(?:, | and )?)+", "", cell)
             names = QUOTED.findall(spoken)
@@ -144,10 +150,35 @@ class Documents(unittest.TestCase):
                     yield name
 
     def test_every_public_function_is_in_the_promises(self):
-        told = set(WORD.findall(" ".join(QUOTED.findall(text(TOP / "docs" / "PROMISES.md")))))
+        told = set(WORD.findall(" ".join(self.promised())))
         for crate in sorted(self.crates - OF_TESTS):
             with self.subTest(crate=crate):
                 self.assertEqual(sorted(set(self.public_functions(crate)) - told), [])
+
+    def last_command(self):
+        """What names the last command that works on a package that is given, in code and in words."""
+        commands = text(TOP / "crates" / "xlsx_commands" / "specs" / "Command.antt")
+        data = re.search(r"^pub data Command .*\n((?:  .*\n)+)", commands, re.M)[1]
+        name = [own for own in re.findall(r"^  (\w+) :", data, re.M) if own != "sample"][-1]
+        word, variant = name.replace("_", "-"), name.title().replace("_", "")
+        spoken = rf'"{word}"|`{word}[ `]|\bxlsx_tool {word}\b'
+        coded = rf"\b(?:asked\.|Command::){variant}\b|\b{name} (?:sheet|name|parts)\b"
+        return re.compile(f"{spoken}|{coded}")
+
+    def test_every_place_of_the_last_command_is_told(self):
+        named = self.last_command()
+        guide = text(TOP / "CONTRIBUTING.md")
+        section = re.search(r"^## To add a command\n(.*?)^## ", guide, re.M | re.S)[1]
+        told = {TOP / one for one in re.findall(r"\b\w+/[\w./]*\.(?:antt|rt|py|md)\b", section)}
+        sought = [TOP / "crates" / "xlsx_commands", TOP / "crates" / "xlsx_tool"]
+        sought = [path for folder in sought for path in sources_in(folder)]
+        sought += [*(TOP / "tools").glob("*.py"), PROMISES[1], TOP / "docs" / "FORMAT.md"]
+        # What tests a command is its own choice.
+        sought = [path for path in sought if "test" not in path.stem]
+        places = {path for path in sought if named.search(text(path))}
+        self.assertEqual(sorted(map(str, places)), sorted(map(str, told & set(sought))))
+        for path in told:
+            self.assertTrue(path.exists(), path)
 
 
 if __name__ == "__main__":

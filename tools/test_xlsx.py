@@ -10,7 +10,7 @@ import sys
 import tempfile
 import unittest
 
-from fixtures import LINES, MINIMAL, archive, package_text
+from fixtures import LINES, MINIMAL, archive, package_text, relationships
 from words import COMMANDS, USAGE
 
 TOP = pathlib.Path(__file__).resolve().parent.parent
@@ -57,6 +57,12 @@ pivot:*) echo "Pivot Table '$3' was not found on worksheet" >&2; exit 6 ;;
 *) [ ! -e "$FAILING" ] || [ "$2" = First ] || { echo "box too large" >&2; exit 10; }
     printf '%s of %s\\n' "$1" "$2" ;;
 esac
+"""
+# Tells which parts the package has.
+FED = """\
+#!/bin/sh
+grep -o '"name":"[^"]*"' | cut -d '"' -f 4 | tr '\\n' ' '
+echo
 """
 # Proves a crate, builds the program of this folder, or runs it unproved.
 RT = """\
@@ -404,6 +410,36 @@ class Wrapper(unittest.TestCase):
             wanted = 6, b"", f"{first}\nxlsx: there are these {second}\n"
             self.assertEqual(self.run_on("book.xlsx", *words), wanted)
 
+    def test_only_what_a_command_asks_for_is_fed(self):
+        self.build(self.written("fed", FED))
+        book = ["_rels/.rels", "xl/_rels/workbook.xml.rels", "xl/workbook.xml"]
+        sheets = [f"xl/sheets/{name}.xml" for name in ("one", "two", "three")]
+        kinds = (("worksheet", name[len("xl/") :]) for name in sheets)
+        more = {
+            "xl/_rels/workbook.xml.rels": relationships(*kinds),
+            "xl/styles.xml": "<a/>",
+            **dict.fromkeys(sheets, "<a/>"),
+            sheets[0]: "<",
+        }
+        parts = {name: part for name, part in {**MINIMAL, **more}.items() if "sheet1" not in name}
+        self.written("several.xlsx", archive(parts))
+        none = [*book, "xl/styles.xml"]
+        for words in (["sheets"], ["names"], ["props"], ["tables"], ["pivots"], ["pivot", "S", "T"]):
+            with self.subTest(words=words):
+                ran = self.run_on("several.xlsx", *words)
+                self.assertEqual(ran, (0, f"{' '.join(none)} \n".encode(), ""))
+        said = "several.xlsx: xl/sheets/one.xml is broken: markup without an end, at character 0\n"
+        for words in (["package"], ["cells", "Two"], ["table", "T"], ["upgrade"]):
+            self.assertEqual(self.run_on("several.xlsx", *words), (13, b"", said))
+
+    def test_the_whole_package_text(self):
+        self.assertEqual(self.run_on("book.xlsx", "package"), (0, self.text_of_book(), ""))
+        self.assertFalse(self.program.exists())
+        with open("/dev/full", "wb") as full:
+            ran = self.run_on("book.xlsx", "package", stdout=full)
+        self.assertEqual(ran, (7, None, "write fault\n"))
+        self.check_words("package", said="there is no command 'package', and no file of that name")
+
     def test_a_reader_that_goes_away_is_told_nothing(self):
         self.build()
         for words in (["book.xlsx", "cells", "0"], ["--help"]):
@@ -609,6 +645,19 @@ class Wrapper(unittest.TestCase):
                 self.assertEqual(written, wanted)
                 first = self.run_on(path, "csv")
                 self.assertEqual(first, each[names[0]])
+
+    def test_without_sheets_the_samples_answer_the_same(self):
+        """What is asked of no sheet is answered alike on the text that is fed and on the whole."""
+        self.build(PROGRAM)
+        for path in sorted((TOP / "samples").glob("*.xlsx")):
+            whole = self.run_on(path, "package")[1]
+            pivots = self.run_on(path, "pivots")[1].decode().splitlines()
+            asked = [["pivot", *line.split("\t")] for line in pivots]
+            for words in ([word] for word in ("sheets", "names", "props", "tables", "pivots")):
+                asked.append(words)
+            for words in asked:
+                with self.subTest(sample=path.name, words=words):
+                    self.assertEqual(self.run_on(path, *words), self.run_on(*words, data=whole))
 
     def test_the_program_finds_parts_by_names_in_any_case_and_with_backslashes(self):
         self.build(PROGRAM)

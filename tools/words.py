@@ -6,8 +6,11 @@ import re
 CONTROL = re.compile("[\0-\x1f\x7f-\x9f]")
 
 # What a command is told by: its word, the names of what stands behind it, the same as a sentence
-# says it, and the lines of the page.
-Command = collections.namedtuple("Command", "word parameters takes page")
+# says it, whether it reads worksheets' own parts, and the lines of the page.
+Command = collections.namedtuple("Command", "word parameters takes reads_sheets page")
+
+# Whether a command reads worksheets' own parts, or none.
+SHEETS, NO_SHEET = True, False
 
 A_SHEET = "the name of a sheet, or --sheet and its number"
 A_CELL = f"{A_SHEET}, and the reference of a cell"
@@ -21,6 +24,7 @@ COMMANDS = {
             "cells",
             ("NAME",),
             A_SHEET,
+            SHEETS,
             (
                 "prints one line for each cell of the worksheet NAME with a value, a",
                 "formula or a style: its position, value, formula and fill, with tabs",
@@ -32,18 +36,21 @@ COMMANDS = {
             "sheets",
             (),
             NOTHING,
+            NO_SHEET,
             ("prints one line for each sheet: its name, type and state",),
         ),
         Command(
             "names",
             (),
             NOTHING,
+            NO_SHEET,
             ("prints one line for each defined name: the name and its text",),
         ),
         Command(
             "merges",
             ("NAME",),
             A_SHEET,
+            SHEETS,
             (
                 "prints one line for each area of merged cells of the worksheet NAME,",
                 "by its corners, as in A1:C1",
@@ -53,6 +60,7 @@ COMMANDS = {
             "links",
             ("NAME",),
             A_SHEET,
+            SHEETS,
             (
                 "prints one line for each link of the worksheet NAME: its area, target,",
                 "location, displayed text and tooltip, as in",
@@ -63,6 +71,7 @@ COMMANDS = {
             "props",
             (),
             NOTHING,
+            NO_SHEET,
             (
                 "prints one line for each property of the workbook: its name and,",
                 "behind a tab and =, its text",
@@ -72,18 +81,21 @@ COMMANDS = {
             "csv",
             ("NAME",),
             A_SHEET,
+            SHEETS,
             ("prints the rows of the values of the worksheet NAME as CSV",),
         ),
         Command(
             "csv-table",
             ("NAME",),
             A_TABLE,
+            SHEETS,
             ("prints the names of the columns and the rows of the table NAME as CSV",),
         ),
         Command(
             "tables",
             (),
             NOTHING,
+            NO_SHEET,
             (
                 "prints one line for each table: its name, its sheet, the area of its",
                 "data and the names of its columns",
@@ -93,18 +105,21 @@ COMMANDS = {
             "table",
             ("NAME",),
             A_TABLE,
+            SHEETS,
             ("prints one line for each value in the table NAME: position and value",),
         ),
         Command(
             "pivots",
             (),
             NOTHING,
+            NO_SHEET,
             ("prints one line for each pivot table: its sheet and its name",),
         ),
         Command(
             "pivot",
             ("SHEET", "NAME"),
             "two names, of a sheet and of a pivot table",
+            NO_SHEET,
             (
                 "prints one line for each row of the cache of the pivot table NAME on",
                 "SHEET: the names of its fields first, and then the records",
@@ -114,6 +129,7 @@ COMMANDS = {
             "precedents",
             ("NAME",),
             A_SHEET,
+            SHEETS,
             (
                 "prints one line for each formula of the worksheet NAME: its cell and",
                 "the areas that it names, with tabs between them, as in",
@@ -124,6 +140,7 @@ COMMANDS = {
             "dependents",
             ("NAME", "REF"),
             A_CELL,
+            SHEETS,
             (
                 "prints one line for each cell of the worksheet NAME whose formula names",
                 "the cell REF, such as A7: its reference",
@@ -133,6 +150,7 @@ COMMANDS = {
             "check",
             ("NAME",),
             A_SHEET,
+            SHEETS,
             (
                 "prints one line for each formula of the worksheet NAME: its cell, and",
                 "agrees, or differs and what it comes to, or no value, unsupported or",
@@ -144,6 +162,7 @@ COMMANDS = {
             "upgrade",
             (),
             NOTHING,
+            SHEETS,
             (
                 "prints the package text in version 2, where an empty element is one",
                 "event",
@@ -153,6 +172,7 @@ COMMANDS = {
             "sample",
             ("N",),
             "a number of rows, from 1 to 20,000",
+            NO_SHEET,
             (
                 "makes a package of N rows, at most 20,000, and prints how much is read",
                 "of it",
@@ -160,6 +180,9 @@ COMMANDS = {
         ),
     )
 }
+
+# This one is of ./xlsx alone, and takes a file.
+PACKAGE = "package"
 
 # These ask for a page of the program.
 PAGES = ("--help", "--version")
@@ -200,6 +223,7 @@ In place of the name of a sheet --sheet N is the sheet that stands at N among al
     csv --all FOLDER
                   writes each worksheet as CSV into a file of FOLDER, by its name: none
                   where one of them is refused
+    package       prints the whole package text of FILE
 
 The program is proved and built first, where it is missing or older than its
 sources: from nothing this takes {proving}. With --unproved it answers in
@@ -306,6 +330,8 @@ def check(words, file=None):
     if not words:
         raise Faulty(f"what of {file} is asked for? For one, ./xlsx {file} sheets lists its sheets")
     word = words[0]
+    if words == [PACKAGE] and file is not None:
+        return
     command = COMMANDS.get(word)
     if command is None and word in PAGES and (file is not None or len(words) > 1):
         raise Faulty(f"{word} stands alone")

@@ -3,7 +3,7 @@
 use crate::areas::push_areas;
 use crate::cells::{Strings, count_cells, push_calls};
 use crate::links::push_links;
-use crate::pivots::{push_pivots, push_row, push_rows, push_values};
+use crate::pivots::{push_pivots, push_row, push_values};
 use crate::tables::push_shape;
 use crate::values::push_refusal;
 use crate::words::{number, word, words_behind};
@@ -110,6 +110,24 @@ fn push_fields(out: &mut String, answer: Result<Vec<CacheField>, XlsxError>) -> 
             for field in &fields {
                 write!(out, "{} ", field.name)?;
                 push_values(out, &field.items)?;
+            }
+            Ok(())
+        }
+        Err(error) => push_refusal(out, &error),
+    }
+}
+
+/// The rows of a cache, or why they are not opened.
+fn push_cache_rows(
+    out: &mut String,
+    alloc: Global,
+    package: &mut FailingPackage,
+    words: &[&str],
+) -> Result<()> {
+    match PivotCacheIter::open(alloc, package, word(words, 1), word(words, 2)) {
+        Ok(rows) => {
+            for row in rows {
+                push_row(out, row)?;
             }
             Ok(())
         }
@@ -274,12 +292,7 @@ pub fn push_package_answer(
         "taken" => Ok(write!(out, "{}", package.taken())?),
         "find_pivots" => push_found(out, alloc, package, words),
         "cache_fields" => push_fields(out, read_fields(alloc, package, path)),
-        "cache_rows" => {
-            push_rows(
-                out,
-                PivotCacheIter::open(alloc, package, path, word(words, 2)),
-            )
-        }
+        "cache_rows" => push_cache_rows(out, alloc, package, words),
         "cache_collected" => push_collected(out, alloc, package, words),
         "cache_next" => push_next_rows(out, alloc, package, words),
         "sheet_tables" => push_sheet_tables(out, alloc, package, path),

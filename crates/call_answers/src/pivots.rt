@@ -5,8 +5,8 @@ use crate::values::{Told, push_refusal};
 use crate::words::word;
 use anyhow::Result;
 use cell_data::Data;
-use part_events::Package;
-use xlsx_core::{PivotCacheIter, PivotTables, XlsxError};
+use part_events::FailingPackage;
+use xlsx_core::{PivotTables, Xlsx, XlsxError};
 
 /// The pivot tables, each with its sheet's name, its own, and the paths of its cache.
 pub fn push_pivots(out: &mut String, pivots: &PivotTables) -> Result<()> {
@@ -42,12 +42,14 @@ pub fn push_row(out: &mut String, row: Result<Vec<Data>, XlsxError>) -> Result<(
     }
 }
 
-/// The rows of a cache, or why they are not opened.
-pub fn push_rows<P: Package>(
+/// The rows of a pivot table that was found, or why they are not opened.
+fn push_rows(
     out: &mut String,
-    answer: Result<PivotCacheIter<'_, P>, XlsxError>,
+    xlsx: &mut Xlsx<FailingPackage>,
+    pivots: &PivotTables,
+    (sheet, name): (&str, &str),
 ) -> Result<()> {
-    match answer {
+    match xlsx.pivot_table_data(pivots, sheet, name) {
         Ok(rows) => {
             for row in rows {
                 push_row(out, row)?;
@@ -78,7 +80,7 @@ fn push_asked(out: &mut String, opened: &mut Opened, words: &[&str]) -> Result<(
     };
     let (sheet, name) = (word(words, 1), word(words, 2));
     match word(words, 0) {
-        "pivot_rows" => push_rows(out, xlsx.pivot_table_data(pivots, sheet, name))?,
+        "pivot_rows" => push_rows(out, xlsx, pivots, (sheet, name))?,
         "pivot_paths" => push_paths(out, pivots, sheet, name)?,
         _ => {
             for own in pivots.pivot_tables_by_sheet(sheet) {

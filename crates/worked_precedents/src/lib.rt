@@ -1,4 +1,7 @@
 //! What formulas name: tests of `xlsx_precedents` by its public calls.
+//!
+//! Rooms: `sheets` (sheets of formulas, areas and cells as texts), `steps` (searches that count,
+//! and what the bound of one allows, as laws). Else tests alone: `area_tests` and `index_tests`.
 #![tactic(auto)]
 
 #[cfg(test)]

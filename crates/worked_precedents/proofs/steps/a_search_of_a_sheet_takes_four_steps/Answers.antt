@@ -1,5 +1,4 @@
 use Rattle.std.proofs.Common.{refl}
-use Rattle.cell_refs.specs.A1.{column_name}
 use Rattle.formula_shift.specs.Areas.{area_named}
 use Rattle.formula_shift.specs.Pieces.{pieces, pieces_behind, string_length, quoted_length}
 use Rattle.formula_shift.specs.Pieces.{group_length}

@@ -5,5 +5,6 @@ use Rattle.xlsx_precedents.proofs.lines.push_dependents.Goals as goal
 
 pub push_positions-requires : goal.push_positions-requires
 push_positions-requires c =
-    subst (λ cells. All IsCellOfWorksheet cells) (sym (c.deref.ensures.value ∙ c.in_ok-found.ensures))
+    subst (λ cells. All IsCellOfWorksheet cells)
+    (sym (c.deref.ensures.value ∙ c.in_ok-found.ensures))
     (dependents_stand c.in_ok-index.index c.args.pos c.in_ok-index.ensures.sheet)

@@ -18,7 +18,8 @@ loop-pos-preserved c =
     let all = subst AreInSheet c.in-Some.ensures.steps c.loop-pos.invariant.sheet in
     record {
       lines = ap (λ t. t ++ rest) (c.in_ok-push_position_areas_line.ensures
-          ∙ ap (λ names. string_bytes c.loop-pos.out ++ position_areas_line c.in-Some.pos names) named)
+          ∙ ap (λ all. string_bytes c.loop-pos.out ++ position_areas_line c.in-Some.pos all)
+          named)
           ∙ append_assoc (string_bytes c.loop-pos.out)
           (position_areas_line c.in-Some.pos (areas text)) rest
           ∙ ap (λ left. string_bytes c.loop-pos.out
