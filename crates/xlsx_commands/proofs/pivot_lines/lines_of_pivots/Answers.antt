@@ -11,7 +11,7 @@ pivots-preserved c =
     let left = pairs_left c.next.new.self in
     let steps : pairs_left c.pivots.pair-iterator ≡ pair ∷ left = c.in-Some.ensures.steps in
     record {
-      listed = ap (λ (text : List ℕ). text ++ pivot_lines left) c.in_ok-push_pair_line.ensures
+      listed = ap (λ (text : List ℕ). text ++ pivot_lines left) c.in_ok-push_pair_line.ensures.ok
           ∙ append_assoc (string_bytes c.pivots.out) (pair_line pair.0 pair.1) (pivot_lines left)
           ∙ ap (λ (pairs : List (List ℕ × List ℕ)). string_bytes c.pivots.out ++ pivot_lines pairs)
           (sym steps)

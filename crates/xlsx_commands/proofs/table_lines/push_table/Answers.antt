@@ -14,4 +14,4 @@ returns c = λ own there named.
     (line_at (loaded_tables c.args.xlsx.now) c.args.index own c.args.name.now
     c.table_sheet-sheet.result.now c.table_area-area.result
     (map string_bytes c.table_columns.result.now) there named c.table_sheet-sheet.ensures
-    c.table_area-area.ensures.area c.table_columns.ensures)) c.push_table_line.ensures
+    c.table_area-area.ensures.area c.table_columns.ensures)) c.push_table_line.ensures.ok
