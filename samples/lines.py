@@ -87,6 +87,29 @@ def shared_formulas():
             yield line(f"C{row}", None, f"A{row - 8}+{last}")
 
 
+def named(reference, *areas):
+    return "\t".join((reference, *areas)) + "\n"
+
+
+def precedents():
+    for row in range(1, 6):
+        yield named(f"C{row}", f"A1:A{row}", f"B{row}:B{row}")
+        yield from (named("D" + str(row)), named("E" + str(row)))
+        if row == 1:
+            yield named("G1", "A1:A1")
+    for place, column in enumerate("ABCD"):
+        own, moved = f"{column}1:{column}1", "CDEF"[place]
+        yield named(f"{column}7", own, "B1:B1", f"{moved}1:{moved}1", own)
+    yield named("E7", "A1:A1")
+    for row in (8, 9, 10):
+        first, second = row - 7, row - 6
+        whole = "B1:C1048576"
+        yield named(f"A{row}", whole, f"A{first}:XFD{second}", f"A1:XFD{second}")
+        if row == 9:
+            yield named("C9", "A1:A1", "B1048576:B1048576")
+    yield named("C10", "A2:A2")
+
+
 def tinted(color, tint):
     """The color whose channels are the whole numbers nearest to those with another luminance,
     halves upward (ECMA-376 part 1, section 18.8.19)."""
@@ -212,6 +235,11 @@ LINES = {
     "dates_1900": dates(1900),
     "dates_1904": dates(1904),
     "libreoffice": libreoffice(),
+    "libreoffice.check": [
+        "A4\tunsupported\n",
+        "B4\tagrees\n",
+        *(f"{place}\tunsupported\n" for place in ("C4", "A5", "B5", "C5")),
+    ],
     "libreoffice.csv": libreoffice_rows(),
     "rich_text": rich_text(),
     "inline_strings": inline_strings(),
@@ -219,6 +247,8 @@ LINES = {
     "chart_sheet.names": names(),
     "chart_sheet.sheets": sheets(),
     "shared_formulas": shared_formulas(),
+    "shared_formulas.precedents": precedents(),
+    "shared_formulas.dependents": ["C4\n", "A8\n", "A9\n", "A10\n"],
     "pivot_table.pivot": rows_of_pivot(),
     "pivot_table.pivots": ["Report\tSold & paid\n"],
     "tables.tables": tables(),

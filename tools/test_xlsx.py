@@ -85,7 +85,10 @@ echo "rt $* speaks of $(basename "$PWD")"
 """
 # What ./xlsx is made of.
 FRONT = ("front", "markup", "package_text", "program", "prove", "words")
-NAMED = ("cells", "merges", "links", "csv", "csv-table", "table", "sample")
+NAMED = ("cells", "merges", "links", "csv", "csv-table", "table", "precedents", "check", "sample")
+# Words that are references of a cell, and such that are none.
+REFERENCES = ("A1", "a7", "XFD1048576", "XFE1", "ZZZ1", "A1048577", "AAAA1", "A01", "A0", "7", "A")
+REFERENCES += ("", "$A$7", "A1:B2", "\u00e91", "A\u0661", "A1 ", "1A", "A" + "0" * 5_000 + "7")
 FILES = ("xlsx", *(f"tools/{name}.py" for name in FRONT))
 UNPROVED = (
     "xlsx: this answer is not proved; past 1 MiB of lines or a minute's run there is none\n"
@@ -603,6 +606,8 @@ class Wrapper(unittest.TestCase):
             *([word, "S"] for word in (*COMMANDS, "--help", "Cells", "")),
             ["cells", "S", "x"],
             ["cells", "--help"],
+            *(["dependents", "S", word] for word in REFERENCES),
+            ["dependents", "S", "A1", "B1"],
         ):
             with self.subTest(words=words):
                 ran = subprocess.run([PROGRAM, *words], stdin=subprocess.DEVNULL, capture_output=True)

@@ -13,6 +13,7 @@ Command = collections.namedtuple("Command", "word parameters takes reads_sheets 
 SHEETS, NO_SHEET = True, False
 
 A_SHEET = "the name of a sheet, or --sheet and its number"
+A_CELL = f"{A_SHEET}, and the reference of a cell"
 A_TABLE = "the name of a table"
 NOTHING = "no further words"
 
@@ -125,6 +126,39 @@ COMMANDS = {
             ),
         ),
         Command(
+            "precedents",
+            ("NAME",),
+            A_SHEET,
+            SHEETS,
+            (
+                "prints one line for each formula of the worksheet NAME: its cell and",
+                "the areas that it names, with tabs between them, as in",
+                "A1\tB1:C2\tD4:D4",
+            ),
+        ),
+        Command(
+            "dependents",
+            ("NAME", "REF"),
+            A_CELL,
+            SHEETS,
+            (
+                "prints one line for each cell of the worksheet NAME whose formula names",
+                "the cell REF, such as A7: its reference",
+            ),
+        ),
+        Command(
+            "check",
+            ("NAME",),
+            A_SHEET,
+            SHEETS,
+            (
+                "prints one line for each formula of the worksheet NAME: its cell, and",
+                "agrees, or differs and what it comes to, or no value, unsupported or",
+                "overflow, as in",
+                "A1\tdiffers\tn:6",
+            ),
+        ),
+        Command(
             "upgrade",
             (),
             NOTHING,
@@ -156,11 +190,16 @@ PAGES = ("--help", "--version")
 # The most rows of a sample.
 ROWS = 20_000
 
+# The last column of a worksheet and its last row, counted from 1, and the form of a reference.
+LAST_COLUMN, LAST_ROW = 16_384, 1_048_576
+REFERENCE = re.compile("([A-Za-z]{1,3})0*([1-9][0-9]{0,6})")
+
 # A workbook of standard input.
 STANDARD_INPUT = "-"
 
 USAGE = """\
-usage: ./xlsx FILE.xlsx cells NAME       (or merges, links, csv, csv-table or table NAME,
+usage: ./xlsx FILE.xlsx cells NAME       (or merges, links, csv, csv-table, table,
+                                          precedents or check NAME, dependents NAME REF,
                                           pivot SHEET NAME, or sheets, names, tables,
                                           pivots, props or upgrade)
        ./xlsx FILE.xlsx csv --all FOLDER
@@ -226,9 +265,20 @@ def is_number(word, most=None):
     return most is None or len(digits) <= len(str(most)) and int(digits) <= most
 
 
+def is_reference(word):
+    """Whether a word is the reference of a cell of a worksheet, in letters and digits alone."""
+    found = REFERENCE.fullmatch(word)
+    if found is None:
+        return False
+    column = 0
+    for letter in found[1].upper():
+        column = 26 * column + ord(letter) - ord("A") + 1
+    return column <= LAST_COLUMN and int(found[2]) <= LAST_ROW
+
+
 def is_of_sheet(command):
     """Whether the first word behind a command is the name of a sheet."""
-    return command.takes == A_SHEET or command.parameters[:1] == ("SHEET",)
+    return command.takes in (A_SHEET, A_CELL) or command.parameters[:1] == ("SHEET",)
 
 
 def has_number(words):
@@ -293,6 +343,8 @@ def check(words, file=None):
         raise Faulty(wrong_count(command, words[1:]))
     if word == "sample" and not is_number(words[1], ROWS):
         raise Faulty(f"sample takes {command.takes}, and not '{words[1]}'")
+    if command is not None and command.takes == A_CELL and not is_reference(words[-1]):
+        raise Faulty(f"{word} takes {command.takes}, and not '{words[-1]}'")
     if has_number(words) and not is_number(words[2]):
         raise Faulty(f"--sheet takes the number of a sheet, from 1, and not '{words[2]}'")
     if word == "sample" and file is not None:

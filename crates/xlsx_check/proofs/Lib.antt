@@ -4,6 +4,7 @@ pub mod Descending
 pub mod Going
 pub mod Joins
 pub mod Judging
+pub mod Listing
 pub mod Numbers
 pub mod Options
 pub mod Placing

@@ -1,5 +1,6 @@
 pub mod Denoting
 pub mod Evaluation
+pub mod Lines
 pub mod Reading
 pub mod TokenView
 pub mod Tokens

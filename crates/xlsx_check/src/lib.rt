@@ -4,7 +4,8 @@
 //! Rooms: `token` (tokens, and which text is one), `tokens` (those of a formula, from the left),
 //! `ahead` (with the next one looked at), `denotation` (numbers and truth values that may be past
 //! the limits, and what operators make of two), `values` (what cells bring in), `descent` (the
-//! formula read once), `checking` (`compute` and `verdict`), `outcome` (what they answer), `laws`.
+//! formula read once), `checking` (`compute` and `verdict`), `outcome` (what they answer),
+//! `lines` (what is printed of it), `laws`.
 //!
 //! **The tree is said by splitting, and read by descent.** The definition cuts tokens at the
 //! comparison, else at the last `+` or `-`, else at the last `*`, outside parentheses
@@ -30,6 +31,7 @@ mod denotation;
 mod descent;
 mod equality;
 mod laws;
+mod lines;
 mod outcome;
 mod token;
 mod tokens;
@@ -41,5 +43,6 @@ pub use laws::{
     descent_reads_the_tree_that_is_split, leftmost_trees_are_those_of_their_tokens,
     trees_are_spelled_as_their_tokens,
 };
+pub use lines::push_checks;
 pub use outcome::{Computed, Outcome, Verdict};
 pub use token::Comparison;

@@ -12,7 +12,8 @@ use Rattle.xlsx_core.specs.Links.{links_placed, PlacedLinksCause}
 use Rattle.xlsx_core.specs.SheetReading.{ReadsAs, IsReadable, SheetCause}
 use Rattle.xlsx_commands.specs.BookLists.{sheet_lines, name_lines}
 use Rattle.xlsx_commands.specs.Command.{Command, cells, sheets, names, merges, links, props, csv}
-use Rattle.xlsx_commands.specs.Command.{csv_table, tables, table, pivots, pivot, upgrade, sample}
+use Rattle.xlsx_commands.specs.Command.{csv_table, tables, table, pivots, pivot, precedents}
+use Rattle.xlsx_commands.specs.Command.{dependents, check, upgrade, sample}
 use Rattle.xlsx_commands.specs.Outputs.{IsOutput, RefusedWorkbookCause, IsTooLarge, OutputCause}
 use Rattle.xlsx_commands.specs.Outputs.{HasOutput}
 use Rattle.xlsx_commands.specs.PropertyLists.{text_of_name}
@@ -184,6 +185,12 @@ workbook_never never pivots parts output error prints cause =
 workbook_never never (pivot sheet name) parts output error prints cause =
     rows_never_refused parts sheet name prints.definitions prints.records prints.rows error
     never.openings never.pivots never.caches prints.has prints.read cause
+workbook_never never (precedents name) parts output error prints cause =
+    never.sheets parts name prints.values prints.formulas prints.styles error prints.reads cause
+workbook_never never (dependents name position) parts output error prints cause =
+    never.sheets parts name prints.values prints.formulas prints.styles error prints.reads cause
+workbook_never never (check name) parts output error prints cause =
+    never.sheets parts name prints.values prints.formulas prints.styles error prints.reads cause
 workbook_never never upgrade parts output error prints cause = absurd cause
 workbook_never never (sample rows) parts output error prints cause =
     never.sheets parts sample_name prints.values prints.formulas prints.styles error prints.reads

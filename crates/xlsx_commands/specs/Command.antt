@@ -1,9 +1,11 @@
 -- The commands that words ask for.
 use Rattle.std.specs.Prelude.{ℕ, List, [], ◌∷◌, Option, Some, None, codes, map, if◌then◌else◌}
 use Rattle.std.specs.Prelude.{String, string_bytes, nat_lt, nat_le, ◌&&◌, option_and_then}
-use Rattle.std.specs.Prelude.{option_map}
+use Rattle.std.specs.Prelude.{option_map, Result, Ok, Err}
 use Rattle.std.specs.Str.{bytes_eq}
 use Rattle.std.specs.declared.alloc.Global.{Global}
+use Rattle.cell_refs.specs.A1.{corner}
+use Rattle.cell_refs.specs.declared.error.RefError.{RefError}
 use Rattle.part_events.specs.Package.{Part}
 use Rattle.xlsx_sample.specs.Sample.{sample_parts}
 use Rattle.xlsx_sections.specs.NumberText.{number_text}
@@ -28,6 +30,9 @@ pub data Command : Type 0 where
   table : List ℕ → Command
   pivots : Command
   pivot : List ℕ → List ℕ → Command
+  precedents : List ℕ → Command
+  dependents : List ℕ → ℕ × ℕ → Command
+  check : List ℕ → Command
   upgrade : Command
   sample : ℕ → Command
 
@@ -45,6 +50,9 @@ command_meant asked.Tables = tables
 command_meant (asked.Table name) = table name.now
 command_meant asked.Pivots = pivots
 command_meant (asked.Pivot sheet name) = pivot sheet.now name.now
+command_meant (asked.Precedents name) = precedents name.now
+command_meant (asked.Dependents name position) = dependents name.now position
+command_meant (asked.Check name) = check name.now
 command_meant asked.Upgrade = upgrade
 command_meant (asked.Sample rows) = sample rows
 
@@ -55,6 +63,15 @@ if_rows rows = if nat_lt 0 rows && nat_le rows 20000 then Some rows else None
 -- the number of rows that a word of digits asks for
 abbrev pub rows_asked : List ℕ → Option ℕ
 rows_asked word = option_and_then if_rows (number_text word)
+
+-- the position that an answer has, if it isn't refused
+abbrev pub if_position : Result (ℕ × ℕ) RefError → Option (ℕ × ℕ)
+if_position (Ok position) = Some position
+if_position (Err error) = None
+
+-- the position that a word names, a row and a column counted from 0
+abbrev pub position_asked : List ℕ → Option (ℕ × ℕ)
+position_asked word = if_position (corner word)
 
 -- a command of one word
 abbrev pub bare_command : List ℕ → Option Command
@@ -75,13 +92,17 @@ named_command word name =
     else (if bytes_eq word (codes "csv") then Some (csv name)
     else (if bytes_eq word (codes "csv-table") then Some (csv_table name)
     else (if bytes_eq word (codes "table") then Some (table name)
+    else (if bytes_eq word (codes "precedents") then Some (precedents name)
+    else (if bytes_eq word (codes "check") then Some (check name)
     else (if bytes_eq word (codes "sample") then option_map sample (rows_asked name)
-    else None))))))
+    else None))))))))
 
 -- a command of three
 abbrev pub placed_command : List ℕ → List ℕ → List ℕ → Option Command
 placed_command word sheet name =
-    if bytes_eq word (codes "pivot") then Some (pivot sheet name) else None
+    if bytes_eq word (codes "pivot") then Some (pivot sheet name)
+    else (if bytes_eq word (codes "dependents")
+    then option_map (dependents sheet) (position_asked name) else None)
 
 -- the command that words are; no other words are one
 abbrev pub command_of : List (List ℕ) → Option Command
@@ -105,5 +126,8 @@ own_parts tables = None
 own_parts (table name) = None
 own_parts pivots = None
 own_parts (pivot sheet name) = None
+own_parts (precedents name) = None
+own_parts (dependents name position) = None
+own_parts (check name) = None
 own_parts upgrade = None
 own_parts (sample rows) = Some (sample_parts rows)

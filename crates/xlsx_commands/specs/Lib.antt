@@ -1,6 +1,7 @@
 pub mod BookLists
 pub mod CacheRows
 pub mod Command
+pub mod FormulaLists
 pub mod Outputs
 pub mod PivotLists
 pub mod PropertyLists

@@ -11,7 +11,9 @@ use Rattle.xlsx_core.specs.SheetReading.{ReadsAs, SheetCause}
 use Rattle.xlsx_commands.specs.BookLists.{AreSheetLines, AreNameLines}
 use Rattle.xlsx_commands.specs.Command.{Command, cells, sheets, names, merges, links, props, csv}
 use Rattle.xlsx_commands.specs.CacheRows.{ArePivotRows, NamedPivotCause}
-use Rattle.xlsx_commands.specs.Command.{csv_table, tables, table, pivots, pivot, upgrade, sample}
+use Rattle.xlsx_commands.specs.Command.{csv_table, tables, table, pivots, pivot, precedents}
+use Rattle.xlsx_commands.specs.Command.{dependents, check, upgrade, sample}
+use Rattle.xlsx_commands.specs.FormulaLists.{ArePrecedentLines, AreDependentLines, AreCheckLines}
 use Rattle.xlsx_commands.specs.PivotLists.{ArePivotLines, ListedPivotsCause}
 use Rattle.xlsx_commands.specs.PropertyLists.{ArePropertyLines, ListedPropertiesCause}
 use Rattle.xlsx_commands.specs.SampleLines.{AreSampleLines, sample_name}
@@ -53,6 +55,9 @@ IsOutput tables parts output = AreTableLines parts output
 IsOutput (table name) parts output = AreTableValueLines parts name output
 IsOutput pivots parts output = ArePivotLines parts output
 IsOutput (pivot sheet name) parts output = ArePivotRows parts sheet name output
+IsOutput (precedents name) parts output = ArePrecedentLines parts name output
+IsOutput (dependents name position) parts output = AreDependentLines parts name position output
+IsOutput (check name) parts output = AreCheckLines parts name output
 IsOutput upgrade parts output = IsUpgrade parts output
 IsOutput (sample rows) parts output = AreSampleLines rows parts output
 
@@ -70,6 +75,9 @@ RefusedWorkbookCause tables parts error = ListedTablesCause parts error
 RefusedWorkbookCause (table name) parts error = NamedTableCause parts name error
 RefusedWorkbookCause pivots parts error = ListedPivotsCause parts error
 RefusedWorkbookCause (pivot sheet name) parts error = NamedPivotCause parts sheet name error
+RefusedWorkbookCause (precedents name) parts error = SheetCause parts name error
+RefusedWorkbookCause (dependents name position) parts error = SheetCause parts name error
+RefusedWorkbookCause (check name) parts error = SheetCause parts name error
 RefusedWorkbookCause upgrade parts error = ⊥
 RefusedWorkbookCause (sample rows) parts error = SheetCause parts sample_name error
 
@@ -87,6 +95,9 @@ IsTooLarge tables parts = ⊥
 IsTooLarge (table name) parts = ⊥
 IsTooLarge pivots parts = ⊥
 IsTooLarge (pivot sheet name) parts = ⊥
+IsTooLarge (precedents name) parts = ⊥
+IsTooLarge (dependents name position) parts = ⊥
+IsTooLarge (check name) parts = ⊥
 IsTooLarge upgrade parts = ⊥
 IsTooLarge (sample rows) parts = ⊥
 

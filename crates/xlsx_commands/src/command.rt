@@ -1,7 +1,9 @@
 ghost use Rattle.std.specs.Prelude.{◌≡◌, option_map};
 ghost use Rattle.xlsx_commands.specs.Command.{texts, command_meant, bare_command, named_command};
 ghost use Rattle.xlsx_commands.specs.Command.{rows_asked, sample, placed_command, command_of};
+ghost use Rattle.xlsx_commands.specs.Command.{position_asked, dependents};
 
+use cell_refs::get_row_column;
 use xlsx_sections::number_text;
 
 /// The most rows of a sample.
@@ -34,6 +36,13 @@ pub enum Command<'a> {
     Pivots,
     /// The rows of the cache of the pivot table of the second name, on the worksheet of the first.
     Pivot(&'a str, &'a str),
+    /// The formulas of the worksheet of this name, with the areas that each names.
+    Precedents(&'a str),
+    /// The cells of the worksheet of this name whose formulas name the cell at a position, a row and
+    /// a column counted from 0.
+    Dependents(&'a str, (u32, u32)),
+    /// The formulas of the worksheet of this name, with what each comes to beside its cell's value.
+    Check(&'a str),
     /// The package text of version 2.
     Upgrade,
     /// What is read of a workbook with so many rows.
@@ -73,6 +82,24 @@ fn sample_command<'a>(word: &str) -> Option<Command<'a>>
     Some(Command::Sample(rows))
 }
 
+/// The position that a word names, a row and a column counted from 0.
+fn position_asked(word: &str) -> Option<(u32, u32)>
+    ensures { result ≡ position_asked word.now }
+{
+    match get_row_column(word) {
+        Ok(position) => Some(position),
+        Err(_) => None,
+    }
+}
+
+fn dependents_command<'a>(name: &'a str, word: &str) -> Option<Command<'a>>
+    ensures { option_map (λ command. command_meant command) result
+        ≡ option_map (dependents name.now) (position_asked word.now) }
+{
+    let position = position_asked(word)?;
+    Some(Command::Dependents(name, position))
+}
+
 fn named_command<'a>(word: &str, name: &'a str) -> Option<Command<'a>>
     ensures { option_map (λ command. command_meant command) result
         ≡ named_command word.now name.now }
@@ -84,6 +111,8 @@ fn named_command<'a>(word: &str, name: &'a str) -> Option<Command<'a>>
         "csv" => Some(Command::Csv(name)),
         "csv-table" => Some(Command::CsvTable(name)),
         "table" => Some(Command::Table(name)),
+        "precedents" => Some(Command::Precedents(name)),
+        "check" => Some(Command::Check(name)),
         "sample" => sample_command(name),
         _ => None,
     }
@@ -95,6 +124,7 @@ fn placed_command<'a>(word: &str, sheet: &'a str, name: &'a str) -> Option<Comma
 {
     match word {
         "pivot" => Some(Command::Pivot(sheet, name)),
+        "dependents" => dependents_command(sheet, name),
         _ => None,
     }
 }

@@ -3,8 +3,9 @@
 //!
 //! Rooms: `command` (the words that ask for a command), `cell_lines`, `book_lists`, `merge_lines`,
 //! `link_lines`, `property_lines`, `table_lines`, `pivot_lines`, `pivot_rows`, `sheet_rows`,
-//! `table_rows`, `upgraded_text` and `sample_lines` (what each command prints), `output` (each
-//! command's own package, where it has one, and its output), `laws`, and `error` (`ToolError`).
+//! `table_rows`, `formula_lines`, `upgraded_text` and `sample_lines` (what each command prints),
+//! `output` (each command's own package, where it has one, and its output), `laws`, and `error`
+//! (`ToolError`).
 //!
 //! **A command is a row of a few tables**: of the words that ask for it (`command_of`), of the
 //! package that it works on where it reads no input (`own_parts`), of its output (`IsOutput`), of
@@ -34,6 +35,7 @@ mod cell_lines;
 mod command;
 mod equality;
 mod error;
+mod formula_lines;
 mod laws;
 mod link_lines;
 mod merge_lines;

@@ -6,6 +6,7 @@ use crate::book_lists::{name_lines, sheet_lines};
 use crate::cell_lines::cell_lines;
 use crate::command::Command;
 use crate::error::ToolError;
+use crate::formula_lines::{check_lines, dependent_lines, precedent_lines};
 use crate::link_lines::link_lines;
 use crate::merge_lines::merge_lines;
 use crate::pivot_lines::pivot_lines;
@@ -39,6 +40,9 @@ pub fn own_package(alloc: Global, command: Command<'_>) -> Result<Option<MemoryP
         Command::Table(_) => None,
         Command::Pivots => None,
         Command::Pivot(_, _) => None,
+        Command::Precedents(_) => None,
+        Command::Dependents(_, _) => None,
+        Command::Check(_) => None,
         Command::Upgrade => None,
         Command::Sample(rows) => Some(sample_package(alloc, rows)?),
     };
@@ -69,6 +73,9 @@ pub fn output_of(
         Command::Table(name) => table_value_lines(alloc, package, name),
         Command::Pivots => pivot_lines(alloc, package),
         Command::Pivot(sheet, name) => pivot_rows(alloc, package, sheet, name),
+        Command::Precedents(name) => precedent_lines(alloc, package, name),
+        Command::Dependents(name, position) => dependent_lines(alloc, package, name, position),
+        Command::Check(name) => check_lines(alloc, package, name),
         Command::Upgrade => upgraded_text(alloc, package),
         Command::Sample(rows) => sample_lines(alloc, package, rows),
     }

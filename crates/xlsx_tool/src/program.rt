@@ -23,6 +23,9 @@ Usage: xlsx_tool cells NAME < package.json
        xlsx_tool csv-table NAME < package.json
        xlsx_tool table NAME < package.json
        xlsx_tool pivot SHEET NAME < package.json
+       xlsx_tool precedents NAME < package.json
+       xlsx_tool dependents NAME REF < package.json
+       xlsx_tool check NAME < package.json
        xlsx_tool sheets < package.json
        xlsx_tool names < package.json
        xlsx_tool tables < package.json
@@ -40,6 +43,9 @@ One line is printed, of the worksheet NAME or of the workbook, for each
   csv-table  header or row of the table NAME: a record of CSV
   table      value in the table NAME: position, value
   pivot      row of the cache of the pivot table NAME on SHEET: its values
+  precedents formula: its cell, the areas that it names
+  dependents cell whose formula names the cell REF, such as A7: its reference
+  check      formula: its cell, how what it comes to stands to the cell's value
   sheets     sheet: its name, type, state
   names      defined name: the name, its text
   tables     table: its name, its sheet, the area of its data, its columns

@@ -17,7 +17,7 @@ loop-pos-preserved c =
     ∙ ap areas c.as_str.ensures.value in
     let all = subst AreInSheet c.in-Some.ensures.steps c.loop-pos.invariant.sheet in
     record {
-      lines = ap (λ t. t ++ rest) (c.in_ok-push_position_areas_line.ensures
+      lines = ap (λ t. t ++ rest) (c.in_ok-push_position_areas_line.ensures.ok
           ∙ ap (λ all. string_bytes c.loop-pos.out ++ position_areas_line c.in-Some.pos all)
           named)
           ∙ append_assoc (string_bytes c.loop-pos.out)

@@ -4,7 +4,7 @@ use Rattle.std.proofs.lemmas.Result.{err_from_is_err_and}
 use Rattle.xlsx_core.specs.SheetReading.{SheetCause}
 use Rattle.xlsx_commands.proofs.OutputLemmas.{err_at}
 use Rattle.xlsx_commands.proofs.MemoryCalls.{memory_fails}
-use Rattle.xlsx_commands.proofs.cell_lines.cell_lines.Goals as goal
+use Rattle.xlsx_commands.proofs.cell_lines.reading_of.Goals as goal
 
 pub returns-in_err-reading-clause-err : goal.returns-in_err-reading-clause-err
 returns-in_err-reading-clause-err c =
