@@ -170,8 +170,9 @@ class Listing:
     def add(self, lines):
         each = lines.splitlines(keepends=True)
         self.lines += len(each)
-        self.first = self.first or each[0]
-        self.last = each[-1]
+        if each:
+            self.first = self.first or each[0]
+            self.last = each[-1]
         self.sum.update(lines)
 
 
