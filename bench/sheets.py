@@ -1,6 +1,6 @@
 #!/usr/bin/env python3
-"""Measures `./xlsx FILE.xlsx WORDS` on a workbook of many sheets beside the same on its whole package
-text, and prints one table (docs/PERFORMANCE.md)."""
+"""Measures `./xlsx FILE.xlsx WORDS` on a workbook of many sheets beside the same on its whole
+package text, and prints one table (docs/PERFORMANCE.md)."""
 
 import argparse
 import os

@@ -15,8 +15,8 @@ import sys
 import tempfile
 
 import words as of_words
-from program import PROVING, UNPROVED, UNPROVED_SAYS, WRITE_FAULT, Ended, Program, build
-from program import is_fresh, say
+from program import ENDING, PROVING, UNPROVED, UNPROVED_SAYS, WRITE_FAULT, Ended, Program
+from program import build, is_fresh, say
 from words import one_line
 
 # The most bytes that the program reads.
@@ -198,7 +198,8 @@ class Front:
         """The names of the worksheets, each once."""
         sheets = self.lines(["sheets"])
         first = {name: kind for name, kind, _ in reversed(sheets)}
-        return [name for name in dict.fromkeys(row[0] for row in sheets) if first[name] == "worksheet"]
+        names = dict.fromkeys(name for name, *_ in sheets)
+        return [name for name in names if first[name] == "worksheet"]
 
     def named(self, words):
         """The program's words for words that tell a sheet by its number, or none where one is
@@ -222,7 +223,8 @@ class Front:
         if said == f"Table '{words[1]}' not found\n".encode():
             return "tables", [name for name, *_ in self.lines(["tables"])]
         if said.startswith(b"Pivot Table '") and said.endswith(b"' was not found on worksheet\n"):
-            return "pivot tables", [f"{name}' on '{sheet}" for sheet, name in self.lines(["pivots"])]
+            pivots = self.lines(["pivots"])
+            return "pivot tables", [f"{name}' on '{sheet}" for sheet, name in pivots]
         return "", []
 
     def say_names(self, words, said):
@@ -319,7 +321,8 @@ def is_file_name(word):
 def memory_of(word):
     """The MiB that a text says, or 0 for no bound."""
     if not (word.isascii() and word.isdigit() and len(word) < 13):
-        raise of_words.Faulty(f"XLSX_MEMORY is '{word}': it takes a number of MiB, or 0 for no bound")
+        said = f"XLSX_MEMORY is '{word}': it takes a number of MiB, or 0 for no bound"
+        raise of_words.Faulty(said)
     return int(word)
 
 
@@ -328,7 +331,8 @@ def source_of(path, words, stack):
     if path is not None:
         return Book(path, sys.maxsize if words == [of_words.PACKAGE] else LIMIT, stack)
     if words[0] not in of_words.PAGES and words[0] != "sample" and os.isatty(0):
-        say(f"waiting for a package text at the terminal; ./xlsx FILE.xlsx {words[0]} .. reads a file")
+        call = f"./xlsx FILE.xlsx {words[0]} .."
+        say(f"waiting for a package text at the terminal; {call} reads a file")
     return Text(words)
 
 
@@ -371,7 +375,7 @@ def end(number, frame):
 
 
 def main(words):
-    for number in (signal.SIGHUP, signal.SIGINT, signal.SIGTERM):
+    for number in ENDING:
         if signal.getsignal(number) != signal.SIG_IGN:
             signal.signal(number, end)
     try:

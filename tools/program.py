@@ -5,6 +5,7 @@ import os
 import pathlib
 import resource
 import shutil
+import signal
 import subprocess
 import sys
 import tempfile
@@ -18,6 +19,8 @@ PROGRAM = CRATE / "out" / "xlsx_tool"
 # How long the first proof takes, and an answer without one, on four processors.
 PROVING = "twenty to forty minutes"
 UNPROVED = "a minute or two"
+
+ANSWERS = f"--unproved answers in {UNPROVED}"
 
 UNPROVED_SAYS = "this answer is not proved; past 1 MiB of lines or a minute's run there is none"
 
@@ -74,15 +77,32 @@ def is_fresh():
     )
 
 
+# These signals end ./xlsx.
+ENDING = (signal.SIGHUP, signal.SIGINT, signal.SIGTERM)
+
+
 @contextlib.contextmanager
-def ending(child):
-    """A child that ends with this process: it is ended where what is done with it doesn't end."""
+def child_of(words, prepare=lambda: None, **given):
+    """A child that runs words, prepared by a call in its process. It ends with this process: a
+    signal is held back until the child is known."""
+    before = signal.pthread_sigmask(signal.SIG_BLOCK, ENDING)
+
+    def begin():
+        signal.pthread_sigmask(signal.SIG_SETMASK, before)
+        prepare()
+
+    child = None
     try:
+        child = subprocess.Popen(words, preexec_fn=begin, **given)
+        signal.pthread_sigmask(signal.SIG_SETMASK, before)
         yield child
     except BaseException:
-        child.terminate()
-        child.wait()
+        if child is not None:
+            child.terminate()
+            child.wait()
         raise
+    finally:
+        signal.pthread_sigmask(signal.SIG_SETMASK, before)
 
 
 def status_of(child):
@@ -96,7 +116,7 @@ def build():
     find("rt", "the command of the Rattle kit")
     out = PROGRAM.parent
     log = out / "proving.log"
-    say(f"no proved program is there yet: proving takes {PROVING}; --unproved answers in {UNPROVED}")
+    say(f"no proved program is there yet: proving takes {PROVING}; {ANSWERS}")
     say(f"proving; what rt says goes to {log}")
     try:
         out.mkdir(exist_ok=True)
@@ -104,13 +124,8 @@ def build():
             moment = os.stat(began.name).st_mtime_ns
     except OSError as error:
         raise Ended(1, f"{out} can't be written: {error.strerror}") from None
-    proving = subprocess.Popen(
-        [sys.executable, "tools/prove.py", "xlsx_tool", log],
-        cwd=TOP,
-        stdin=subprocess.DEVNULL,
-        stdout=2,
-    )
-    with ending(proving) as child:
+    words = [sys.executable, "tools/prove.py", "xlsx_tool", log]
+    with child_of(words, cwd=TOP, stdin=subprocess.DEVNULL, stdout=2) as child:
         status = status_of(child)
     if status:
         raise Ended(1, f"xlsx_tool could not be built: the end of {log} says why")
@@ -140,31 +155,24 @@ class Program:
         another. The status, and what is said of a refusal."""
         if not self.is_proved:
             return self.run_unproved(words, package, output)
-        running = subprocess.Popen(
-            [PROGRAM, *words],
-            stdin=package,
-            stdout=output,
-            stderr=subprocess.PIPE,
-            preexec_fn=self.bound,
-        )
-        with running.stderr, ending(running) as child:
+        given = {"stdin": package, "stdout": output, "stderr": subprocess.PIPE}
+        with child_of([PROGRAM, *words], self.bound, **given) as child, child.stderr:
             said = child.stderr.read()
             return status_of(child), said
 
     def run_unproved(self, words, package, output):
         """The same by a run without a proof, where that gives an answer."""
         with tempfile.TemporaryFile() as lines, tempfile.TemporaryFile() as errors:
-            running = subprocess.Popen(
-                ["rt", "try", "--", *words], cwd=CRATE, stdin=package, stdout=lines, stderr=errors
-            )
-            with ending(running) as child:
+            given = {"cwd": CRATE, "stdin": package, "stdout": lines, "stderr": errors}
+            with child_of(["rt", "try", "--", *words], **given) as child:
                 status = status_of(child)
             errors.seek(0)
             # The last line tells whether the program ended, and the one before it how.
             rows = errors.read().splitlines(keepends=True)
             last = b"".join(rows[-1:])
             if not last.startswith(b"run=ended status=%d " % status):
-                raise Ended(1, f"no answer without a proof: {last.decode(errors='replace').strip()}")
+                text = last.decode(errors="replace").strip()
+                raise Ended(1, f"no answer without a proof: {text}")
             lines.seek(0)
             try:
                 with open(os.dup(output), "wb") as out:

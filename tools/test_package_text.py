@@ -144,7 +144,7 @@ class Parts(Files):
         self.assertEqual(self.names_of(with_parts(**more)), wanted)
 
     def test_the_parts_of_no_worksheet_and_of_one(self):
-        """A part to which something else leads, or which has a fixed name, is no worksheet's alone."""
+        """A part to which something else leads, or of a fixed name, is no worksheet's alone."""
         kinds = (
             ("worksheet", "worksheets/sheet1.xml"),
             ("worksheet", "\\xl\\Two.xml"),
@@ -433,12 +433,12 @@ class Refusals(Files):
         status, text, _ = self.run_on(data)
         self.assertEqual(status, 0)
         self.assertEqual(self.run_on(data, "--limit", str(len(text))), (0, text, ""))
-        limit = len(text) - 1
+        limit, largest = len(text) - 1, "xl/_rels/workbook.xml.rels"
         self.check_refused(
             data,
             4,
             f"input too large: its package text has more than {limit:,} bytes; "
-            f"xl/_rels/workbook.xml.rels has {len(MINIMAL['xl/_rels/workbook.xml.rels'])} bytes of markup",
+            f"{largest} has {len(MINIMAL[largest])} bytes of markup",
             f"--limit={limit}",
         )
 
