@@ -1,6 +1,24 @@
 #!/usr/bin/env python3
 """Measures `cells S`, `csv S` or `upgrade` of xlsx_tool beside json.load of the same text, and
-prints one table (docs/PERFORMANCE.md)."""
+prints one table (docs/PERFORMANCE.md).
+
+The script writes a package of one worksheet with as many rows as fit just under 67,108,864 bytes,
+the largest input that the program takes, and another of half that size. The package text is written
+without spaces or line breaks, so that it holds the most events for its size. `--mix` says what the
+cells are:
+
+- `texts`: two cells of a row have a text, and two a formula and a text. The attributes stand in any
+  order, with spaces between them, and some texts have characters that are escaped.
+- `shared`: two columns of shared formulas, each with a master for every thousand rows.
+- `one_master`: one shared formula, and 950,000 that are derived from it, in cells that name no
+  positions; `leaving`: the same, where the reference leaves the sheet from row 2 on.
+- `values`: numbers, truth values, inline strings, and in a third of the cells one of 20,000 shared
+  strings.
+- `styled`: numbers, dates, formulas and shared strings, each cell in one of 39 styles with a fill,
+  and a second sheet, which isn't asked for.
+- `fills`: styled positions alone, written from right to left, each in another style than its
+  neighbors; at the whole size some 1.4 million style ids.
+"""
 
 import argparse
 import csv

@@ -60,7 +60,14 @@ def workbook():
 
 
 def sheet(rows):
-    """The markup of the sheet, piece by piece."""
+    """The markup of the sheet, piece by piece.
+
+`bench/file.py` writes workbook files with four cells in a row, as those above, and runs in turn
+`./xlsx FILE.xlsx cells S`, `tools/package_text.py` alone (`its text`), and openpyxl, which opens
+the workbook and goes once over all cells, with `read_only` and without; it tells their formulas so,
+or else their values, where `cells` tells both. Seconds are those of processor time of all processes
+that a run starts. What `./xlsx` wrote is compared with the lines that are wanted.
+"""
     yield f'<worksheet xmlns="{MAIN}"><sheetData>'
     for row in range(1, rows + 1):
         yield f'<row r="{row}">'

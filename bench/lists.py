@@ -1,7 +1,24 @@
 #!/usr/bin/env python3
 """Measures `merges S`, `links S`, `props`, `tables`, `table T1`, `pivots` and `pivot S P1` of
 xlsx_tool beside json.load of the same text, and prints a table for each list
-(docs/PERFORMANCE.md)."""
+(docs/PERFORMANCE.md).
+
+`bench/lists.py` writes a package for each list, at its whole size and at half of it, and runs on
+each the program with the list's words and Python's `json.load`, as bench/cells.py does:
+
+- `merges`: 250,000 areas of merged cells;
+- `links`: 65,530 links over as many relationships, which stand in the other order, each link with a
+  displayed text and a tooltip;
+- `properties`: 200,000 names that users gave, in no order, each with a text;
+- `merges_behind_cells`: ten areas of merged cells behind 100,000 cells;
+- `table`: the values of a table of 100,000 rows of three numbers, in a sheet of twice as many rows;
+- `tables`: 2,000 tables of 20 columns on one sheet;
+- `pivot`: the 60,000 records of a cache over ten fields, of which five have shared items;
+- `tables_of_sheets`, `pivots_of_sheets`: 4,000 sheets with a table and a pivot table each, of which
+  the tables and the pivot tables are listed;
+- `sheets_of_one_part`: the tables of 4,000 sheets of one part, which has as many relationships,
+  none of them to a table.
+"""
 
 import argparse
 import os

@@ -1,6 +1,17 @@
 #!/usr/bin/env python3
 """Measures the opening of workbooks with many sheets and defined names, and the lists of these,
-beside json.load of the same text, and prints one table (docs/PERFORMANCE.md)."""
+beside json.load of the same text, and prints one table (docs/PERFORMANCE.md).
+
+`bench/opening.py` writes a package whose workbook has 5,000 sheets and 50,000 defined names, and as
+many relationships as sheets; and another with twice as many of each. The workbook's part and its
+relationships have 170,008 events, and 340,008, and opening reads all of them. The parts of the
+sheets are left out, since opening reads none.
+
+No command only opens, so the opening is the difference of two runs: `xlsx_tool cells absent`, which
+ends with status 6 as soon as the workbook is open, and the same on a text as long in which the
+program finds no workbook to open. `sheets` and `names` are the same difference with these commands.
+Of each, the median of the repeats counts, in seconds of processor time.
+"""
 
 import argparse
 import os
