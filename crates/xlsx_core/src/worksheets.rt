@@ -71,6 +71,9 @@ impl<P: Package> Xlsx<P> {
         ensures uses { let old = P.state self.package in
             let new = P.state result.package in
             Uses (placed_events (path_of self name.now) old.parts) Io result.result old new }
+        ensures to_end { let old = P.state self.package in
+            let count = data_events (path_of self name.now) old.parts in
+            TakesExactly count result.result old (P.state result.package) }
         ensures ranges { IfOk result.result HasLeastRanges }
         ensures reads { let old = P.state self.package in
             old.is_told ≡ true → IfOk result.result
