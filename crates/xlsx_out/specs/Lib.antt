@@ -1,0 +1,4 @@
+pub mod Groups
+pub mod Writable
+pub mod WrittenSheet
+pub mod WrittenText
