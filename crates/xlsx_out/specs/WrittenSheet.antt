@@ -15,9 +15,9 @@ use Rattle.cell_data.specs.declared.value.ExcelDateTimeType.TheVariants.{DateTim
 use Rattle.decimals.specs.Decimals.{printed}
 use Rattle.part_events.specs.Event.{Tag, Event, start, end, leaf}
 use Rattle.part_events.specs.Package.{Part}
-use Rattle.xlsx_sample.specs.Markup.{element, attribute}
-use Rattle.xlsx_out.specs.WrittenText.{attribute_if, encoded}
-use Rattle.xlsx_out.specs.WrittenText.{underscores_escaped, text_events}
+use Rattle.written_markup.specs.Markup.{element, attribute}
+use Rattle.written_markup.specs.WrittenText.{attribute_if, encoded}
+use Rattle.written_markup.specs.WrittenText.{underscores_escaped, text_events}
 use Rattle.xlsx_out.specs.Groups.{Placed, formula_placed, WrittenFormula, plain, master, derived}
 use Rattle.xlsx_out.specs.Groups.{written_formula}
 
