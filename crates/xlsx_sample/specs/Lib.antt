@@ -1,2 +1,1 @@
-pub mod Markup
 pub mod Sample

@@ -5,7 +5,7 @@ use Rattle.std.specs.Prelude.{if◌then◌else◌}
 use Rattle.std.specs.Fmt.{decimal}
 use Rattle.part_events.specs.Event.{Event}
 use Rattle.part_events.specs.Package.{Part}
-use Rattle.xlsx_sample.specs.Markup.{element, attribute, words}
+use Rattle.written_markup.specs.Markup.{element, attribute, words}
 
 -- ---- the rows
 

@@ -1,13 +1,13 @@
 ghost use Rattle.std.specs.Prelude.{◌≡◌, ◌++◌, ◌∷◌, [], IfOk, OnOk};
 ghost use Rattle.part_events.specs.Memory.{closed};
-ghost use Rattle.xlsx_sample.specs.Markup.{with_events};
+ghost use Rattle.written_markup.specs.Markup.{with_events};
 ghost use Rattle.xlsx_sample.specs.Sample.{root_part, sample_relationships, sample_workbook};
 ghost use Rattle.xlsx_sample.specs.Sample.{sheets_element, string_element, sample_strings};
 ghost use Rattle.xlsx_sample.specs.Sample.{plain_fill, yellow_pattern, yellow_fill, fills_element};
 ghost use Rattle.xlsx_sample.specs.Sample.{formats_element, sample_styles};
 
-use crate::draft::Draft;
 use std::alloc::{AllocError, Global};
+use written_markup::Draft;
 
 /// The attributes of the relationship to the workbook.
 const TO_WORKBOOK: &str = " Id=\"rId1\" \

@@ -1,11 +1,11 @@
 ghost use Rattle.std.specs.Prelude.{◌≡◌, ◌*◌, OnOk};
-ghost use Rattle.xlsx_sample.specs.Markup.{with_events};
+ghost use Rattle.written_markup.specs.Markup.{with_events};
 ghost use Rattle.xlsx_sample.specs.Sample.{sample_value, number_cell, master_formula, first_rows};
 ghost use Rattle.xlsx_sample.specs.Sample.{formula_element, doubled_cell, string_cell};
 ghost use Rattle.xlsx_sample.specs.Sample.{row_element, derived_formula, style_attribute};
 
-use crate::draft::Draft;
 use std::alloc::{AllocError, Global};
+use written_markup::Draft;
 
 /// Appends the value of a cell.
 fn push_value(draft: &mut Draft, alloc: Global, number: u64) -> Result<(), AllocError>

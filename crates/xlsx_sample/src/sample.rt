@@ -1,13 +1,13 @@
 ghost use Rattle.std.specs.Prelude.{◌≡◌, ◌++◌, ◌∷◌, [], IfOk, OnOk};
 ghost use Rattle.part_events.specs.Memory.{closed};
-ghost use Rattle.xlsx_sample.specs.Markup.{with_events};
+ghost use Rattle.written_markup.specs.Markup.{with_events};
 ghost use Rattle.xlsx_sample.specs.Sample.{data_element, sample_sheet, sample_parts};
 
-use crate::draft::Draft;
 use crate::fixed_parts::{add_relationships, add_strings, add_styles, add_workbook, with_root};
 use crate::rows::push_rows;
 use part_events::MemoryPackage;
 use std::alloc::{AllocError, Global};
+use written_markup::Draft;
 
 /// Appends the data of the sheet, with so many rows.
 fn push_data(draft: &mut Draft, alloc: Global, rows: u32) -> Result<(), AllocError>

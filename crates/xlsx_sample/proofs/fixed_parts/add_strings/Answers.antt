@@ -2,7 +2,7 @@ use Rattle.std.proofs.lemmas.Result.{on_ok_weaker}
 use Rattle.std.specs.Prelude.{codes}
 use Rattle.std.proofs.Common.{◌++◌}
 use Rattle.xlsx_sample.specs.Sample.{string_element}
-use Rattle.xlsx_sample.proofs.Drafted.{part_written, three_steps}
+use Rattle.written_markup.proofs.Drafted.{part_written, three_steps}
 use Rattle.xlsx_sample.proofs.fixed_parts.add_strings.Goals as goal
 
 pub returns : goal.returns

@@ -2,7 +2,7 @@ use Rattle.std.proofs.lemmas.Result.{on_ok_weaker}
 use Rattle.std.specs.Prelude.{codes}
 use Rattle.std.proofs.Common.{◌++◌}
 use Rattle.xlsx_sample.specs.Sample.{fills_element, formats_element}
-use Rattle.xlsx_sample.proofs.Drafted.{part_written, joined_step}
+use Rattle.written_markup.proofs.Drafted.{part_written, joined_step}
 use Rattle.xlsx_sample.proofs.fixed_parts.add_styles.Goals as goal
 
 pub returns : goal.returns

@@ -1,7 +1,7 @@
 use Rattle.std.proofs.lemmas.Result.{on_ok_weaker}
 use Rattle.std.specs.Prelude.{codes}
 use Rattle.xlsx_sample.specs.Sample.{sheets_element}
-use Rattle.xlsx_sample.proofs.Drafted.{part_written}
+use Rattle.written_markup.proofs.Drafted.{part_written}
 use Rattle.xlsx_sample.proofs.fixed_parts.add_workbook.Goals as goal
 
 pub returns : goal.returns

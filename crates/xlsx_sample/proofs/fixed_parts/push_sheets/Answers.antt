@@ -2,7 +2,7 @@ use Rattle.std.proofs.lemmas.Result.{on_ok_weaker}
 use Rattle.std.specs.Prelude.{codes, []}
 use Rattle.std.proofs.Common.{refl}
 use Rattle.xlsx_sample.specs.Sample.{sheet_element}
-use Rattle.xlsx_sample.proofs.Drafted.{element_written}
+use Rattle.written_markup.proofs.Drafted.{element_written}
 use Rattle.xlsx_sample.proofs.fixed_parts.push_sheets.Goals as goal
 
 pub returns : goal.returns

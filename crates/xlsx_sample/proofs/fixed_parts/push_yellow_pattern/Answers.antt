@@ -1,9 +1,9 @@
 use Rattle.std.proofs.lemmas.Result.{on_ok_weaker}
 use Rattle.std.specs.Prelude.{codes, []}
 use Rattle.std.proofs.Common.{refl}
-use Rattle.xlsx_sample.specs.Markup.{element, attribute}
+use Rattle.written_markup.specs.Markup.{element, attribute}
 use Rattle.xlsx_sample.specs.Sample.{pattern}
-use Rattle.xlsx_sample.proofs.Drafted.{element_written}
+use Rattle.written_markup.proofs.Drafted.{element_written}
 use Rattle.xlsx_sample.proofs.fixed_parts.push_yellow_pattern.Goals as goal
 
 pub returns : goal.returns

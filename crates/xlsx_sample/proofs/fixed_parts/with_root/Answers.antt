@@ -1,7 +1,7 @@
 use Rattle.std.specs.Prelude.{codes, []}
 use Rattle.part_events.specs.Memory.{Contents, closed}
 use Rattle.xlsx_sample.specs.Sample.{related}
-use Rattle.xlsx_sample.proofs.Drafted.{part_written}
+use Rattle.written_markup.proofs.Drafted.{part_written}
 use Rattle.xlsx_sample.proofs.fixed_parts.with_root.Goals as goal
 
 pub returns : goal.returns

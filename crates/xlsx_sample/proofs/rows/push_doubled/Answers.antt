@@ -2,9 +2,9 @@ use Rattle.std.proofs.lemmas.Result.{on_ok_weaker}
 use Rattle.std.specs.Prelude.{codes}
 use Rattle.std.proofs.Common.{◌≡◌, ◌∙◌, ℕ, ◌*◌, ◌++◌, ap}
 use Rattle.std.specs.Fmt.{decimal}
-use Rattle.xlsx_sample.specs.Markup.{attribute, with_events}
+use Rattle.written_markup.specs.Markup.{attribute, with_events}
 use Rattle.xlsx_sample.specs.Sample.{sample_value, formula_element}
-use Rattle.xlsx_sample.proofs.Drafted.{element_written, joined_step}
+use Rattle.written_markup.proofs.Drafted.{element_written, joined_step}
 use Rattle.xlsx_sample.proofs.rows.push_doubled.Goals as goal
 
 pub returns : goal.returns

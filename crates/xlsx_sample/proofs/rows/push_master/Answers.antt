@@ -2,7 +2,7 @@ use Rattle.std.proofs.lemmas.Result.{on_ok_weaker}
 use Rattle.std.specs.Prelude.{codes}
 use Rattle.std.proofs.Common.{◌≡◌, ◌∙◌, ℕ, List, ◌++◌, ap, sym, append_assoc}
 use Rattle.std.specs.Fmt.{decimal}
-use Rattle.xlsx_sample.specs.Markup.{element, words, with_events}
+use Rattle.written_markup.specs.Markup.{element, words, with_events}
 use Rattle.xlsx_sample.specs.Sample.{master_attributes}
 use Rattle.xlsx_sample.proofs.rows.push_master.Goals as goal
 

@@ -2,9 +2,9 @@ use Rattle.std.proofs.lemmas.Result.{on_ok_weaker}
 use Rattle.std.specs.Prelude.{codes}
 use Rattle.std.proofs.Common.{◌∙◌, ◌++◌}
 use Rattle.std.specs.Fmt.{decimal}
-use Rattle.xlsx_sample.specs.Markup.{attribute}
+use Rattle.written_markup.specs.Markup.{attribute}
 use Rattle.xlsx_sample.specs.Sample.{number_cell, doubled_cell, string_cell}
-use Rattle.xlsx_sample.proofs.Drafted.{element_written, three_steps}
+use Rattle.written_markup.proofs.Drafted.{element_written, three_steps}
 use Rattle.xlsx_sample.proofs.rows.push_row.Goals as goal
 
 pub returns : goal.returns

@@ -1,7 +1,7 @@
 use Rattle.std.proofs.Common.{◌≡◌, ◌∙◌, ℕ, suc, ◌+◌, ap, sym, add-one}
-use Rattle.xlsx_sample.specs.Markup.{with_events}
+use Rattle.written_markup.specs.Markup.{with_events}
 use Rattle.xlsx_sample.specs.Sample.{row_element, first_rows}
-use Rattle.xlsx_sample.proofs.Drafted.{joined_step}
+use Rattle.written_markup.proofs.Drafted.{joined_step}
 use Rattle.xlsx_sample.proofs.rows.push_rows.Goals as goal
 
 pub loop-above-preserved : goal.loop-above-preserved

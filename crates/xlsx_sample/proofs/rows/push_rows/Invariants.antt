@@ -1,5 +1,5 @@
 use Rattle.std.proofs.Common.{◌≡◌}
-use Rattle.xlsx_sample.specs.Markup.{with_events}
+use Rattle.written_markup.specs.Markup.{with_events}
 use Rattle.xlsx_sample.specs.Sample.{first_rows}
 use Rattle.xlsx_sample.proofs.rows.push_rows.Given as goal
 

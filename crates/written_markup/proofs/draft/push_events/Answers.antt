@@ -1,9 +1,9 @@
 use Rattle.std.proofs.Common.{◌≡◌, ◌∙◌, ◌+◌, length, map, drop, ap, arith}
 use Rattle.part_events.specs.Event.{event_of}
 use Rattle.part_events.specs.Memory.{Contents}
-use Rattle.xlsx_sample.specs.Markup.{with_events}
-use Rattle.xlsx_sample.proofs.Drafted.{same_count, event_taken}
-use Rattle.xlsx_sample.proofs.draft.push_events.Goals as goal
+use Rattle.written_markup.specs.Markup.{with_events}
+use Rattle.written_markup.proofs.Drafted.{same_count, event_taken}
+use Rattle.written_markup.proofs.draft.push_events.Goals as goal
 
 pub loop-event-preserved : goal.loop-event-preserved
 loop-event-preserved c =

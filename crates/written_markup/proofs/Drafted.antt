@@ -6,7 +6,7 @@ use Rattle.part_events.specs.Event.{Event, start, end, event_of}
 use Rattle.part_events.specs.Package.{Part}
 use Rattle.part_events.specs.Memory.{Contents, closed, with_event}
 use Rattle.part_events.specs.declared.event.PartEvent.{PartEvent}
-use Rattle.xlsx_sample.specs.Markup.{element, with_events, opened_part}
+use Rattle.written_markup.specs.Markup.{element, with_events, opened_part}
 
 -- an event leaves as many parts as there were
 pub same_count : (parts : List Part) (event : Event)

@@ -2,9 +2,9 @@ use Rattle.std.proofs.Common.{◌∙◌, [], ◌∷◌, ◌++◌, ap}
 use Rattle.std.proofs.lemmas.Result.{on_ok_weaker}
 use Rattle.part_events.specs.Event.{Event, start}
 use Rattle.part_events.specs.Memory.{Contents, closed}
-use Rattle.xlsx_sample.specs.Markup.{with_events, opened_part}
-use Rattle.xlsx_sample.proofs.Drafted.{part_step}
-use Rattle.xlsx_sample.proofs.draft.Draft.begin_part.Goals as goal
+use Rattle.written_markup.specs.Markup.{with_events, opened_part}
+use Rattle.written_markup.proofs.Drafted.{part_step}
+use Rattle.written_markup.proofs.draft.Draft.begin_part.Goals as goal
 
 pub returns : goal.returns
 returns c =

@@ -1,7 +1,7 @@
 ghost use Rattle.std.specs.Prelude.{◌≡◌, ◌<◌, ◌++◌, ◌∷◌, [], length, map, IfOk, OnOk};
 ghost use Rattle.part_events.specs.Event.{Event, event_of, start, end, leaf, text};
 ghost use Rattle.part_events.specs.Memory.{closed};
-ghost use Rattle.xlsx_sample.specs.Markup.{element, words, with_events, opened_part};
+ghost use Rattle.written_markup.specs.Markup.{element, words, with_events, opened_part};
 
 use part_events::{MemoryPackage, PartEvent, StartTag};
 use std::alloc::{AllocError, Global};

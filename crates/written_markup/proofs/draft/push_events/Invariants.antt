@@ -1,7 +1,7 @@
 use Rattle.std.proofs.Common.{◌≡◌, ◌<◌, length, map, drop}
 use Rattle.part_events.specs.Event.{event_of}
-use Rattle.xlsx_sample.specs.Markup.{with_events}
-use Rattle.xlsx_sample.proofs.draft.push_events.Given as goal
+use Rattle.written_markup.specs.Markup.{with_events}
+use Rattle.written_markup.proofs.draft.push_events.Given as goal
 
 abbrev pub invariant-loop-event : goal.invariant-loop-event
 invariant-loop-event l = record {

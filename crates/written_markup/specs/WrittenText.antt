@@ -1,0 +1,75 @@
+-- Texts and attributes as they are written, so that they read back.
+use Rattle.std.specs.Prelude.{◌≡◌, ⊤, ℕ, ◌==◌, ◌||◌, Bool, false, if◌then◌else◌, List, [], ◌∷◌}
+use Rattle.std.specs.Prelude.{◌++◌, codes, Option, Some, None}
+use Rattle.std.specs.Char.{is_ascii_whitespace}
+use Rattle.std.specs.List.{flat_map, list_any, slice_split}
+use Rattle.attr_text.specs.Attributes.{is_equals_sign}
+use Rattle.part_events.specs.Event.{Event, leaf, text, entity_ref}
+use Rattle.written_markup.specs.Markup.{attribute}
+
+-- a byte stands in the text
+abbrev pub has_byte : ℕ → List ℕ → Bool
+has_byte byte bytes = list_any (λ b. b == byte) bytes
+
+-- ---- attributes
+
+-- an attribute, where it has a value
+abbrev pub attribute_if : List ℕ → Option (List ℕ) → List ℕ
+attribute_if key None = []
+attribute_if key (Some value) = attribute key value
+
+-- the attributes of keys and values, one behind another
+abbrev pub attributes_of : List (List ℕ × List ℕ) → List ℕ
+attributes_of [] = []
+attributes_of (pair ∷ pairs) = attribute pair.0 pair.1 ++ attributes_of pairs
+
+-- white space, or `=`: neither stands in a key
+abbrev pub is_no_key_byte : ℕ → Bool
+is_no_key_byte b = is_ascii_whitespace b || is_equals_sign b
+
+-- a key without white space and `=`, and a value without `"`
+pub record IsWritablePair (pair : List ℕ × List ℕ) : Type 0 where
+  pub key : list_any is_no_key_byte pair.0 ≡ false
+  pub value : has_byte 34 pair.1 ≡ false
+
+-- each of these pairs is one that can be written
+abbrev pub AreWritablePairs : List (List ℕ × List ℕ) → Type 0
+AreWritablePairs [] = ⊤
+AreWritablePairs (pair ∷ pairs) = IsWritablePair pair × AreWritablePairs pairs
+
+-- ---- escapes
+
+-- `&` and `"` as references, and each other byte as it is
+abbrev pub encoded_byte : ℕ → List ℕ
+encoded_byte b =
+    if b == 38 then codes "&amp;" else (if b == 34 then codes "&quot;" else b ∷ [])
+
+-- a text as it stands between quotes, where references count
+abbrev pub encoded : List ℕ → List ℕ
+encoded bytes = flat_map encoded_byte bytes
+
+-- `_` as its escape, and each other byte as it is
+abbrev pub escaped_byte : ℕ → List ℕ
+escaped_byte b = if b == 95 then codes "_x005F_" else b ∷ []
+
+-- a text as it stands where `_xHHHH_` counts
+abbrev pub underscores_escaped : List ℕ → List ℕ
+underscores_escaped bytes = flat_map escaped_byte bytes
+
+-- ---- texts as events
+
+-- the event of a run of a text; of an empty one there is none
+abbrev pub run_events : List ℕ → List Event
+run_events [] = []
+run_events (b ∷ bs) = leaf (text (b ∷ bs)) ∷ []
+
+-- runs with a reference to CR between them
+abbrev pub events_of_runs : List (List ℕ) → List Event
+events_of_runs [] = []
+events_of_runs (run ∷ []) = run_events run
+events_of_runs (run ∷ next ∷ runs) =
+    run_events run ++ (leaf (entity_ref (codes "#13")) ∷ events_of_runs (next ∷ runs))
+
+-- the events of a text: the runs between its CRs, and each CR as a reference
+abbrev pub text_events : List ℕ → List Event
+text_events bytes = events_of_runs (slice_split (λ b. b == 13) bytes)
