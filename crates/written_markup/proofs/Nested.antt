@@ -6,13 +6,16 @@ use Rattle.std.specs.Option.{option_map_or}
 use Rattle.std.specs.Str.{bytes_eq}
 use Rattle.std.proofs.lemmas.Slice.Eq.{bytes_eq-Decides}
 use Rattle.std.proofs.lemmas.List.{reverse-append}
-use Rattle.part_events.specs.Event.{Tag, Event, Leaf, start, end, leaf}
+use Rattle.part_events.specs.Event.{Tag, Event, Leaf, start, end, leaf, text, entity_ref}
 use Rattle.part_events.specs.Nesting.{OpenStart, open_start, closes, whole_rest}
 use Rattle.part_events.specs.Section.{content, is_closed, behind, outermost_from, outermost}
 use Rattle.part_events.specs.Section.{Element, element_of}
 use Rattle.part_events.proofs.Nested.{reverse_on}
 use Rattle.part_events.proofs.Outermost.{outermost-wanted}
 use Rattle.written_markup.specs.Markup.{element}
+use Rattle.written_markup.specs.WrittenText.{run_events, events_of_runs, text_events}
+use Rattle.std.specs.Prelude.{◌==◌, codes}
+use Rattle.std.specs.List.{flat_map, slice_split}
 use Rattle.written_markup.specs.Nests.{IsNested, none, leaf_then, element_then, NestsItself}
 
 -- What holds of no events, goes on behind a leaf and behind an element of such events, holds of
@@ -48,6 +51,29 @@ pub nested_element : (name attributes : List ℕ) (inside : List Event) → IsNe
     → IsNested (element name attributes inside)
 nested_element name attributes inside within =
     rw (← append-nil (element name attributes inside)) (element_then name attributes within none)
+
+run_nested : (run : List ℕ) → IsNested (run_events run)
+run_nested [] = none
+run_nested (b ∷ bs) = leaf_then (text (b ∷ bs)) none
+
+runs_nested : (runs : List (List ℕ)) → IsNested (events_of_runs runs)
+runs_nested [] = none
+runs_nested (run ∷ []) = run_nested run
+runs_nested (run ∷ next ∷ runs) =
+    nested_in_row (run_events run)
+    (leaf (entity_ref (codes "#13")) ∷ events_of_runs (next ∷ runs)) (run_nested run)
+    (leaf_then (entity_ref (codes "#13")) (runs_nested (next ∷ runs)))
+
+-- the events of a text
+pub text_events_nested : (bytes : List ℕ) → IsNested (text_events bytes)
+text_events_nested bytes = runs_nested (slice_split (λ b. b == 13) bytes)
+
+-- a list of such lists in a row
+pub flat_map_nested : {A : Type 0} (f : A → List Event) (xs : List A)
+    → ((x : A) → IsNested (f x)) → IsNested (flat_map f xs)
+flat_map_nested f [] each = none
+flat_map_nested f (x ∷ xs) each =
+    nested_in_row (f x) (flat_map f xs) (each x) (flat_map_nested f xs each)
 
 -- ---- what passes over them
 

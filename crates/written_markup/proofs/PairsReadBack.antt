@@ -1,5 +1,6 @@
 -- Attributes as they are written have the pairs that were written.
 use Rattle.std.proofs.Common.{◌≡◌, ℕ, zero, suc, ◌+◌, ◌-◌, ◌<◌, Bool, true, false, List, [], ◌∷◌, ◌++◌}
+use Rattle.std.proofs.Common.{Option, Some, None, append-nil}
 use Rattle.std.proofs.Common.{length, map, take, drop, get_or, Ok, refl, sym, ap, ◌∙◌, arith, append_assoc}
 use Rattle.std.specs.Prelude.{◌==◌, ◌||◌}
 use Rattle.std.specs.Char.{is_ascii_whitespace}
@@ -10,11 +11,14 @@ use Rattle.std.proofs.lemmas.List.{length-append, take_all}
 use Rattle.std.proofs.lemmas.List.Sums.{suffix_len_is}
 use Rattle.attr_text.specs.Attributes.{Item, attribute as found, without_leading_space}
 use Rattle.attr_text.specs.Attributes.{without_trailing_space, is_equals_sign, front_with_key}
-use Rattle.attr_text.specs.Attributes.{front_behind_space, front_of, items_left, items}
+use Rattle.attr_text.specs.Attributes.{front_behind_space, front_of, items_left, items, lookup}
+use Rattle.attr_text.specs.Attributes.{value_of, value_of_local, first_value, first_values}
+use Rattle.attr_text.specs.Attributes.{ending_fault, has_local_name}
+use Rattle.std.specs.Str.{bytes_eq}
 use Rattle.attr_text.proofs.ItemsLemmas.{items_left-attribute, items_left-nil}
 use Rattle.written_markup.specs.Markup.{attribute}
 use Rattle.written_markup.specs.WrittenText.{has_byte, attributes_of, IsWritablePair}
-use Rattle.written_markup.specs.WrittenText.{AreWritablePairs}
+use Rattle.written_markup.specs.WrittenText.{AreWritablePairs, attribute_if, pair_if}
 use Rattle.written_markup.proofs.TextsReadBack.{neither}
 
 -- a text in which none passes, up to the first that does
@@ -136,3 +140,60 @@ pub items_written : (pairs : List (List ℕ × List ℕ)) → AreWritablePairs p
     → items (attributes_of pairs) ≡ map Ok pairs
 unfolding items
 items_written pairs are = items_left_written (length (attributes_of pairs)) pairs are
+
+-- ---- the texts of pairs
+
+-- the attributes of two lists of pairs
+pub attributes_in_row : (front behind : List (List ℕ × List ℕ))
+    → attributes_of (front ++ behind) ≡ attributes_of front ++ attributes_of behind
+attributes_in_row [] behind = refl
+attributes_in_row (pair ∷ front) behind =
+    ap (λ (rest : List ℕ). attribute pair.0 pair.1 ++ rest) (attributes_in_row front behind)
+    ∙ sym (append_assoc (attribute pair.0 pair.1) (attributes_of front) (attributes_of behind))
+
+-- an attribute that may be there, in front of others
+pub attribute_if_in_row : (key : List ℕ) (value : Option (List ℕ))
+    (pairs : List (List ℕ × List ℕ))
+    → attribute_if key value ++ attributes_of pairs ≡ attributes_of (pair_if key value ++ pairs)
+attribute_if_in_row key None pairs = refl
+attribute_if_in_row key (Some value) pairs = refl
+
+-- an attribute that may be there, alone
+pub attribute_if_alone : (key : List ℕ) (value : Option (List ℕ))
+    → attribute_if key value ≡ attributes_of (pair_if key value)
+attribute_if_alone key None = refl
+attribute_if_alone key (Some value) = sym (append-nil (attribute key value))
+
+-- writable pairs in a row
+pub writable_in_row : (front behind : List (List ℕ × List ℕ)) → AreWritablePairs front
+    → AreWritablePairs behind → AreWritablePairs (front ++ behind)
+writable_in_row [] behind first second = second
+writable_in_row (pair ∷ front) behind first second =
+    (first.0, writable_in_row front behind first.1 second)
+
+-- ---- lookups
+
+no_fault : (pairs : List (List ℕ × List ℕ)) → ending_fault (map Ok pairs) ≡ None
+no_fault [] = refl
+no_fault (pair ∷ pairs) = no_fault pairs
+
+-- a lookup in written attributes is one in their pairs
+pub lookup_written : (keys : List (List ℕ)) (pairs : List (List ℕ × List ℕ))
+    → AreWritablePairs pairs
+    → lookup keys (attributes_of pairs) ≡ Ok (first_values keys (map Ok pairs))
+unfolding lookup
+lookup_written keys pairs are = rw (items_written pairs are, no_fault pairs) refl
+
+-- the same of one key
+pub value_written : (key : List ℕ) (pairs : List (List ℕ × List ℕ)) → AreWritablePairs pairs
+    → value_of key (attributes_of pairs) ≡ Ok (first_value (bytes_eq key) (map Ok pairs))
+unfolding value_of
+value_written key pairs are = rw (items_written pairs are, no_fault pairs) refl
+
+-- and of the first key with a local name
+pub local_value_written : (local : List ℕ) (pairs : List (List ℕ × List ℕ))
+    → AreWritablePairs pairs
+    → value_of_local local (attributes_of pairs)
+    ≡ Ok (first_value (has_local_name local) (map Ok pairs))
+unfolding value_of_local
+local_value_written local pairs are = rw (items_written pairs are, no_fault pairs) refl
