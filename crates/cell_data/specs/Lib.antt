@@ -4,6 +4,7 @@ pub mod Cells
 pub mod CellsLeft
 pub mod Gathered
 pub mod NumberFormat
+pub mod Pairs
 pub mod Range
 pub mod RangeItems
 pub mod SignOf

@@ -9,7 +9,8 @@ use Rattle.xlsx_error.specs.declared.error.XlsxError.TheVariants.{Io, OutOfMemor
 use Rattle.xlsx_error.specs.declared.error.XlsxError.TheVariants.{WorksheetNotFound}
 use Rattle.cell_data.specs.Range.{cells_of}
 use Rattle.cell_data.specs.declared.range.Range.{Range}
-use Rattle.xlsx_core.specs.SheetReading.{formula_pairs, with_meaning, SheetFails}
+use Rattle.cell_data.specs.Pairs.{formula_pairs, with_meaning}
+use Rattle.xlsx_core.specs.SheetReading.{SheetFails}
 use Rattle.worked_calls.specs.Counting.{CountFails}
 
 -- there are as many formulas as used cells of their range

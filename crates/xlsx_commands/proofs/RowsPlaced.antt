@@ -25,7 +25,7 @@ use Rattle.csv.specs.Writing.{default_writer, row_text}
 use Rattle.part_events.specs.Package.{Part}
 use Rattle.sheet_listing.specs.SheetListing.{value_placed}
 use Rattle.xlsx_core.specs.SheetReading.{ReadsAs, IsReadable}
-use Rattle.xlsx_core.specs.SheetReading.{with_meaning, value_pairs, formula_pairs}
+use Rattle.cell_data.specs.Pairs.{with_meaning, value_pairs, formula_pairs}
 use Rattle.xlsx_core.specs.Worksheets.{HasLeastRanges}
 use Rattle.xlsx_core.specs.declared.sheet_reading.SheetReading.{SheetReading}
 use Rattle.xlsx_error.specs.declared.error.XlsxError.{XlsxError}

@@ -21,7 +21,8 @@ use Rattle.part_events.specs.Event.{Event}
 use Rattle.part_events.specs.Package.{Part}
 use Rattle.sheet_listing.specs.SheetListing.{value_lines}
 use Rattle.xlsx_values.specs.Value.{Grounds}
-use Rattle.xlsx_core.specs.SheetReading.{events_at, opened_grounds, path_named, value_pairs}
+use Rattle.cell_data.specs.Pairs.{value_pairs}
+use Rattle.xlsx_core.specs.SheetReading.{events_at, opened_grounds, path_named}
 use Rattle.xlsx_core.specs.TableData.{IsRangeIn, ReadsValuesIn}
 use Rattle.xlsx_cells.specs.Sheet.{with_texts}
 use Rattle.xlsx_core.specs.Worksheets.{AnswersValues}

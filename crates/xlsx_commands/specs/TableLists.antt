@@ -13,7 +13,8 @@ use Rattle.xlsx_error.specs.declared.error.XlsxError.{XlsxError}
 use Rattle.xlsx_error.specs.declared.error.XlsxError.TheVariants.{TableNotFound}
 use Rattle.xlsx_tables.specs.Tables.{SheetTable, tables_of, TablesCause}
 use Rattle.xlsx_open.specs.Opening.{Opening, OpensAs}
-use Rattle.xlsx_core.specs.SheetReading.{opened_grounds, path_named, value_pairs}
+use Rattle.cell_data.specs.Pairs.{value_pairs}
+use Rattle.xlsx_core.specs.SheetReading.{opened_grounds, path_named}
 use Rattle.xlsx_core.specs.TableData.{first_named, IsOfTable, ReadsValuesIn}
 use Rattle.xlsx_core.specs.Worksheets.{RangeCause}
 use Rattle.xlsx_commands.specs.SheetsOpened.{sheets_opened, ListedCause}

@@ -10,7 +10,7 @@ use Rattle.cell_data.specs.declared.table.Table.{Table}
 use Rattle.cell_data.specs.declared.value.Data.{Data}
 use Rattle.cell_refs.specs.declared.dimensions.Dimensions.{Dimensions}
 use Rattle.part_events.specs.Package.{Part}
-use Rattle.xlsx_core.specs.SheetReading.{value_pairs}
+use Rattle.cell_data.specs.Pairs.{value_pairs}
 use Rattle.xlsx_rows.specs.RowsText.{header_text}
 use Rattle.xlsx_commands.specs.SheetRows.{rows_placed, area_count}
 use Rattle.xlsx_commands.specs.TableLists.{HasTable}

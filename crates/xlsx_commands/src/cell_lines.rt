@@ -1,5 +1,6 @@
 ghost use Rattle.std.specs.Prelude.{IfOk, IfErr};
-ghost use Rattle.xlsx_core.specs.SheetReading.{SheetCause, ReadsAs, value_pairs, formula_pairs};
+ghost use Rattle.cell_data.specs.Pairs.{value_pairs, formula_pairs};
+ghost use Rattle.xlsx_core.specs.SheetReading.{SheetCause, ReadsAs};
 ghost use Rattle.xlsx_commands.specs.Outputs.{AreLinesOf, CallFails};
 
 use crate::error::ToolError;

@@ -9,7 +9,7 @@ use Rattle.std.proofs.lemmas.List.{reverse-append, map-append}
 use Rattle.cell_data.proofs.Placing.{none_placed}
 use Rattle.cell_refs.proofs.PositionOrder.{position_total}
 use Rattle.cell_refs.specs.Positions.{position_cmp, last_of_each}
-use Rattle.xlsx_core.specs.SheetReading.{with_meaning}
+use Rattle.cell_data.specs.Pairs.{with_meaning}
 
 module _ {X Y : Type 0} (f : X → Y) where
   mapped_by_order : (o : Ordering) (a b c : List ((ℕ × ℕ) × X)) →

@@ -5,7 +5,7 @@ use Rattle.cell_data.proofs.LeastAreas.{least_last}
 use Rattle.cell_data.proofs.Placing.{last_rising, rising_last}
 use Rattle.cell_data.specs.CellValue.{CellValue}
 use Rattle.cell_data.specs.declared.value.HeaderRow.TheVariants.{FirstNonEmptyRow}
-use Rattle.xlsx_core.specs.SheetReading.{value_pairs, formula_pairs}
+use Rattle.cell_data.specs.Pairs.{value_pairs, formula_pairs}
 use Rattle.xlsx_core.specs.Worksheets.{IsValueRange, IsFormulaRange, HasLeastRanges}
 use Rattle.xlsx_core.specs.declared.sheet_reading.SheetReading.{SheetReading}
 

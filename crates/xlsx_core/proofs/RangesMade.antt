@@ -10,7 +10,7 @@ use Rattle.cell_refs.proofs.PositionOrder.{and_both}
 use Rattle.cell_data.specs.declared.range.Range.{Range}
 use Rattle.cell_data.specs.declared.value.HeaderRow.{HeaderRow}
 use Rattle.cell_data.specs.declared.value.HeaderRow.TheVariants.{FirstNonEmptyRow, Row}
-use Rattle.xlsx_core.specs.SheetReading.{with_meaning}
+use Rattle.cell_data.specs.Pairs.{with_meaning}
 use Rattle.xlsx_core.specs.Worksheets.{from_row, below_header, header_area}
 use Rattle.xlsx_core.specs.Worksheets.{IsRangeFrom, IsRangeOf}
 use Rattle.xlsx_core.proofs.LastOfEach.{last_mapped}

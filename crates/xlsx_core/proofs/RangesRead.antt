@@ -32,7 +32,8 @@ use Rattle.xlsx_cells.specs.declared.children.Wants.{Wants}
 use Rattle.xlsx_cells.proofs.SoundSheet.{AreSound, sound_by_values, sound_by_formulas, sound_by_ids}
 use Rattle.xlsx_cells.proofs.SoundSheet.{no_part_cause}
 use Rattle.xlsx_open.proofs.Sound.{both_at}
-use Rattle.xlsx_core.specs.SheetReading.{events_at, with_meaning, value_pairs, place_pairs}
+use Rattle.cell_data.specs.Pairs.{with_meaning, value_pairs, place_pairs}
+use Rattle.xlsx_core.specs.SheetReading.{events_at}
 use Rattle.xlsx_core.specs.SheetReading.{PlacedCause}
 use Rattle.xlsx_core.specs.Worksheets.{AnswersCells, AnswersValues, AnswersFormulas}
 use Rattle.xlsx_core.specs.Worksheets.{HasStyledCells, HasSheetData}

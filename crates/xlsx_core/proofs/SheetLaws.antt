@@ -40,7 +40,8 @@ use Rattle.xlsx_open.specs.SharedParts.{SharedSaid, HasShared}
 use Rattle.xlsx_open.proofs.Sound.{both_at, same_path, same_related, no_cause}
 use Rattle.xlsx_core.specs.SheetReading.{events_named, grounds_with, opened_grounds, all_wanted}
 use Rattle.xlsx_core.specs.SheetReading.{SayTheSame, ReadsAs, LacksSheet, HasPartCause}
-use Rattle.xlsx_core.specs.SheetReading.{SheetCause, value_pairs, formula_pairs}
+use Rattle.cell_data.specs.Pairs.{value_pairs, formula_pairs}
+use Rattle.xlsx_core.specs.SheetReading.{SheetCause}
 use Rattle.xlsx_core.specs.Worksheets.{HasLeastRanges}
 use Rattle.xlsx_core.specs.declared.sheet_reading.SheetReading.{SheetReading}
 

@@ -29,7 +29,8 @@ use Rattle.xlsx_core.specs.Opened.{path_listed}
 use Rattle.xlsx_core.specs.SheetReading.{SheetCause, PlacedCause}
 use Rattle.xlsx_core.specs.SheetReading.{path_named, events_at, events_named, grounds_with}
 use Rattle.xlsx_core.specs.SheetReading.{opened_grounds, all_wanted, HoldsSheet, IsPaletteOf}
-use Rattle.xlsx_core.specs.SheetReading.{ReadsAs, value_pairs, formula_pairs}
+use Rattle.cell_data.specs.Pairs.{value_pairs, formula_pairs}
+use Rattle.xlsx_core.specs.SheetReading.{ReadsAs}
 use Rattle.xlsx_core.specs.Worksheets.{HoldsWanted, IsValueRange, IsFormulaRange}
 use Rattle.xlsx_core.specs.declared.sheet_reading.SheetReading.{SheetReading}
 use Rattle.xlsx_core.specs.SheetReading.{SheetFails, PlacedSheetFails}

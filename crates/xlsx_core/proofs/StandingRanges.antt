@@ -19,7 +19,7 @@ use Rattle.cell_data.proofs.Areas.{sheet_bounds, used_in_sheet}
 use Rattle.cell_data.proofs.LeastAreas.{least_last}
 use Rattle.cell_data.proofs.Passing.{last_passing}
 use Rattle.cell_data.proofs.Placing.{last_rising, rising_last}
-use Rattle.xlsx_core.specs.SheetReading.{with_meaning}
+use Rattle.cell_data.specs.Pairs.{with_meaning}
 use Rattle.xlsx_core.specs.Worksheets.{from_row, below_header, header_area, area_below}
 use Rattle.xlsx_core.specs.Worksheets.{IsRangeFrom, IsRangeOf}
 use Rattle.xlsx_core.proofs.LastOfEach.{last_mapped}

@@ -19,7 +19,8 @@ use Rattle.xlsx_values.specs.Value.{Grounds}
 use Rattle.xlsx_cells.specs.CellsReader.{values_alone}
 use Rattle.xlsx_cells.specs.Sheet.{with_texts}
 use Rattle.xlsx_tables.specs.Tables.{SheetTable}
-use Rattle.xlsx_core.specs.SheetReading.{events_at, with_meaning}
+use Rattle.cell_data.specs.Pairs.{with_meaning}
+use Rattle.xlsx_core.specs.SheetReading.{events_at}
 use Rattle.xlsx_core.specs.TableData.{IsCut, IsRangeIn, IsNoRange, ReadsValuesIn, ReadsPlacesIn}
 use Rattle.xlsx_core.specs.TableData.{AreaFails, TableDataFails, IsTableDataError, LacksTable}
 use Rattle.xlsx_core.specs.TableData.{table_of_book}

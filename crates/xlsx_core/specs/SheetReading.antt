@@ -1,22 +1,18 @@
 -- The reading of one sheet of a workbook that opens.
 use Rattle.std.specs.Prelude.{◌≡◌, ◌⊎◌, ℕ, List, [], ◌∷◌, true, if◌then◌else◌, Option, Some}
 use Rattle.std.specs.Prelude.{None, Bool, map, length, option_and_then, string_bytes, IsSomeAnd}
-use Rattle.std.specs.Prelude.{String, ◌+◌, ◌≤◌, codes, Result, OnOk}
+use Rattle.std.specs.Prelude.{◌+◌, ◌≤◌, codes, Result, OnOk}
 use Rattle.std.specs.Option.{option_map_or}
 use Rattle.std.specs.Str.{bytes_eq}
-use Rattle.std.specs.declared.alloc.Global.{Global}
 use Rattle.part_events.specs.Event.{Event}
 use Rattle.part_events.specs.Nesting.{whole}
 use Rattle.part_events.specs.Package.{Part, PackageState, CountsUp, part_of}
-use Rattle.cell_data.specs.CellValue.{CellValue, value_of_data, value_of_data_ref}
+use Rattle.cell_data.specs.CellValue.{CellValue}
+use Rattle.cell_data.specs.Pairs.{value_pairs, formula_pairs}
 use Rattle.cell_refs.specs.Positions.{last_of_each}
-use Rattle.cell_data.specs.Range.{cells_of}
 use Rattle.xlsx_error.specs.declared.error.XlsxError.{XlsxError}
 use Rattle.cell_data.specs.declared.format.CellFormat.{CellFormat}
 use Rattle.xlsx_error.specs.declared.error.XlsxError.TheVariants.{WorksheetNotFound}
-use Rattle.cell_data.specs.declared.range.Range.{Range}
-use Rattle.cell_data.specs.declared.value.Data.{Data}
-use Rattle.cell_data.specs.declared.value.DataRef.{DataRef}
 use Rattle.cell_styles.specs.StyleMap.{StyledCell, StyleMap, styles_of}
 use Rattle.cell_styles.specs.declared.style.Style.{Style}
 use Rattle.xlsx_formats.specs.Formattings.{style_said}
@@ -87,26 +83,6 @@ pub record SayTheSame (one two : StyleMap) : Type 0 where
 -- values, formulas and style ids are read together
 abbrev pub all_wanted : Wants
 all_wanted = record { values = true; formulas = true; styles = true }
-
--- a position with what something is at it
-abbrev pub with_meaning : {X Y : Type 0} → (X → Y) → (ℕ × ℕ) × X → (ℕ × ℕ) × Y
-with_meaning meaning entry = (entry.0, meaning entry.1)
-
--- the cells of a range as pairs of a position and what is meant by what they hold
-abbrev pub pairs_by : {X Y : Type 0} → (X → Y) → Range X → List ((ℕ × ℕ) × Y)
-pairs_by meaning range = map (with_meaning meaning) (cells_of range)
-
--- the values of a range by their positions
-abbrev pub value_pairs : Range Data → List ((ℕ × ℕ) × CellValue)
-value_pairs range = pairs_by value_of_data range
-
--- shared strings by their places
-abbrev pub place_pairs : Range DataRef → List ((ℕ × ℕ) × CellValue)
-place_pairs range = pairs_by value_of_data_ref range
-
--- the formulas of a range by their positions
-abbrev pub formula_pairs : Range (String Global) → List ((ℕ × ℕ) × List ℕ)
-formula_pairs range = pairs_by string_bytes range
 
 -- the part of a sheet is sound, and these are the last value and the last formula at each position,
 -- and the styles of its cells

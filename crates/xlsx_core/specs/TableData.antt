@@ -20,7 +20,8 @@ use Rattle.xlsx_values.specs.Value.{Grounds}
 use Rattle.xlsx_cells.specs.CellsReader.{values_alone}
 use Rattle.xlsx_cells.specs.Sheet.{with_texts}
 use Rattle.xlsx_tables.specs.Tables.{SheetTable, table_of_sheet}
-use Rattle.xlsx_core.specs.SheetReading.{pairs_by, placed_events, data_events}
+use Rattle.cell_data.specs.Pairs.{pairs_by}
+use Rattle.xlsx_core.specs.SheetReading.{placed_events, data_events}
 use Rattle.xlsx_core.specs.TableList.{loaded_tables}
 use Rattle.xlsx_core.specs.Worksheets.{below_header, ReadsUsed, RangeFails, IsRangeError}
 use Rattle.xlsx_core.specs.Worksheets.{path_of, grounds_of_book}

@@ -33,8 +33,9 @@ use Rattle.xlsx_cells.specs.Stream.{Stream, IsGoing}
 use Rattle.xlsx_cells.specs.StyleIds.{ids_in, HoldsIds}
 use Rattle.xlsx_cells.specs.declared.children.Wants.{Wants}
 use Rattle.xlsx_core.specs.Opened.{path_listed}
-use Rattle.xlsx_core.specs.SheetReading.{grounds_with, events_at, pairs_by, value_pairs}
-use Rattle.xlsx_core.specs.SheetReading.{formula_pairs}
+use Rattle.cell_data.specs.Pairs.{pairs_by, value_pairs}
+use Rattle.xlsx_core.specs.SheetReading.{grounds_with, events_at}
+use Rattle.cell_data.specs.Pairs.{formula_pairs}
 use Rattle.xlsx_core.specs.SheetReading.{IsPlacedError}
 use Rattle.xlsx_core.specs.SheetReading.{PlacedCause, PlacedSheetFails, PlacedHeadFails}
 use Rattle.xlsx_core.specs.declared.sheet_reading.SheetReading.{SheetReading}

@@ -12,7 +12,7 @@ ghost use Rattle.cell_styles.specs.StyleMap.{StyleMap};
 ghost use Rattle.xlsx_core.specs.Agreement.{HaveSameSheet};
 ghost use Rattle.xlsx_core.specs.SheetReading.{SayTheSame, ReadsAs, IsReadable, SheetCause};
 ghost use Rattle.xlsx_core.specs.SheetReading.{PlacedCause};
-ghost use Rattle.xlsx_core.specs.SheetReading.{value_pairs, place_pairs, formula_pairs};
+ghost use Rattle.cell_data.specs.Pairs.{value_pairs, place_pairs, formula_pairs};
 ghost use Rattle.xlsx_areas.specs.Hyperlinks.{Link};
 ghost use Rattle.xlsx_core.specs.Links.{links_placed, PlacedLinksCause};
 ghost use Rattle.xlsx_core.specs.Listing.{IsListedAs, IsLeftOut};

@@ -12,7 +12,7 @@ ghost use Rattle.xlsx_cells.specs.SheetPart.{value_entries, formula_entries, Lie
 ghost use Rattle.xlsx_core.specs.Worksheets.{IsRangeFrom, IsValueRange, IsPlaceRange};
 ghost use Rattle.xlsx_core.specs.Worksheets.{IsFormulaRange, header_area, area_below};
 ghost use Rattle.xlsx_core.specs.Worksheets.{HaveSamePlaces};
-ghost use Rattle.xlsx_core.specs.SheetReading.{with_meaning};
+ghost use Rattle.cell_data.specs.Pairs.{with_meaning};
 
 use crate::sheet_reading::SheetReading;
 use crate::standing::last_below;

@@ -2,7 +2,8 @@ ghost use Rattle.std.specs.Prelude.{◌≡◌, true, IfOk, OnOk, IfErr};
 ghost use Rattle.part_events.specs.Package.{SameParts, KeepsFaults};
 ghost use Rattle.xlsx_error.specs.declared.error.XlsxError.TheVariants.{Io};
 ghost use Rattle.xlsx_core.specs.SheetReading.{ReadsAs, SheetFails, IsSheetError};
-ghost use Rattle.xlsx_core.specs.SheetReading.{value_pairs, formula_pairs, TakesSheet};
+ghost use Rattle.cell_data.specs.Pairs.{value_pairs, formula_pairs};
+ghost use Rattle.xlsx_core.specs.SheetReading.{TakesSheet};
 ghost use Rattle.xlsx_core.specs.Worksheets.{HasLeastRanges};
 
 use crate::xlsx::{OpenFailure, Xlsx};

@@ -7,7 +7,7 @@ use Rattle.sorted_cells.specs.Kept.{kept_cells}
 use Rattle.xlsx_values.specs.Value.{resolved}
 use Rattle.xlsx_cells.specs.Sheet.{with_texts}
 use Rattle.xlsx_cells.specs.SheetPart.{value_entries}
-use Rattle.xlsx_core.specs.SheetReading.{with_meaning}
+use Rattle.cell_data.specs.Pairs.{with_meaning}
 use Rattle.xlsx_core.specs.Worksheets.{area_below, below_header}
 use Rattle.xlsx_core.proofs.StandingRanges.{kept_below, last_meant, standing_range}
 use Rattle.xlsx_core.proofs.ranges.value_range.Goals as goal

@@ -4,7 +4,7 @@ use Rattle.sorted_cells.specs.Kept.{kept_cells}
 use Rattle.sorted_cells.specs.Owned.{owned_left}
 use Rattle.xlsx_cells.specs.Sheet.{with_texts}
 use Rattle.xlsx_cells.specs.SheetPart.{value_entries}
-use Rattle.xlsx_core.specs.SheetReading.{with_meaning}
+use Rattle.cell_data.specs.Pairs.{with_meaning}
 use Rattle.xlsx_core.proofs.ranges.with_texts.Given as goal
 
 abbrev pub invariant-cells : goal.invariant-cells

@@ -2,7 +2,8 @@ use Rattle.std.proofs.Common.{◌∙◌, map, string_bytes}
 use Rattle.std.proofs.lemmas.Result.{IfOk-weaker, IfErr-weaker}
 use Rattle.xlsx_error.specs.declared.error.XlsxError.TheVariants.{Io}
 use Rattle.xlsx_core.specs.Opened.{path_listed}
-use Rattle.xlsx_core.specs.SheetReading.{all_wanted, grounds_with, value_pairs, formula_pairs}
+use Rattle.cell_data.specs.Pairs.{value_pairs, formula_pairs}
+use Rattle.xlsx_core.specs.SheetReading.{all_wanted, grounds_with}
 use Rattle.xlsx_core.specs.SheetReading.{ReadsAs, placed_events}
 use Rattle.xlsx_core.specs.SheetReading.{ReadsPlaced, SheetFails, PlacedSheetFails}
 use Rattle.xlsx_core.proofs.SheetsRead.{opens_placed, reads_as, sheet_fails, opening_fails}

@@ -1,0 +1,91 @@
+-- Which formulas are written as those of a group. A group runs down a column.
+use Rattle.std.specs.Prelude.{ℕ, zero, suc, ◌==◌, ◌&&◌, nat_lt, Bool, true, false, List, []}
+use Rattle.std.specs.Prelude.{◌∷◌, map, length, if◌then◌else◌, Option, Some, None}
+use Rattle.std.specs.FinMap.{find}
+use Rattle.std.specs.List.{filter}
+use Rattle.std.specs.Ordering.{is_lt}
+use Rattle.std.specs.Str.{bytes_eq}
+use Rattle.cell_refs.specs.Positions.{position_cmp}
+use Rattle.formula_shift.specs.Relocation.{moved, offset_between}
+
+-- formulas by their positions, row by row
+abbrev pub Placed : Type 0
+Placed = List ((ℕ × ℕ) × List ℕ)
+
+-- the formula at a position, where one stands there
+abbrev pub formula_placed : Placed → ℕ × ℕ → Option (List ℕ)
+formula_placed formulas position = find position_cmp position formulas
+
+-- the formula of a position is that of a place, moved to the position
+abbrev pub is_moved_from : Option (List ℕ) → ℕ × ℕ → Option (List ℕ) → ℕ × ℕ → Bool
+is_moved_from (Some head) place (Some own) position =
+    bytes_eq own (moved head (offset_between place position))
+is_moved_from (Some head) place None position = false
+is_moved_from None place own position = false
+
+-- a formula stands there
+abbrev pub is_placed : Option (List ℕ) → Bool
+is_placed None = false
+is_placed (Some formula) = true
+
+-- The row of the head of a formula, in its column: that of the head of the formula above it, where
+-- one stands there and the head's text, moved, is this one; else its own.
+abbrev pub head_row : Placed → ℕ → ℕ → ℕ
+head_row formulas column zero = zero
+head_row formulas column (suc row) =
+    let head = head_row formulas column row in
+    if is_placed (formula_placed formulas (row, column))
+    && is_moved_from (formula_placed formulas (head, column)) (head, column)
+    (formula_placed formulas (suc row, column)) (suc row, column)
+    then head else suc row
+
+-- the position of the head of a formula
+abbrev pub group_head : Placed → ℕ × ℕ → ℕ × ℕ
+group_head formulas position = (head_row formulas position.1 position.0, position.1)
+
+-- two positions are one
+abbrev pub is_same : ℕ × ℕ → ℕ × ℕ → Bool
+is_same a b = (a.0 == b.0) && (a.1 == b.1)
+
+-- the rows of the formulas of a head, in order
+abbrev pub rows_of_head : Placed → ℕ × ℕ → List ℕ
+rows_of_head formulas head =
+    map (λ entry. entry.0.0) (filter (λ entry. is_same (group_head formulas entry.0) head) formulas)
+
+-- the last of some rows, or the one before them
+abbrev pub last_row : ℕ → List ℕ → ℕ
+last_row row [] = row
+last_row row (next ∷ rows) = last_row next rows
+
+-- the last row of the formulas of this head
+abbrev pub group_end : Placed → ℕ × ℕ → ℕ
+group_end formulas head = last_row head.0 (rows_of_head formulas head)
+
+-- a formula is a master: its own head, and that of others
+abbrev pub is_master : Placed → ℕ × ℕ → Bool
+is_master formulas position =
+    is_same (group_head formulas position) position
+    && nat_lt position.0 (group_end formulas position)
+
+-- the index of a group: how many masters stand before its own
+abbrev pub group_index : Placed → ℕ × ℕ → ℕ
+group_index formulas head =
+    length (filter (λ entry. is_lt (position_cmp entry.0 head) && is_master formulas entry.0) formulas)
+
+-- a formula as it is written
+pub data WrittenFormula : Type 0 where
+  -- its text alone
+  plain : List ℕ → WrittenFormula
+  -- its text, the last row of its group, and the group's index
+  master : List ℕ → ℕ → ℕ → WrittenFormula
+  -- the index of its group, without a text
+  derived : ℕ → WrittenFormula
+
+-- how the formula of a position is written
+abbrev pub written_formula : Placed → ℕ × ℕ → List ℕ → WrittenFormula
+written_formula formulas position formula =
+    if is_same (group_head formulas position) position
+    then (if is_master formulas position
+    then master formula (group_end formulas position) (group_index formulas position)
+    else plain formula)
+    else derived (group_index formulas (group_head formulas position))

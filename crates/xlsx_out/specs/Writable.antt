@@ -1,0 +1,60 @@
+-- Which values and formulas are written so that they read back.
+use Rattle.std.specs.Prelude.{◌≡◌, ℕ, ◌&&◌, ◌==◌, not, length, Bool, true, false, List}
+use Rattle.std.specs.Prelude.{if◌then◌else◌, String}
+use Rattle.std.specs.List.{list_all}
+use Rattle.std.specs.declared.alloc.Global.{Global}
+use Rattle.cell_refs.specs.Positions.{least_area}
+use Rattle.cell_data.specs.CellValue.{CellValue, nothing, integer, shared_text, time, failure}
+use Rattle.cell_data.specs.Pairs.{value_pairs, formula_pairs}
+use Rattle.cell_data.specs.Range.{bounds_of, cells_of}
+use Rattle.cell_data.specs.declared.range.Range.{Range}
+use Rattle.cell_data.specs.declared.value.CellErrorType.{CellErrorType}
+use Rattle.cell_data.specs.declared.value.CellErrorType.TheVariants.{GettingData}
+use Rattle.cell_data.specs.declared.value.Data.{Data}
+use Rattle.xlsx_out.specs.Groups.{Placed}
+use Rattle.xlsx_out.specs.WrittenSheet.{PlacedValues}
+
+-- a cell can hold this error
+abbrev pub is_kept : CellErrorType → Bool
+is_kept GettingData = false
+is_kept _ = true
+
+-- a value that reads back as itself
+abbrev pub is_written : CellValue → Bool
+is_written nothing = false
+is_written (integer n) = false
+is_written (shared_text place) = false
+is_written (failure error) = is_kept error
+is_written _ = true
+
+-- the time of a value counts from this first year, where it is one: 1904, or 1900
+abbrev pub counts_from : Bool → CellValue → Bool
+counts_from true (time days kind is_1904) = is_1904
+counts_from false (time days kind is_1904) = not is_1904
+counts_from epoch _ = true
+
+-- all times count from the same first year
+abbrev pub have_one_epoch : PlacedValues → Bool
+have_one_epoch values =
+    if list_all (λ entry. counts_from true entry.1) values then true
+    else list_all (λ entry. counts_from false entry.1) values
+
+-- values that read back as themselves
+abbrev pub are_writable_values : PlacedValues → Bool
+are_writable_values values =
+    list_all (λ entry. is_written entry.1) values && have_one_epoch values
+
+-- formulas that read back as themselves: none is empty
+abbrev pub are_writable_formulas : Placed → Bool
+are_writable_formulas formulas = list_all (λ entry. not (length entry.1 == 0)) formulas
+
+-- a range spans its used cells and no more
+abbrev pub IsLeast : {X : Type 0} → Range X → Type 0
+IsLeast range = bounds_of range ≡ least_area (cells_of range)
+
+-- values and formulas that are written so that they read back
+pub record IsWritable (values : Range Data) (formulas : Range (String Global)) : Type 0 where
+  pub values_least : IsLeast values
+  pub formulas_least : IsLeast formulas
+  pub values_kept : are_writable_values (value_pairs values) ≡ true
+  pub formulas_kept : are_writable_formulas (formula_pairs formulas) ≡ true
