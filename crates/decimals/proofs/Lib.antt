@@ -6,4 +6,5 @@ pub mod Parts
 pub mod PowerLemmas
 pub mod Printed
 pub mod ReadsBack
+pub mod Rounded
 pub mod Significands
