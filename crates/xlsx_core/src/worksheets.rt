@@ -1,4 +1,5 @@
-ghost use Rattle.std.specs.Prelude.{◌≡◌, true, false, length, IfOk, IfErr, IsSomeAnd};
+ghost use Rattle.std.specs.Prelude.{◌≡◌, true, false, length, IfOk, IfErr, IsSomeAnd, Some};
+ghost use Rattle.std.specs.Prelude.{string_bytes};
 ghost use Rattle.part_events.specs.Lending.{LentFails};
 ghost use Rattle.part_events.specs.Package.{Uses};
 ghost use Rattle.xlsx_error.specs.declared.error.XlsxError.TheVariants.{Io};
@@ -13,7 +14,7 @@ ghost use Rattle.xlsx_core.specs.SheetReading.{data_events, TakesExactly};
 ghost use Rattle.xlsx_core.specs.SheetReading.{PlacedSheetFails, PlacedHeadFails};
 ghost use Rattle.xlsx_core.specs.SheetReading.{IsPlacedHeadError, IsPlacedError, ReadsPlaced};
 ghost use Rattle.xlsx_core.specs.Worksheets.{path_of, grounds_of_book, KeepsWorkbook, HoldsWanted};
-ghost use Rattle.xlsx_core.specs.Worksheets.{AnswersCells, ReadsValues, ReadsPlaces};
+ghost use Rattle.xlsx_core.specs.Worksheets.{AnswersCells, ReadsValues, ReadsPlaces, LacksPath};
 ghost use Rattle.xlsx_core.specs.Worksheets.{ReadsFormulas, RangeFails};
 ghost use Rattle.xlsx_core.specs.Worksheets.{IsRangeError, EntersSheet, ReaderFails, ReadsStyles};
 ghost use Rattle.xlsx_core.specs.Worksheets.{IsStyleRangeError, palette_of_book, HasLeastRanges};
@@ -272,6 +273,20 @@ impl<P: Package> Xlsx<P> {
         let found = self.placed_cells(name, wants)?;
         let styles = &self.shared.style_sheet.styles;
         Ok(copied_style_range(self.alloc, found.style_ids, styles)?)
+    }
+
+    /// The name of the part that the first sheet of this name is read from, by the relationships of
+    /// the workbook (ECMA-376 part 1, section 18.2.19), whether the package has that part or not.
+    ///
+    /// Fails with `WorksheetNotFound` where no sheet has the name.
+    pub fn worksheet_path(&self, name: &str) -> Result<String, XlsxError>
+        ensures path { IfOk result (λ path. path_of self.now name.now ≡ Some (string_bytes path)) }
+        ensures err { IfErr result (LacksPath name.now (path_of self.now name.now)) }
+    {
+        match path_named(&self.metadata.sheets, &self.paths, name) {
+            Some(path) => Ok(path.joined(self.alloc)?),
+            None => Err(XlsxError::WorksheetNotFound(String::from_str(self.alloc, name)?)),
+        }
     }
 
     /// Enters the data of the first sheet of this name (18.3.1.80), and answers where reading
