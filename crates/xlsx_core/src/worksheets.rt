@@ -85,13 +85,8 @@ impl<P: Package> Xlsx<P> {
             (P.state result.package)) }
         ensures kind { IfErr result.result (IsPlacedError name.now) }
     {
-        let wants = Wants {
-            values: true,
-            formulas: true,
-            styles: true,
-        };
         let mut xlsx = self;
-        let found = xlsx.placed_cells(name, wants);
+        let found = xlsx.placed_cells(name, Wants::ALL);
         let Xlsx {
             package,
             shared,
@@ -173,13 +168,8 @@ impl<P: Package> Xlsx<P> {
             (path_of self.old name.now) (P.state self.old.package) (P.state self.new.package)) }
         ensures kind { IfErr result (IsRangeError name.now) }
     {
-        let wants = Wants {
-            values: true,
-            formulas: false,
-            styles: false,
-        };
         let path = path_named(&self.metadata.sheets, &self.paths, name);
-        let asked = asked_of(&self.shared, self.is_1904, wants);
+        let asked = asked_of(&self.shared, self.is_1904, Wants::VALUES);
         let header_row = self.header_row;
         read_values(self.alloc, &mut self.package, path, name, asked, header_row)
     }
@@ -202,12 +192,7 @@ impl<P: Package> Xlsx<P> {
             (path_of self.old name.now) (P.state self.old.package) (P.state self.new.package)) }
         ensures kind { IfErr result (IsRangeError name.now) }
     {
-        let wants = Wants {
-            values: true,
-            formulas: false,
-            styles: false,
-        };
-        let cells = self.worksheet_cells(name, wants)?;
+        let cells = self.worksheet_cells(name, Wants::VALUES)?;
         Ok(place_range(self.alloc, cells.values, self.header_row)?)
     }
 
@@ -232,12 +217,7 @@ impl<P: Package> Xlsx<P> {
             (path_of self.old name.now) (P.state self.old.package) (P.state self.new.package)) }
         ensures kind { IfErr result (IsRangeError name.now) }
     {
-        let wants = Wants {
-            values: false,
-            formulas: true,
-            styles: false,
-        };
-        let cells = self.worksheet_cells(name, wants)?;
+        let cells = self.worksheet_cells(name, Wants::FORMULAS)?;
         Ok(formula_range(self.alloc, cells.formulas)?)
     }
 
@@ -265,12 +245,7 @@ impl<P: Package> Xlsx<P> {
             (P.state self.new.package)) }
         ensures kind { IfErr result (IsStyleRangeError name.now) }
     {
-        let wants = Wants {
-            values: false,
-            formulas: false,
-            styles: true,
-        };
-        let found = self.placed_cells(name, wants)?;
+        let found = self.placed_cells(name, Wants::STYLES)?;
         let styles = &self.shared.style_sheet.styles;
         Ok(copied_style_range(self.alloc, found.style_ids, styles)?)
     }
