@@ -17,7 +17,7 @@ use Rattle.decimals.specs.declared.decimal.Decimal.{Decimal}
 use Rattle.decimals.specs.Decimal.{number_of}
 use Rattle.decimals.specs.Decimals.{with_sign, has_bits, fitting, decimal_from}
 use Rattle.decimals.specs.Rounding.{digits_behind, nearest, rounded_number}
-use Rattle.decimals.proofs.Parts.{abs_small, parts_fit}
+use Rattle.decimals.proofs.Parts.{parts_fit}
 use Rattle.decimals.proofs.ReadsBack.{it_fits, mantissa_fits, power_fits}
 
 -- a number is below ten to the count of its digits
@@ -54,7 +54,7 @@ unit_fits places few =
 pub unit_some : (places : ℕ) → 0 < 10 ^ places
 unit_some places = omega (arith, one-le-pow places 10 (omega arith))
 
-not_negative : (n : ℕ) → is_negative (pos n) ≡ false
+pub not_negative : (n : ℕ) → is_negative (pos n) ≡ false
 not_negative n = grind (arith, nat_tests)
 
 -- a whole number is its size with its sign
@@ -62,7 +62,7 @@ pub signed_again : (m : ℤ) → with_sign (is_negative m) (nat_abs m) ≡ m
 signed_again (pos n) = ap (λ s. with_sign s n) (not_negative n)
 signed_again (negsuc n) = refl
 
-size_signed : (negative : Bool) (n : ℕ) → nat_abs (with_sign negative n) ≡ n
+pub size_signed : (negative : Bool) (n : ℕ) → nat_abs (with_sign negative n) ≡ n
 size_signed true zero = refl
 size_signed true (suc n) = refl
 size_signed false n = refl
@@ -85,7 +85,8 @@ zero_or_itself : (m e : ℤ) → has_bits 127 m ≡ true → has_bits 31 e ≡ t
     Some (m, e) ≡ cond (nat_abs m == 0) (Some (pos 0, pos 0)) (fitting (m, e))
 zero_or_itself (pos zero) e fits few no_power = ap (λ p. Some (pos 0, p)) (no_power refl)
 zero_or_itself (pos (suc n)) e fits few no_power =
-    fits_itself (pos (suc n)) e (suc n == 0) (nonzero (suc n) (λ none. omega (arith, none))) fits few
+    fits_itself (pos (suc n)) e (suc n == 0) (nonzero (suc n) (λ none. omega (arith, none))) fits
+    few
 zero_or_itself (negsuc n) e fits few no_power =
     fits_itself (negsuc n) e (suc n == 0) (nonzero (suc n) (λ none. omega (arith, none))) fits few
 
@@ -97,26 +98,34 @@ zero_or_form m e fits few no_power =
     ∙ λ i. cond (nat_abs m == 0) (Some (pos 0, pos 0))
     (fitting (sym (signed_again m) i, sym (+ℤ_idr e) i))
 
+pub size_small : (m : ℤ) → has_bits 127 m ≡ true → nat_abs m < 2 ^ 128
+size_small (pos n) fits = grind (arith, nat_tests)
+size_small (negsuc n) fits = grind (arith, nat_tests)
+
 -- a decimal is in its one form
-pub in_its_form : (d : Decimal) → FitsSigned w128 d.mantissa → FitsSigned w32 d.exponent →
+pub form_kept : (d : Decimal) → has_bits 127 d.mantissa ≡ true → has_bits 31 d.exponent ≡ true →
     Some (number_of d) ≡ decimal_from (number_of d)
-in_its_form d fits few =
-    let small = abs_small d.mantissa fits in
+form_kept d fits few =
+    let small = size_small d.mantissa fits in
     let value : nat_abs d.mantissa * 10 ^ 0 ≡ nat_abs d.mantissa = omega arith in
     let known =
     parts_fit d.mantissa d.exponent (nat_abs d.mantissa) 0 small value
     (λ ends. ap nat_abs (d.trimmed ends)) in
-    zero_or_form d.mantissa d.exponent (mantissa_fits d.mantissa fits)
-    (power_fits d.exponent few) d.zero ∙ known
+    zero_or_form d.mantissa d.exponent fits few d.zero ∙ known
 
--- the number before it is fitted
-nearest_number : ℕ → ℤ × ℤ → ℤ × ℤ
+pub in_its_form : (d : Decimal) → FitsSigned w128 d.mantissa → FitsSigned w32 d.exponent →
+    Some (number_of d) ≡ decimal_from (number_of d)
+in_its_form d fits few =
+    form_kept d (mantissa_fits d.mantissa fits) (power_fits d.exponent few)
+
+-- the nearest number with so many digits behind
+abbrev pub nearest_number : ℕ → ℤ × ℤ → ℤ × ℤ
 nearest_number behind n =
     (with_sign (is_negative n.0) (nearest behind (nat_abs n.0)), n.1 +ℤ pos behind)
 
-of_digits : (digits : ℕ) (n : ℤ × ℤ) → (digits ≡ 0 → ⊥) →
+pub of_digits : (digits : ℕ) (n : ℤ × ℤ) → (digits ≡ 0 → ⊥) →
     rounded_number digits n ≡ nearest_number (digits_behind digits (nat_abs n.0)) n
-unfolding rounded_number nearest_number
+unfolding rounded_number
 of_digits digits n some =
     ap (λ t. cond {A = ℤ × ℤ} t (pos 0, pos 0)
     (nearest_number (digits_behind digits (nat_abs n.0)) n)) (nonzero digits some)
@@ -127,47 +136,47 @@ nearest_none n = omega arith
 -- no digits more, and the number is itself
 pub rounded_itself : (digits : ℕ) (m e : ℤ) → (digits ≡ 0 → ⊥) →
     digits_behind digits (nat_abs m) ≡ 0 → rounded_number digits (m, e) ≡ (m, e)
-unfolding nearest_number
 rounded_itself digits m e some none =
     of_digits digits (m, e) some
     ∙ (ap (λ k. nearest_number k (m, e)) none
     ∙ (ap (λ n. (with_sign (is_negative m) n, e +ℤ pos 0)) (nearest_none (nat_abs m))
     ∙ λ i. (signed_again m i, +ℤ_idr e i)))
 
+pub none_form : decimal_from (pos 0, pos 0) ≡ Some (pos 0, pos 0)
+none_form = sym (parts_fit (pos 0) (pos 0) 0 0 (omega arith) (omega arith) (λ _. refl))
+
 -- of no digits there is 0 alone
 pub rounded_to_none : (digits : ℕ) (m e : ℤ) → digits ≡ 0 →
     Some (pos 0, pos 0) ≡ decimal_from (rounded_number digits (m, e))
 unfolding rounded_number
 rounded_to_none digits m e none =
-    parts_fit (pos 0) (pos 0) 0 0 (omega arith) (omega arith) (λ _. refl)
-    ∙ ap (λ k. decimal_from (rounded_number k (m, e))) (sym none)
+    sym none_form ∙ ap (λ k. decimal_from (rounded_number k (m, e))) (sym none)
 
 -- the sign of a number is that of what it is without the zeros at its end
-zero_or_signed : (negative : Bool) (k n zeros : ℕ) (power : ℤ) → n * 10 ^ zeros ≡ k →
+zero_or_signed : (negative : Bool) (k n places : ℕ) (power : ℤ) → n * 10 ^ places ≡ k →
     cond (n == 0) (Some (pos 0, pos 0)) (fitting (with_sign negative n, power))
     ≡ cond (n == 0) (Some (pos 0, pos 0))
     (fitting (with_sign (is_negative (with_sign negative k)) n, power))
-zero_or_signed negative k zero zeros power value = refl
-zero_or_signed negative zero (suc n) zeros power value =
-    absurd (omega (arith, value, le-mul_of_pos_right (suc n) (one-le-pow zeros 10 (omega arith))))
-zero_or_signed negative (suc k) (suc n) zeros power value =
+zero_or_signed negative k zero places power value = refl
+zero_or_signed negative zero (suc n) places power value =
+    absurd (omega (arith, value, le-mul_of_pos_right (suc n) (one-le-pow places 10 (omega arith))))
+zero_or_signed negative (suc k) (suc n) places power value =
     ap (λ s. cond {A = Option (ℤ × ℤ)} (suc n == 0) (Some (pos 0, pos 0))
     (fitting (with_sign s (suc n), power))) (sym (sign_signed negative k))
 
 -- the parts of the nearest number, without the zeros at its end
-pub rounded_parts : (digits : ℕ) (m e power : ℤ) (behind n zeros : ℕ) → (digits ≡ 0 → ⊥) →
-    behind ≡ digits_behind digits (nat_abs m) → n * 10 ^ zeros ≡ nearest behind (nat_abs m) →
+pub rounded_parts : (digits : ℕ) (m e power : ℤ) (behind n count : ℕ) → (digits ≡ 0 → ⊥) →
+    behind ≡ digits_behind digits (nat_abs m) → n * 10 ^ count ≡ nearest behind (nat_abs m) →
     nearest behind (nat_abs m) < 2 ^ 128 → (n % 10 ≡ 0 → n ≡ 0) →
-    power ≡ (e +ℤ pos behind) +ℤ pos zeros →
+    power ≡ (e +ℤ pos behind) +ℤ pos count →
     cond (n == 0) (Some (pos 0, pos 0)) (fitting (with_sign (is_negative m) n, power))
     ≡ decimal_from (rounded_number digits (m, e))
-unfolding nearest_number
-rounded_parts digits m e power behind n zeros some is value small trimmed power_is =
+rounded_parts digits m e power behind n count some is value small trimmed power_is =
     let size = size_signed (is_negative m) (nearest behind (nat_abs m)) in
     let fit =
-    parts_fit (with_sign (is_negative m) (nearest behind (nat_abs m))) (e +ℤ pos behind) n zeros
+    parts_fit (with_sign (is_negative m) (nearest behind (nat_abs m))) (e +ℤ pos behind) n count
     (omega (arith, size, small)) (value ∙ sym size) trimmed in
-    zero_or_signed (is_negative m) (nearest behind (nat_abs m)) n zeros power value
+    zero_or_signed (is_negative m) (nearest behind (nat_abs m)) n count power value
     ∙ (ap (λ p. cond (n == 0) (Some (pos 0, pos 0))
     (fitting
     (with_sign (is_negative (with_sign (is_negative m) (nearest behind (nat_abs m)))) n, p)))

@@ -1,7 +1,7 @@
 -- The nearest decimal of so many significant digits. A number is a pair: a whole number, and the
 -- power of ten that it is taken times.
-use Rattle.std.specs.Prelude.{ℕ, ◌+◌, ◌-◌, ◌/◌, ◌^◌, ◌==◌, if◌then◌else◌, length}
-use Rattle.std.specs.Prelude.{ℤ, pos, ◌+ℤ◌, nat_abs}
+use Rattle.std.specs.Prelude.{ℕ, ◌≡◌, ◌+◌, ◌-◌, ◌*◌, ◌/◌, ◌^◌, ◌<◌, ◌≤◌, ◌==◌}
+use Rattle.std.specs.Prelude.{if◌then◌else◌, length, ℤ, pos, ◌+ℤ◌, ◌-ℤ◌, ◌*ℤ◌, ◌≤ℤ◌, nat_abs}
 use Rattle.std.specs.Fmt.{decimal}
 use Rattle.std.specs.Int.{is_negative}
 use Rattle.decimals.specs.Decimals.{with_sign}
@@ -28,3 +28,28 @@ rounded_number digits n =
           (nearest (digits_behind digits (nat_abs n.0)) (nat_abs n.0)),
       n.1 +ℤ pos (digits_behind digits (nat_abs n.0)),
     )
+
+-- a number is no greater than another: where both are told over one power of ten, its whole number
+-- is no greater
+abbrev pub IsAtMost : ℤ × ℤ → ℤ × ℤ → Type 0
+IsAtMost a b =
+    (s t : ℕ) → (a.1 -ℤ pos s) ≡ (b.1 -ℤ pos t) →
+    (a.0 *ℤ pos (10 ^ s)) ≤ℤ (b.0 *ℤ pos (10 ^ t))
+
+-- a number and the one that it is rounded to differ by at most half a unit of the last digit
+abbrev pub IsWithinHalfAUnit : ℕ → ℤ × ℤ → Type 0
+IsWithinHalfAUnit digits n =
+    nat_abs
+    (n.0 -ℤ ((rounded_number digits n).0 *ℤ pos (10 ^ digits_behind digits (nat_abs n.0)))) * 2
+    ≤ 10 ^ digits_behind digits (nat_abs n.0)
+
+-- no number of so many digits is nearer to a number than the one that it is rounded to: told over
+-- one power of ten, that one's difference is no greater
+abbrev pub NoneIsNearer : ℕ → ℤ × ℤ → Type 0
+NoneIsNearer digits n =
+    (other : ℤ × ℤ) (s t : ℕ) → nat_abs other.0 < 10 ^ digits →
+    (n.1 -ℤ pos s) ≡ (other.1 -ℤ pos t) →
+    nat_abs
+    ((n.0 *ℤ pos (10 ^ s))
+    -ℤ ((rounded_number digits n).0 *ℤ pos (10 ^ (digits_behind digits (nat_abs n.0) + s))))
+    ≤ nat_abs ((n.0 *ℤ pos (10 ^ s)) -ℤ (other.0 *ℤ pos (10 ^ t)))

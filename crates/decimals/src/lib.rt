@@ -20,6 +20,8 @@ mod significand;
 pub use decimal::Decimal;
 pub use laws::{
     copies_are_the_same, equal_numbers_have_one_form, equality_is_by_all_fields,
+    no_number_of_so_many_digits_is_nearer, rounding_keeps_the_order,
+    rounding_moves_by_half_a_unit_at_most, rounding_twice_is_rounding_once,
     zeros_at_the_end_are_powers_of_ten,
 };
 pub use significand::scaled;

@@ -1,4 +1,5 @@
-use Rattle.std.proofs.Common.{rules, arith, ◌≡◌, ◌<◌, ◌^◌, ◌*◌, ◌∙◌, ap, refl, sym, cond, Some, pos, ◌==◌, ◌+ℤ◌}
+use Rattle.std.proofs.Common.{rules, arith, ◌≡◌, ◌<◌, ◌^◌, ◌*◌, ◌∙◌, ap, refl, sym, cond, Some}
+use Rattle.std.proofs.Common.{pos, ◌==◌, ◌+ℤ◌}
 use Rattle.std.specs.Prelude.{nat_abs}
 use Rattle.std.specs.Int.{is_negative}
 use Rattle.std.specs.Option.{option_map}
@@ -12,7 +13,8 @@ use Rattle.decimals.proofs.decimal.Decimal.rounded.Goals as goal
 pub returns-then-digits-eq0 : goal.returns-then-digits-eq0
 returns-then-digits-eq0 c =
     let is : option_map number_of c.fitting.result ≡ Some (pos 0, pos 0) = search rules in
-    is ∙ rounded_to_none c.args.digits c.args.self.mantissa c.args.self.exponent c.if-digits-eq0.true
+    is ∙ rounded_to_none c.args.digits c.args.self.mantissa c.args.self.exponent
+    c.if-digits-eq0.true
 
 pub returns-then-behind-eq0 : goal.returns-then-behind-eq0
 returns-then-behind-eq0 c =
