@@ -124,7 +124,7 @@ rows_below p (entry ∷ entries) below =
   by false is row others = absurd (grind (arith, nat_tests))
 
 -- the rows of the formulas of a head among these
-abbrev rows_among : Placed → ℕ × ℕ → Placed → List ℕ
+abbrev pub rows_among : Placed → ℕ × ℕ → Placed → List ℕ
 rows_among formulas head entries =
     map (λ entry. entry.0.0)
     (filter (λ entry. is_same (group_head formulas entry.0) head) entries)
