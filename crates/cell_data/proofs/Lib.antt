@@ -6,3 +6,4 @@ pub mod LeastAreas
 pub mod Passing
 pub mod Placing
 pub mod Splitting
+pub mod Stepping

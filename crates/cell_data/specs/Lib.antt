@@ -9,4 +9,5 @@ pub mod Range
 pub mod RangeItems
 pub mod SignOf
 pub mod Splitting
+pub mod Stepping
 pub mod Table

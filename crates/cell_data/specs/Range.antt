@@ -1,13 +1,13 @@
 -- What a range holds, whatever keeps it: cells in the order of positions, an area, and a value for
 -- every other cell of it.
-use Rattle.std.specs.Prelude.{◌&&◌, nat_lt}
+use Rattle.std.specs.Prelude.{◌≡◌, ◌&&◌, nat_lt}
 use Rattle.std.specs.Prelude.{ℕ, ◌+◌, ◌-◌, List, if◌then◌else◌}
 use Rattle.std.specs.Prelude.{Option, Some, None}
 use Rattle.std.specs.FinMap.{find}
 use Rattle.std.specs.Option.{unwrap_or}
 use Rattle.cell_refs.specs.declared.dimensions.Dimensions.{Dimensions}
 use Rattle.cell_data.specs.declared.range.Range.{Range}
-use Rattle.cell_refs.specs.Positions.{position_cmp, is_in_bounds}
+use Rattle.cell_refs.specs.Positions.{position_cmp, is_in_bounds, least_area}
 use Rattle.sorted_cells.specs.Kept.{kept_cells}
 
 -- the cells that a range keeps, in their order
@@ -21,6 +21,10 @@ bounds_of range = range.bounds
 -- what a range gives for a position that has no cell of its own
 abbrev pub blank_of : {X : Type 0} → Range X → X
 blank_of range = range.blank
+
+-- a range spans its used cells, and no more
+abbrev pub IsLeast : {X : Type 0} → Range X → Type 0
+IsLeast range = bounds_of range ≡ least_area (cells_of range)
 
 -- how many columns and rows an area has
 abbrev pub width_of : Option Dimensions → ℕ

@@ -1,5 +1,5 @@
-//! The area that cells have.
-ghost use Rattle.std.specs.Prelude.{◌≡◌};
+//! The area that cells have, and whether two are one.
+ghost use Rattle.std.specs.Prelude.{◌≡◌, ◌↔◌, IsTrue};
 ghost use Rattle.cell_refs.specs.Positions.{area_with, least_area};
 ghost use Rattle.sorted_cells.specs.Kept.{kept_cells};
 
@@ -30,4 +30,15 @@ pub fn least_area<T>(cells: &SortedCells<T>) -> Option<Dimensions>
         area = Some(area_with(pos, area));
     }
     area
+}
+
+/// Whether both are the same area, or both none.
+pub(crate) fn are_same(one: Option<Dimensions>, other: Option<Dimensions>) -> bool
+    ensures { IsTrue result ↔ (one ≡ other) }
+{
+    match (one, other) {
+        (None, None) => true,
+        (Some(one), Some(other)) => one.start == other.start && one.end == other.end,
+        _ => false,
+    }
 }

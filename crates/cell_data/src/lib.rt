@@ -3,7 +3,7 @@
 //! Rooms: `format` (number formats), `value` (`Data`, `DataRef` and what they hold, `HeaderRow`),
 //! `equality` (what their `==`, a copy and a default are), `cell`, `gathered` (cells as they come,
 //! and then in order), `area` (the least area of cells), `range` (`Range`), `range_iterators`,
-//! `table` (`Table`).
+//! `steps` (`earlier`), `table` (`Table`).
 //!
 //! **Cells are gathered, and then in order.** `GatheredCells` has sorted cells and a list beside
 //! them. A cell that comes behind the last sorted one is put there at once. From the first on that
@@ -22,11 +22,13 @@
 //! do `cells` and `rows`: at a place the cells left are those of the range that stand there or
 //! behind it (`AreLeftAt`), so the first of them has the value, or the blank has it. A row takes a
 //! copy of where `rows` stands, and `rows` passes its cells at once. What goes through several
-//! lists steps along `used` by `next_at`, and looks none up.
+//! lists steps along `used` by `next_at`, from the earliest of their next positions (`earlier`), and
+//! looks none up.
 //!
 //! Its lemma files: `Areas` and `LeastAreas` (the areas of cells), `Placing` and `Passing` (the
 //! last of each position, also among those that pass a test), `Splitting` (a step through cells in
-//! order) and `CellSteps` (which cells are left a column and a row further).
+//! order), `Stepping` (one through several lists of them) and `CellSteps` (which cells are left a
+//! column and a row further).
 #![tactic(auto)]
 
 mod area;
@@ -36,6 +38,7 @@ mod format;
 mod gathered;
 mod range;
 mod range_iterators;
+mod steps;
 mod table;
 mod value;
 
@@ -52,6 +55,7 @@ pub use format::{
 pub use gathered::GatheredCells;
 pub use range::Range;
 pub use range_iterators::{Cells, RowCells, Rows, UsedCells};
+pub use steps::earlier;
 pub use table::Table;
 pub use value::{
     CellErrorType, Data, DataRef, ExcelDateTime, ExcelDateTimeType, HeaderRow, UnknownCellError,

@@ -4,7 +4,7 @@ ghost use Rattle.cell_refs.specs.Positions.{is_rising, lie_inside, are_sheet_bou
 ghost use Rattle.cell_refs.specs.Positions.{is_in_area};
 ghost use Rattle.sorted_cells.specs.Kept.{kept_cells};
 
-use crate::area::least_area;
+use crate::area::{are_same, least_area};
 use crate::cell::Cell;
 use crate::gathered::gathered;
 use crate::range_iterators::{Cells, Rows, UsedCells};
@@ -33,6 +33,8 @@ fn is_between(start: (u32, u32), end: (u32, u32), pos: (u32, u32)) -> bool
 
 impl<T> Range<T> {
     ghost use Rattle.std.specs.Prelude.{◌≡◌, ◌+◌, ◌-◌, ◌<◌, is_none, IfOk, IfSome, All, true};
+    ghost use Rattle.std.specs.Prelude.{◌↔◌, IsTrue};
+    ghost use Rattle.cell_data.specs.Range.{IsLeast};
     ghost use Rattle.std.specs.Prelude.{length, ◌^◌};
     ghost use Rattle.std.specs.FinMap.{find};
     ghost use Rattle.std.specs.Option.{option_map, option_copied, unwrap_or};
@@ -106,6 +108,13 @@ impl<T> Range<T> {
             (λ area. (area.start.1 ≤ area.end.1) × (area.end.1 < MAX_COLUMNS)) }
     {
         self.bounds
+    }
+
+    /// Whether the area is the least one that has all used cells. It takes no memory.
+    pub fn is_least(&self) -> bool
+        ensures { IsTrue result ↔ IsLeast self.now }
+    {
+        are_same(self.bounds, least_area(&self.cells))
     }
 
     /// The value that every cell of the area has that is not a used one.

@@ -1,134 +1,42 @@
 -- A step through three lists of cells takes the first line of their listing.
-use Rattle.std.proofs.Common.{◌≡◌, ℕ, ◌+◌, ◌<◌, ◌≤◌, Bool, true, false, cond, ◌&&◌, ◌||◌}
+use Rattle.std.proofs.Common.{◌≡◌, ℕ, ◌+◌, ◌<◌, true, ◌||◌}
 use Rattle.std.proofs.Common.{List, [], ◌∷◌, ◌++◌, length, Some, None, Option, refl, sym, ap, ◌∙◌}
 use Rattle.std.proofs.Common.{subst, arith, append_assoc, string_bytes}
 use Rattle.std.specs.Prelude.{map, is_some, String, MatchOption, ◌⊎◌}
 use Rattle.std.proofs.Common.{inl, inr}
 use Rattle.std.specs.declared.alloc.Global.{Global}
-use Rattle.std.specs.declared.cmp.Ordering.{Ordering}
-use Rattle.std.specs.declared.cmp.Ordering.TheVariants.{Less, Equal, Greater}
-use Rattle.std.specs.Cmp.{tied_itself}
-use Rattle.std.specs.FinMap.{empty, entries, from_entries, find, put, entries-insert, len-entries}
-use Rattle.std.specs.FinMap.{len-empty, get-entries, get-from_entries, entries_sorted, is_sorted}
-use Rattle.std.specs.FinMap.Entries.{by_order, below_all, same_entries}
+use Rattle.std.specs.FinMap.{entries, from_entries, find}
+use Rattle.std.specs.FinMap.Entries.{below_all}
 use Rattle.std.specs.List.{flat_map}
-use Rattle.std.specs.Option.{option_map, option_or, unwrap_or}
-use Rattle.std.specs.Ordering.{is_lt, is_le, is_eq, eq_by_cmp}
+use Rattle.std.specs.Option.{option_map, unwrap_or}
+use Rattle.std.specs.Ordering.{is_lt}
 use Rattle.std.proofs.lemmas.List.{append-nil}
 use Rattle.cell_refs.specs.declared.TheConstants.{MAX_ROWS, MAX_COLUMNS}
 use Rattle.std.proofs.lemmas.List.Elements.{All-map}
 use Rattle.cell_data.specs.Cells.{IsPlacedInSheet}
-use Rattle.cell_refs.proofs.PositionOrder.{position_total, position_same, and_both, to_T, from_T}
-use Rattle.sorted_cells.proofs.Finding.{found_in_two}
+use Rattle.cell_refs.proofs.PositionOrder.{and_both}
 use Rattle.sorted_cells.proofs.Orders.{after_sorted}
 use Rattle.sorted_cells.specs.Last.{last_key, comes_after}
-use Rattle.sorted_cells.specs.Placed.{first_position, value_first, left_behind}
+use Rattle.sorted_cells.specs.Placed.{first_position, left_behind}
 use Rattle.cell_data.proofs.Placing.{one_further}
-use Rattle.cell_data.proofs.Splitting.{below_cons, past, at_first, splits_at}
-use Rattle.cell_data.specs.Splitting.{AreInOrder, given, none_earlier, Splits}
+use Rattle.cell_data.proofs.Splitting.{past, at_first}
+use Rattle.cell_data.proofs.Stepping.{Adds, used_given, used_both, first_entries, no_positions}
+use Rattle.cell_data.proofs.Stepping.{below_entries, below_used, below_both, stands_before}
+use Rattle.cell_data.proofs.Stepping.{stands_first, no_cell, first_is, first_in_sheet}
+use Rattle.cell_data.proofs.Stepping.{no_longer, first_shorter}
+use Rattle.cell_data.proofs.Stepping.{meant_given, meant_below, meant_found}
+use Rattle.cell_data.specs.Splitting.{AreInOrder, given, Splits}
+use Rattle.cell_data.specs.Stepping.{used, StandsUpTo, IsEarlier}
 use Rattle.cell_data.specs.CellValue.{CellValue, nothing, value_of_data}
 use Rattle.cell_refs.specs.Positions.{position_cmp, is_rising}
 use Rattle.cell_data.specs.declared.value.Data.{Data}
 use Rattle.cell_styles.specs.StyleItems.{styled_entry, RiseOnSheet}
 use Rattle.cell_styles.specs.StyleMap.{StyledCell}
 use Rattle.cell_styles.specs.declared.style.Style.{Style}
-use Rattle.sheet_listing.specs.SheetListing.{line_of, value_placed, formula_placed, id_placed, used}
+use Rattle.sheet_listing.specs.SheetListing.{line_of, value_placed, formula_placed, id_placed}
 use Rattle.sheet_listing.specs.SheetListing.{lines_with, fill_field, cell_values, cell_formulas}
 use Rattle.sheet_listing.specs.SheetListing.{value_given, formula_given, id_given}
-use Rattle.sheet_listing.specs.SheetListing.{IsFirstOf, IsOfFirst}
-use Rattle.sheet_listing.specs.SheetListing.{StandsUpTo, IsEarlier}
-
-and_true : (b : Bool) → (b && true) ≡ b
-and_true true = refl
-and_true false = refl
-
-and_false : (b : Bool) → (b && false) ≡ false
-and_false true = refl
-and_false false = refl
-
--- what is looked for at a position that some of three lists begin with
-some_found : (at a b c : Bool) (x y z : Option (Unit {0})) → (a || (b || c)) ≡ true →
-    option_or (cond (at && a) (Some tt) x)
-    (option_or (cond (at && b) (Some tt) y) (cond (at && c) (Some tt) z))
-    ≡ cond at (Some tt) (option_or x (option_or y z))
-some_found false a b c x y z some = refl
-some_found true true b c x y z some = refl
-some_found true false true c None y z some = refl
-some_found true false true c (Some u) y z some = refl
-some_found true false false true None None z some = refl
-some_found true false false true None (Some u) z some = refl
-some_found true false false true (Some u) y z some = refl
-some_found true false false false x y z some = absurd (cc)
-
-module _ {X : Type 0} where
-  found_entries : (q : ℕ × ℕ) (es : List ((ℕ × ℕ) × X)) →
-      find position_cmp q (entries (from_entries {R = position_cmp} es)) ≡ find position_cmp q es
-  found_entries q es =
-      sym (get-entries (from_entries {R = position_cmp} es) q)
-      ∙ get-from_entries position_total es q
-
-  below_by_order : (x : ℕ × ℕ) (o : Ordering) (a b c : List ((ℕ × ℕ) × X)) →
-      below_all position_cmp x a ≡ true → below_all position_cmp x b ≡ true →
-      below_all position_cmp x c ≡ true → below_all position_cmp x (by_order o a b c) ≡ true
-  below_by_order x Less a b c below_a below_b below_c = below_a
-  below_by_order x Equal a b c below_a below_b below_c = below_b
-  below_by_order x Greater a b c below_a below_b below_c = below_c
-
-  below_put : (x k : ℕ × ℕ) (v : X) (es : List ((ℕ × ℕ) × X)) →
-      is_lt (position_cmp x k) ≡ true → below_all position_cmp x es ≡ true →
-      below_all position_cmp x (put position_cmp k v es) ≡ true
-  below_put x k v [] first rest = below_cons x (k, v) [] first refl
-  below_put x k v (e ∷ es) first rest =
-      let (own, others) =
-      and_both (is_lt (position_cmp x e.0)) (below_all position_cmp x es) rest in
-      below_by_order x (position_cmp k e.0) ((k, v) ∷ e ∷ es) ((e.0, v) ∷ es)
-      (e ∷ put position_cmp k v es)
-      (below_cons x (k, v) (e ∷ es) first rest) (below_cons x (e.0, v) es own others)
-      (below_cons x e (put position_cmp k v es) own (below_put x k v es first others))
-
-  below_none : (x : ℕ × ℕ) (es : List ((ℕ × ℕ) × X)) → length es ≡ 0 →
-      below_all position_cmp x es ≡ true
-  below_none x [] none = refl
-  below_none x (e ∷ es) none = absurd (omega arith)
-
-  below_entries : (x : ℕ × ℕ) (es : List ((ℕ × ℕ) × X)) → below_all position_cmp x es ≡ true →
-      below_all position_cmp x (entries (from_entries {R = position_cmp} es)) ≡ true
-  below_entries x [] rest =
-      below_none x _
-      (sym (len-entries (empty {X = X} {R = position_cmp})) ∙ len-empty position_cmp X)
-  below_entries x (e ∷ es) rest =
-      let (own, others) =
-      and_both (is_lt (position_cmp x e.0)) (below_all position_cmp x es) rest in
-      ap (below_all position_cmp x)
-      (entries-insert position_total (from_entries {R = position_cmp} es) e.0 e.1)
-      ∙ below_put x e.0 e.1 _ own (below_entries x es others)
-
-module _ {X : Type 0} where
-  below_used : (x : ℕ × ℕ) (es : List ((ℕ × ℕ) × X)) → below_all position_cmp x es ≡ true →
-      below_all position_cmp x (used es) ≡ true
-  below_used x [] below = refl
-  below_used x (e ∷ es) below =
-      let (own, others) =
-      and_both (is_lt (position_cmp x e.0)) (below_all position_cmp x es) below in
-      below_cons x (e.0, tt) (used es) own (below_used x es others)
-
-  below_both : (x : ℕ × ℕ) (es fs : List ((ℕ × ℕ) × X)) → below_all position_cmp x es ≡ true →
-      below_all position_cmp x fs ≡ true → below_all position_cmp x (es ++ fs) ≡ true
-  below_both x [] fs in_es in_fs = in_fs
-  below_both x (e ∷ es) fs in_es in_fs =
-      let (own, others) =
-      and_both (is_lt (position_cmp x e.0)) (below_all position_cmp x es) in_es in
-      below_cons x e (es ++ fs) own (below_both x es fs others in_fs)
-
-  found_given : (p q : ℕ × ℕ) (v : Option X) (es : List ((ℕ × ℕ) × X)) →
-      find position_cmp q (used (given p v ++ es))
-      ≡ cond (eq_by_cmp position_cmp q p && is_some v) (Some tt) (find position_cmp q (used es))
-  found_given p q None es =
-      ap (λ t. cond t (Some tt) (find position_cmp q (used es)))
-      (sym (and_false (eq_by_cmp position_cmp q p)))
-  found_given p q (Some v) es =
-      ap (λ t. cond t (Some tt) (find position_cmp q (used es)))
-      (sym (and_true (eq_by_cmp position_cmp q p)))
+use Rattle.sheet_listing.specs.SheetListing.{IsFirstOf}
 
 module _ {X Y Z : Type 0} where
   -- the positions of three lists
@@ -144,55 +52,18 @@ module _ {X Y Z : Type 0} where
       below_both p (used vs) (used fs ++ used ds) (below_used p vs in_vs)
       (below_both p (used fs) (used ds) (below_used p fs in_fs) (below_used p ds in_ds))
 
-  found_places : (q : ℕ × ℕ)
+  -- a position of the first cell of some of them
+  adds_places : (p : ℕ × ℕ) (v : Option X) (f : Option Y) (d : Option Z)
       (vs : List ((ℕ × ℕ) × X)) (fs : List ((ℕ × ℕ) × Y)) (ds : List ((ℕ × ℕ) × Z)) →
-      find position_cmp q (places vs fs ds)
-      ≡ option_or (find position_cmp q (used vs))
-      (option_or (find position_cmp q (used fs)) (find position_cmp q (used ds)))
-  found_places q vs fs ds =
-      found_in_two position_cmp q (used vs) (used fs ++ used ds)
-      ∙ ap (option_or (find position_cmp q (used vs)))
-      (found_in_two position_cmp q (used fs) (used ds))
-
-  found_used : (p q : ℕ × ℕ) (v : Option X) (f : Option Y) (d : Option Z)
-      (vs : List ((ℕ × ℕ) × X)) (fs : List ((ℕ × ℕ) × Y)) (ds : List ((ℕ × ℕ) × Z)) →
-      (is_some v || (is_some f || is_some d)) ≡ true →
-      find position_cmp q (places (given p v ++ vs) (given p f ++ fs) (given p d ++ ds))
-      ≡ cond (eq_by_cmp position_cmp q p) (Some tt) (find position_cmp q (places vs fs ds))
-  found_used p q v f d vs fs ds some =
-      let value = found_given p q v vs in
-      let formula = found_given p q f fs in
-      let id = found_given p q d ds in
-      found_places q (given p v ++ vs) (given p f ++ fs) (given p d ++ ds)
-      ∙ ((λ i. option_or (value i) (option_or (formula i) (id i)))
-      ∙ (some_found (eq_by_cmp position_cmp q p) (is_some v) (is_some f) (is_some d)
-      (find position_cmp q (used vs)) (find position_cmp q (used fs))
-      (find position_cmp q (used ds)) some
-      ∙ ap (cond (eq_by_cmp position_cmp q p) (Some tt)) (sym (found_places q vs fs ds))))
-
-  -- the first position of three lists is the first of their map
-  first_entries : (p : ℕ × ℕ) (v : Option X) (f : Option Y) (d : Option Z)
-      (vs : List ((ℕ × ℕ) × X)) (fs : List ((ℕ × ℕ) × Y)) (ds : List ((ℕ × ℕ) × Z)) →
-      (is_some v || (is_some f || is_some d)) ≡ true →
-      below_all position_cmp p (places vs fs ds) ≡ true →
-      entries (from_entries {R = position_cmp}
-      (places (given p v ++ vs) (given p f ++ fs) (given p d ++ ds)))
-      ≡ (p, tt) ∷ entries (from_entries {R = position_cmp} (places vs fs ds))
-  first_entries p v f d vs fs ds some below =
-      let whole : List ((ℕ × ℕ) × Unit {0}) =
-      places (given p v ++ vs) (given p f ++ fs) (given p d ++ ds) in
-      let rest : List ((ℕ × ℕ) × Unit {0}) =
-      entries (from_entries {R = position_cmp} (places vs fs ds)) in
-      let sorted : is_sorted position_cmp ((p, tt) ∷ rest) ≡ true =
-      ap (λ t. t && is_sorted position_cmp rest) (below_entries p (places vs fs ds) below)
-      ∙ from_T _ (entries_sorted (from_entries {R = position_cmp} (places vs fs ds))) in
-      same_entries position_cmp position_total position_same
-      (entries (from_entries {R = position_cmp} whole))
-      ((p, tt) ∷ rest) (entries_sorted _) (to_T _ sorted)
-      (λ q. found_entries q whole
-      ∙ (found_used p q v f d vs fs ds some
-      ∙ ap (cond (eq_by_cmp position_cmp q p) (Some tt))
-      (sym (found_entries q (places vs fs ds)))))
+      Adds p (is_some v || (is_some f || is_some d))
+      (places (given p v ++ vs) (given p f ++ fs) (given p d ++ ds)) (places vs fs ds)
+  adds_places p v f d vs fs ds =
+      used_both p (is_some v) (is_some f || is_some d)
+      (used (given p v ++ vs)) (used vs)
+      (used (given p f ++ fs) ++ used (given p d ++ ds)) (used fs ++ used ds)
+      (used_given p v vs)
+      (used_both p (is_some f) (is_some d) (used (given p f ++ fs)) (used fs)
+      (used (given p d ++ ds)) (used ds) (used_given p f fs) (used_given p d ds))
 
 module _ (style : ℕ × ℕ → Option Style) where
   line_at : List ((ℕ × ℕ) × CellValue) → List ((ℕ × ℕ) × List ℕ) → List ((ℕ × ℕ) × ℕ) →
@@ -240,7 +111,9 @@ module _ (style : ℕ × ℕ → Option Style) where
       lines_past p v f d vs fs ds rest (below_entries p (places vs fs ds) below) in
       ap (λ es. flat_map (line_at (given p v ++ vs) (given p f ++ fs) (given p d ++ ds))
       (map (λ e. e.0) es))
-      (first_entries p v f d vs fs ds some below)
+      (first_entries p (is_some v || (is_some f || is_some d))
+      (places (given p v ++ vs) (given p f ++ fs) (given p d ++ ds)) (places vs fs ds)
+      (adds_places p v f d vs fs ds) some below)
       ∙ (λ i. line_of p (unwrap_or (value i) nothing) (unwrap_or (formula i) [])
       (unwrap_or (id i) 0) (fill_field (style p)) ++ further i)
 
@@ -260,42 +133,12 @@ module _ (style : ℕ × ℕ → Option Style) where
   listing_step p (Some v) f d vs fs ds in_values in_formulas in_ids =
       some_step p (Some v) f d vs fs ds refl in_values in_formulas in_ids
 
-module _ {X Y : Type 0} (g : X → Y) where
-  seen : List ((ℕ × ℕ) × X) → List ((ℕ × ℕ) × Y)
-  seen es = map (λ e. (e.0, g e.1)) es
-
-  seen_given : (p : ℕ × ℕ) (v : Option X) (es : List ((ℕ × ℕ) × X)) →
-      seen (given p v ++ es) ≡ given p (option_map g v) ++ seen es
-  unfolding seen
-  seen_given p None es = refl
-  seen_given p (Some v) es = refl
-
-  seen_below : (p : ℕ × ℕ) (es : List ((ℕ × ℕ) × X)) →
-      below_all position_cmp p (seen es) ≡ below_all position_cmp p es
-  unfolding seen
-  seen_below p [] = refl
-  seen_below p (e ∷ es) = ap (λ t. is_lt (position_cmp p e.0) && t) (seen_below p es)
-
-  mapped : (test : Bool) (v : X) (o : Option X) →
-      cond test (Some (g v)) (option_map g o) ≡ option_map g (cond test (Some v) o)
-  mapped true v o = refl
-  mapped false v o = refl
-
-  seen_found : (p : ℕ × ℕ) (es : List ((ℕ × ℕ) × X)) →
-      find position_cmp p (seen es) ≡ option_map g (find position_cmp p es)
-  unfolding seen
-  seen_found p [] = refl
-  seen_found p (e ∷ es) =
-      ap (cond (eq_by_cmp position_cmp p e.0) (Some (g e.1))) (seen_found p es)
-      ∙ mapped (eq_by_cmp position_cmp p e.0) e.1 (find position_cmp p es)
-
 -- the formula of the used cell at a position
 pub formula_found : (p : ℕ × ℕ) (formulas : List ((ℕ × ℕ) × String Global))
     (found : Option (String Global)) → found ≡ find position_cmp p formulas →
     formula_given found ≡ formula_placed p (cell_formulas formulas)
-unfolding seen
 formula_found p formulas found same =
-    ap formula_given same ∙ ap (λ o. unwrap_or o []) (sym (seen_found string_bytes p formulas))
+    ap formula_given same ∙ ap (λ o. unwrap_or o []) (sym (meant_found string_bytes p formulas))
 
 -- the lines of cells that are left
 abbrev pub lines_left :
@@ -312,15 +155,14 @@ cells_step : (style : ℕ × ℕ → Option Style) (p : ℕ × ℕ)
     lines_left style values formulas ids
     ≡ line_of p (value_given v) (formula_given f) (id_given d) (fill_field (style p))
     ++ lines_left style vs fs ds
-unfolding seen
 cells_step style p v f d values vs formulas fs ids ds splits_v splits_f splits_d =
-    let seen_v = ap cell_values splits_v.whole ∙ seen_given value_of_data p v vs in
-    let seen_f = ap cell_formulas splits_f.whole ∙ seen_given string_bytes p f fs in
+    let seen_v = ap cell_values splits_v.whole ∙ meant_given value_of_data p v vs in
+    let seen_f = ap cell_formulas splits_f.whole ∙ meant_given string_bytes p f fs in
     let seen_d = splits_d.whole in
     (λ i. lines_with style (seen_v i) (seen_f i) (seen_d i))
     ∙ listing_step style p (option_map value_of_data v) (option_map string_bytes f) d
-    (cell_values vs) (cell_formulas fs) ds (seen_below value_of_data p vs ∙ splits_v.below)
-    (seen_below string_bytes p fs ∙ splits_f.below) splits_d.below
+    (cell_values vs) (cell_formulas fs) ds (meant_below value_of_data p vs ∙ splits_v.below)
+    (meant_below string_bytes p fs ∙ splits_f.below) splits_d.below
 
 -- a line is printed, and what is printed with the lines that are left stays the same
 pub goes_on : (old new line rest left whole : List ℕ) → new ≡ old ++ line → left ≡ line ++ rest →
@@ -345,17 +187,9 @@ lines_on style p v f d found values vs formulas fs ids ds old new whole splits_v
     (lines_left style values formulas ids) whole (printed ∙ ap (λ found. old ++ line found) is)
     (cells_step style p v f d values vs formulas fs ids ds splits_v splits_f splits_d) same
 
-no_entries : (es : List ((ℕ × ℕ) × Unit {0})) → length es ≡ 0 → es ≡ []
-no_entries [] none = refl
-no_entries (e ∷ es) none = absurd (omega arith)
-
 nothing_listed : (style : ℕ × ℕ → Option Style) → lines_with style [] [] [] ≡ []
 unfolding lines_with line_at
-nothing_listed style =
-    ap (λ es. flat_map (line_at style [] [] []) (map (λ e. e.0) es))
-    (no_entries (entries (empty {X = Unit {0}} {R = position_cmp}))
-    (sym (len-entries (empty {X = Unit {0}} {R = position_cmp}))
-    ∙ len-empty position_cmp (Unit {0})))
+nothing_listed style = ap (flat_map (line_at style [] [] [])) no_positions
 
 pub lines_end : (style : ℕ × ℕ → Option Style) (out whole : List ℕ)
     (values : List ((ℕ × ℕ) × Data)) (formulas : List ((ℕ × ℕ) × String Global))
@@ -366,34 +200,6 @@ pub lines_end : (style : ℕ × ℕ → Option Style) (out whole : List ℕ)
 lines_end style out whole values formulas ids none same =
     sym (append-nil out) ∙ (ap (λ bytes. out ++ bytes) (sym (nothing_listed style))
     ∙ ((λ i. out ++ lines_left style (sym none.0 i) (sym none.1 i) (sym none.2 i)) ∙ same))
-
--- a step takes the cell at the position, where no cell stands before it
-pub next_splits : {X : Type 0} (p : ℕ × ℕ) (v : Option X) (cells behind : List ((ℕ × ℕ) × X)) →
-    AreInOrder cells → none_earlier p cells ≡ true → v ≡ value_first p cells →
-    behind ≡ left_behind p cells → Splits p cells v behind
-next_splits p v cells behind order first value left =
-    subst (λ taken. Splits p cells taken behind) (sym value)
-    (subst (λ rest. Splits p cells (value_first p cells) rest) (sym left)
-    (splits_at p cells order first))
-
-module _ {X : Type 0} where
-  no_longer : (p : ℕ × ℕ) (cells : List ((ℕ × ℕ) × X)) →
-      length (left_behind p cells) ≤ length cells
-  no_longer p [] = omega arith
-  no_longer p (cell ∷ cells) = by_test (eq_by_cmp position_cmp p cell.0)
-    where
-      by_test : (test : Bool) →
-          length (cond test cells (cell ∷ cells)) ≤ length (cell ∷ cells)
-      by_test true = omega arith
-      by_test false = omega arith
-
-  first_shorter : (p : ℕ × ℕ) (cells : List ((ℕ × ℕ) × X)) → IsOfFirst p cells →
-      length (left_behind p cells) < length cells
-  first_shorter p [] first = absurd first
-  first_shorter p (cell ∷ cells) first =
-      let at : eq_by_cmp position_cmp p cell.0 ≡ true =
-      ap is_eq (ap (position_cmp p) first ∙ tied_itself position_total p) in
-      omega (arith, ap (λ test. length (cond test cells (cell ∷ cells))) at)
 
 -- each step leaves fewer cells
 pub shorter : {X Y Z : Type 0} (p : ℕ × ℕ) (values vs : List ((ℕ × ℕ) × X))
@@ -421,45 +227,6 @@ shorter p values vs formulas fs ids ds first is_v is_f is_d =
     ]
 
 -- ---- the first position of three lists
-
-le_follows : (a b c : ℕ × ℕ) → is_le (position_cmp a b) ≡ true → is_le (position_cmp b c) ≡ true →
-    (o : Ordering) → position_cmp a b ≡ o → (u : Ordering) → position_cmp b c ≡ u →
-    is_le (position_cmp a c) ≡ true
-le_follows a b c first second Less less Less further =
-    ap is_le (position_total.trans a b c less further)
-le_follows a b c first second Less less Equal tied =
-    subst (λ q. is_le (position_cmp a q) ≡ true) (position_same b c tied) first
-le_follows a b c first second Equal tied u is =
-    subst (λ q. is_le (position_cmp q c) ≡ true) (sym (position_same a b tied)) second
-le_follows a b c first second Greater greater u is = absurd (cc)
-le_follows a b c first second o less Greater greater = absurd (cc)
-
-stands_before : (p b : ℕ × ℕ) (other : Option (ℕ × ℕ)) → is_le (position_cmp p b) ≡ true →
-    StandsUpTo b other → StandsUpTo p other
-stands_before p b None le upto = tt
-stands_before p b (Some q) le upto = le_follows p b q le upto _ refl _ refl
-
-module _ {X : Type 0} where
-  stands_first : (p : ℕ × ℕ) (cells : List ((ℕ × ℕ) × X)) →
-      StandsUpTo p (first_position cells) → none_earlier p cells ≡ true
-  stands_first p [] upto = refl
-  stands_first p (cell ∷ cells) upto = upto
-
-  no_cell : (cells : List ((ℕ × ℕ) × X)) → first_position cells ≡ None → cells ≡ []
-  no_cell [] none = refl
-  no_cell (cell ∷ cells) none = absurd (cc)
-
-  first_is : (p : ℕ × ℕ) (cells : List ((ℕ × ℕ) × X)) → first_position cells ≡ Some p →
-      IsOfFirst p cells
-  first_is p [] some = absurd (cc)
-  first_is p (cell ∷ cells) some = ap (λ place. unwrap_or place cell.0) some
-
-  first_in_sheet : (p : ℕ × ℕ) (cells : List ((ℕ × ℕ) × X)) → AreInOrder cells →
-      first_position cells ≡ Some p → (p.0 < MAX_ROWS) × (p.1 < MAX_COLUMNS)
-  first_in_sheet p [] order some = absurd (cc)
-  first_in_sheet p (cell ∷ cells) order some =
-      subst (λ (q : ℕ × ℕ). (q.0 < MAX_ROWS) × (q.1 < MAX_COLUMNS))
-      (first_is p (cell ∷ cells) some) (order.sheet 0 cell (omega arith))
 
 module _ {X Y Z : Type 0} (values : List ((ℕ × ℕ) × X)) (formulas : List ((ℕ × ℕ) × Y))
     (ids : List ((ℕ × ℕ) × Z)) where

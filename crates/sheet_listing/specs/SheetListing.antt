@@ -3,8 +3,7 @@
 use Rattle.std.specs.Prelude.{◌≡◌, ℕ, ◌<◌, Bool, true, false, ◌||◌, ◌++◌, codes, map}
 use Rattle.std.specs.Prelude.{if◌then◌else◌, List, [], ◌∷◌, Option, Some, None, is_some}
 use Rattle.std.specs.Prelude.{String, string_bytes, ◌⊎◌, nat_lt, option_and_then}
-use Rattle.std.specs.Ordering.{is_le}
-use Rattle.std.specs.FinMap.{find, from_entries, keys}
+use Rattle.std.specs.FinMap.{find}
 use Rattle.std.specs.Fmt.{signed_decimal}
 use Rattle.std.specs.List.{flat_map}
 use Rattle.std.specs.Option.{option_map, unwrap_or}
@@ -15,6 +14,7 @@ use Rattle.cell_data.specs.CellError.{cell_error_text}
 use Rattle.cell_data.specs.CellValue.{CellValue, nothing, integer, number, text, shared_text, truth}
 use Rattle.cell_data.specs.CellValue.{time, iso_time, failure, value_of_data}
 use Rattle.cell_data.specs.Splitting.{none_earlier}
+use Rattle.cell_data.specs.Stepping.{IsOfFirst, used, positions_of}
 use Rattle.decimals.specs.Decimals.{printed}
 use Rattle.cell_refs.specs.Positions.{position_cmp}
 use Rattle.cell_data.specs.declared.value.Data.{Data}
@@ -128,16 +128,11 @@ formula_placed position formulas = unwrap_or (find position_cmp position formula
 abbrev pub id_placed : ℕ × ℕ → List ((ℕ × ℕ) × ℕ) → ℕ
 id_placed position ids = unwrap_or (find position_cmp position ids) 0
 
--- the positions alone, as entries of a map
-abbrev pub used : {X : Type 0} → List ((ℕ × ℕ) × X) → List ((ℕ × ℕ) × Unit {0})
-used cells = map (λ cell. (cell.0, tt)) cells
-
 -- the positions that some list has, each once, row by row
 abbrev pub used_positions :
     {X Y Z : Type 0} → List ((ℕ × ℕ) × X) → List ((ℕ × ℕ) × Y) → List ((ℕ × ℕ) × Z)
     → List (ℕ × ℕ)
-used_positions values formulas ids =
-    keys (from_entries {R = position_cmp} (used values ++ (used formulas ++ used ids)))
+used_positions values formulas ids = positions_of (used values ++ (used formulas ++ used ids))
 
 -- the lines of values, formulas and style ids, where this is the style of each position
 unfoldable pub lines_with :
@@ -182,22 +177,6 @@ abbrev pub id_given : Option ℕ → ℕ
 id_given id = unwrap_or id 0
 
 -- ---- the steps through the lists
-
--- the first cell stands at the position
-abbrev pub IsOfFirst : {X : Type 0} → ℕ × ℕ → List ((ℕ × ℕ) × X) → Type 0
-IsOfFirst position [] = ⊥
-IsOfFirst position (cell ∷ cells) = cell.0 ≡ position
-
--- the position isn't behind the other one, where there is one
-abbrev pub StandsUpTo : ℕ × ℕ → Option (ℕ × ℕ) → Type 0
-StandsUpTo position None = Unit {0}
-StandsUpTo position (Some other) = is_le (position_cmp position other) ≡ true
-
--- the earlier one of two positions
-pub record IsEarlier (one other : Option (ℕ × ℕ)) (position : ℕ × ℕ) : Type 0 where
-  pub before_one : StandsUpTo position one
-  pub before_other : StandsUpTo position other
-  pub is_one : (one ≡ Some position) ⊎ (other ≡ Some position)
 
 -- a position among those that the lists begin with
 abbrev pub IsOfSome :

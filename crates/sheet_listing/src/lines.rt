@@ -17,13 +17,13 @@ ghost use Rattle.sheet_listing.specs.SheetListing.{formula_field};
 ghost use Rattle.sheet_listing.specs.SheetListing.{field, line, line_of, listing};
 ghost use Rattle.sheet_listing.specs.SheetListing.{cell_values, cell_formulas};
 ghost use Rattle.sheet_listing.specs.SheetListing.{value_given, formula_given};
-ghost use Rattle.sheet_listing.specs.SheetListing.{IsFirstOf, IsEarlier};
+ghost use Rattle.sheet_listing.specs.SheetListing.{IsFirstOf};
 ghost use Rattle.sheet_listing.specs.SheetListing.{shown_color, fill_shown, fill_field, id_given};
 ghost use Rattle.sheet_listing.specs.SheetListing.{lines_with, placed_ids};
 ghost use Rattle.sheet_listing.specs.SheetListing.{value_line, value_lines, row_line};
 ghost use Rattle.sheet_listing.specs.SheetListing.{further_fields};
 
-use cell_data::{Data, ExcelDateTime, ExcelDateTimeType, Range};
+use cell_data::{Data, ExcelDateTime, ExcelDateTimeType, Range, earlier};
 use cell_refs::{MAX_COLUMNS, MAX_ROWS, push_reference};
 use cell_styles::{Color, Fill, Style, StyleRange};
 use escaped_text::push_escaped;
@@ -314,16 +314,6 @@ fn push_line(
         return Ok(());
     }
     push_fields(out, position, value, formula, style)
-}
-
-fn earlier(one: Option<(u32, u32)>, other: Option<(u32, u32)>) -> Option<(u32, u32)>
-    ensures { MatchOption result ((one ≡ None) × (other ≡ None)) (IsEarlier one other) }
-{
-    match (one, other) {
-        (Some(one), Some(other)) => Some(one.min(other)),
-        (Some(one), None) => Some(one),
-        (None, other) => other,
-    }
 }
 
 /// The first position that some list has.

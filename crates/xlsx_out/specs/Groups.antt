@@ -70,7 +70,8 @@ is_master formulas position =
 -- the index of a group: how many masters stand before its own
 abbrev pub group_index : Placed → ℕ × ℕ → ℕ
 group_index formulas head =
-    length (filter (λ entry. is_lt (position_cmp entry.0 head) && is_master formulas entry.0) formulas)
+    length
+    (filter (λ entry. is_lt (position_cmp entry.0 head) && is_master formulas entry.0) formulas)
 
 -- a formula as it is written
 pub data WrittenFormula : Type 0 where

@@ -3,10 +3,9 @@ use Rattle.std.specs.Prelude.{◌≡◌, ℕ, ◌&&◌, ◌==◌, not, length, B
 use Rattle.std.specs.Prelude.{if◌then◌else◌, String}
 use Rattle.std.specs.List.{list_all}
 use Rattle.std.specs.declared.alloc.Global.{Global}
-use Rattle.cell_refs.specs.Positions.{least_area}
 use Rattle.cell_data.specs.CellValue.{CellValue, nothing, integer, shared_text, time, failure}
 use Rattle.cell_data.specs.Pairs.{value_pairs, formula_pairs}
-use Rattle.cell_data.specs.Range.{bounds_of, cells_of}
+use Rattle.cell_data.specs.Range.{IsLeast}
 use Rattle.cell_data.specs.declared.range.Range.{Range}
 use Rattle.cell_data.specs.declared.value.CellErrorType.{CellErrorType}
 use Rattle.cell_data.specs.declared.value.CellErrorType.TheVariants.{GettingData}
@@ -47,10 +46,6 @@ are_writable_values values =
 -- formulas that read back as themselves: none is empty
 abbrev pub are_writable_formulas : Placed → Bool
 are_writable_formulas formulas = list_all (λ entry. not (length entry.1 == 0)) formulas
-
--- a range spans its used cells and no more
-abbrev pub IsLeast : {X : Type 0} → Range X → Type 0
-IsLeast range = bounds_of range ≡ least_area (cells_of range)
 
 -- values and formulas that are written so that they read back
 pub record IsWritable (values : Range Data) (formulas : Range (String Global)) : Type 0 where

@@ -1,13 +1,14 @@
 -- The package that is written of values and formulas.
-use Rattle.std.specs.Prelude.{ℕ, ◌==◌, Bool, true, false, if◌then◌else◌, List, [], ◌∷◌, ◌++◌, map}
+use Rattle.std.specs.Prelude.{ℕ, ◌==◌, Bool, true, false, if◌then◌else◌, List, [], ◌∷◌, ◌++◌}
 use Rattle.std.specs.Prelude.{codes, Option, Some, None}
 use Rattle.std.specs.Fmt.{decimal}
-use Rattle.std.specs.FinMap.{find, from_entries, keys}
+use Rattle.std.specs.FinMap.{find}
 use Rattle.std.specs.List.{flat_map, list_any}
 use Rattle.std.specs.Option.{unwrap_or}
 use Rattle.cell_refs.specs.Positions.{position_cmp}
 use Rattle.cell_refs.specs.Reference.{reference, row_reference}
 use Rattle.cell_data.specs.CellError.{cell_error_text}
+use Rattle.cell_data.specs.Stepping.{used, positions_of}
 use Rattle.cell_data.specs.CellValue.{CellValue, nothing, integer, number, text, shared_text, truth}
 use Rattle.cell_data.specs.CellValue.{time, iso_time, failure}
 use Rattle.cell_data.specs.declared.value.ExcelDateTimeType.{ExcelDateTimeType}
@@ -135,9 +136,7 @@ row_events values formulas found =
 
 -- the positions that have a value or a formula, row by row
 abbrev pub written_positions : PlacedValues → Placed → List (ℕ × ℕ)
-written_positions values formulas =
-    keys (from_entries {R = position_cmp}
-    (map (λ entry. (entry.0, tt)) values ++ map (λ entry. (entry.0, tt)) formulas))
+written_positions values formulas = positions_of (used values ++ used formulas)
 
 -- what stands in the sheet's data
 abbrev pub data_events : PlacedValues → Placed → List Event

@@ -2,7 +2,7 @@ use Rattle.std.proofs.Common.{string_bytes, ◌++◌}
 use Rattle.std.specs.Option.{option_copied}
 use Rattle.cell_styles.specs.StyleMap.{style_at}
 use Rattle.sorted_cells.specs.Placed.{placed_left}
-use Rattle.sheet_listing.proofs.SheetListingLemmas.{next_splits}
+use Rattle.cell_data.proofs.Stepping.{next_splits}
 use Rattle.sheet_listing.proofs.SheetListingLemmas.{lines_on, lines_end, lines_left, shorter}
 use Rattle.sheet_listing.proofs.lines.push_lines.Goals as goal
 
