@@ -1,0 +1,6 @@
+mod GroupHeads
+mod GroupIndices
+mod PlacedAmong
+mod GroupsRead
+mod WrittenPositions
+mod DataRead

@@ -1,0 +1,77 @@
+-- What is read of the data of a written sheet: its formulas, its style ids and its values, in
+-- the order of the positions.
+use Rattle.std.proofs.Common.{◌≡◌, ℕ, ◌<◌, Bool, true, false, cond, List, [], ◌∷◌, ◌++◌, map}
+use Rattle.std.proofs.Common.{Some, None, Option, refl, sym, ap, ◌∙◌, arith}
+use Rattle.std.proofs.lemmas.Bool.Decides.{nat_tests}
+use Rattle.std.specs.Prelude.{Ok, Result, codes, nat_lt}
+use Rattle.std.specs.List.{list_all}
+use Rattle.std.specs.FinMap.{find}
+use Rattle.cell_refs.specs.Positions.{position_cmp, is_rising}
+use Rattle.cell_refs.specs.Reference.{row_reference}
+use Rattle.cell_refs.proofs.PositionOrder.{and_both, positions_rise}
+use Rattle.cell_data.specs.Cells.{AreInSheet}
+use Rattle.cell_data.specs.CellValue.{CellValue}
+use Rattle.part_events.specs.Event.{Event}
+use Rattle.part_events.specs.Section.{Element}
+use Rattle.xlsx_sections.specs.Refusal.{Refusal}
+use Rattle.xlsx_cells.specs.Marks.{Mark}
+use Rattle.xlsx_cells.specs.Sheet.{answers_from, placed_formulas, formulas_written}
+use Rattle.xlsx_cells.specs.StyleIds.{placed_id, ids_in}
+use Rattle.written_markup.specs.Markup.{element, attribute}
+use Rattle.xlsx_out.specs.Groups.{Placed, formula_placed, written_formula}
+use Rattle.xlsx_out.specs.WrittenSheet.{PlacedValues, written_positions, cell_attributes, in_rows}
+use Rattle.xlsx_out.specs.WrittenSheet.{data_events}
+use Rattle.xlsx_reads_back.specs.ReadFormulas.{formulas_read, formulas_read_along}
+use Rattle.xlsx_reads_back.specs.ReadSheet.{is_on_sheet, value_at, id_read}
+use Rattle.xlsx_reads_back.proofs.CellsRead.{cell_inside, cell_nested, nested_passed, row_placed}
+use Rattle.xlsx_reads_back.proofs.CellsRead.{FormulaReads, cell_gives_formulas, cell_gives_id}
+use Rattle.xlsx_reads_back.proofs.DataRead.{CellGives, Gives, gives_data}
+use Rattle.xlsx_reads_back.proofs.SheetBounds.{on_sheet_parts, written_on_sheet}
+
+module _ (values : PlacedValues) (formulas : Placed)
+    (one : AreInSheet values) (two : AreInSheet formulas) where
+  -- the attributes and the inside of a position's cell
+  abbrev attributes : ℕ × ℕ → List ℕ
+  attributes p = cell_attributes p (value_at values p)
+
+  abbrev inside : ℕ × ℕ → List Event
+  inside p = cell_inside formulas p (value_at values p)
+
+  -- a row lies on a sheet
+  abbrev is_row : ℕ → Bool
+  is_row row = nat_lt row 1048576
+
+  row_fits : (p : ℕ × ℕ) → is_on_sheet p ≡ true → is_row p.0 ≡ true
+  row_fits p on = (and_both (nat_lt p.0 1048576) (nat_lt p.1 16384) on).0
+
+  -- what each cell gives by itself is what the data give
+  pub data_give : {A : Type 0} (answer : List Mark → Element → Result A Refusal) (tell : ℕ × ℕ → A) →
+      ((p : ℕ × ℕ) → is_on_sheet p ≡ true → CellGives answer (attributes p) (inside p) (tell p)) →
+      Gives answer (data_events values formulas) (map tell (written_positions values formulas))
+  data_give answer tell each =
+      gives_data answer is_on_sheet attributes inside tell
+      (λ p. nested_passed (inside p) (cell_nested formulas p (value_at values p))) each is_row
+      (λ row. attribute (codes "r") (row_reference row))
+      (λ row fits. row_placed row (row_inside row fits)) row_fits
+      (written_positions values formulas) (written_on_sheet values formulas one two) where
+    row_inside : (row : ℕ) → nat_lt row 1048576 ≡ true → row < 1048576
+    row_inside row fits = grind (arith, nat_tests)
+
+  pub ids_of_data : ids_in (data_events values formulas)
+      ≡ Ok (map (id_read values) (written_positions values formulas))
+  ids_of_data =
+      data_give placed_id (id_read values)
+      (λ p on. let parts = on_sheet_parts p on in
+      cell_gives_id p (value_at values p) (inside p) parts.0 parts.1) []
+
+  pub formulas_of_data :
+      ((p : ℕ × ℕ) (formula : List ℕ) → is_on_sheet p ≡ true →
+      formula_placed formulas p ≡ Some formula →
+      FormulaReads p (written_formula formulas p formula)) →
+      formulas_written (data_events values formulas)
+      ≡ Ok (formulas_read_along formulas (written_positions values formulas))
+  formulas_of_data reads =
+      data_give placed_formulas (λ p. (p, formulas_read formulas p))
+      (λ p on. let parts = on_sheet_parts p on in
+      cell_gives_formulas formulas p (value_at values p) parts.0 parts.1
+      (λ formula placed. reads p formula on placed)) []
