@@ -93,6 +93,7 @@ if [ "$1" = try ]; then
     exit "$status"
 fi
 echo "rt $* speaks of $(basename "$PWD")"
+[ ! -e "$WAITING" ] || { echo "checked xlsx_tool::run, 3 of 7"; sleep 2; }
 [ ! -e "$FAILING" ] || [ "$1" != run ] || exit 1
 [ "$1" != run ] || cp "$STAND_IN" out/xlsx_tool
 """
@@ -146,6 +147,7 @@ class Wrapper(unittest.TestCase):
     def run_on(self, *words, data=b"", path=None, memory=None, **given):
         path = f"{self.folder / 'bin'}:{os.environ['PATH']}" if path is None else path
         about = {"STAND_IN": self.folder / "program", "FAILING": self.folder / "failing"}
+        about["WAITING"] = self.folder / "waiting"
         if memory is not None:
             about["XLSX_MEMORY"] = memory
         if "stdin" not in given:
@@ -181,6 +183,15 @@ class Wrapper(unittest.TestCase):
         self.assertEqual(ran, (0, b"cells 0: 2\n", self.built()))
         said = "rt lib speaks of low\nrt run -- --version speaks of xlsx_tool\n"
         self.assertEqual(self.log().read_text(), said)
+
+    def test_a_long_proof_tells_how_far_it_is(self):
+        self.written("waiting", "")
+        prove = self.folder / "top" / "tools" / "prove.py"
+        prove.write_text(prove.read_text().replace("QUIET = 60", "QUIET = 1"))
+        status, _, said = self.run_on("cells", "0", data=b"12")
+        self.assertEqual(status, 0)
+        line = "xlsx: at work: xlsx_tool, 3 of 7 functions, 0 min so far\n"
+        self.assertIn(line, said)
 
     def test_a_fresh_program_is_run_without_a_word(self):
         self.build()
