@@ -1,7 +1,8 @@
 -- Events that nest in themselves are passed over by what reads forward.
 use Rattle.std.proofs.Common.{◌≡◌, ℕ, suc, List, [], ◌∷◌, ◌++◌, length, reverse, Bool, true, false}
 use Rattle.std.proofs.Common.{refl, sym, ap, ◌∙◌, append_assoc, append-nil}
-use Rattle.std.specs.Prelude.{if◌then◌else◌, option_map}
+use Rattle.std.specs.List.{flat_map, slice_split}
+use Rattle.std.specs.Prelude.{◌==◌, codes, if◌then◌else◌, option_map}
 use Rattle.std.specs.Option.{option_map_or}
 use Rattle.std.specs.Str.{bytes_eq}
 use Rattle.std.proofs.lemmas.Slice.Eq.{bytes_eq-Decides}
@@ -14,8 +15,6 @@ use Rattle.part_events.proofs.Nested.{reverse_on}
 use Rattle.part_events.proofs.Outermost.{outermost-wanted}
 use Rattle.written_markup.specs.Markup.{element}
 use Rattle.written_markup.specs.WrittenText.{run_events, events_of_runs, text_events}
-use Rattle.std.specs.Prelude.{◌==◌, codes}
-use Rattle.std.specs.List.{flat_map, slice_split}
 use Rattle.written_markup.specs.Nests.{IsNested, none, leaf_then, element_then, NestsItself}
 
 -- What holds of no events, goes on behind a leaf and behind an element of such events, holds of

@@ -1,10 +1,12 @@
 -- Attributes as they are written have the pairs that were written.
-use Rattle.std.proofs.Common.{◌≡◌, ℕ, zero, suc, ◌+◌, ◌-◌, ◌<◌, Bool, true, false, List, [], ◌∷◌, ◌++◌}
-use Rattle.std.proofs.Common.{Option, Some, None, append-nil}
-use Rattle.std.proofs.Common.{length, map, take, drop, get_or, Ok, refl, sym, ap, ◌∙◌, arith, append_assoc}
+use Rattle.std.proofs.Common.{◌≡◌, ℕ, zero, suc, ◌+◌, ◌-◌, ◌<◌, Bool, true, false, List, [], ◌∷◌}
+use Rattle.std.proofs.Common.{◌++◌, length, map, take, drop, get_or, Ok, Option, Some, None, refl}
+use Rattle.std.proofs.Common.{sym, ap, ◌∙◌, arith, append_assoc, append-nil}
 use Rattle.std.specs.Prelude.{◌==◌, ◌||◌}
 use Rattle.std.specs.Char.{is_ascii_whitespace}
-use Rattle.std.specs.List.{position_or_len, prefix_len, suffix_len, before_first, after_first, list_any}
+use Rattle.std.specs.List.{position_or_len, prefix_len, suffix_len, before_first, after_first}
+use Rattle.std.specs.List.{list_any}
+use Rattle.std.specs.Str.{bytes_eq}
 use Rattle.std.proofs.Math.Seq.{take-append_seam, drop-append-add}
 use Rattle.std.proofs.lemmas.Bool.{lt-ltb}
 use Rattle.std.proofs.lemmas.List.{length-append, take_all}
@@ -14,7 +16,6 @@ use Rattle.attr_text.specs.Attributes.{without_trailing_space, is_equals_sign, f
 use Rattle.attr_text.specs.Attributes.{front_behind_space, front_of, items_left, items, lookup}
 use Rattle.attr_text.specs.Attributes.{value_of, value_of_local, first_value, first_values}
 use Rattle.attr_text.specs.Attributes.{ending_fault, has_local_name}
-use Rattle.std.specs.Str.{bytes_eq}
 use Rattle.attr_text.proofs.ItemsLemmas.{items_left-attribute, items_left-nil}
 use Rattle.written_markup.specs.Markup.{attribute}
 use Rattle.written_markup.specs.WrittenText.{has_byte, attributes_of, IsWritablePair}
@@ -97,7 +98,10 @@ front_by_key size (b ∷ key) behind none =
 front_by_value : (size : ℕ) (key value rest : List ℕ) → has_byte 34 value ≡ false
     → front_with_key size key (34 ∷ (value ++ 34 ∷ rest)) ≡ found key value rest
 front_by_value size key value rest none =
-    rw (before_is (λ c. c == 34) value 34 rest none refl, after_is (λ c. c == 34) value 34 rest none refl) refl
+    rw (
+      before_is (λ c. c == 34) value 34 rest none refl,
+      after_is (λ c. c == 34) value 34 rest none refl,
+    ) refl
 
 -- the bytes of an attribute and of what stands behind it
 attribute_bytes : (key value rest : List ℕ) → attribute key value ++ rest
@@ -121,7 +125,8 @@ front_of_attribute size key value rest is =
     let sides = one_side is_ascii_whitespace is_equals_sign key is.key in
     let behind = 34 ∷ (value ++ 34 ∷ rest) in
     ap (front_of size) (attribute_bytes key value rest)
-    ∙ ap (front_behind_space size) (space_left_out (key ++ 61 ∷ behind) ∙ starts_plain key behind sides.0)
+    ∙ ap (front_behind_space size)
+    (space_left_out (key ++ 61 ∷ behind) ∙ starts_plain key behind sides.0)
     ∙ front_by_key size key behind sides.1
     ∙ ap (λ (own : List ℕ). front_with_key size own behind) (key_stays key sides.0)
     ∙ front_by_value size key value rest is.value

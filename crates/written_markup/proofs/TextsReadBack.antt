@@ -44,14 +44,16 @@ quot_character : entity_character (codes "quot") ≡ Some 34
 unfolding entity_character
 quot_character = refl
 
-decoded_amp : (rest : List ℕ) → decoded (codes "&amp;" ++ rest) ≡ onto_decoded (38 ∷ []) 5 (decoded rest)
+decoded_amp : (rest : List ℕ)
+    → decoded (codes "&amp;" ++ rest) ≡ onto_decoded (38 ∷ []) 5 (decoded rest)
 unfolding encode
 decoded_amp rest =
     let text = codes "amp;" ++ rest in
     let within : position_or_len is_semicolon text < length text = omega arith in
     decoded-character text 38 (character_behind-name text (codes "amp") within refl ∙ amp_character)
 
-decoded_quot : (rest : List ℕ) → decoded (codes "&quot;" ++ rest) ≡ onto_decoded (34 ∷ []) 6 (decoded rest)
+decoded_quot : (rest : List ℕ)
+    → decoded (codes "&quot;" ++ rest) ≡ onto_decoded (34 ∷ []) 6 (decoded rest)
 unfolding encode
 decoded_quot rest =
     let text = codes "quot;" ++ rest in

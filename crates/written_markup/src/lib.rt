@@ -5,9 +5,9 @@
 //!
 //! **A draft has a part**: this is its type's own fact, so that no call asks for it, and what it
 //! holds is seen as a package in memory. A caller writes each element by a function of its own,
-//! which appends its events. Lemma files: `Drafted` joins events that were appended; `TextsReadBack`,
-//! `PairsReadBack` and `EventsReadBack` have what written texts and attributes say, and `Nested` what
-//! passes over written elements.
+//! which appends its events. Lemma files: `Drafted` joins events that were appended;
+//! `TextsReadBack`, `PairsReadBack` and `EventsReadBack` have what written texts and attributes
+//! say, and `Nested` what passes over written elements.
 #![tactic(auto)]
 
 mod draft;
