@@ -1,1 +1,3 @@
 pub mod ReadFormulas
+pub mod ReadSheet
+pub mod ReadValues
