@@ -1,6 +1,6 @@
 //! The lines of lists, from plain values (docs/FORMAT.md).
 //!
-//! One room, `lines`: a line for each kind of list, from texts.
+//! One room, `lines`: a line for each kind of list, from texts, positions and areas.
 #![tactic(auto)]
 
 mod lines;

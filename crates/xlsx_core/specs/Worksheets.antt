@@ -1,6 +1,6 @@
 -- What single calls on the worksheets of an open workbook answer.
 use Rattle.std.specs.Prelude.{◌-◌}
-use Rattle.std.specs.Prelude.{◌≡◌, ◌⊎◌, ⊤, ℕ, List, [], true, nat_le, Option, Some, None, Ok}
+use Rattle.std.specs.Prelude.{◌≡◌, ◌⊎◌, ⊤, ⊥, ℕ, List, [], true, nat_le, Option, Some, None, Ok}
 use Rattle.std.specs.Prelude.{map, IsSome, IsSomeAnd, codes, string_bytes, String}
 use Rattle.std.specs.List.{filter}
 use Rattle.std.specs.declared.alloc.Global.{Global}
@@ -276,6 +276,12 @@ pub record EntersSheet
     (path : Option (List ℕ)) (area : Dimensions) (old : PackageState) (new : Stream) : Type 0 where
   pub going : IsGoing new
   pub enters : IsSomeAnd path (λ there. EntersData there area old new)
+
+-- why the path of a sheet's part isn't told: the workbook has no sheet of this name
+abbrev pub LacksPath : List ℕ → Option (List ℕ) → XlsxError → Type 0
+LacksPath name path (WorksheetNotFound asked) = (string_bytes asked ≡ name) × (path ≡ None)
+LacksPath name path OutOfMemory = ⊤
+LacksPath name path error = ⊥
 
 -- when they aren't: nothing is said of the package then, which nobody holds
 abbrev pub ReaderFails : List ℕ → Option (List ℕ) → PackageState → XlsxError → Type 0
