@@ -117,7 +117,8 @@ number_read : (is_1904 : Bool) (form : CellFormat) (n : ℤ × ℤ) → is_decim
     → of_first (number_value is_1904 form false) (first_text (text_events (printed n)))
     ≡ Ok (formatted is_1904 form n)
 number_read is_1904 form n is =
-    number_of_text is_1904 form n (printed n) (printed_has_no_return n (decimal_fits n is).0 (decimal_fits n is).1)
+    let fits = decimal_fits n is in
+    number_of_text is_1904 form n (printed n) (printed_has_no_return n fits.0 fits.1)
     (decimal_is_back n is)
 
 -- ---- one case a kind
@@ -270,7 +271,8 @@ cell_keys_read position value inside =
     (cell_pairs_writable position value inside)
     ∙ ap Ok (found value) where
       found : (value : CellValue)
-          → first_values (codes "r" ∷ codes "s" ∷ codes "t" ∷ []) (map Ok (cell_pairs position value))
+          → first_values (codes "r" ∷ codes "s" ∷ codes "t" ∷ [])
+      (map Ok (cell_pairs position value))
           ≡ Some (reference position) ∷ style_written value ∷ type_written value ∷ []
       found nothing = refl
       found (integer n) = refl
