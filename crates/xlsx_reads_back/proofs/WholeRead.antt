@@ -1,32 +1,36 @@
 -- A written package reads as its values and its formulas.
 use Rattle.std.proofs.Common.{◌≡◌, ℕ, ◌<◌, Bool, true, false, cond, List, [], ◌∷◌, map, Some, None}
 use Rattle.std.proofs.Common.{Option, refl, sym, ap, ◌∙◌}
-use Rattle.std.specs.Prelude.{Ok, codes}
+use Rattle.std.specs.Prelude.{Ok, codes, String, string_bytes}
+use Rattle.std.specs.declared.alloc.Global.{Global}
 use Rattle.std.specs.FinMap.{find}
 use Rattle.std.specs.List.{list_all}
 use Rattle.std.specs.Option.{unwrap_or}
 use Rattle.std.specs.Str.{bytes_eq}
 use Rattle.std.proofs.lemmas.Slice.Eq.{bytes_eq-Decides}
-use Rattle.cell_data.specs.CellValue.{CellValue, nothing}
+use Rattle.cell_data.specs.CellValue.{CellValue, nothing, value_of_data}
+use Rattle.cell_data.specs.Pairs.{value_pairs, formula_pairs}
+use Rattle.cell_data.specs.declared.range.Range.{Range}
+use Rattle.cell_data.specs.declared.value.Data.{Data}
 use Rattle.cell_refs.specs.Positions.{position_cmp}
-use Rattle.cell_styles.specs.StyleMap.{styles_of}
 use Rattle.xlsx_values.specs.Value.{Grounds, cell_value}
 use Rattle.xlsx_open.specs.Opening.{OpensAs}
 use Rattle.xlsx_core.specs.SheetReading.{ReadsAs, opened_grounds, events_named, events_at}
 use Rattle.xlsx_out.specs.Groups.{Placed, formula_placed}
 use Rattle.xlsx_out.specs.Writable.{is_written, are_writable_values, are_writable_formulas}
-use Rattle.xlsx_out.specs.Writable.{counts_from, have_one_epoch}
-use Rattle.xlsx_out.specs.WrittenSheet.{PlacedValues, written_parts, written_positions, sheet_events}
+use Rattle.xlsx_out.specs.Writable.{counts_from, have_one_epoch, IsWritable}
+use Rattle.xlsx_out.specs.WrittenSheet.{PlacedValues, written_parts, sheet_events}
 use Rattle.xlsx_out.specs.WrittenSheet.{cell_attributes}
 use Rattle.cell_refs.proofs.PositionOrder.{and_both}
 use Rattle.xlsx_reads_back.specs.ReadParts.{written_shared}
-use Rattle.xlsx_reads_back.specs.ReadSheet.{is_on_sheet, value_at, id_read}
-use Rattle.xlsx_reads_back.specs.ReadStyles.{written_palette}
+use Rattle.xlsx_reads_back.specs.ReadSheet.{is_on_sheet, value_at}
+use Rattle.xlsx_reads_back.specs.ReadStyles.{written_palette, styles_read}
 use Rattle.xlsx_reads_back.specs.ReadValues.{IsReadBack}
 use Rattle.xlsx_reads_back.proofs.CellsRead.{cell_inside}
 use Rattle.xlsx_reads_back.proofs.DataRead.{cell_tag}
 use Rattle.xlsx_reads_back.proofs.PackageRead.{path_is_found, relationships_are_found}
 use Rattle.xlsx_reads_back.proofs.PackageRead.{sheet_part_is_found}
+use Rattle.xlsx_reads_back.proofs.RangesPlaced.{pairs_rise, pairs_in_sheet}
 use Rattle.xlsx_reads_back.proofs.SharedRead.{shared_is_read}
 use Rattle.xlsx_reads_back.proofs.SheetBounds.{on_sheet_parts}
 use Rattle.xlsx_reads_back.proofs.SheetHeld.{ArePlaced, CellsHaveValues, sheet_holds}
@@ -80,7 +84,7 @@ module _ (name : List ℕ) (values : PlacedValues) (formulas : Placed) where
   pub written_reads_as : ArePlaced values formulas → are_writable_values values ≡ true →
       are_writable_formulas formulas ≡ true →
       ReadsAs (written_parts name values formulas) name values formulas
-      (styles_of written_palette (map (id_read values) (written_positions values formulas)))
+      (styles_read values formulas)
   written_reads_as placed writable some = record {
     opening = opening_of name values written_shared;
     palette = written_palette;
@@ -92,3 +96,19 @@ module _ (name : List ℕ) (values : PlacedValues) (formulas : Placed) where
         sheet_holds grounds values formulas placed (cells_have writable) written_palette
         (and_both (list_all (λ e. is_written e.1) values) (have_one_epoch values) writable).0 some;
   }
+
+-- what is written of ranges that are writable reads back
+pub ranges_read_as : (name : List ℕ) (values : Range Data) (formulas : Range (String Global)) →
+    IsWritable values formulas →
+    ReadsAs (written_parts name (value_pairs values) (formula_pairs formulas)) name
+    (value_pairs values) (formula_pairs formulas)
+    (styles_read (value_pairs values) (formula_pairs formulas))
+ranges_read_as name values formulas writable =
+    written_reads_as name (value_pairs values) (formula_pairs formulas)
+    (record {
+      values_rise = pairs_rise value_of_data values;
+      formulas_rise = pairs_rise string_bytes formulas;
+      values_inside = pairs_in_sheet value_of_data values;
+      formulas_inside = pairs_in_sheet string_bytes formulas;
+    })
+    writable.values_kept writable.formulas_kept
