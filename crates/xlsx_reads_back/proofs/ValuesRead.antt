@@ -1,15 +1,16 @@
 -- A written cell has the value that was written, in the format of the style that was written.
-use Rattle.std.proofs.Common.{◌≡◌, ℕ, ℤ, suc, ◌<◌, Bool, true, false, List, [], ◌∷◌, ◌++◌, length}
+use Rattle.std.proofs.Common.{◌≡◌, ℕ, ℤ, ◌<◌, Bool, true, false, List, [], ◌∷◌, ◌++◌}
 use Rattle.std.proofs.Common.{map, Option, Some, None, Ok, Err, Result, refl, sym, ap, ◌∙◌}
-use Rattle.std.proofs.Common.{append-nil}
-use Rattle.std.specs.Prelude.{◌==◌, codes}
+use Rattle.std.proofs.Common.{append-nil, arith}
+use Rattle.std.specs.Prelude.{◌==◌, ◌&&◌, ◌||◌, ◌%◌, not, nat_abs, pos, negsuc, codes}
+use Rattle.std.proofs.lemmas.Bool.{eq-eqb, eqb-true}
+use Rattle.cell_refs.proofs.PositionOrder.{and_both}
 use Rattle.std.specs.Str.{trim_start, trim_end, chars}
 use lib.Utf8.{encode}
 use Rattle.attr_text.specs.Attributes.{lookup, first_values}
-use Rattle.attr_text.specs.Text.{unescaped}
-use Rattle.part_events.specs.Event.{Tag, Event, leaf, text as text_leaf, end}
-use Rattle.part_events.specs.JoinedText.{joined_text, unknown_entity}
-use Rattle.part_events.specs.Section.{Element, children, is_any}
+use Rattle.part_events.specs.Event.{Event, leaf, text as text_leaf}
+use Rattle.part_events.specs.JoinedText.{joined_text}
+use Rattle.part_events.specs.Section.{children, is_any}
 use Rattle.cell_refs.specs.Reference.{reference}
 use Rattle.cell_data.specs.CellValue.{CellValue, nothing, integer, number, text, shared_text, truth}
 use Rattle.cell_data.specs.CellValue.{time, iso_time, failure}
@@ -20,7 +21,7 @@ use Rattle.cell_data.specs.declared.value.CellErrorType.TheVariants.{Div0, NA, N
 use Rattle.cell_data.specs.declared.value.CellErrorType.TheVariants.{Value, GettingData}
 use Rattle.cell_data.specs.declared.value.ExcelDateTimeType.{ExcelDateTimeType}
 use Rattle.cell_data.specs.declared.value.ExcelDateTimeType.TheVariants.{DateTime, TimeDelta}
-use Rattle.decimals.specs.Decimals.{decimal_of, printed}
+use Rattle.decimals.specs.Decimals.{decimal_of, printed, has_bits}
 use Rattle.decimals.proofs.ReadsBack.{printed_back}
 use Rattle.written_markup.specs.Markup.{element}
 use Rattle.written_markup.specs.Nests.{IsNested, none}
@@ -30,19 +31,20 @@ use Rattle.written_markup.proofs.EventsReadBack.{events_without_return}
 use Rattle.written_markup.proofs.Nested.{outermost_of_elements, text_events_nested}
 use Rattle.written_markup.proofs.PairsReadBack.{lookup_written}
 use Rattle.written_markup.proofs.TextsReadBack.{unescaped_escaped}
-use Rattle.xlsx_sections.specs.Answers.{last_answer, or_earlier, or_later}
+use Rattle.xlsx_sections.specs.Answers.{last_answer, or_later}
 use Rattle.xlsx_sections.specs.ElementText.{known_text, element_text}
 use Rattle.xlsx_sections.specs.Refusal.{Refusal}
-use Rattle.xlsx_values.specs.CellType.{CellKind, untyped, of_text, of_date, kind_named}
+use Rattle.xlsx_values.specs.CellType.{CellKind, of_text, of_date, kind_named}
 use Rattle.xlsx_values.specs.Value.{Grounds, cell_value, looked_value, value_in, value_element}
-use Rattle.xlsx_values.specs.Value.{child_value, or_nothing, format_of, resolved, first_text}
-use Rattle.xlsx_values.specs.Value.{number_value, or_no_number, formatted, of_first, of_joined}
-use Rattle.xlsx_values.specs.Value.{value_of_first, value_of_joined, some_value}
+use Rattle.xlsx_values.specs.Value.{child_value, or_nothing, format_of, first_text}
+use Rattle.xlsx_values.specs.Value.{number_value, formatted, of_first, of_joined}
+use Rattle.xlsx_values.specs.Value.{value_of_joined, some_value}
 use Rattle.xlsx_out.specs.Groups.{Placed, WrittenFormula, plain, master, derived, written_formula}
+use Rattle.xlsx_out.specs.Writable.{is_decimal, is_written, counts_from}
 use Rattle.xlsx_out.specs.WrittenSheet.{cell_attributes, style_written, type_written, value_written}
 use Rattle.xlsx_out.specs.WrittenSheet.{value_events, formula_events, optional_formula}
 use Rattle.xlsx_out.specs.WrittenSheet.{master_attributes, derived_attributes}
-use Rattle.xlsx_reads_back.specs.ReadValues.{IsDecimal, IsReadBack, written_formats}
+use Rattle.xlsx_reads_back.specs.ReadValues.{IsReadBack, written_formats}
 use Rattle.xlsx_reads_back.proofs.CellPairs.{cell_pairs, cell_attributes_are, cell_pairs_writable}
 use Rattle.xlsx_reads_back.proofs.WrittenBytes.{printed_has_no_return}
 
@@ -62,8 +64,38 @@ first_of_one read bytes events is =
 
 -- ---- numbers
 
-decimal_is_back : (n : ℤ × ℤ) → IsDecimal n → decimal_of (printed n) ≡ Some n
-decimal_is_back n is = printed_back n.0 n.1 is.fits is.power is.zero is.trimmed
+abs_zero : (z : ℤ) → nat_abs z ≡ 0 → z ≡ pos 0
+abs_zero (pos n) is = ap pos is
+abs_zero (negsuc n) is = absurd (omega (arith, is))
+
+zero_ends : (z : ℤ) → z ≡ pos 0 → nat_abs z % 10 ≡ 0
+zero_ends z is = ap (λ (own : ℤ). nat_abs own % 10) is
+
+-- only zero ends in a zero, and has the power 0
+zero_alone : (a b : ℕ) → (not (a % 10 == 0) || (a == 0 && b == 0)) ≡ true → a % 10 ≡ 0
+    → (a ≡ 0) × (b ≡ 0)
+zero_alone a b test ends =
+    let both = and_both (a == 0) (b == 0) (rw (eq-eqb (a % 10) 0 ends) at test) in
+    (eqb-true a 0 both.0, eqb-true b 0 both.1)
+
+-- the bits of a decimal
+decimal_fits : (n : ℤ × ℤ) → is_decimal n ≡ true
+    → (has_bits 127 n.0 ≡ true) × (has_bits 31 n.1 ≡ true)
+decimal_fits n is =
+    and_both (has_bits 127 n.0) (has_bits 31 n.1)
+    (and_both (has_bits 127 n.0 && has_bits 31 n.1)
+    (not (nat_abs n.0 % 10 == 0) || (nat_abs n.0 == 0 && nat_abs n.1 == 0)) is).0
+
+-- the text of a decimal says it
+decimal_is_back : (n : ℤ × ℤ) → is_decimal n ≡ true → decimal_of (printed n) ≡ Some n
+decimal_is_back n is =
+    let fits = decimal_fits n is in
+    let form = zero_alone (nat_abs n.0) (nat_abs n.1)
+    (and_both (has_bits 127 n.0 && has_bits 31 n.1)
+    (not (nat_abs n.0 % 10 == 0) || (nat_abs n.0 == 0 && nat_abs n.1 == 0)) is).1 in
+    printed_back n.0 n.1 fits.0 fits.1
+    (λ zero. abs_zero n.1 (form (zero_ends n.0 zero)).1)
+    (λ ends. abs_zero n.0 (form ends).0)
 
 no_decimal : decimal_of [] ≡ None
 unfolding decimal_of
@@ -81,11 +113,11 @@ number_of_text is_1904 form n (b ∷ bs) no_return reads =
     (events_without_return b bs no_return)
     ∙ (rw reads refl)
 
-number_read : (is_1904 : Bool) (form : CellFormat) (n : ℤ × ℤ) → IsDecimal n
+number_read : (is_1904 : Bool) (form : CellFormat) (n : ℤ × ℤ) → is_decimal n ≡ true
     → of_first (number_value is_1904 form false) (first_text (text_events (printed n)))
     ≡ Ok (formatted is_1904 form n)
 number_read is_1904 form n is =
-    number_of_text is_1904 form n (printed n) (printed_has_no_return n is.fits is.power)
+    number_of_text is_1904 form n (printed n) (printed_has_no_return n (decimal_fits n is).0 (decimal_fits n is).1)
     (decimal_is_back n is)
 
 -- ---- one case a kind
@@ -122,7 +154,7 @@ iso_says : (grounds : Grounds) (bytes : List ℕ) → Says grounds (iso_time byt
 iso_says grounds bytes =
     ap (λ own. some_value (of_joined (value_of_joined of_date) own)) (element_text_written bytes)
 
-number_says : (grounds : Grounds) (n : ℤ × ℤ) → IsDecimal n → Says grounds (number n)
+number_says : (grounds : Grounds) (n : ℤ × ℤ) → is_decimal n ≡ true → Says grounds (number n)
 number_says grounds n is = ap some_value (number_read grounds.is_1904 format.Other n is)
 
 -- the formats that the styles of times have
@@ -134,7 +166,7 @@ time_format formats are days DateTime is_1904 = rw are refl
 time_format formats are days TimeDelta is_1904 = rw are refl
 
 time_says : (grounds : Grounds) → grounds.formats ≡ written_formats
-    → (days : ℤ × ℤ) (kind : ExcelDateTimeType) (is_1904 : Bool) → IsDecimal days
+    → (days : ℤ × ℤ) (kind : ExcelDateTimeType) (is_1904 : Bool) → is_decimal days ≡ true
     → is_1904 ≡ grounds.is_1904 → Says grounds (time days kind is_1904)
 time_says grounds are days kind is_1904 is epoch =
     ap some_value (number_read grounds.is_1904
@@ -152,27 +184,29 @@ formula_says_nothing : (grounds : Grounds) (form : CellFormat) (kind : CellKind)
     ≡ last_answer (child_value grounds form kind) (children rest)
 formula_says_nothing grounds form kind position w rest =
     by w where
-  later : (r : Result (Option CellValue) Refusal) → or_later (Ok None) r ≡ r
-  later (Ok (Some found)) = refl
-  later (Ok None) = refl
-  later (Err refusal) = refl
-  one : (attributes : List ℕ) (inside : List Event) → IsNested inside
-      → last_answer (child_value grounds form kind)
-      (children (element (codes "f") attributes inside ++ rest))
-      ≡ last_answer (child_value grounds form kind) (children rest)
-  one attributes inside is =
-      ap (last_answer (child_value grounds form kind))
-      (outermost_of_elements is_any (codes "f") attributes inside rest is refl)
-      ∙ later (last_answer (child_value grounds form kind) (children rest))
-  by : (w : WrittenFormula)
-      → last_answer (child_value grounds form kind)
-      (children (formula_events position w ++ rest))
-      ≡ last_answer (child_value grounds form kind) (children rest)
-  by (plain formula) = one [] (text_events formula) (text_events_nested formula)
-  by (master formula last index) =
-      one (master_attributes position last index) (text_events formula)
-      (text_events_nested formula)
-  by (derived index) = one (derived_attributes index) [] none
+      later : (r : Result (Option CellValue) Refusal) → or_later (Ok None) r ≡ r
+      later (Ok (Some found)) = refl
+      later (Ok None) = refl
+      later (Err refusal) = refl
+
+      one : (attributes : List ℕ) (inside : List Event) → IsNested inside
+          → last_answer (child_value grounds form kind)
+          (children (element (codes "f") attributes inside ++ rest))
+          ≡ last_answer (child_value grounds form kind) (children rest)
+      one attributes inside is =
+          ap (last_answer (child_value grounds form kind))
+          (outermost_of_elements is_any (codes "f") attributes inside rest is refl)
+          ∙ later (last_answer (child_value grounds form kind) (children rest))
+
+      by : (w : WrittenFormula)
+          → last_answer (child_value grounds form kind)
+          (children (formula_events position w ++ rest))
+          ≡ last_answer (child_value grounds form kind) (children rest)
+      by (plain formula) = one [] (text_events formula) (text_events_nested formula)
+      by (master formula last index) =
+          one (master_attributes position last index) (text_events formula)
+          (text_events_nested formula)
+      by (derived index) = one (derived_attributes index) [] none
 
 optional_says_nothing : (grounds : Grounds) (form : CellFormat) (kind : CellKind)
     (formulas : Placed) (position : ℕ × ℕ) (o : Option (List ℕ)) (rest : List Event)
@@ -235,18 +269,18 @@ cell_keys_read position value inside =
     ∙ lookup_written (codes "r" ∷ codes "s" ∷ codes "t" ∷ []) (cell_pairs position value)
     (cell_pairs_writable position value inside)
     ∙ ap Ok (found value) where
-  found : (value : CellValue)
-      → first_values (codes "r" ∷ codes "s" ∷ codes "t" ∷ []) (map Ok (cell_pairs position value))
-      ≡ Some (reference position) ∷ style_written value ∷ type_written value ∷ []
-  found nothing = refl
-  found (integer n) = refl
-  found (number n) = refl
-  found (text bytes) = refl
-  found (shared_text place) = refl
-  found (truth holds) = refl
-  found (time days kind is_1904) = refl
-  found (iso_time bytes) = refl
-  found (failure error) = refl
+      found : (value : CellValue)
+          → first_values (codes "r" ∷ codes "s" ∷ codes "t" ∷ []) (map Ok (cell_pairs position value))
+          ≡ Some (reference position) ∷ style_written value ∷ type_written value ∷ []
+      found nothing = refl
+      found (integer n) = refl
+      found (number n) = refl
+      found (text bytes) = refl
+      found (shared_text place) = refl
+      found (truth holds) = refl
+      found (time days kind is_1904) = refl
+      found (iso_time bytes) = refl
+      found (failure error) = refl
 
 -- the value of a written cell is the value that was written
 pub cell_value_read : (grounds : Grounds) → grounds.formats ≡ written_formats
@@ -263,15 +297,23 @@ cell_value_read grounds are formulas position o value inside is =
     (optional_says_nothing grounds form kind formulas position o (value_events value))
     ∙ written_value grounds are value is
 
--- such a value has no shared string to be put in
-pub resolved_same : (strings : List (List ℕ)) (is_1904 : Bool) (value : CellValue)
-    → IsReadBack is_1904 value → resolved strings value ≡ value
-resolved_same strings is_1904 nothing is = refl
-resolved_same strings is_1904 (integer n) is = refl
-resolved_same strings is_1904 (number n) is = refl
-resolved_same strings is_1904 (text bytes) is = refl
-resolved_same strings is_1904 (shared_text place) is = absurd is
-resolved_same strings is_1904 (truth holds) is = refl
-resolved_same strings is_1904 (time days kind epoch) is = refl
-resolved_same strings is_1904 (iso_time bytes) is = refl
-resolved_same strings is_1904 (failure error) is = refl
+same_epoch : (epoch is_1904 : Bool) → (days : ℤ × ℤ) (kind : ExcelDateTimeType)
+    → counts_from is_1904 (time days kind epoch) ≡ true → epoch ≡ is_1904
+same_epoch true true days kind counts = refl
+same_epoch false true days kind counts = absurd (cc)
+same_epoch true false days kind counts = absurd (cc)
+same_epoch false false days kind counts = refl
+
+-- a value that is written, and counts from the first year, reads back
+pub written_reads_back : (is_1904 : Bool) (value : CellValue) → is_written value ≡ true
+    → counts_from is_1904 value ≡ true → IsReadBack is_1904 value
+written_reads_back is_1904 nothing written counts = tt
+written_reads_back is_1904 (integer n) written counts = absurd (cc)
+written_reads_back is_1904 (number n) written counts = written
+written_reads_back is_1904 (text bytes) written counts = tt
+written_reads_back is_1904 (shared_text place) written counts = absurd (cc)
+written_reads_back is_1904 (truth holds) written counts = tt
+written_reads_back is_1904 (time days kind epoch) written counts =
+    (written, same_epoch epoch is_1904 days kind counts)
+written_reads_back is_1904 (iso_time bytes) written counts = tt
+written_reads_back is_1904 (failure error) written counts = written
