@@ -1,8 +1,12 @@
 -- The styles that are read of those that are written: they say nothing but how numbers are written.
 use Rattle.std.specs.Prelude.{ℕ, List, [], ◌∷◌, codes, map, Some, None}
 use Rattle.cell_styles.specs.StyleFormats.{NumberFormatFields}
+use Rattle.cell_styles.specs.StyleMap.{StyleMap, styles_of}
 use Rattle.cell_styles.specs.declared.style.Style.{Style}
 use Rattle.xlsx_formats.specs.Formattings.{StyleSaid, style_said}
+use Rattle.xlsx_out.specs.Groups.{Placed}
+use Rattle.xlsx_out.specs.WrittenSheet.{PlacedValues, written_positions}
+use Rattle.xlsx_reads_back.specs.ReadSheet.{id_read}
 
 -- the style of a number format, by its id and its code
 abbrev pub style_of_format : ℕ → List ℕ → Style
@@ -24,3 +28,8 @@ written_palette =
 -- what they say
 abbrev pub written_styles : List StyleSaid
 written_styles = map style_said written_palette
+
+-- the styles that are read of the cells of these values and formulas
+abbrev pub styles_read : PlacedValues → Placed → StyleMap
+styles_read values formulas =
+    styles_of written_palette (map (id_read values) (written_positions values formulas))
