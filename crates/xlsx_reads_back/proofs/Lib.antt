@@ -6,7 +6,6 @@ mod GroupsRead
 mod CellPairs
 mod WrittenBytes
 mod ValuesRead
-mod WrittenValues
 mod DataRead
 mod CellsRead
 mod FormulaTexts
@@ -21,4 +20,5 @@ mod WorkbookRead
 mod StylesRead
 mod SharedRead
 mod RangesPlaced
+mod CellsValued
 mod WholeRead

@@ -3,9 +3,7 @@ use Rattle.std.proofs.Common.{◌≡◌, ℕ, ◌<◌, Bool, true, false, cond, 
 use Rattle.std.proofs.Common.{Option, refl, sym, ap, ◌∙◌}
 use Rattle.std.specs.Prelude.{Ok, codes, String, string_bytes}
 use Rattle.std.specs.declared.alloc.Global.{Global}
-use Rattle.std.specs.FinMap.{find}
 use Rattle.std.specs.List.{list_all}
-use Rattle.std.specs.Option.{unwrap_or}
 use Rattle.std.specs.Str.{bytes_eq}
 use Rattle.std.proofs.lemmas.Slice.Eq.{bytes_eq-Decides}
 use Rattle.cell_data.specs.CellValue.{CellValue, nothing, value_of_data}
@@ -18,25 +16,20 @@ use Rattle.xlsx_open.specs.Opening.{OpensAs}
 use Rattle.xlsx_core.specs.SheetReading.{ReadsAs, opened_grounds, events_named, events_at}
 use Rattle.xlsx_out.specs.Groups.{Placed, formula_placed}
 use Rattle.xlsx_out.specs.Writable.{is_written, are_writable_values, are_writable_formulas}
-use Rattle.xlsx_out.specs.Writable.{counts_from, have_one_epoch, IsWritable}
+use Rattle.xlsx_out.specs.Writable.{have_one_epoch, IsWritable}
 use Rattle.xlsx_out.specs.WrittenSheet.{PlacedValues, written_parts, sheet_events}
 use Rattle.xlsx_out.specs.WrittenSheet.{cell_attributes}
 use Rattle.cell_refs.proofs.PositionOrder.{and_both}
 use Rattle.xlsx_reads_back.specs.ReadParts.{written_shared}
 use Rattle.xlsx_reads_back.specs.ReadSheet.{is_on_sheet, value_at}
 use Rattle.xlsx_reads_back.specs.ReadStyles.{written_palette, styles_read}
-use Rattle.xlsx_reads_back.specs.ReadValues.{IsReadBack}
-use Rattle.xlsx_reads_back.proofs.CellsRead.{cell_inside}
-use Rattle.xlsx_reads_back.proofs.DataRead.{cell_tag}
 use Rattle.xlsx_reads_back.proofs.PackageRead.{path_is_found, relationships_are_found}
 use Rattle.xlsx_reads_back.proofs.PackageRead.{sheet_part_is_found}
 use Rattle.xlsx_reads_back.proofs.RangesPlaced.{pairs_rise, pairs_in_sheet}
 use Rattle.xlsx_reads_back.proofs.SharedRead.{shared_is_read}
-use Rattle.xlsx_reads_back.proofs.SheetBounds.{on_sheet_parts}
 use Rattle.xlsx_reads_back.proofs.SheetHeld.{ArePlaced, CellsHaveValues, sheet_holds}
-use Rattle.xlsx_reads_back.proofs.ValuesPlaced.{found_passes, epoch_is_read}
-use Rattle.xlsx_reads_back.proofs.ValuesRead.{cell_value_read}
-use Rattle.xlsx_reads_back.proofs.WrittenValues.{written_is_back}
+use Rattle.xlsx_reads_back.proofs.CellsValued.{written_cells_have_values}
+use Rattle.xlsx_reads_back.proofs.ValuesPlaced.{epoch_is_read}
 use Rattle.xlsx_reads_back.proofs.WorkbookRead.{opening_of, written_related, workbook_is_read}
 use Rattle.xlsx_reads_back.proofs.WorkbookRead.{written_epoch, written_sheet}
 
@@ -66,19 +59,10 @@ module _ (name : List ℕ) (values : PlacedValues) (formulas : Placed) where
   grounds = opened_grounds (opening_of name values written_shared)
 
   cells_have : are_writable_values values ≡ true → CellsHaveValues grounds values formulas
-  cells_have writable p on =
-      cell_value_read grounds refl formulas p (formula_placed formulas p) (value_at values p)
-      (on_sheet_parts p on).0 (back (find position_cmp p values) refl) where
-    back : (o : Option CellValue) → find position_cmp p values ≡ o →
-        IsReadBack (written_epoch values) (unwrap_or o nothing)
-    back None is = tt
-    back (Some value) is =
-        let parts = and_both (list_all (λ e. is_written e.1) values) (have_one_epoch values)
-        writable in
-        written_is_back (written_epoch values) value
-        (found_passes is_written values p value parts.0 is)
-        (found_passes (counts_from (written_epoch values)) values p value
-        (epoch_is_read values parts.1) is)
+  cells_have writable =
+      let parts = and_both (list_all (λ e. is_written e.1) values) (have_one_epoch values)
+      writable in
+      written_cells_have_values grounds values formulas refl parts.0 (epoch_is_read values parts.1)
 
   -- and so reads as the sheet
   pub written_reads_as : ArePlaced values formulas → are_writable_values values ≡ true →

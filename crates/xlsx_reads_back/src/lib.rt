@@ -14,7 +14,7 @@
 //! *Data*: `DataRead` (what each cell gives by itself is what the data give), `SheetBounds` (what
 //! lies on a sheet, and fits), `SheetRead`, `ValuesPlaced`. *The sheet's part*: `SheetPartRead`,
 //! `SheetHeld`. *The package*: `RootsRead`, `PackageRead`, `WorkbookRead`, `StylesRead`,
-//! `SharedRead`, and with the values that are writable (`WrittenValues`) and what ranges keep
+//! `SharedRead`, and with the values that are writable (`CellsValued`) and what ranges keep
 //! (`RangesPlaced`) all of it (`WholeRead`).
 #![tactic(auto)]
 
