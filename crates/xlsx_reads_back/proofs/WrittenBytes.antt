@@ -1,7 +1,7 @@
--- Which bytes numbers are written with.
-use Rattle.std.proofs.Common.{◌≡◌, ℕ, zero, suc, ◌+◌, ◌-◌, ◌^◌, ◌<◌, ◌≤◌, Bool, true, false, List}
-use Rattle.std.proofs.Common.{[], ◌∷◌, ◌++◌, length, take, drop, replicate, ℤ, pos, negsuc, refl}
-use Rattle.std.proofs.Common.{sym, ap, ◌∙◌, arith}
+-- The text of a number has no CR.
+use Rattle.std.proofs.Common.{◌≡◌, ℕ, zero, suc, ◌+◌, ◌-◌, ◌^◌, ◌<◌, Bool, true, false, List, []}
+use Rattle.std.proofs.Common.{◌∷◌, ◌++◌, length, take, drop, replicate, ℤ, pos, negsuc, refl, sym}
+use Rattle.std.proofs.Common.{ap, ◌∙◌, arith}
 use Rattle.std.specs.Prelude.{◌==◌, nat_lt, nat_le, if◌then◌else◌}
 use Rattle.std.specs.Char.{digit_value}
 use Rattle.std.specs.Fmt.{decimal, signed_decimal}
@@ -16,110 +16,81 @@ use Rattle.decimals.specs.Decimals.{with_exponent}
 use Rattle.written_markup.specs.WrittenText.{has_byte}
 use Rattle.written_markup.proofs.TextsReadBack.{neither}
 
--- a byte that stands in no number: no digit, no point, no sign and no mark of an exponent
-record IsOutside (byte : ℕ) : Type 0 where
-  no_digit : 10 ≤ digit_value byte
-  no_zero : (48 == byte) ≡ false
-  no_point : (46 == byte) ≡ false
-  no_sign : (45 == byte) ≡ false
-  no_mark : (69 == byte) ≡ false
+-- a text has no CR
+abbrev HasNoReturn : List ℕ → Type 0
+HasNoReturn text = has_byte 13 text ≡ false
 
-return_is_outside : IsOutside 13
-return_is_outside = record {
-  no_digit = omega arith;
-  no_zero = refl;
-  no_point = refl;
-  no_sign = refl;
-  no_mark = refl;
-}
+in_a_row : (front behind : List ℕ) → HasNoReturn front → HasNoReturn behind
+    → HasNoReturn (front ++ behind)
+in_a_row front behind first second =
+    list_any-append (λ b. b == 13) front behind ∙ (rw (first, second) refl)
 
--- a byte in neither of two texts
-in_neither : (byte : ℕ) (front behind : List ℕ) → has_byte byte front ≡ false
-    → has_byte byte behind ≡ false → has_byte byte (front ++ behind) ≡ false
-in_neither byte front behind first second =
-    list_any-append (λ b. b == byte) front behind ∙ (rw (first, second) refl)
+cut_apart : (n : ℕ) (text : List ℕ) → HasNoReturn text
+    → HasNoReturn (take n text) × HasNoReturn (drop n text)
+cut_apart n text none =
+    neither (has_byte 13 (take n text)) (has_byte 13 (drop n text))
+    (sym (list_any-append (λ b. b == 13) (take n text) (drop n text))
+    ∙ (ap (has_byte 13) (take-append-drop n text) ∙ none))
 
-in_both : (byte : ℕ) (front behind : List ℕ) → has_byte byte (front ++ behind) ≡ false
-    → (has_byte byte front ≡ false) × (has_byte byte behind ≡ false)
-in_both byte front behind none =
-    neither (has_byte byte front) (has_byte byte behind)
-    (sym (list_any-append (λ b. b == byte) front behind) ∙ none)
+digit_is_none : (c : ℕ) → digit_value c < 10 → (c == 13) ≡ false
+digit_is_none c digit = ne_eqb c 13 (λ same. absurd (omega (arith, digit, ap digit_value same)))
 
-cut_in : (byte n : ℕ) (text : List ℕ) → has_byte byte text ≡ false
-    → (has_byte byte (take n text) ≡ false) × (has_byte byte (drop n text) ≡ false)
-cut_in byte n text none =
-    in_both byte (take n text) (drop n text) (ap (has_byte byte) (take-append-drop n text) ∙ none)
+digits_have_none : (digits : List ℕ) → AllDigits 10 digits → HasNoReturn digits
+digits_have_none [] all = refl
+digits_have_none (c ∷ digits) all =
+    rw (digit_is_none c all.0) (digits_have_none digits all.1)
 
-digit_differs : (byte c : ℕ) → 10 ≤ digit_value byte → digit_value c < 10 → (c == byte) ≡ false
-digit_differs byte c outside digit =
-    ne_eqb c byte (λ same. absurd (omega (arith, outside, digit, ap digit_value same)))
+decimal_has_none : (n : ℕ) → n < 10 ^ 64 → HasNoReturn (decimal n)
+decimal_has_none n small = digits_have_none (decimal n) (decimal_is_IsNumeral_wide n small).0.1
 
-digits_lack : (byte : ℕ) (digits : List ℕ) → 10 ≤ digit_value byte → AllDigits 10 digits
-    → has_byte byte digits ≡ false
-digits_lack byte [] outside all = refl
-digits_lack byte (c ∷ digits) outside all =
-    rw (digit_differs byte c outside all.0) (digits_lack byte digits outside all.1)
+zeros_have_none : (n : ℕ) → HasNoReturn (replicate n 48)
+zeros_have_none zero = refl
+zeros_have_none (suc n) = zeros_have_none n
 
-decimal_lacks : (byte n : ℕ) → 10 ≤ digit_value byte → n < 10 ^ 64
-    → has_byte byte (decimal n) ≡ false
-decimal_lacks byte n outside small =
-    digits_lack byte (decimal n) outside (decimal_is_IsNumeral_wide n small).0.1
+point_has_none : (places : ℕ) (digits : List ℕ) → HasNoReturn digits
+    → HasNoReturn (with_point places digits)
+point_has_none places digits none =
+    let zeros = replicate (places + 1 - length digits) 48 in
+    let all = zeros ++ digits in
+    let cut = cut_apart (length all - places) all
+    (in_a_row zeros digits (zeros_have_none (places + 1 - length digits)) none) in
+    in_a_row (take (length all - places) all) (46 ∷ drop (length all - places) all) cut.0 cut.1
 
-zeros_lack : (byte n : ℕ) → (48 == byte) ≡ false → has_byte byte (replicate n 48) ≡ false
-zeros_lack byte zero other = refl
-zeros_lack byte (suc n) other = rw other (zeros_lack byte n other)
+signed_has_none : (z : ℤ) → has_bits 31 z ≡ true → HasNoReturn (signed_decimal z)
+signed_has_none (pos n) fits = decimal_has_none n (grind (arith, nat_tests, fits))
+signed_has_none (negsuc n) fits = decimal_has_none (suc n) (grind (arith, nat_tests, fits))
 
--- ---- numbers
+exponent_has_none : (digits : List ℕ) (power : ℤ) → has_bits 31 power ≡ true
+    → HasNoReturn digits → HasNoReturn (with_exponent digits power)
+exponent_has_none digits power fits none =
+    in_a_row digits (69 ∷ signed_decimal power) none (signed_has_none power fits)
 
-module _ (byte : ℕ) (out : IsOutside byte) where
-  point_lacks : (places : ℕ) (digits : List ℕ) → has_byte byte digits ≡ false
-      → has_byte byte (with_point places digits) ≡ false
-  point_lacks places digits none =
-      let all = replicate (places + 1 - length digits) 48 ++ digits in
-      let cut = cut_in byte (length all - places) all
-      (in_neither byte (replicate (places + 1 - length digits) 48) digits
-      (zeros_lack byte (places + 1 - length digits) out.no_zero) none) in
-      in_neither byte (take (length all - places) all) (46 ∷ drop (length all - places) all) cut.0
-      (rw out.no_point cut.1)
+either : (test : Bool) (one other : List ℕ) → HasNoReturn one → HasNoReturn other
+    → HasNoReturn (if test then one else other)
+either true one other first second = first
+either false one other first second = second
 
-  signed_lacks : (z : ℤ) → has_bits 31 z ≡ true → has_byte byte (signed_decimal z) ≡ false
-  signed_lacks (pos n) fits =
-      decimal_lacks byte n out.no_digit (grind (arith, nat_tests, fits))
-  signed_lacks (negsuc n) fits =
-      rw out.no_sign (decimal_lacks byte (suc n) out.no_digit (grind (arith, nat_tests, fits)))
+digits_printed : (digits : List ℕ) (power : ℤ) → has_bits 31 power ≡ true → HasNoReturn digits
+    → HasNoReturn (printed_digits digits power)
+digits_printed digits (pos n) fits none =
+    either (nat_le n 20) (digits ++ replicate n 48) (with_exponent digits (pos n))
+    (in_a_row digits (replicate n 48) none (zeros_have_none n))
+    (exponent_has_none digits (pos n) fits none)
+digits_printed digits (negsuc n) fits none =
+    either (nat_lt n 20) (with_point (n + 1) digits) (with_exponent digits (negsuc n))
+    (point_has_none (n + 1) digits none) (exponent_has_none digits (negsuc n) fits none)
 
-  exponent_lacks : (digits : List ℕ) (power : ℤ) → has_bits 31 power ≡ true
-      → has_byte byte digits ≡ false → has_byte byte (with_exponent digits power) ≡ false
-  exponent_lacks digits power fits none =
-      in_neither byte digits (69 ∷ signed_decimal power) none
-      (rw out.no_mark (signed_lacks power fits))
-
-  either_lacks : (test : Bool) (one other : List ℕ) → has_byte byte one ≡ false
-      → has_byte byte other ≡ false → has_byte byte (if test then one else other) ≡ false
-  either_lacks true one other first second = first
-  either_lacks false one other first second = second
-
-  digits_printed_lack : (digits : List ℕ) (power : ℤ) → has_bits 31 power ≡ true
-      → has_byte byte digits ≡ false → has_byte byte (printed_digits digits power) ≡ false
-  digits_printed_lack digits (pos n) fits none =
-      either_lacks (nat_le n 20) (digits ++ replicate n 48) (with_exponent digits (pos n))
-      (in_neither byte digits (replicate n 48) none (zeros_lack byte n out.no_zero))
-      (exponent_lacks digits (pos n) fits none)
-  digits_printed_lack digits (negsuc n) fits none =
-      either_lacks (nat_lt n 20) (with_point (n + 1) digits) (with_exponent digits (negsuc n))
-      (point_lacks (n + 1) digits none) (exponent_lacks digits (negsuc n) fits none)
-
-  signed_printed_lacks : (mantissa power : ℤ) → has_bits 127 mantissa ≡ true
-      → has_bits 31 power ≡ true → has_byte byte (printed_signed mantissa power) ≡ false
-  signed_printed_lacks (pos n) power fits power_fits =
-      digits_printed_lack (decimal n) power power_fits
-      (decimal_lacks byte n out.no_digit (grind (arith, nat_tests, fits)))
-  signed_printed_lacks (negsuc n) power fits power_fits =
-      rw out.no_sign (digits_printed_lack (decimal (n + 1)) power power_fits
-      (decimal_lacks byte (n + 1) out.no_digit (grind (arith, nat_tests, fits))))
+signed_printed : (mantissa power : ℤ) → has_bits 127 mantissa ≡ true → has_bits 31 power ≡ true
+    → HasNoReturn (printed_signed mantissa power)
+signed_printed (pos n) power fits power_fits =
+    digits_printed (decimal n) power power_fits
+    (decimal_has_none n (grind (arith, nat_tests, fits)))
+signed_printed (negsuc n) power fits power_fits =
+    digits_printed (decimal (n + 1)) power power_fits
+    (decimal_has_none (n + 1) (grind (arith, nat_tests, fits)))
 
 -- the text of a decimal has no CR
 pub printed_has_no_return : (n : ℤ × ℤ) → has_bits 127 n.0 ≡ true → has_bits 31 n.1 ≡ true
     → has_byte 13 (printed n) ≡ false
 unfolding printed
-printed_has_no_return n fits power = signed_printed_lacks 13 return_is_outside n.0 n.1 fits power
+printed_has_no_return n fits power = signed_printed n.0 n.1 fits power
