@@ -272,7 +272,7 @@ cell_keys_read position value inside =
     ∙ ap Ok (found value) where
       found : (value : CellValue)
           → first_values (codes "r" ∷ codes "s" ∷ codes "t" ∷ [])
-      (map Ok (cell_pairs position value))
+          (map Ok (cell_pairs position value))
           ≡ Some (reference position) ∷ style_written value ∷ type_written value ∷ []
       found nothing = refl
       found (integer n) = refl
