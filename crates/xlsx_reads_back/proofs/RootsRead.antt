@@ -1,20 +1,19 @@
 -- What is read of a part with one element, and where the relationships that are written lead.
-use Rattle.std.proofs.Common.{◌≡◌, ℕ, Bool, true, false, cond, List, [], ◌∷◌, ◌++◌, map, Some, None}
+use Rattle.std.proofs.Common.{◌≡◌, ℕ, Bool, true, cond, List, [], ◌∷◌, ◌++◌, Some, None}
 use Rattle.std.proofs.Common.{Option, refl, sym, ap, ◌∙◌, append-nil}
 use Rattle.std.specs.Prelude.{Ok, codes, option_and_then}
 use Rattle.attr_text.specs.Attributes.{lookup}
-use Rattle.attr_text.specs.Text.{decoded}
-use Rattle.part_events.specs.Event.{Event, Tag, end}
+use Rattle.part_events.specs.Event.{Event, end}
 use Rattle.part_events.specs.Nesting.{whole}
-use Rattle.part_events.specs.Section.{behind_start, is_named, content, is_closed}
+use Rattle.part_events.specs.Section.{behind_start, is_named, content}
 use Rattle.written_markup.specs.Markup.{element, attribute}
 use Rattle.written_markup.specs.Nests.{IsNested, none}
-use Rattle.written_markup.specs.WrittenText.{attributes_of, AreWritablePairs, encoded}
+use Rattle.written_markup.specs.WrittenText.{attributes_of, AreWritablePairs}
 use Rattle.written_markup.proofs.Nested.{nested_element, nests_itself, content_of_element}
 use Rattle.written_markup.proofs.Nested.{element_is_closed}
 use Rattle.written_markup.proofs.PairsReadBack.{lookup_written}
 use Rattle.written_markup.proofs.TextsReadBack.{decoded_encoded}
-use Rattle.xlsx_sections.specs.Answers.{or_later, with_two}
+use Rattle.xlsx_sections.specs.Answers.{or_later}
 use Rattle.xlsx_sections.specs.Names.{some_text}
 use Rattle.xlsx_sections.specs.PartSection.{closed_section, if_closed}
 use Rattle.xlsx_sections.specs.Refusal.{decoded_or}

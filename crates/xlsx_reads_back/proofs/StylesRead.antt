@@ -1,13 +1,12 @@
 -- The styles that are written are read as three formats of numbers.
-use Rattle.std.proofs.Common.{◌≡◌, ℕ, true, List, [], ◌∷◌, ◌++◌, map, Some, None, Option, refl, sym}
+use Rattle.std.proofs.Common.{◌≡◌, ℕ, List, [], ◌∷◌, ◌++◌, Some, None, refl, sym}
 use Rattle.std.proofs.Common.{ap, ◌∙◌, append-nil}
-use Rattle.std.specs.Prelude.{Ok, Result, codes}
+use Rattle.std.specs.Prelude.{Ok, codes}
 use Rattle.attr_text.specs.Attributes.{lookup}
-use Rattle.attr_text.specs.declared.fault.AttrFault.{AttrFault}
 use Rattle.cell_styles.specs.declared.color.Color.{Color}
 use Rattle.part_events.specs.Event.{Event}
 use Rattle.written_markup.specs.Markup.{element, attribute}
-use Rattle.written_markup.specs.WrittenText.{attributes_of, AreWritablePairs}
+use Rattle.written_markup.specs.WrittenText.{AreWritablePairs}
 use Rattle.written_markup.specs.Nests.{IsNested, none}
 use Rattle.written_markup.proofs.Nested.{nested_element, nested_in_row}
 use Rattle.written_markup.proofs.PairsReadBack.{lookup_written}
@@ -30,7 +29,8 @@ abbrev pub styles_inside : List Event
 styles_inside = element (codes "cellXfs") [] formats_written
 
 format_looked_up : (id : List ℕ) → AreWritablePairs ((codes "numFmtId", id) ∷ []) →
-    lookup formatting_keys (attribute (codes "numFmtId") id) ≡ Ok (Some id ∷ None ∷ None ∷ None ∷ [])
+    lookup formatting_keys (attribute (codes "numFmtId") id)
+    ≡ Ok (Some id ∷ None ∷ None ∷ None ∷ [])
 format_looked_up id are =
     ap (lookup formatting_keys) (sym (append-nil (attribute (codes "numFmtId") id)))
     ∙ lookup_written formatting_keys ((codes "numFmtId", id) ∷ []) are
@@ -61,8 +61,8 @@ formats_nested =
     (one (codes "0"))
     (nested_in_row (cell_format (codes "14")) (cell_format (codes "46")) (one (codes "14"))
     (one (codes "46"))) where
-  one : (id : List ℕ) → IsNested (cell_format id)
-  one id = nested_element (codes "xf") (attribute (codes "numFmtId") id) [] none
+      one : (id : List ℕ) → IsNested (cell_format id)
+      one id = nested_element (codes "xf") (attribute (codes "numFmtId") id) [] none
 
 pub style_sheet_read : closed_section (codes "styleSheet") style_events ≡ Some styles_inside
 style_sheet_read =
