@@ -1,6 +1,7 @@
 -- The attributes of a written cell as pairs, and what is looked up in them.
-use Rattle.std.proofs.Common.{◌≡◌, ℕ, ◌+◌, ◌<◌, ◌^◌, ◌⊎◌, inl, inr, Bool, true, false, ◌||◌, List, [], ◌∷◌, ◌++◌, map}
-use Rattle.std.proofs.Common.{Some, None, Option, refl, sym, ap, ◌∙◌, arith, All, append-nil}
+use Rattle.std.proofs.Common.{◌≡◌, ℕ, ◌+◌, ◌<◌, ◌^◌, ◌⊎◌, inl, inr, Bool, true, false, ◌||◌, List}
+use Rattle.std.proofs.Common.{[], ◌∷◌, ◌++◌, map, Some, refl, sym, ap, ◌∙◌, arith}
+use Rattle.std.proofs.Common.{All, append-nil}
 use Rattle.std.specs.Prelude.{◌==◌, Ok, codes}
 use Rattle.std.specs.Char.{is_ascii_digit}
 use Rattle.std.specs.List.{list_all, list_any}
@@ -101,25 +102,30 @@ cell_attributes_are position value =
 pub cell_pairs_writable : (position : ℕ × ℕ) (value : CellValue) → position.0 < 1048576 →
     AreWritablePairs (cell_pairs position value)
 cell_pairs_writable position value inside =
-    (record { key = refl; value = reference_lacks 34 quote_is_outside position inside }, others value) where
-  one : (key value : List ℕ) → list_any is_no_key_byte key ≡ false → has_byte 34 value ≡ false →
-      AreWritablePairs ((key, value) ∷ [])
-  one key value proper quoted = (record { key = proper; value = quoted }, tt)
-  styles : (kind : ExcelDateTimeType) →
-      AreWritablePairs ((codes "s", time_style kind) ∷ [])
-  styles DateTime = one (codes "s") (codes "1") refl refl
-  styles TimeDelta = one (codes "s") (codes "2") refl refl
-  others : (value : CellValue) → AreWritablePairs
-      (pair_if (codes "s") (style_written value) ++ pair_if (codes "t") (type_written value))
-  others nothing = tt
-  others (integer n) = tt
-  others (number n) = tt
-  others (text bytes) = one (codes "t") (codes "str") refl refl
-  others (shared_text place) = tt
-  others (truth holds) = one (codes "t") (codes "b") refl refl
-  others (time days kind is_1904) = styles kind
-  others (iso_time bytes) = one (codes "t") (codes "d") refl refl
-  others (failure error) = one (codes "t") (codes "e") refl refl
+    (here, others value) where
+      here : IsWritablePair (codes "r", reference position)
+      here = record { key = refl; value = reference_lacks 34 quote_is_outside position inside }
+
+      one : (key value : List ℕ) → list_any is_no_key_byte key ≡ false → has_byte 34 value ≡ false →
+          AreWritablePairs ((key, value) ∷ [])
+      one key value proper quoted = (record { key = proper; value = quoted }, tt)
+
+      styles : (kind : ExcelDateTimeType) →
+          AreWritablePairs ((codes "s", time_style kind) ∷ [])
+      styles DateTime = one (codes "s") (codes "1") refl refl
+      styles TimeDelta = one (codes "s") (codes "2") refl refl
+
+      others : (value : CellValue) → AreWritablePairs
+          (pair_if (codes "s") (style_written value) ++ pair_if (codes "t") (type_written value))
+      others nothing = tt
+      others (integer n) = tt
+      others (number n) = tt
+      others (text bytes) = one (codes "t") (codes "str") refl refl
+      others (shared_text place) = tt
+      others (truth holds) = one (codes "t") (codes "b") refl refl
+      others (time days kind is_1904) = styles kind
+      others (iso_time bytes) = one (codes "t") (codes "d") refl refl
+      others (failure error) = one (codes "t") (codes "e") refl refl
 
 -- what a written cell says of its position and of its style
 pub position_looked_up : (position : ℕ × ℕ) (value : CellValue) → position.0 < 1048576 →
@@ -136,18 +142,18 @@ style_looked_up position value inside =
     ∙ (value_written (codes "s") (cell_pairs position value)
     (cell_pairs_writable position value inside)
     ∙ ap Ok (found value)) where
-  found : (value : CellValue) → first_value (bytes_eq (codes "s")) (map Ok
-      (pair_if (codes "s") (style_written value) ++ pair_if (codes "t") (type_written value)))
-      ≡ style_written value
-  found nothing = refl
-  found (integer n) = refl
-  found (number n) = refl
-  found (text bytes) = refl
-  found (shared_text place) = refl
-  found (truth holds) = refl
-  found (time days kind is_1904) = refl
-  found (iso_time bytes) = refl
-  found (failure error) = refl
+      found : (value : CellValue) → first_value (bytes_eq (codes "s")) (map Ok
+          (pair_if (codes "s") (style_written value) ++ pair_if (codes "t") (type_written value)))
+          ≡ style_written value
+      found nothing = refl
+      found (integer n) = refl
+      found (number n) = refl
+      found (text bytes) = refl
+      found (shared_text place) = refl
+      found (truth holds) = refl
+      found (time days kind is_1904) = refl
+      found (iso_time bytes) = refl
+      found (failure error) = refl
 
 -- a row names itself
 pub row_looked_up : (row : ℕ) → row < 1048576 →

@@ -1,34 +1,32 @@
 -- The `f` of a formula reads back: its sharing by its attributes, and its text.
-use Rattle.std.proofs.Common.{◌≡◌, ℕ, suc, ◌+◌, ◌<◌, ◌^◌, Bool, true, false, cond, ◌&&◌, ◌||◌}
-use Rattle.std.proofs.Common.{List, [], ◌∷◌, ◌++◌, map, Some, None, Option, refl, sym, ap, ap₂, ◌∙◌}
+use Rattle.std.proofs.Common.{◌≡◌, ℕ, ◌<◌, ◌^◌, Bool, true, false, cond, ◌&&◌, ◌||◌}
+use Rattle.std.proofs.Common.{List, [], ◌∷◌, ◌++◌, Some, None, Option, refl, sym, ap, ap₂, ◌∙◌}
 use Rattle.std.proofs.Common.{append-nil, arith}
 use Rattle.std.specs.Prelude.{◌==◌, Ok, codes, nat_lt}
 use Rattle.std.specs.Char.{is_ascii_digit}
 use Rattle.std.specs.Fmt.{decimal}
-use Rattle.std.specs.List.{list_all, list_any, slice_split, onto_first}
+use Rattle.std.specs.List.{list_all, slice_split, onto_first}
 use Rattle.std.specs.Str.{all_ascii_digits}
 use Rattle.std.specs.Str.Parse.{digits_value, IsNumeral}
 use Rattle.std.proofs.lemmas.Bool.Decides.{nat_tests}
 use Rattle.std.proofs.lemmas.Fmt.{decimal_is_IsNumeral}
 use Rattle.std.proofs.lemmas.List.Folds.{list_any-append}
-use Rattle.attr_text.specs.Attributes.{lookup}
-use Rattle.cell_refs.specs.A1.{area, area_of, corners, corner, with_corner, parts}
+use Rattle.cell_refs.specs.A1.{area, area_of, corners, with_corner}
 use Rattle.cell_refs.specs.Reference.{reference}
 use Rattle.cell_refs.proofs.PositionOrder.{and_both}
 use Rattle.cell_refs.proofs.References.{digits-decimal, corner_of_reference}
-use Rattle.part_events.specs.JoinedText.{joined_text, unknown_entity}
 use Rattle.written_markup.specs.Markup.{attribute}
-use Rattle.written_markup.specs.WrittenText.{has_byte, attributes_of, AreWritablePairs, text_events}
+use Rattle.written_markup.specs.WrittenText.{has_byte, AreWritablePairs, text_events}
 use Rattle.written_markup.proofs.EventsReadBack.{joined_text_events, text_events_are_known}
 use Rattle.written_markup.proofs.PairsReadBack.{lookup_written}
 use Rattle.xlsx_sections.specs.ElementText.{element_text, known_text}
 use Rattle.xlsx_sections.specs.NumberText.{number_text}
-use Rattle.xlsx_formulas.specs.Formula.{sharing_of, sharing_from, shared_by, shared_numbered, shared_in}
-use Rattle.xlsx_formulas.specs.Formula.{with_sharing, formula_text, shared_text}
+use Rattle.xlsx_formulas.specs.Formula.{sharing_of, sharing_from, shared_by, shared_numbered}
+use Rattle.xlsx_formulas.specs.Formula.{shared_in, with_sharing, formula_text, shared_text}
 use Rattle.xlsx_formulas.specs.Formula as shared
 use Rattle.xlsx_out.specs.Groups.{WrittenFormula, plain, master, derived}
 use Rattle.xlsx_out.specs.WrittenSheet.{group_text, master_attributes, derived_attributes}
-use Rattle.xlsx_reads_back.specs.ReadFormulas.{area_down, formula_read}
+use Rattle.xlsx_reads_back.specs.ReadFormulas.{area_down}
 use Rattle.xlsx_reads_back.proofs.CellPairs.{number_lacks, reference_lacks, quote_is_outside}
 use Rattle.xlsx_reads_back.proofs.CellPairs.{colon_is_outside}
 use Rattle.xlsx_reads_back.proofs.CellsRead.{formula_tag, FormulaReads}
@@ -52,15 +50,16 @@ pub number_read : (n : ℕ) → n < 2 ^ 64 → number_text (decimal n) ≡ Some 
 number_read n fits =
     by (decimal n) (all_digits (decimal n) (digits-decimal n fits)) (decimal_is_IsNumeral n fits).1
     (decimal_is_IsNumeral n fits).0 where
-  small : (m : ℕ) → m ≡ n → nat_lt m (2 ^ 64) ≡ true
-  small m same = grind (arith, nat_tests)
-  by : (digits : List ℕ) → all_ascii_digits digits ≡ true → digits_value 10 digits ≡ n →
-      IsNumeral 10 digits → number_text digits ≡ Some n
-  by [] all value is = absurd (omega (arith, is.0))
-  by (b ∷ bs) all value is =
-      ap₂ (λ (t u : Bool). cond (t && u) (Some (digits_value 10 (b ∷ bs))) None) all
-      (small (digits_value 10 (b ∷ bs)) value)
-      ∙ ap Some value
+      small : (m : ℕ) → m ≡ n → nat_lt m (2 ^ 64) ≡ true
+      small m same = grind (arith, nat_tests)
+
+      by : (digits : List ℕ) → all_ascii_digits digits ≡ true → digits_value 10 digits ≡ n →
+          IsNumeral 10 digits → number_text digits ≡ Some n
+      by [] all value is = absurd (omega (arith, is.0))
+      by (b ∷ bs) all value is =
+          ap₂ (λ (t u : Bool). cond (t && u) (Some (digits_value 10 (b ∷ bs))) None) all
+          (small (digits_value 10 (b ∷ bs)) value)
+          ∙ ap Some value
 
 -- ---- an area
 
@@ -70,26 +69,26 @@ cut_at_colon : (front behind : List ℕ) → has_byte 58 front ≡ false →
 cut_at_colon [] behind none = refl
 cut_at_colon (b ∷ front) behind none =
     by (b == 58) none (λ (rest : has_byte 58 front ≡ false). cut_at_colon front behind rest) where
-  by : (t : Bool) → (t || has_byte 58 front) ≡ false → (has_byte 58 front ≡ false →
-      slice_split (λ c. c == 58) (front ++ 58 ∷ behind)
-      ≡ front ∷ slice_split (λ c. c == 58) behind) →
-      cond t ([] ∷ slice_split (λ c. c == 58) (front ++ 58 ∷ behind))
-      (onto_first b (slice_split (λ c. c == 58) (front ++ 58 ∷ behind)))
-      ≡ (b ∷ front) ∷ slice_split (λ c. c == 58) behind
-  by true none further = absurd (cc)
-  by false none further = ap (onto_first b) (further none)
+      by : (t : Bool) → (t || has_byte 58 front) ≡ false → (has_byte 58 front ≡ false →
+          slice_split (λ c. c == 58) (front ++ 58 ∷ behind)
+          ≡ front ∷ slice_split (λ c. c == 58) behind) →
+          cond t ([] ∷ slice_split (λ c. c == 58) (front ++ 58 ∷ behind))
+          (onto_first b (slice_split (λ c. c == 58) (front ++ 58 ∷ behind)))
+          ≡ (b ∷ front) ∷ slice_split (λ c. c == 58) behind
+      by true none further = absurd (cc)
+      by false none further = ap (onto_first b) (further none)
 
 one_part : (bytes : List ℕ) → has_byte 58 bytes ≡ false →
     slice_split (λ b. b == 58) bytes ≡ bytes ∷ []
 one_part [] none = refl
 one_part (b ∷ bytes) none =
     by (b == 58) none (λ (rest : has_byte 58 bytes ≡ false). one_part bytes rest) where
-  by : (t : Bool) → (t || has_byte 58 bytes) ≡ false → (has_byte 58 bytes ≡ false →
-      slice_split (λ c. c == 58) bytes ≡ bytes ∷ []) →
-      cond t ([] ∷ slice_split (λ c. c == 58) bytes)
-      (onto_first b (slice_split (λ c. c == 58) bytes)) ≡ (b ∷ bytes) ∷ []
-  by true none further = absurd (cc)
-  by false none further = ap (onto_first b) (further none)
+      by : (t : Bool) → (t || has_byte 58 bytes) ≡ false → (has_byte 58 bytes ≡ false →
+          slice_split (λ c. c == 58) bytes ≡ bytes ∷ []) →
+          cond t ([] ∷ slice_split (λ c. c == 58) bytes)
+          (onto_first b (slice_split (λ c. c == 58) bytes)) ≡ (b ∷ bytes) ∷ []
+      by true none further = absurd (cc)
+      by false none further = ap (onto_first b) (further none)
 
 pub area_read : (position : ℕ × ℕ) (last : ℕ) → position.0 < 1048576 → position.1 < 16384 →
     last < 1048576 → area (group_text position last) ≡ Ok (area_down position last)

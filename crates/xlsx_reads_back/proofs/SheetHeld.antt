@@ -1,22 +1,21 @@
 -- A written sheet holds its values and its formulas, and the styles of its ids.
-use Rattle.std.proofs.Common.{◌≡◌, ℕ, true, List, [], map, None, refl, sym, ap, ◌∙◌}
+use Rattle.std.proofs.Common.{◌≡◌, ℕ, true, List, map, None, refl, sym, ap, ◌∙◌}
 use Rattle.std.specs.Prelude.{Ok}
 use Rattle.std.specs.List.{list_all}
 use Rattle.cell_refs.specs.Positions.{is_rising, last_of_each}
 use Rattle.cell_data.specs.Cells.{AreInSheet}
-use Rattle.cell_data.specs.CellValue.{CellValue}
 use Rattle.cell_data.proofs.Placing.{rising_last}
 use Rattle.cell_styles.specs.StyleMap.{styles_of}
 use Rattle.cell_styles.specs.declared.style.Style.{Style}
 use Rattle.xlsx_values.specs.Value.{Grounds, cell_value}
-use Rattle.xlsx_cells.specs.Sheet.{values_in, formulas_written, used_values, with_texts}
-use Rattle.xlsx_cells.specs.Sheet.{used_formulas, formulas_along}
+use Rattle.xlsx_cells.specs.Sheet.{values_in, formulas_written, with_texts}
 use Rattle.xlsx_cells.specs.SheetPart.{IsSoundSheet}
 use Rattle.xlsx_cells.specs.StyleIds.{ids_in}
 use Rattle.xlsx_core.specs.SheetReading.{HoldsSheet}
 use Rattle.xlsx_out.specs.Groups.{Placed}
 use Rattle.xlsx_out.specs.Writable.{is_written, are_writable_formulas}
-use Rattle.xlsx_out.specs.WrittenSheet.{PlacedValues, written_positions, cell_attributes, sheet_events}
+use Rattle.xlsx_out.specs.WrittenSheet.{PlacedValues, written_positions, cell_attributes}
+use Rattle.xlsx_out.specs.WrittenSheet.{sheet_events}
 use Rattle.xlsx_reads_back.specs.ReadFormulas.{formulas_read_along}
 use Rattle.xlsx_reads_back.specs.ReadSheet.{is_on_sheet, value_at, values_read_along, id_read}
 use Rattle.xlsx_reads_back.proofs.CellsRead.{cell_inside}

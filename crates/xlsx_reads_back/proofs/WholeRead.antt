@@ -1,27 +1,23 @@
 -- A written package reads as its values and its formulas.
-use Rattle.std.proofs.Common.{◌≡◌, ℕ, ◌<◌, Bool, true, false, cond, List, [], ◌∷◌, map, Some, None}
-use Rattle.std.proofs.Common.{Option, refl, sym, ap, ◌∙◌}
-use Rattle.std.specs.Prelude.{Ok, codes, String, string_bytes}
+use Rattle.std.proofs.Common.{◌≡◌, ℕ, Bool, true, cond, List, [], ◌∷◌, Some, None}
+use Rattle.std.proofs.Common.{refl, ap, ◌∙◌}
+use Rattle.std.specs.Prelude.{codes, String, string_bytes}
 use Rattle.std.specs.declared.alloc.Global.{Global}
 use Rattle.std.specs.List.{list_all}
-use Rattle.std.specs.Str.{bytes_eq}
 use Rattle.std.proofs.lemmas.Slice.Eq.{bytes_eq-Decides}
-use Rattle.cell_data.specs.CellValue.{CellValue, nothing, value_of_data}
+use Rattle.cell_data.specs.CellValue.{value_of_data}
 use Rattle.cell_data.specs.Pairs.{value_pairs, formula_pairs}
 use Rattle.cell_data.specs.declared.range.Range.{Range}
 use Rattle.cell_data.specs.declared.value.Data.{Data}
-use Rattle.cell_refs.specs.Positions.{position_cmp}
-use Rattle.xlsx_values.specs.Value.{Grounds, cell_value}
+use Rattle.xlsx_values.specs.Value.{Grounds}
 use Rattle.xlsx_open.specs.Opening.{OpensAs}
 use Rattle.xlsx_core.specs.SheetReading.{ReadsAs, opened_grounds, events_named, events_at}
-use Rattle.xlsx_out.specs.Groups.{Placed, formula_placed}
+use Rattle.xlsx_out.specs.Groups.{Placed}
 use Rattle.xlsx_out.specs.Writable.{is_written, are_writable_values, are_writable_formulas}
 use Rattle.xlsx_out.specs.Writable.{have_one_epoch, IsWritable}
 use Rattle.xlsx_out.specs.WrittenSheet.{PlacedValues, written_parts, sheet_events}
-use Rattle.xlsx_out.specs.WrittenSheet.{cell_attributes}
 use Rattle.cell_refs.proofs.PositionOrder.{and_both}
 use Rattle.xlsx_reads_back.specs.ReadParts.{written_shared}
-use Rattle.xlsx_reads_back.specs.ReadSheet.{is_on_sheet, value_at}
 use Rattle.xlsx_reads_back.specs.ReadStyles.{written_palette, styles_read}
 use Rattle.xlsx_reads_back.proofs.PackageRead.{path_is_found, relationships_are_found}
 use Rattle.xlsx_reads_back.proofs.PackageRead.{sheet_part_is_found}
@@ -31,7 +27,7 @@ use Rattle.xlsx_reads_back.proofs.SheetHeld.{ArePlaced, CellsHaveValues, sheet_h
 use Rattle.xlsx_reads_back.proofs.CellsValued.{written_cells_have_values}
 use Rattle.xlsx_reads_back.proofs.ValuesPlaced.{epoch_is_read}
 use Rattle.xlsx_reads_back.proofs.WorkbookRead.{opening_of, written_related, workbook_is_read}
-use Rattle.xlsx_reads_back.proofs.WorkbookRead.{written_epoch, written_sheet}
+use Rattle.xlsx_reads_back.proofs.WorkbookRead.{written_sheet}
 
 -- a written package opens
 pub written_opens : (name : List ℕ) (values : PlacedValues) (formulas : Placed) →

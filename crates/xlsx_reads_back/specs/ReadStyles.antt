@@ -1,6 +1,5 @@
 -- The styles that are read of those that are written: they say nothing but how numbers are written.
 use Rattle.std.specs.Prelude.{ℕ, List, [], ◌∷◌, codes, map, Some, None}
-use Rattle.cell_styles.specs.StyleFormats.{NumberFormatFields}
 use Rattle.cell_styles.specs.StyleMap.{StyleMap, styles_of}
 use Rattle.cell_styles.specs.declared.style.Style.{Style}
 use Rattle.xlsx_formats.specs.Formattings.{StyleSaid, style_said}

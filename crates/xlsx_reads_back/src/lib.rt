@@ -5,17 +5,17 @@
 //! say, each wherever it stands) and `packages` (a written package reads as its values and its
 //! formulas).
 //!
-//! The lemmas of proofs/ go piece by piece, and each needs only what stands before it.
-//! *Groups*: `GroupHeads` (a formula is its head's, moved), `GroupIndices` (an index belongs to one
-//! group), `PlacedAmong` and `WrittenPositions` (what stands at the positions that are written is
-//! all there is), `GroupsRead` (along the positions a derived formula finds the master of its
-//! group). *Cells*: `CellPairs` and `WrittenBytes` (attributes), `ValuesRead` (a value by its kind),
-//! `FormulaTexts` (a formula by its sharing), `CellsRead` (a cell, whatever stands before it).
-//! *Data*: `DataRead` (what each cell gives by itself is what the data give), `SheetBounds` (what
-//! lies on a sheet, and fits), `SheetRead`, `ValuesPlaced`. *The sheet's part*: `SheetPartRead`,
-//! `SheetHeld`. *The package*: `RootsRead`, `PackageRead`, `WorkbookRead`, `StylesRead`,
-//! `SharedRead`, and with the values that are writable (`CellsValued`) and what ranges keep
-//! (`RangesPlaced`) all of it (`WholeRead`).
+//! The lemmas of proofs/ go piece by piece, and each needs only what stands before it. *Groups*:
+//! `GroupHeads` (a formula is its head's, moved), `GroupIndices` (an index belongs to one group),
+//! `PlacedAmong` and `WrittenPositions` (what stands at the positions that are written is all
+//! there is), `GroupsRead` (along the positions a derived formula finds the master of its group).
+//! *Cells*: `CellPairs` and `WrittenBytes` (attributes and bytes), `ValuesRead` (a value by its
+//! kind), `FormulaTexts` (a formula by its sharing), `CellsRead` (a cell, whatever stands before
+//! it). *Data*: `DataRead` (what each cell gives by itself is what the data give), `SheetBounds`
+//! (what lies on a sheet, and fits), `SheetRead`, `ValuesPlaced`. *The sheet's part*:
+//! `SheetPartRead`, `SheetHeld`. *The package*: `RootsRead`, `PackageRead`, `WorkbookRead`,
+//! `StylesRead`, `SharedRead`, and with the values that are writable (`CellsValued`) and what
+//! ranges keep (`RangesPlaced`) all of it (`WholeRead`).
 #![tactic(auto)]
 
 mod data;
