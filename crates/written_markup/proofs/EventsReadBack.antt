@@ -4,13 +4,13 @@ use Rattle.std.proofs.Common.{ap, ◌∙◌, inl, inr, append-nil}
 use Rattle.std.specs.Prelude.{◌==◌, ⊤, codes}
 use Rattle.std.specs.List.{slice_split, onto_first, join_with_byte}
 use Rattle.std.proofs.lemmas.Bool.{ne_eqb, cases_eq}
-use Rattle.std.proofs.lemmas.List.Splits.{join_with_byte-slice_split}
+use Rattle.std.proofs.lemmas.List.Splits.{join_with_byte-slice_split, slice_split_none}
 use lib.Utf8.{encode}
 use Rattle.attr_text.specs.Text.{entity_character}
-use Rattle.part_events.specs.Event.{Event, leaf, entity_ref}
+use Rattle.part_events.specs.Event.{Event, leaf, entity_ref, text}
 use Rattle.part_events.specs.JoinedText.{joined_text, unknown_entity}
 use Rattle.written_markup.specs.WrittenText.{has_byte, run_events, events_of_runs, text_events}
-use Rattle.written_markup.proofs.TextsReadBack.{line_ends_without_return}
+use Rattle.written_markup.proofs.TextsReadBack.{line_ends_without_return, nowhere}
 
 -- a reference to CR has its character
 return_character : entity_character (codes "#13") ≡ Some 13
@@ -88,3 +88,9 @@ joined_text_events bytes =
 -- none of its references is without a character
 pub text_events_are_known : (bytes : List ℕ) → unknown_entity (text_events bytes) ≡ None
 text_events_are_known bytes = runs_are_known (slice_split (λ b. b == 13) bytes)
+
+-- the events of a text without CR: the text, where it isn't empty
+pub events_without_return : (b : ℕ) (bs : List ℕ) → has_byte 13 (b ∷ bs) ≡ false
+    → text_events (b ∷ bs) ≡ leaf (text (b ∷ bs)) ∷ []
+events_without_return b bs none =
+    ap events_of_runs (slice_split_none (λ c. c == 13) (b ∷ bs) (nowhere 13 (b ∷ bs) none))

@@ -1,5 +1,5 @@
 -- Texts as they are written say what was written: references, escapes and line ends.
-use Rattle.std.proofs.Common.{◌≡◌, ℕ, ◌<◌, Bool, true, false, List, [], ◌∷◌, ◌++◌}
+use Rattle.std.proofs.Common.{◌≡◌, ℕ, zero, suc, All, ◌<◌, Bool, true, false, List, [], ◌∷◌, ◌++◌}
 use Rattle.std.proofs.Common.{length, Some, None, Ok, refl, ap, ◌∙◌, inl, inr}
 use Rattle.std.proofs.Common.{arith, ◌&&◌}
 use Rattle.std.specs.Prelude.{◌==◌, ◌≢◌, ◌||◌, nat_le, codes}
@@ -22,6 +22,14 @@ neither false b is = (refl, is)
 -- a test that says equal numbers apart
 pub differ : (a b : ℕ) → (a == b) ≡ false → a ≢ b
 differ a b apart = λ same. absurd (let is : (a == b) ≡ true = eq-eqb a b same in cc)
+
+-- a byte that a text doesn't have stands at none of its places
+pub nowhere : (byte : ℕ) (text : List ℕ) → has_byte byte text ≡ false
+    → All (λ b. (b == byte) ≡ false) text
+nowhere byte [] none k d within = absurd (omega arith)
+nowhere byte (b ∷ text) none zero d within = (neither (b == byte) (has_byte byte text) none).0
+nowhere byte (b ∷ text) none (suc k) d within =
+    nowhere byte text (neither (b == byte) (has_byte byte text) none).1 k d (omega arith)
 
 -- ---- line ends
 

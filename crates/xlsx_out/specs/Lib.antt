@@ -1,3 +1,4 @@
 pub mod Groups
 pub mod Writable
 pub mod WrittenSheet
+pub mod Writing

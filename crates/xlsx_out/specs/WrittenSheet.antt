@@ -150,12 +150,16 @@ abbrev pub office : List ℕ → List ℕ
 office kind =
     codes "http://schemas.openxmlformats.org/officeDocument/2006/relationships/" ++ kind
 
+-- a relationship of this type, to a part
+abbrev pub relationship_to : List ℕ → List ℕ → List Event
+relationship_to kind target =
+    element (codes "Relationship")
+    (attribute (codes "Id") (codes "rId1") ++ (attribute (codes "Type") (office kind)
+    ++ attribute (codes "Target") target)) []
+
 -- a list of one relationship, to a part
 abbrev pub relationships_to : List ℕ → List ℕ → List Event
-relationships_to kind target =
-    element (codes "Relationships") [] (element (codes "Relationship")
-    (attribute (codes "Id") (codes "rId1") ++ (attribute (codes "Type") (office kind)
-    ++ attribute (codes "Target") target)) [])
+relationships_to kind target = element (codes "Relationships") [] (relationship_to kind target)
 
 -- a time that counts from 1904
 abbrev pub is_from_1904 : CellValue → Bool
@@ -163,17 +167,31 @@ is_from_1904 (time days kind is_1904) = is_1904
 is_from_1904 _ = false
 
 -- the workbook's first year, where it is 1904
-abbrev pub properties_events : PlacedValues → List Event
-properties_events values =
-    if list_any (λ entry. is_from_1904 entry.1) values
-    then element (codes "workbookPr") (attribute (codes "date1904") (codes "1")) [] else []
+abbrev pub properties_by : Bool → List Event
+properties_by is_1904 =
+    if is_1904 then element (codes "workbookPr") (attribute (codes "date1904") (codes "1")) []
+    else []
 
--- the workbook with one sheet of this name
+-- the attributes of a sheet of this name
+abbrev pub sheet_attributes : List ℕ → List ℕ
+sheet_attributes name =
+    attribute (codes "name") (encoded name)
+    ++ (attribute (codes "sheetId") (codes "1") ++ attribute (codes "r:id") (codes "rId1"))
+
+-- the list of the one sheet
+abbrev pub sheets_events : List ℕ → List Event
+sheets_events name =
+    element (codes "sheets") [] (element (codes "sheet") (sheet_attributes name) [])
+
+-- the workbook with one sheet of this name, whose first year is 1904 or 1900
+abbrev pub workbook_by : List ℕ → Bool → List Event
+workbook_by name is_1904 =
+    element (codes "workbook") [] (properties_by is_1904 ++ sheets_events name)
+
+-- the workbook of a sheet with these values
 abbrev pub workbook_events : List ℕ → PlacedValues → List Event
 workbook_events name values =
-    element (codes "workbook") [] (properties_events values ++ element (codes "sheets") []
-    (element (codes "sheet") (attribute (codes "name") (encoded name)
-    ++ (attribute (codes "sheetId") (codes "1") ++ attribute (codes "r:id") (codes "rId1"))) []))
+    workbook_by name (list_any (λ entry. is_from_1904 entry.1) values)
 
 -- the format of a cell
 abbrev pub cell_format : List ℕ → List Event

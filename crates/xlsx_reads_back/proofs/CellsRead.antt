@@ -1,17 +1,17 @@
 -- What is read of one written cell: its position, its formulas and its style id, wherever it
 -- stands.
-use Rattle.std.proofs.Common.{◌≡◌, ℕ, ◌<◌, Bool, true, false, List, [], ◌∷◌, ◌++◌, length}
+use Rattle.std.proofs.Common.{◌≡◌, ℕ, ◌<◌, List, [], ◌∷◌, ◌++◌, length}
 use Rattle.std.proofs.Common.{Some, None, Option, refl, sym, ap, ap₂, ◌∙◌, append-nil}
 use Rattle.std.specs.Prelude.{Ok, codes, Result}
 use Rattle.cell_refs.proofs.References.{corner_of_reference, row_of_reference}
 use Rattle.cell_refs.specs.A1.{corner, row_of}
-use Rattle.cell_refs.specs.Reference.{reference, row_reference}
+use Rattle.cell_refs.specs.Reference.{row_reference}
 use Rattle.cell_data.specs.CellValue.{CellValue, nothing, integer, number, text, shared_text, truth}
 use Rattle.cell_data.specs.CellValue.{time, iso_time, failure}
 use Rattle.cell_data.specs.declared.value.ExcelDateTimeType.{ExcelDateTimeType}
 use Rattle.cell_data.specs.declared.value.ExcelDateTimeType.TheVariants.{DateTime, TimeDelta}
 use Rattle.part_events.specs.Event.{Tag, Event, end}
-use Rattle.part_events.specs.Section.{Element, children, is_any}
+use Rattle.part_events.specs.Section.{children, is_any}
 use Rattle.written_markup.specs.Markup.{element, attribute}
 use Rattle.written_markup.specs.Nests.{IsNested, none}
 use Rattle.written_markup.specs.WrittenText.{text_events}
@@ -23,7 +23,7 @@ use Rattle.xlsx_sections.specs.Refusal.{Refusal, answer_further, events_behind}
 use Rattle.xlsx_formulas.specs.Formula.{FormulaText, formula_text, child_formula, formulas_in}
 use Rattle.xlsx_formulas.specs.Formula.{some_formula}
 use Rattle.xlsx_cells.specs.Marks.{Mark}
-use Rattle.xlsx_cells.specs.Position.{or_implied, position_named, cell_position, row_named}
+use Rattle.xlsx_cells.specs.Position.{or_implied, cell_position, row_named}
 use Rattle.xlsx_cells.specs.Sheet.{at_position, placed_formulas}
 use Rattle.xlsx_cells.specs.StyleIds.{id_looked_up, id_named, with_id, placed_id}
 use Rattle.xlsx_out.specs.Groups.{Placed, formula_placed, WrittenFormula, plain, master, derived}
@@ -127,7 +127,8 @@ formula_tag attributes = record { name = codes "f"; attributes = attributes }
 
 -- an `f` before a `v` is the cell's one formula
 one_formula : (attributes : List ℕ) (inside : List Event) (found : FormulaText)
-    (value : CellValue) → IsNested inside → formula_text (formula_tag attributes) inside ≡ Ok found →
+    (value : CellValue) → IsNested inside →
+    formula_text (formula_tag attributes) inside ≡ Ok found →
     formulas_in (element (codes "f") attributes inside ++ value_events value) ≡ Ok (found ∷ [])
 one_formula attributes inside found value is reads =
     ap (some_answers child_formula)
@@ -172,13 +173,13 @@ pub cell_formulas : (formulas : Placed) (position : ℕ × ℕ) (value : CellVal
     formulas_in (cell_inside formulas position value) ≡ Ok (formulas_read formulas position)
 cell_formulas formulas position value reads =
     by (formula_placed formulas position) refl where
-  by : (o : Option (List ℕ)) → formula_placed formulas position ≡ o →
-      formulas_in (optional_formula formulas position o ++ value_events value)
-      ≡ Ok (formulas_read_by formulas position o)
-  by None is = value_no_formula value
-  by (Some formula) is =
-      formula_by_case position (written_formula formulas position formula) value
-      (reads formula is)
+      by : (o : Option (List ℕ)) → formula_placed formulas position ≡ o →
+          formulas_in (optional_formula formulas position o ++ value_events value)
+          ≡ Ok (formulas_read_by formulas position o)
+      by None is = value_no_formula value
+      by (Some formula) is =
+          formula_by_case position (written_formula formulas position formula) value
+          (reads formula is)
 
 pub cell_gives_formulas : (formulas : Placed) (position : ℕ × ℕ) (value : CellValue) →
     position.0 < 1048576 → position.1 < 16384 →
@@ -200,20 +201,21 @@ cell_id : (position : ℕ × ℕ) (value : CellValue) → position.0 < 1048576 �
     id_named (cell_tag (cell_attributes position value)) ≡ Ok (id_of value)
 cell_id position value inside =
     ap id_looked_up (style_looked_up position value inside) ∙ by value where
-  kinds : (kind : ExcelDateTimeType) →
-      id_looked_up (Ok (Some (time_style kind))) ≡ Ok (time_id kind)
-  kinds DateTime = refl
-  kinds TimeDelta = refl
-  by : (value : CellValue) → id_looked_up (Ok (style_written value)) ≡ Ok (id_of value)
-  by nothing = refl
-  by (integer n) = refl
-  by (number n) = refl
-  by (text bytes) = refl
-  by (shared_text place) = refl
-  by (truth holds) = refl
-  by (time days kind is_1904) = kinds kind
-  by (iso_time bytes) = refl
-  by (failure error) = refl
+      kinds : (kind : ExcelDateTimeType) →
+          id_looked_up (Ok (Some (time_style kind))) ≡ Ok (time_id kind)
+      kinds DateTime = refl
+      kinds TimeDelta = refl
+
+      by : (value : CellValue) → id_looked_up (Ok (style_written value)) ≡ Ok (id_of value)
+      by nothing = refl
+      by (integer n) = refl
+      by (number n) = refl
+      by (text bytes) = refl
+      by (shared_text place) = refl
+      by (truth holds) = refl
+      by (time days kind is_1904) = kinds kind
+      by (iso_time bytes) = refl
+      by (failure error) = refl
 
 pub cell_gives_id : (position : ℕ × ℕ) (value : CellValue) (inside : List Event) →
     position.0 < 1048576 → position.1 < 16384 →

@@ -1,7 +1,8 @@
 -- What is read of a sheet's data: of each cell what it gives by itself, wherever it stands.
-use Rattle.std.proofs.Common.{◌≡◌, ℕ, zero, suc, ◌+◌, Bool, true, false, cond, ◌&&◌, List, [], ◌∷◌}
-use Rattle.std.proofs.Common.{◌++◌, map, length, Some, Option, refl, sym, ap, ap₂, ◌∙◌, append_assoc}
-use Rattle.std.specs.Prelude.{◌==◌, Result, Ok, Err, codes}
+use Rattle.std.proofs.Common.{◌≡◌, ℕ, zero, suc, Bool, true, false, cond, ◌&&◌, List, [], ◌∷◌}
+use Rattle.std.proofs.Common.{◌++◌, map, length, Some, Option, refl, sym, ap, ap₂, ◌∙◌}
+use Rattle.std.proofs.Common.{append_assoc}
+use Rattle.std.specs.Prelude.{◌==◌, Result, Ok, codes}
 use Rattle.std.specs.List.{flat_map, list_all}
 use Rattle.std.proofs.lemmas.List.{map-append}
 use Rattle.cell_refs.proofs.PositionOrder.{and_both, and_from}
@@ -114,12 +115,18 @@ module _ {A : Type 0} (answer : List Mark → Element → Result A Refusal) wher
   gives_cell attributes inside rest a all passed one others before =
       let events : List Event = inside ++ end (codes "c") ∷ rest in
       let here : Element = record {
-        tag = cell_tag attributes; inside = content 0 events; behind = length events } in
+        tag = cell_tag attributes;
+        inside = content 0 events;
+        behind = length events;
+      } in
       ap (λ (es : List Event). answers_from answer before (marks_from 0 es))
       (element_then (codes "c") attributes inside rest)
       ∙ ap₂ and_others
       (ap (λ (es : List Event). answer before (record {
-        tag = cell_tag attributes; inside = es; behind = length events }))
+        tag = cell_tag attributes;
+        inside = es;
+        behind = length events;
+      }))
       (passed.content (codes "c") rest) ∙ one before (length events))
       (ap (λ (ms : List Mark). answers_from answer (cell here ∷ before) ms)
       (marks_inside 0 events ∙ ap (marks_from 0) (passed.behind (codes "c") rest))
@@ -175,7 +182,8 @@ module _ {A : Type 0} (answer : List Mark → Element → Result A Refusal) wher
           Gives (rows_events rows) (map tell (positions_in rows))
       gives_rows [] fit before = refl
       gives_rows (found ∷ rows) fit before =
-          let (first, further) = and_both (row_fits fits fits_row rows_fit found) (list_all (row_fits fits fits_row rows_fit) rows) fit in
+          let (first, further) = and_both (row_fits fits fits_row rows_fit found)
+          (list_all (row_fits fits fits_row rows_fit) rows) fit in
           let (in_row, cells) =
           and_both (fits_row found.row) (list_all fits found.positions) first in
           let rest : List Event = rows_events rows in

@@ -1,23 +1,21 @@
 -- The heads of formulas: where they stand, and that a head's text, moved, is the formula.
-use Rattle.std.proofs.Common.{◌≡◌, ℕ, zero, suc, ◌+◌, ◌<◌, ◌≤◌, ◌⊎◌, inl, inr, Bool, true, false}
-use Rattle.std.proofs.Common.{cond, ◌&&◌, List, [], ◌∷◌, map, Some, None, Option, refl, sym, ap, ◌∙◌}
-use Rattle.std.proofs.Common.{arith, subst}
-use Rattle.std.specs.Prelude.{◌==◌, nat_le, nat_lt}
+use Rattle.std.proofs.Common.{◌≡◌, ℕ, zero, suc, ◌<◌, ◌≤◌, ◌⊎◌, inl, inr, Bool, true, false}
+use Rattle.std.proofs.Common.{cond, ◌&&◌, List, [], ◌∷◌, map, Some, None, Option, refl, ap}
+use Rattle.std.proofs.Common.{◌∙◌, arith, subst}
+use Rattle.std.specs.Prelude.{nat_le, nat_lt}
 use Rattle.std.specs.FinMap.{find}
 use Rattle.std.specs.FinMap.Entries.{below_all}
 use Rattle.std.specs.List.{filter, list_all}
 use Rattle.std.specs.Ordering.{nat_cmp, ordering_then, is_lt, is_eq, eq_by_cmp}
-use Rattle.std.specs.Str.{bytes_eq}
 use Rattle.std.specs.declared.cmp.Ordering.{Ordering}
 use Rattle.std.specs.declared.cmp.Ordering.TheVariants.{Less, Equal, Greater}
-use Rattle.std.proofs.lemmas.Bool.{cases_Bool}
 use Rattle.std.proofs.lemmas.Bool.Decides.{nat_tests}
 use Rattle.std.proofs.lemmas.Slice.Eq.{bytes_eq-Decides}
 use Rattle.cell_refs.specs.Positions.{position_cmp, is_rising}
-use Rattle.cell_refs.proofs.PositionOrder.{position_total, position_same, and_both, less_from}
+use Rattle.cell_refs.proofs.PositionOrder.{position_same, and_both, less_from}
 use Rattle.formula_shift.specs.Relocation.{moved, offset_between}
 use Rattle.xlsx_out.specs.Groups.{Placed, formula_placed, is_moved_from, is_placed, head_row}
-use Rattle.xlsx_out.specs.Groups.{group_head, is_same, rows_of_head, last_row, group_end, is_master}
+use Rattle.xlsx_out.specs.Groups.{group_head, is_same, last_row, group_end, is_master}
 
 pub same_place : (p q : ℕ × ℕ) → eq_by_cmp position_cmp p q ≡ true → p ≡ q
 same_place p q same = position_same p q (equal_from (position_cmp p q) same) where
@@ -118,10 +116,10 @@ rows_below p (entry ∷ entries) below =
     let row = less_row p entry.0 first in
     let others = rows_below p entries rest in
     by (nat_le p.0 entry.0.0) refl row others where
-  by : (t : Bool) → nat_le p.0 entry.0.0 ≡ t → p.0 ≤ entry.0.0 →
-      start_from p.0 entries ≡ true → (t && start_from p.0 entries) ≡ true
-  by true is row others = others
-  by false is row others = absurd (grind (arith, nat_tests))
+      by : (t : Bool) → nat_le p.0 entry.0.0 ≡ t → p.0 ≤ entry.0.0 →
+          start_from p.0 entries ≡ true → (t && start_from p.0 entries) ≡ true
+      by true is row others = others
+      by false is row others = absurd (grind (arith, nat_tests))
 
 -- the rows of the formulas of a head among these
 abbrev pub rows_among : Placed → ℕ × ℕ → Placed → List ℕ
@@ -141,14 +139,14 @@ module _ (formulas : Placed) (head : ℕ × ℕ) where
       by (is_same (group_head formulas entry.0) head) first
       (last_from entry.0.0 entries rise (rows_below entry.0 entries below))
       (last_from start entries rise rest) where
-    by : (t : Bool) → nat_le start entry.0.0 ≡ true →
-        entry.0.0 ≤ last_row entry.0.0 (rows_among formulas head entries) →
-        start ≤ last_row start (rows_among formulas head entries) →
-        start ≤ last_row start (map (λ e. e.0.0) (cond t (entry ∷ filter
-        (λ e. is_same (group_head formulas e.0) head) entries)
-        (filter (λ e. is_same (group_head formulas e.0) head) entries)))
-    by true first here further = grind (arith, nat_tests)
-    by false first here further = further
+        by : (t : Bool) → nat_le start entry.0.0 ≡ true →
+            entry.0.0 ≤ last_row entry.0.0 (rows_among formulas head entries) →
+            start ≤ last_row start (rows_among formulas head entries) →
+            start ≤ last_row start (map (λ e. e.0.0) (cond t (entry ∷ filter
+            (λ e. is_same (group_head formulas e.0) head) entries)
+            (filter (λ e. is_same (group_head formulas e.0) head) entries)))
+        by true first here further = grind (arith, nat_tests)
+        by false first here further = further
 
   last_behind : (start : ℕ) (entries : Placed) (position : ℕ × ℕ) (formula : List ℕ) →
       is_rising entries ≡ true → find position_cmp position entries ≡ Some formula →
@@ -163,25 +161,25 @@ module _ (formulas : Placed) (head : ℕ × ℕ) where
       (last_from entry.0.0 entries rise (rows_below entry.0 entries below))
       (λ (row : ℕ) (behind : find position_cmp position entries ≡ Some formula).
       last_behind row entries position formula rise behind same) where
-    at : (t : Bool) → eq_by_cmp position_cmp position entry.0 ≡ t →
-        cond t (Some entry.1) (find position_cmp position entries) ≡ Some formula →
-        (u : Bool) → is_same (group_head formulas entry.0) head ≡ u →
-        entry.0.0 ≤ last_row entry.0.0 (rows_among formulas head entries) →
-        ((row : ℕ) → find position_cmp position entries ≡ Some formula →
-        position.0 ≤ last_row row (rows_among formulas head entries)) →
-        position.0 ≤ last_row start (map (λ e. e.0.0) (cond u (entry ∷ filter
-        (λ e. is_same (group_head formulas e.0) head) entries)
-        (filter (λ e. is_same (group_head formulas e.0) head) entries)))
-    at true ties found true is here further =
-        let place = same_place position entry.0 ties in
-        omega (arith, ap (λ (p : ℕ × ℕ). p.0) place)
-    at true ties found false is here further =
-        let place = same_place position entry.0 ties in
-        let e = ap (λ (p : ℕ × ℕ). is_same (group_head formulas p) head) place in absurd (cc)
-    at false ties found true is here further =
-        further entry.0.0 found
-    at false ties found false is here further =
-        further start found
+        at : (t : Bool) → eq_by_cmp position_cmp position entry.0 ≡ t →
+            cond t (Some entry.1) (find position_cmp position entries) ≡ Some formula →
+            (u : Bool) → is_same (group_head formulas entry.0) head ≡ u →
+            entry.0.0 ≤ last_row entry.0.0 (rows_among formulas head entries) →
+            ((row : ℕ) → find position_cmp position entries ≡ Some formula →
+            position.0 ≤ last_row row (rows_among formulas head entries)) →
+            position.0 ≤ last_row start (map (λ e. e.0.0) (cond u (entry ∷ filter
+            (λ e. is_same (group_head formulas e.0) head) entries)
+            (filter (λ e. is_same (group_head formulas e.0) head) entries)))
+        at true ties found true is here further =
+            let place = same_place position entry.0 ties in
+            omega (arith, ap (λ (p : ℕ × ℕ). p.0) place)
+        at true ties found false is here further =
+            let place = same_place position entry.0 ties in
+            let e = ap (λ (p : ℕ × ℕ). is_same (group_head formulas p) head) place in absurd (cc)
+        at false ties found true is here further =
+            further entry.0.0 found
+        at false ties found false is here further =
+            further start found
 
 -- a head that has another formula is a master
 pub head_is_master : (formulas : Placed) (position : ℕ × ℕ) (formula : List ℕ) →
@@ -195,11 +193,14 @@ head_is_master formulas position formula rising placed above =
     (same_itself head) in
     both (same_from (group_head formulas head) head own refl)
     (less_is head.0 (group_end formulas head) (omega arith)) where
-  same_from : (p q : ℕ × ℕ) → p.0 ≡ q.0 → p.1 ≡ q.1 → is_same p q ≡ true
-  same_from p q rows columns = grind (arith, nat_tests)
-  same_itself : (p : ℕ × ℕ) → is_same p p ≡ true
-  same_itself p = same_from p p refl refl
-  less_is : (a b : ℕ) → a < b → nat_lt a b ≡ true
-  less_is a b less = grind (arith, nat_tests)
-  both : {a b : Bool} → a ≡ true → b ≡ true → (a && b) ≡ true
-  both {a} {b} one two = ap (λ (t : Bool). t && b) one ∙ two
+      same_from : (p q : ℕ × ℕ) → p.0 ≡ q.0 → p.1 ≡ q.1 → is_same p q ≡ true
+      same_from p q rows columns = grind (arith, nat_tests)
+
+      same_itself : (p : ℕ × ℕ) → is_same p p ≡ true
+      same_itself p = same_from p p refl refl
+
+      less_is : (a b : ℕ) → a < b → nat_lt a b ≡ true
+      less_is a b less = grind (arith, nat_tests)
+
+      both : {a b : Bool} → a ≡ true → b ≡ true → (a && b) ≡ true
+      both {a} {b} one two = ap (λ (t : Bool). t && b) one ∙ two

@@ -1,6 +1,6 @@
 -- Masters at different positions have different indices, as an index counts the masters before.
-use Rattle.std.proofs.Common.{◌≡◌, ℕ, suc, ◌+◌, ◌<◌, ◌≤◌, Bool, true, false, cond, ◌&&◌}
-use Rattle.std.proofs.Common.{List, [], ◌∷◌, length, Some, None, Option, refl, sym, ap, ◌∙◌, arith}
+use Rattle.std.proofs.Common.{◌≡◌, ℕ, ◌<◌, ◌≤◌, Bool, true, false, cond, ◌&&◌}
+use Rattle.std.proofs.Common.{List, [], ◌∷◌, length, Some, refl, sym, ap, ◌∙◌, arith}
 use Rattle.std.specs.FinMap.{find}
 use Rattle.std.specs.List.{filter}
 use Rattle.std.specs.Ordering.{is_lt, eq_by_cmp, ordering_reverse}
@@ -58,38 +58,40 @@ module _ (passes : ℕ × ℕ → Bool) where
         at (eq_by_cmp position_cmp a entry.0) refl found (fewer_before entries)
         (λ (behind : find position_cmp a entries ≡ Some formula).
         less_before entries formula behind passed) where
-      here : (t u v : Bool) → t ≡ false → u ≡ true → v ≡ true →
-          length (before a entries) ≤ length (before b entries) →
-          length (cond (t && v) (entry ∷ before a entries) (before a entries))
-          < length (cond (u && v) (entry ∷ before b entries) (before b entries))
-      here false true true t u v fewer = omega arith
-      here true u v t e f fewer = absurd (cc)
-      here false false v t e f fewer = absurd (cc)
-      here false true false t e f fewer = absurd (cc)
-      not_itself : (p : ℕ × ℕ) → a ≡ p → is_lt (position_cmp p a) ≡ false
-      not_itself p same =
-          ap (λ (q : ℕ × ℕ). is_lt (position_cmp q a)) (sym same) ∙ by (position_cmp a a) refl where
-        by : (o : Ordering) → position_cmp a a ≡ o → is_lt (position_cmp a a) ≡ false
-        by Less is =
-            absurd (let e = position_total.antisymm a a in let f = ap ordering_reverse is in cc)
-        by Equal is = ap is_lt is
-        by Greater is = ap is_lt is
-      at : (t : Bool) → eq_by_cmp position_cmp a entry.0 ≡ t →
-          cond t (Some entry.1) (find position_cmp a entries) ≡ Some formula →
-          length (before a entries) ≤ length (before b entries) →
-          (find position_cmp a entries ≡ Some formula →
-          length (before a entries) < length (before b entries)) →
-          length (before a (entry ∷ entries)) < length (before b (entry ∷ entries))
-      at true ties found fewer further =
-          let place = same_place a entry.0 ties in
-          here (is_lt (position_cmp entry.0 a)) (is_lt (position_cmp entry.0 b)) (passes entry.0)
-          (not_itself entry.0 place)
-          (ap (λ (p : ℕ × ℕ). is_lt (position_cmp p b)) (sym place) ∙ ap is_lt lower)
-          (ap passes (sym place) ∙ passed) fewer
-      at false ties found fewer further =
-          more_less entry (is_lt (position_cmp entry.0 a)) (is_lt (position_cmp entry.0 b))
-          (passes entry.0) (before a entries) (before b entries) (before_both entry.0)
-          (further found)
+          here : (t u v : Bool) → t ≡ false → u ≡ true → v ≡ true →
+              length (before a entries) ≤ length (before b entries) →
+              length (cond (t && v) (entry ∷ before a entries) (before a entries))
+              < length (cond (u && v) (entry ∷ before b entries) (before b entries))
+          here false true true t u v fewer = omega arith
+          here true u v t e f fewer = absurd (cc)
+          here false false v t e f fewer = absurd (cc)
+          here false true false t e f fewer = absurd (cc)
+
+          not_itself : (p : ℕ × ℕ) → a ≡ p → is_lt (position_cmp p a) ≡ false
+          not_itself p same =
+              ap (λ (q : ℕ × ℕ). is_lt (position_cmp q a)) (sym same) ∙ by (position_cmp a a) refl where
+                by : (o : Ordering) → position_cmp a a ≡ o → is_lt (position_cmp a a) ≡ false
+                by Less is =
+                    absurd (let e = position_total.antisymm a a in let f = ap ordering_reverse is in cc)
+                by Equal is = ap is_lt is
+                by Greater is = ap is_lt is
+
+          at : (t : Bool) → eq_by_cmp position_cmp a entry.0 ≡ t →
+              cond t (Some entry.1) (find position_cmp a entries) ≡ Some formula →
+              length (before a entries) ≤ length (before b entries) →
+              (find position_cmp a entries ≡ Some formula →
+              length (before a entries) < length (before b entries)) →
+              length (before a (entry ∷ entries)) < length (before b (entry ∷ entries))
+          at true ties found fewer further =
+              let place = same_place a entry.0 ties in
+              here (is_lt (position_cmp entry.0 a)) (is_lt (position_cmp entry.0 b)) (passes entry.0)
+              (not_itself entry.0 place)
+              (ap (λ (p : ℕ × ℕ). is_lt (position_cmp p b)) (sym place) ∙ ap is_lt lower)
+              (ap passes (sym place) ∙ passed) fewer
+          at false ties found fewer further =
+              more_less entry (is_lt (position_cmp entry.0 a)) (is_lt (position_cmp entry.0 b))
+              (passes entry.0) (before a entries) (before b entries) (before_both entry.0)
+              (further found)
 
 -- masters with one index are one
 pub indices_differ : (formulas : Placed) (a b : ℕ × ℕ) (one two : List ℕ) →
@@ -98,13 +100,13 @@ pub indices_differ : (formulas : Placed) (a b : ℕ × ℕ) (one two : List ℕ)
     group_index formulas a ≡ group_index formulas b → a ≡ b
 indices_differ formulas a b one two first second own other same =
     by (position_cmp a b) refl where
-  by : (o : Ordering) → position_cmp a b ≡ o → a ≡ b
-  by Less is =
-      let less = less_before (is_master formulas) a b is formulas one first own in
-      absurd (omega arith)
-  by Equal is = position_same a b is
-  by Greater is =
-      let lower : position_cmp b a ≡ Less =
-      position_total.antisymm b a ∙ ap ordering_reverse is in
-      let less = less_before (is_master formulas) b a lower formulas two second other in
-      absurd (omega arith)
+      by : (o : Ordering) → position_cmp a b ≡ o → a ≡ b
+      by Less is =
+          let less = less_before (is_master formulas) a b is formulas one first own in
+          absurd (omega arith)
+      by Equal is = position_same a b is
+      by Greater is =
+          let lower : position_cmp b a ≡ Less =
+          position_total.antisymm b a ∙ ap ordering_reverse is in
+          let less = less_before (is_master formulas) b a lower formulas two second other in
+          absurd (omega arith)

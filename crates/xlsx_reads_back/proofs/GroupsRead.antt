@@ -1,23 +1,24 @@
 -- Formulas that are written in groups read back: along the positions a derived formula finds the
 -- master of its group, and is its text, moved.
-use Rattle.std.proofs.Common.{◌≡◌, ℕ, ◌+◌, ◌<◌, ◌≤◌, ◌⊎◌, inl, inr, Bool, true, false, cond, ◌&&◌}
+use Rattle.std.proofs.Common.{◌≡◌, ℕ, ◌<◌, ◌≤◌, ◌⊎◌, inl, inr, Bool, true, false, cond, ◌&&◌}
 use Rattle.std.proofs.Common.{◌||◌, List, [], ◌∷◌, length, Some, None, Option, refl, sym, ap, ◌∙◌}
-use Rattle.std.proofs.Common.{arith, subst}
+use Rattle.std.proofs.Common.{arith}
 use Rattle.std.specs.Prelude.{◌==◌, not}
 use Rattle.std.specs.List.{list_all, list_any}
 use Rattle.std.specs.FinMap.{find}
 use Rattle.std.specs.Cmp.{eq_by_cmp_equiv}
-use Rattle.std.specs.Ordering.{is_lt, is_eq, eq_by_cmp, nat_cmp, ordering_reverse, ordering_then}
+use Rattle.std.specs.Ordering.{is_lt, is_eq, eq_by_cmp, nat_cmp, ordering_then}
 use Rattle.std.specs.declared.cmp.Ordering.{Ordering}
 use Rattle.std.specs.declared.cmp.Ordering.TheVariants.{Less, Equal, Greater}
 use Rattle.std.proofs.lemmas.Bool.Decides.{nat_tests}
 use Rattle.cell_refs.specs.Positions.{position_cmp, is_rising}
 use Rattle.cell_refs.proofs.PositionOrder.{position_total, and_both, less_from, positions_rise}
 use Rattle.xlsx_cells.specs.Sheet.{formulas_along, used_formulas, is_empty}
-use Rattle.xlsx_formulas.specs.Formula.{FormulaText, GroupFormula, master_of, as_master, or_further}
+use Rattle.xlsx_formulas.specs.Formula.{FormulaText, GroupFormula, master_of, or_further}
 use Rattle.xlsx_formulas.specs.Formula.{formula_of, moved_to, cell_formula, behind_formulas}
 use Rattle.xlsx_out.specs.Groups.{Placed, formula_placed, is_placed, is_same, is_master, head_row}
-use Rattle.xlsx_out.specs.Groups.{group_head, group_end, group_index, written_formula, plain, master, derived}
+use Rattle.xlsx_out.specs.Groups.{group_head, group_end, group_index, written_formula, plain}
+use Rattle.xlsx_out.specs.Groups.{master, derived}
 use Rattle.xlsx_out.specs.Writable.{are_writable_formulas}
 use Rattle.xlsx_reads_back.specs.ReadFormulas.{formula_read, formulas_read, formulas_read_by}
 use Rattle.xlsx_reads_back.specs.ReadFormulas.{formulas_read_along, is_derived}
@@ -83,22 +84,22 @@ module _ (formulas : Placed) where
       (master_of (group_index formulas (group_head formulas position)) earlier) ≡ formula
   derived_is earlier position positions formula rising rise placed passed other =
       by (head_moves formulas position.1 position.0 formula placed) where
-    by : (head_row formulas position.1 position.0 ≡ position.0)
-        ⊎ IsMovedFrom formulas (group_head formulas position) position formula →
-        moved_to position
-        (master_of (group_index formulas (group_head formulas position)) earlier) ≡ formula
-    by (inl same) = absurd (grind (arith, nat_tests))
-    by (inr moves) =
-        let above : head_row formulas position.1 position.0 < position.0 =
-        strictly (head_row formulas position.1 position.0) position.0 position.1
-        (head_above formulas position.1 position.0) other in
-        let lower = lower_in_row (head_row formulas position.1 position.0) position.0 position.1
-        above in
-        ap (moved_to position)
-        (passed (group_head formulas position) moves.text moves.placed
-        (head_is_master formulas position formula rising placed above)
-        (above_all (group_head formulas position) position positions lower rise))
-        ∙ sym moves.moves
+        by : (head_row formulas position.1 position.0 ≡ position.0)
+            ⊎ IsMovedFrom formulas (group_head formulas position) position formula →
+            moved_to position
+            (master_of (group_index formulas (group_head formulas position)) earlier) ≡ formula
+        by (inl same) = absurd (grind (arith, nat_tests))
+        by (inr moves) =
+            let above : head_row formulas position.1 position.0 < position.0 =
+            strictly (head_row formulas position.1 position.0) position.0 position.1
+            (head_above formulas position.1 position.0) other in
+            let lower = lower_in_row (head_row formulas position.1 position.0) position.0 position.1
+            above in
+            ap (moved_to position)
+            (passed (group_head formulas position) moves.text moves.placed
+            (head_is_master formulas position formula rising placed above)
+            (above_all (group_head formulas position) position positions lower rise))
+            ∙ sym moves.moves
 
   -- the formula that is found of one that is written
   found_is : (earlier : List FormulaText) (position : ℕ × ℕ) (positions : List (ℕ × ℕ))
@@ -110,15 +111,15 @@ module _ (formulas : Placed) where
       (formula_read position (written_formula formulas position formula)) ≡ formula
   found_is earlier position positions formula rising rise placed passed =
       by (is_same (group_head formulas position) position) refl (is_master formulas position) where
-    by : (t : Bool) → is_same (group_head formulas position) position ≡ t → (u : Bool) →
-        formula_of earlier position (formula_read position (cond t (cond u
-        (master formula (group_end formulas position) (group_index formulas position))
-        (plain formula))
-        (derived (group_index formulas (group_head formulas position))))) ≡ formula
-    by true same true = refl
-    by true same false = refl
-    by false other u =
-        derived_is earlier position positions formula rising rise placed passed other
+        by : (t : Bool) → is_same (group_head formulas position) position ≡ t → (u : Bool) →
+            formula_of earlier position (formula_read position (cond t (cond u
+            (master formula (group_end formulas position) (group_index formulas position))
+            (plain formula))
+            (derived (group_index formulas (group_head formulas position))))) ≡ formula
+        by true same true = refl
+        by true same false = refl
+        by false other u =
+            derived_is earlier position positions formula rising rise placed passed other
 
   -- ---- what is passed
 
@@ -132,21 +133,22 @@ module _ (formulas : Placed) where
       by (is_same (group_head formulas position) position)
       (and_both (is_same (group_head formulas position) position) _ own).0
       (is_master formulas position) own where
-    itself : (n : ℕ) → (n == n) ≡ true
-    itself n = grind (arith, nat_tests)
-    by : (t : Bool) → t ≡ true → (u : Bool) → u ≡ true →
-        master_of (group_index formulas position)
-        (formula_read position (cond t (cond u
-        (master formula (group_end formulas position) (group_index formulas position))
-        (plain formula))
-        (derived (group_index formulas (group_head formulas position)))) ∷ earlier)
-        ≡ Some (kept_master position formula)
-    by true same true own =
-        ap (λ (t : Bool). or_further (cond t (Some (kept_master position formula)) None)
-        (master_of (group_index formulas position) earlier))
-        (itself (group_index formulas position))
-    by true same false own = absurd (cc)
-    by false same u own = absurd (cc)
+        itself : (n : ℕ) → (n == n) ≡ true
+        itself n = grind (arith, nat_tests)
+
+        by : (t : Bool) → t ≡ true → (u : Bool) → u ≡ true →
+            master_of (group_index formulas position)
+            (formula_read position (cond t (cond u
+            (master formula (group_end formulas position) (group_index formulas position))
+            (plain formula))
+            (derived (group_index formulas (group_head formulas position)))) ∷ earlier)
+            ≡ Some (kept_master position formula)
+        by true same true own =
+            ap (λ (t : Bool). or_further (cond t (Some (kept_master position formula)) None)
+            (master_of (group_index formulas position) earlier))
+            (itself (group_index formulas position))
+        by true same false own = absurd (cc)
+        by false same u own = absurd (cc)
 
   -- and another index what it found before
   other_found : (earlier : List FormulaText) (position head : ℕ × ℕ) (formula text : List ℕ) →
@@ -157,30 +159,31 @@ module _ (formulas : Placed) where
       ≡ master_of (group_index formulas head) earlier
   other_found earlier position head formula text placed first own apart =
       by (is_same (group_head formulas position) position) (is_master formulas position) refl where
-    differ : (t : Bool) → (group_index formulas position == group_index formulas head) ≡ t →
-        is_master formulas position ≡ true →
-        or_further (cond t (Some (kept_master position formula)) None)
-        (master_of (group_index formulas head) earlier)
-        ≡ master_of (group_index formulas head) earlier
-    differ false is other = refl
-    differ true is other =
-        let same : group_index formulas head ≡ group_index formulas position =
-        grind (arith, nat_tests) in
-        let place = indices_differ formulas head position text formula first placed own other
-        same in
-        absurd (let e = (eq_by_cmp_equiv position_total).refl position in
-        let f = ap (λ (p : ℕ × ℕ). eq_by_cmp position_cmp p position) place in cc)
-    by : (t u : Bool) → is_master formulas position ≡ u →
-        master_of (group_index formulas head)
-        (formula_read position (cond t (cond u
-        (master formula (group_end formulas position) (group_index formulas position))
-        (plain formula))
-        (derived (group_index formulas (group_head formulas position)))) ∷ earlier)
-        ≡ master_of (group_index formulas head) earlier
-    by true true other =
-        differ (group_index formulas position == group_index formulas head) refl other
-    by true false other = refl
-    by false u other = refl
+        differ : (t : Bool) → (group_index formulas position == group_index formulas head) ≡ t →
+            is_master formulas position ≡ true →
+            or_further (cond t (Some (kept_master position formula)) None)
+            (master_of (group_index formulas head) earlier)
+            ≡ master_of (group_index formulas head) earlier
+        differ false is other = refl
+        differ true is other =
+            let same : group_index formulas head ≡ group_index formulas position =
+            grind (arith, nat_tests) in
+            let place = indices_differ formulas head position text formula first placed own other
+            same in
+            absurd (let e = (eq_by_cmp_equiv position_total).refl position in
+            let f = ap (λ (p : ℕ × ℕ). eq_by_cmp position_cmp p position) place in cc)
+
+        by : (t u : Bool) → is_master formulas position ≡ u →
+            master_of (group_index formulas head)
+            (formula_read position (cond t (cond u
+            (master formula (group_end formulas position) (group_index formulas position))
+            (plain formula))
+            (derived (group_index formulas (group_head formulas position)))) ∷ earlier)
+            ≡ master_of (group_index formulas head) earlier
+        by true true other =
+            differ (group_index formulas position == group_index formulas head) refl other
+        by true false other = refl
+        by false u other = refl
 
   passed_further : (earlier : List FormulaText) (position : ℕ × ℕ) (positions : List (ℕ × ℕ))
       (o : Option (List ℕ)) → formula_placed formulas position ≡ o →
@@ -188,31 +191,31 @@ module _ (formulas : Placed) where
       ArePassed (behind_formulas (formulas_read_by formulas position o) earlier) positions
   passed_further earlier position positions None is passed head text placed own ahead =
       passed head text placed own (by (eq_by_cmp position_cmp head position) refl) where
-    by : (t : Bool) → eq_by_cmp position_cmp head position ≡ t →
-        (t || is_among head positions) ≡ false
-    by false apart = ahead
-    by true ties =
-        absurd (let e = ap (formula_placed formulas) (same_place head position ties) in cc)
+        by : (t : Bool) → eq_by_cmp position_cmp head position ≡ t →
+            (t || is_among head positions) ≡ false
+        by false apart = ahead
+        by true ties =
+            absurd (let e = ap (formula_placed formulas) (same_place head position ties) in cc)
   passed_further earlier position positions (Some formula) is passed head text placed own ahead =
       by (eq_by_cmp position_cmp head position) refl where
-    by : (t : Bool) → eq_by_cmp position_cmp head position ≡ t →
-        master_of (group_index formulas head)
-        (formula_read position (written_formula formulas position formula) ∷ earlier)
-        ≡ Some (kept_master head text)
-    by true ties =
-        let place = same_place head position ties in
-        let same = same_texts formula text (formula_placed formulas position) is
-        (ap (formula_placed formulas) (sym place) ∙ placed) in
-        ap (λ (p : ℕ × ℕ). master_of (group_index formulas p)
-        (formula_read position (written_formula formulas position formula) ∷ earlier)) place
-        ∙ (master_found earlier position formula
-        (ap (is_master formulas) (sym place) ∙ own)
-        ∙ (ap (λ (p : ℕ × ℕ). Some (kept_master p formula)) (sym place)
-        ∙ ap (λ (w : List ℕ). Some (kept_master head w)) same))
-    by false apart =
-        other_found earlier position head formula text is placed own apart
-        ∙ passed head text placed own
-        (ap (λ (t : Bool). t || is_among head positions) apart ∙ ahead)
+        by : (t : Bool) → eq_by_cmp position_cmp head position ≡ t →
+            master_of (group_index formulas head)
+            (formula_read position (written_formula formulas position formula) ∷ earlier)
+            ≡ Some (kept_master head text)
+        by true ties =
+            let place = same_place head position ties in
+            let same = same_texts formula text (formula_placed formulas position) is
+            (ap (formula_placed formulas) (sym place) ∙ placed) in
+            ap (λ (p : ℕ × ℕ). master_of (group_index formulas p)
+            (formula_read position (written_formula formulas position formula) ∷ earlier)) place
+            ∙ (master_found earlier position formula
+            (ap (is_master formulas) (sym place) ∙ own)
+            ∙ (ap (λ (p : ℕ × ℕ). Some (kept_master p formula)) (sym place)
+            ∙ ap (λ (w : List ℕ). Some (kept_master head w)) same))
+        by false apart =
+            other_found earlier position head formula text is placed own apart
+            ∙ passed head text placed own
+            (ap (λ (t : Bool). t || is_among head positions) apart ∙ ahead)
 
   -- ---- along the positions
 
@@ -234,26 +237,26 @@ module _ (formulas : Placed) where
       positions (and_both (list_all (λ q. is_lt (position_cmp position q)) positions)
       (positions_rise positions) rise).1
       (passed_further earlier position positions o is passed)) where
-    by : (o : Option (List ℕ)) → formula_placed formulas position ≡ o →
-        ((o : Option (List ℕ)) → formula_placed formulas position ≡ o →
-        used_formulas (formulas_along
-        (behind_formulas (formulas_read_by formulas position o) earlier)
-        (formulas_read_along formulas positions))
-        ≡ placed_among (formula_placed formulas) positions) →
-        used_formulas
-        ((position, cell_formula earlier position (formulas_read_by formulas position o))
-        ∷ formulas_along (behind_formulas (formulas_read_by formulas position o) earlier)
-        (formulas_read_along formulas positions))
-        ≡ entry_before position o (placed_among (formula_placed formulas) positions)
-    by None is further = further None is
-    by (Some formula) is further =
-        let found = found_is earlier position positions formula rising rise is passed in
-        let rest = used_formulas (formulas_along
-        (behind_formulas (formulas_read_by formulas position (Some formula)) earlier)
-        (formulas_read_along formulas positions)) in
-        ap (λ (w : List ℕ). cond (is_empty w) rest ((position, w) ∷ rest)) found
-        ∙ (not_empty formula rest rest (position, formula) (some position formula is)
-        ∙ ap (λ (es : Placed). (position, formula) ∷ es) (further (Some formula) is))
+        by : (o : Option (List ℕ)) → formula_placed formulas position ≡ o →
+            ((o : Option (List ℕ)) → formula_placed formulas position ≡ o →
+            used_formulas (formulas_along
+            (behind_formulas (formulas_read_by formulas position o) earlier)
+            (formulas_read_along formulas positions))
+            ≡ placed_among (formula_placed formulas) positions) →
+            used_formulas
+            ((position, cell_formula earlier position (formulas_read_by formulas position o))
+            ∷ formulas_along (behind_formulas (formulas_read_by formulas position o) earlier)
+            (formulas_read_along formulas positions))
+            ≡ entry_before position o (placed_among (formula_placed formulas) positions)
+        by None is further = further None is
+        by (Some formula) is further =
+            let found = found_is earlier position positions formula rising rise is passed in
+            let rest = used_formulas (formulas_along
+            (behind_formulas (formulas_read_by formulas position (Some formula)) earlier)
+            (formulas_read_along formulas positions)) in
+            ap (λ (w : List ℕ). cond (is_empty w) rest ((position, w) ∷ rest)) found
+            ∙ (not_empty formula rest rest (position, formula) (some position formula is)
+            ∙ ap (λ (es : Placed). (position, formula) ∷ es) (further (Some formula) is))
 
 full : (formula : List ℕ) → not (length formula == 0) ≡ true → is_empty formula ≡ false
 full [] some = absurd (cc)

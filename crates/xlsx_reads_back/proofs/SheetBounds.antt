@@ -1,12 +1,12 @@
 -- What is written of cells on a sheet: positions on the sheet, and numbers that fit.
-use Rattle.std.proofs.Common.{◌≡◌, ℕ, suc, ◌+◌, ◌*◌, ◌<◌, ◌≤◌, ◌^◌, ◌⊎◌, inl, inr, Bool, true, false}
-use Rattle.std.proofs.Common.{cond, ◌&&◌, List, [], ◌∷◌, ◌++◌, map, length, Some, None, Option, refl}
-use Rattle.std.proofs.Common.{sym, ap, ◌∙◌, arith, subst, All}
+use Rattle.std.proofs.Common.{◌≡◌, ℕ, suc, ◌+◌, ◌*◌, ◌<◌, ◌≤◌, ◌^◌, Bool, true}
+use Rattle.std.proofs.Common.{false, cond, ◌&&◌, List, [], ◌∷◌, ◌++◌, map, length}
+use Rattle.std.proofs.Common.{refl, ap, ◌∙◌, arith}
 use Rattle.std.specs.Prelude.{nat_lt}
 use Rattle.std.specs.List.{list_all, filter}
-use Rattle.std.specs.FinMap.{find, from_entries, entries, entries-insert}
+use Rattle.std.specs.FinMap.{from_entries, entries, entries-insert}
 use Rattle.std.specs.FinMap.Entries.{put, by_order, below_all}
-use Rattle.std.specs.Ordering.{nat_cmp, ordering_then, is_lt, eq_by_cmp}
+use Rattle.std.specs.Ordering.{nat_cmp, ordering_then, is_lt}
 use Rattle.std.specs.declared.cmp.Ordering.{Ordering}
 use Rattle.std.specs.declared.cmp.Ordering.TheVariants.{Less, Equal, Greater}
 use Rattle.std.proofs.lemmas.Bool.Decides.{nat_tests}
@@ -16,11 +16,11 @@ use Rattle.cell_refs.proofs.PositionOrder.{position_total, and_both, and_from, l
 use Rattle.cell_data.specs.Cells.{AreInSheet, IsPlacedInSheet}
 use Rattle.cell_data.specs.Stepping.{used}
 use Rattle.cell_data.proofs.Placing.{none_placed}
-use Rattle.xlsx_out.specs.Groups.{Placed, formula_placed, is_same, is_master, group_head, group_end}
+use Rattle.xlsx_out.specs.Groups.{Placed, is_same, is_master, group_head, group_end}
 use Rattle.xlsx_out.specs.Groups.{group_index, last_row}
 use Rattle.xlsx_out.specs.WrittenSheet.{PlacedValues, written_positions}
 use Rattle.xlsx_reads_back.specs.ReadSheet.{is_on_sheet}
-use Rattle.xlsx_reads_back.proofs.GroupHeads.{rows_among, head_above}
+use Rattle.xlsx_reads_back.proofs.GroupHeads.{rows_among}
 
 -- ---- positions on a sheet
 
@@ -49,13 +49,13 @@ module _ (passes : ℕ × ℕ → Bool) where
   put_passes k (e ∷ es) here others =
       let (first, rest) = and_both (passes e.0) (list_all passes (map (λ d. d.0) es)) others in
       by (position_cmp k e.0) first rest (put_passes k es here rest) where
-    by : (o : Ordering) → passes e.0 ≡ true → list_all passes (map (λ d. d.0) es) ≡ true →
-        list_all passes (map (λ d. d.0) (put position_cmp k tt es)) ≡ true →
-        list_all passes (map (λ d. d.0) (by_order o ((k, tt) ∷ e ∷ es) ((e.0, tt) ∷ es)
-        (e ∷ put position_cmp k tt es))) ≡ true
-    by Less first rest further = and_from _ _ here (and_from _ _ first rest)
-    by Equal first rest further = and_from _ _ first rest
-    by Greater first rest further = and_from _ _ first further
+        by : (o : Ordering) → passes e.0 ≡ true → list_all passes (map (λ d. d.0) es) ≡ true →
+            list_all passes (map (λ d. d.0) (put position_cmp k tt es)) ≡ true →
+            list_all passes (map (λ d. d.0) (by_order o ((k, tt) ∷ e ∷ es) ((e.0, tt) ∷ es)
+            (e ∷ put position_cmp k tt es))) ≡ true
+        by Less first rest further = and_from _ _ here (and_from _ _ first rest)
+        by Equal first rest further = and_from _ _ first rest
+        by Greater first rest further = and_from _ _ first further
 
   -- the keys of a map are among those of its entries
   keys_pass : (es : List ((ℕ × ℕ) × Unit {0})) → list_all (λ e. passes e.0) es ≡ true →
@@ -91,12 +91,12 @@ written_on_sheet values formulas one two =
     keys_pass is_on_sheet (used values ++ used formulas)
     (used_pass is_on_sheet values (used formulas) (all_on_sheet values one)
     (bare formulas (all_on_sheet formulas two))) where
-  bare : (es : Placed) → list_all (λ e. is_on_sheet e.0) es ≡ true →
-      list_all (λ e. is_on_sheet e.0) (used es) ≡ true
-  bare [] all = refl
-  bare (e ∷ es) all =
-      let (first, rest) = and_both (is_on_sheet e.0) (list_all (λ d. is_on_sheet d.0) es) all in
-      and_from _ _ first (bare es rest)
+      bare : (es : Placed) → list_all (λ e. is_on_sheet e.0) es ≡ true →
+          list_all (λ e. is_on_sheet e.0) (used es) ≡ true
+      bare [] all = refl
+      bare (e ∷ es) all =
+          let (first, rest) = and_both (is_on_sheet e.0) (list_all (λ d. is_on_sheet d.0) es) all in
+          and_from _ _ first (bare es rest)
 
 -- ---- the last row of a group
 
@@ -109,13 +109,13 @@ last_inside formulas head start (e ∷ es) inside all =
     by (is_same (group_head formulas e.0) head)
     (last_inside formulas head e.0.0 es (on_sheet_parts e.0 first).0 rest)
     (last_inside formulas head start es inside rest) where
-  by : (t : Bool) → last_row e.0.0 (rows_among formulas head es) < 1048576 →
-      last_row start (rows_among formulas head es) < 1048576 →
-      last_row start (map (λ d. d.0.0) (cond t (e ∷ filter
-      (λ d. is_same (group_head formulas d.0) head) es)
-      (filter (λ d. is_same (group_head formulas d.0) head) es))) < 1048576
-  by true here further = here
-  by false here further = further
+      by : (t : Bool) → last_row e.0.0 (rows_among formulas head es) < 1048576 →
+          last_row start (rows_among formulas head es) < 1048576 →
+          last_row start (map (λ d. d.0.0) (cond t (e ∷ filter
+          (λ d. is_same (group_head formulas d.0) head) es)
+          (filter (λ d. is_same (group_head formulas d.0) head) es))) < 1048576
+      by true here further = here
+      by false here further = further
 
 pub end_fits : (formulas : Placed) (head : ℕ × ℕ) → AreInSheet formulas → head.0 < 1048576 →
     group_end formulas head < 1048576
@@ -142,8 +142,8 @@ risen e [] rising all =
     let (here, rest) = and_both (is_on_sheet e.0) true all in
     let parts = on_sheet_parts e.0 here in
     place e.0.0 e.0.1 parts.0 parts.1 where
-  place : (a b : ℕ) → a < 1048576 → b < 16384 → 16384 * a + b + 0 < 2 ^ 34
-  place a b row column = omega arith
+      place : (a b : ℕ) → a < 1048576 → b < 16384 → 16384 * a + b + 0 < 2 ^ 34
+      place a b row column = omega arith
 risen e (next ∷ es) rising all =
     let (below, rise) = and_both (below_all position_cmp e.0 (next ∷ es))
     (is_rising (next ∷ es)) rising in
@@ -154,8 +154,8 @@ risen e (next ∷ es) rising all =
     step (16384 * e.0.0 + e.0.1) (16384 * next.0.0 + next.0.1) (length es)
     (lower_place e.0 next.0 (less_from _ less) (on_sheet_parts e.0 here).1)
     (risen next es rise rest) where
-  step : (a b n : ℕ) → a < b → b + n < 2 ^ 34 → a + suc n < 2 ^ 34
-  step a b n less further = omega arith
+      step : (a b n : ℕ) → a < b → b + n < 2 ^ 34 → a + suc n < 2 ^ 34
+      step a b n less further = omega arith
 
 fewer : (passes : (ℕ × ℕ) × List ℕ → Bool) (es : Placed) → length (filter passes es) ≤ length es
 fewer passes [] = omega arith
@@ -171,8 +171,8 @@ count_fits [] rising all = omega arith
 count_fits (e ∷ es) rising all =
     let most = risen e es rising all in
     step (16384 * e.0.0 + e.0.1) (length es) most where
-  step : (a n : ℕ) → a + n < 2 ^ 34 → suc n ≤ 2 ^ 34
-  step a n less = omega arith
+      step : (a n : ℕ) → a + n < 2 ^ 34 → suc n ≤ 2 ^ 34
+      step a n less = omega arith
 
 -- an index is a number of 64 bits
 pub index_fits : (formulas : Placed) (head : ℕ × ℕ) → is_rising formulas ≡ true →

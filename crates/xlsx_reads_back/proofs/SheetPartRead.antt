@@ -1,22 +1,23 @@
 -- The part of a written sheet is sound, and says the values, the formulas and the style ids.
-use Rattle.std.proofs.Common.{◌≡◌, ℕ, Bool, true, false, List, [], ◌∷◌, ◌++◌, map, Some, None, Option}
-use Rattle.std.proofs.Common.{refl, sym, ap, ◌∙◌, append_assoc, append-nil}
+use Rattle.std.proofs.Common.{◌≡◌, true, List, [], ◌∷◌, ◌++◌, Some, None}
+use Rattle.std.proofs.Common.{sym, ap, ◌∙◌, append_assoc, append-nil}
 use Rattle.std.specs.Prelude.{Ok, codes, option_map}
 use Rattle.std.specs.List.{flat_map}
-use Rattle.cell_data.specs.CellValue.{CellValue}
-use Rattle.part_events.specs.Event.{Event, start, end}
+use Rattle.part_events.specs.Event.{Event, end}
 use Rattle.part_events.specs.Nesting.{whole}
 use Rattle.part_events.specs.Section.{content, is_closed, behind_start, is_named}
 use Rattle.written_markup.specs.Markup.{element, attribute}
 use Rattle.written_markup.specs.Nests.{IsNested}
 use Rattle.written_markup.proofs.Nested.{nested_element, flat_map_nested, nests_itself}
 use Rattle.written_markup.proofs.Nested.{content_of_element, element_is_closed}
-use Rattle.xlsx_sections.specs.PartSection.{PartSection, section_in, section_from, inside_of, has_end}
+use Rattle.xlsx_sections.specs.PartSection.{PartSection, section_in, section_from, inside_of}
+use Rattle.xlsx_sections.specs.PartSection.{has_end}
 use Rattle.xlsx_cells.specs.Head.{dimensions_in}
 use Rattle.cell_refs.specs.Reference.{row_reference}
 use Rattle.xlsx_out.specs.Groups.{Placed}
-use Rattle.xlsx_out.specs.WrittenSheet.{PlacedValues, SheetRow, written_positions, in_rows, row_events}
-use Rattle.xlsx_out.specs.WrittenSheet.{cell_events, cell_attributes, data_events, sheet_events}
+use Rattle.xlsx_out.specs.WrittenSheet.{PlacedValues, written_positions, in_rows}
+use Rattle.xlsx_out.specs.WrittenSheet.{row_events, cell_events, cell_attributes, data_events}
+use Rattle.xlsx_out.specs.WrittenSheet.{sheet_events}
 use Rattle.xlsx_reads_back.specs.ReadSheet.{value_at}
 use Rattle.xlsx_reads_back.proofs.CellsRead.{cell_inside, cell_nested}
 

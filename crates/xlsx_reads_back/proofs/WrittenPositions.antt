@@ -1,12 +1,11 @@
 -- The positions that are written rise, and have each value and each formula among them.
-use Rattle.std.proofs.Common.{◌≡◌, ℕ, Bool, true, false, cond, ◌||◌, List, [], ◌∷◌, ◌++◌, map}
-use Rattle.std.proofs.Common.{Some, None, Option, refl, sym, ap, ◌∙◌}
-use Rattle.std.specs.List.{list_any}
-use Rattle.std.specs.FinMap.{find, from_entries, entries, entries_sorted, get, contains_key, keys}
+use Rattle.std.proofs.Common.{◌≡◌, ℕ, Bool, true, false, cond, List, [], ◌∷◌, ◌++◌}
+use Rattle.std.proofs.Common.{Some, refl, sym, ap, ◌∙◌}
+use Rattle.std.specs.FinMap.{find, from_entries, entries, entries_sorted}
 use Rattle.std.specs.FinMap.{get-from_entries, contains_key-keys}
 use Rattle.std.specs.Option.{is_some}
 use Rattle.std.specs.Ordering.{eq_by_cmp}
-use Rattle.cell_refs.specs.Positions.{position_cmp, is_rising}
+use Rattle.cell_refs.specs.Positions.{position_cmp}
 use Rattle.cell_refs.proofs.PositionOrder.{position_total, from_T, positions_rise}
 use Rattle.cell_refs.proofs.PositionOrder.{rising_positions}
 use Rattle.cell_data.specs.Stepping.{used}
@@ -33,12 +32,12 @@ found_bare q x [] found = absurd (cc)
 found_bare {X} q x (e ∷ es) found =
     by (eq_by_cmp position_cmp q e.0) found (λ (further : find position_cmp q es ≡ Some x).
     found_bare q x es further) where
-  by : (t : Bool) → cond t (Some e.1) (find position_cmp q es) ≡ Some x →
-      (find position_cmp q es ≡ Some x →
-      find position_cmp q (used es) ≡ Some tt) →
-      cond t (Some tt) (find position_cmp q (used es)) ≡ Some tt
-  by true found further = refl
-  by false found further = further found
+      by : (t : Bool) → cond t (Some e.1) (find position_cmp q es) ≡ Some x →
+          (find position_cmp q es ≡ Some x →
+          find position_cmp q (used es) ≡ Some tt) →
+          cond t (Some tt) (find position_cmp q (used es)) ≡ Some tt
+      by true found further = refl
+      by false found further = further found
 
 found_in_front : (q : ℕ × ℕ) (es fs : List ((ℕ × ℕ) × Unit {0})) →
     find position_cmp q es ≡ Some tt → find position_cmp q (es ++ fs) ≡ Some tt
@@ -46,21 +45,21 @@ found_in_front q [] fs found = absurd (cc)
 found_in_front q (e ∷ es) fs found =
     by (eq_by_cmp position_cmp q e.0) found (λ (further : find position_cmp q es ≡ Some tt).
     found_in_front q es fs further) where
-  by : (t : Bool) → cond t (Some e.1) (find position_cmp q es) ≡ Some tt →
-      (find position_cmp q es ≡ Some tt → find position_cmp q (es ++ fs) ≡ Some tt) →
-      cond t (Some e.1) (find position_cmp q (es ++ fs)) ≡ Some tt
-  by true found further = refl
-  by false found further = further found
+      by : (t : Bool) → cond t (Some e.1) (find position_cmp q es) ≡ Some tt →
+          (find position_cmp q es ≡ Some tt → find position_cmp q (es ++ fs) ≡ Some tt) →
+          cond t (Some e.1) (find position_cmp q (es ++ fs)) ≡ Some tt
+      by true found further = refl
+      by false found further = further found
 
 found_behind : (q : ℕ × ℕ) (es fs : List ((ℕ × ℕ) × Unit {0})) →
     find position_cmp q fs ≡ Some tt → find position_cmp q (es ++ fs) ≡ Some tt
 found_behind q [] fs found = found
 found_behind q (e ∷ es) fs found =
     by (eq_by_cmp position_cmp q e.0) (found_behind q es fs found) where
-  by : (t : Bool) → find position_cmp q (es ++ fs) ≡ Some tt →
-      cond t (Some e.1) (find position_cmp q (es ++ fs)) ≡ Some tt
-  by true further = refl
-  by false further = further
+      by : (t : Bool) → find position_cmp q (es ++ fs) ≡ Some tt →
+          cond t (Some e.1) (find position_cmp q (es ++ fs)) ≡ Some tt
+      by true further = refl
+      by false further = further
 
 among_written : (values : PlacedValues) (formulas : Placed) (q : ℕ × ℕ) →
     find position_cmp q (all_entries values formulas) ≡ Some tt →

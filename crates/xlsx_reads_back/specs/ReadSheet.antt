@@ -1,5 +1,5 @@
 -- What is read of a sheet as it is written.
-use Rattle.std.specs.Prelude.{ℕ, Bool, ◌&&◌, nat_lt, List, map, Option, Some, None}
+use Rattle.std.specs.Prelude.{ℕ, Bool, ◌&&◌, nat_lt, List, map}
 use Rattle.std.specs.FinMap.{find}
 use Rattle.std.specs.Option.{unwrap_or}
 use Rattle.cell_data.specs.CellValue.{CellValue, nothing, integer, number, text, shared_text, truth}

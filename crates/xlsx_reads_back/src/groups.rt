@@ -5,7 +5,8 @@ ghost use Rattle.xlsx_cells.specs.Sheet.{used_formulas, formulas_along};
 ghost use Rattle.xlsx_out.specs.Groups.{Placed, formula_placed, is_placed, group_head, is_same};
 ghost use Rattle.xlsx_out.specs.Writable.{are_writable_formulas};
 ghost use Rattle.xlsx_out.specs.WrittenSheet.{PlacedValues, written_positions};
-ghost use Rattle.xlsx_reads_back.specs.ReadFormulas.{formulas_read, formulas_read_along, is_derived};
+ghost use Rattle.xlsx_reads_back.specs.ReadFormulas.{formulas_read, formulas_read_along};
+ghost use Rattle.xlsx_reads_back.specs.ReadFormulas.{is_derived};
 
 /// Formulas that are written in groups read back as themselves: each derived one is the text of its
 /// group's first formula, moved to its position.

@@ -1,0 +1,14 @@
+use Rattle.std.proofs.lemmas.Result.{on_ok_weaker}
+use Rattle.std.specs.Prelude.{codes}
+use Rattle.written_markup.proofs.Drafted.{part_written}
+use Rattle.xlsx_out.specs.WrittenSheet.{relationship_to}
+use Rattle.xlsx_out.proofs.parts.add_relationships.Goals as goal
+
+pub returns : goal.returns
+returns c =
+    on_ok_weaker c.close.result
+    (part_written c.args.draft.now c.begin_part.new.self c.push_empty.new.self c.close.new.self
+    (codes "xl/_rels/workbook.xml.rels") (codes "Relationships")
+    (relationship_to (codes "worksheet") (codes "worksheets/sheet1.xml"))
+    c.in_ok-begin_part.ensures c.in_ok-push_empty.ensures)
+    c.close.ensures

@@ -1,0 +1,15 @@
+use Rattle.std.specs.Prelude.{codes, []}
+use Rattle.part_events.specs.Memory.{Contents, closed}
+use Rattle.written_markup.specs.Markup.{element, attribute}
+use Rattle.written_markup.proofs.Drafted.{part_written}
+use Rattle.xlsx_out.specs.WrittenSheet.{relationship_to}
+use Rattle.xlsx_out.proofs.parts.with_root.Goals as goal
+
+pub returns : goal.returns
+returns c =
+    let fresh : Contents = closed [] 0 in
+    part_written fresh c.in_ok-draft.draft c.push_empty.new.self c.close.new.self
+    (codes "_rels/.rels") (codes "Relationships")
+    (relationship_to (codes "officeDocument") (codes "xl/workbook.xml")) c.in_ok-draft.ensures
+    c.in_ok-push_empty.ensures
+    c.in_ok-close.ensures

@@ -1,0 +1,120 @@
+-- What is written step by step: the formulas with how they are written, and the rows of positions.
+use Rattle.std.specs.Prelude.{ℕ, ◌==◌, Bool, true, false, if◌then◌else◌, List, [], ◌∷◌, ◌++◌}
+use Rattle.std.specs.Prelude.{codes, map, Option, Some, None}
+use Rattle.std.specs.FinMap.{find}
+use Rattle.std.specs.List.{flat_map}
+use Rattle.std.specs.Option.{option_map, unwrap_or}
+use Rattle.cell_refs.specs.Positions.{position_cmp}
+use Rattle.cell_refs.specs.Reference.{row_reference}
+use Rattle.cell_data.specs.CellValue.{CellValue, nothing, value_of_data}
+use Rattle.cell_data.specs.Stepping.{used, positions_of}
+use Rattle.cell_data.specs.declared.value.Data.{Data}
+use Rattle.part_events.specs.Event.{Event, start, end}
+use Rattle.written_markup.specs.Markup.{element, attribute}
+use Rattle.xlsx_out.specs.Groups.{Placed, WrittenFormula, plain, master, derived, written_formula}
+use Rattle.xlsx_out.specs.WrittenSheet.{PlacedValues, value_events, cell_attributes}
+use Rattle.xlsx_out.specs.WrittenSheet.{formula_events, SheetRow, in_rows}
+use Rattle.xlsx_out.specs.declared.groups.FormulaForm.{FormulaForm}
+use Rattle.xlsx_out.specs.declared.groups.FormulaForm.TheVariants as form
+use Rattle.xlsx_out.specs.declared.groups.GroupedFormula.{GroupedFormula}
+
+-- formulas by their positions, each as it is written
+abbrev pub PlacedForms : Type 0
+PlacedForms = List ((ℕ × ℕ) × WrittenFormula)
+
+-- a formula of this text as it is written
+abbrev pub written_as : FormulaForm → List ℕ → WrittenFormula
+written_as form.Plain text = plain text
+written_as (form.Master last index) text = master text last index
+written_as (form.Derived index) text = derived index
+
+-- a formula that was found to be written so, by its position
+abbrev pub form_entry : GroupedFormula → (ℕ × ℕ) × WrittenFormula
+form_entry formula = (formula.position, written_as formula.form formula.text.now)
+
+-- such formulas by their positions
+abbrev pub form_entries : List GroupedFormula → PlacedForms
+form_entries formulas = map form_entry formulas
+
+-- each of the formulas as it is written
+abbrev pub placed_forms : Placed → PlacedForms
+placed_forms formulas = map (λ entry. (entry.0, written_formula formulas entry.0 entry.1)) formulas
+
+-- the value that was given for a cell, or nothing
+abbrev pub value_given : Option Data → CellValue
+value_given value = unwrap_or (option_map value_of_data value) nothing
+
+-- the `f` of a cell, where it has a formula
+abbrev pub given_formula : ℕ × ℕ → Option WrittenFormula → List Event
+given_formula position None = []
+given_formula position (Some formula) = formula_events position formula
+
+-- the cell of a position with its value, and its formula as it is written
+abbrev pub given_cell : ℕ × ℕ → CellValue → Option WrittenFormula → List Event
+given_cell position value formula =
+    element (codes "c") (cell_attributes position value)
+    (given_formula position formula ++ value_events value)
+
+-- the cell of a position among values and formulas
+abbrev pub cell_among : PlacedValues → PlacedForms → ℕ × ℕ → List Event
+cell_among values forms position =
+    given_cell position (unwrap_or (find position_cmp position values) nothing)
+    (find position_cmp position forms)
+
+-- the positions of values and formulas, each once, row by row
+abbrev pub positions_among : PlacedValues → PlacedForms → List (ℕ × ℕ)
+positions_among values forms = positions_of (used values ++ used forms)
+
+-- the first positions, as long as they stand in this row
+abbrev pub row_front : ℕ → List (ℕ × ℕ) → List (ℕ × ℕ)
+row_front row [] = []
+row_front row (position ∷ positions) =
+    if position.0 == row then position ∷ row_front row positions else []
+
+-- the positions behind those
+abbrev pub row_behind : ℕ → List (ℕ × ℕ) → List (ℕ × ℕ)
+row_behind row [] = []
+row_behind row (position ∷ positions) =
+    if position.0 == row then row_behind row positions else position ∷ positions
+
+-- the start of a row
+abbrev pub row_start : ℕ → List Event
+row_start row =
+    start (record { name = codes "row"; attributes = attribute (codes "r") (row_reference row) })
+    ∷ []
+
+-- the end of a row
+abbrev pub row_end : List Event
+row_end = end (codes "row") ∷ []
+
+-- a row with the cells of its positions
+abbrev pub row_by : (ℕ × ℕ → List Event) → SheetRow → List Event
+row_by cell found =
+    element (codes "row") (attribute (codes "r") (row_reference found.row))
+    (flat_map cell found.positions)
+
+-- the rows of positions
+abbrev pub rows_by : (ℕ × ℕ → List Event) → List (ℕ × ℕ) → List Event
+rows_by cell positions = flat_map (row_by cell) (in_rows positions)
+
+-- what is still to be written where this row is open, or none
+abbrev pub rows_left : (ℕ × ℕ → List Event) → Option ℕ → List (ℕ × ℕ) → List Event
+rows_left cell None positions = rows_by cell positions
+rows_left cell (Some row) positions =
+    flat_map cell (row_front row positions)
+    ++ (row_end ++ rows_by cell (row_behind row positions))
+
+-- what ends the open row, where one is open
+abbrev pub leaving : Option ℕ → List Event
+leaving None = []
+leaving (Some row) = row_end
+
+-- what ends the open row and begins another one, where that isn't the open one
+abbrev pub entering : Option ℕ → ℕ → List Event
+entering None row = row_start row
+entering (Some current) row = if current == row then [] else row_end ++ row_start row
+
+-- what is still to be written of values and formulas where this row is open, or none
+abbrev pub data_left : Option ℕ → PlacedValues → PlacedForms → List Event
+data_left row values forms =
+    rows_left (cell_among values forms) row (positions_among values forms)

@@ -1,0 +1,96 @@
+//! The value of a cell as it is written: its type, its style and its text.
+ghost use Rattle.std.specs.Prelude.{◌≡◌, ◌++◌, [], codes, string_bytes, OnOk};
+ghost use Rattle.std.specs.Option.{option_copied};
+ghost use Rattle.cell_data.specs.CellValue.{value_of_data};
+ghost use Rattle.written_markup.specs.Markup.{with_events, element, attribute};
+ghost use Rattle.written_markup.specs.WrittenText.{attribute_if, text_events};
+ghost use Rattle.xlsx_out.specs.WrittenSheet.{type_written, style_written, value_written};
+ghost use Rattle.xlsx_out.specs.WrittenSheet.{value_events, time_style};
+ghost use Rattle.xlsx_out.specs.Writing.{value_given};
+
+use crate::texts::{push_text, push_underscores_escaped};
+use cell_data::{Data, ExcelDateTimeType};
+use std::alloc::AllocError;
+use written_markup::Draft;
+
+/// The attribute of the type of a cell with a value.
+pub fn type_attribute(value: Option<&Data>) -> &'static str
+    ensures { let kind = type_written (value_given (option_copied value.entry)) in
+        result.now ≡ attribute_if (codes "t") kind }
+{
+    match value {
+        Some(Data::String(_)) => " t=\"str\"",
+        Some(Data::Bool(_)) => " t=\"b\"",
+        Some(Data::DateTimeIso(_)) => " t=\"d\"",
+        Some(Data::Error(_)) => " t=\"e\"",
+        _ => "",
+    }
+}
+
+fn time_style(kind: ExcelDateTimeType) -> &'static str
+    ensures { result.now ≡ attribute (codes "s") (time_style kind) }
+{
+    match kind {
+        ExcelDateTimeType::DateTime => " s=\"1\"",
+        ExcelDateTimeType::TimeDelta => " s=\"2\"",
+    }
+}
+
+/// The attribute of the style of a cell with a value: that of dates, that of durations, or none.
+pub fn style_attribute(value: Option<&Data>) -> &'static str
+    ensures { let style = style_written (value_given (option_copied value.entry)) in
+        result.now ≡ attribute_if (codes "s") style }
+{
+    match value {
+        Some(Data::DateTime(time)) => time_style(time.kind),
+        _ => "",
+    }
+}
+
+/// Appends the text of a value.
+fn push_value_text(out: &mut String, value: &Data) -> Result<(), AllocError>
+    ensures { let text = value_written (value_of_data value.now) in
+        OnOk result (string_bytes out.new ≡ string_bytes out.old ++ text) }
+{
+    match value {
+        Data::Decimal(number) => number.push_to(out),
+        Data::String(text) => push_underscores_escaped(out, text.as_str()),
+        Data::Bool(true) => out.push_str("1"),
+        Data::Bool(false) => out.push_str("0"),
+        Data::DateTime(time) => time.value.push_to(out),
+        Data::DateTimeIso(text) => out.push_str(text.as_str()),
+        Data::Error(error) => out.push_str(error.as_str()),
+        Data::Int(_) | Data::Empty => Ok(()),
+    }
+}
+
+/// Appends the `v` of a value, whose text is made in `buffer`.
+fn push_some_value(
+    draft: &mut Draft,
+    buffer: &mut String,
+    value: &Data,
+) -> Result<(), AllocError>
+    ensures { let text = value_written (value_of_data value.now) in
+        OnOk result (draft.new ≡ with_events draft.old (element (codes "v") [] (text_events text))) }
+{
+    buffer.clear();
+    push_value_text(buffer, value)?;
+    draft.open("v", "")?;
+    push_text(draft, buffer.as_str())?;
+    draft.close("v")
+}
+
+/// Appends the `v` of a cell, where it has a value; the value's text is made in `buffer`.
+pub fn push_value(
+    draft: &mut Draft,
+    buffer: &mut String,
+    value: Option<&Data>,
+) -> Result<(), AllocError>
+    ensures { let events = value_events (value_given (option_copied value.entry)) in
+        OnOk result (draft.new ≡ with_events draft.old events) }
+{
+    match value {
+        None | Some(Data::Empty) => Ok(()),
+        Some(value) => push_some_value(draft, buffer, value),
+    }
+}

@@ -1,0 +1,118 @@
+//! Which values and formulas are written so that they read back.
+ghost use Rattle.std.specs.Prelude.{◌≡◌, ◌↔◌, IsTrue, map, not, length, ◌==◌, true};
+ghost use Rattle.std.specs.List.{list_all, list_any};
+ghost use Rattle.cell_data.specs.CellValue.{value_of_data};
+ghost use Rattle.decimals.specs.Decimal.{number_of};
+ghost use Rattle.cell_data.specs.Pairs.{value_pairs, formula_pairs};
+ghost use Rattle.xlsx_out.specs.Writable.{is_decimal, is_kept, is_written, counts_from, have_one_epoch};
+ghost use Rattle.xlsx_out.specs.Writable.{are_writable_values, are_writable_formulas, IsWritable};
+ghost use Rattle.xlsx_out.specs.WrittenSheet.{is_from_1904};
+
+use cell_data::{CellErrorType, Data, Range};
+use decimals::Decimal;
+
+/// A decimal is in its one form, as its parts fit their types.
+fn decimals_have_one_form(number: Decimal)
+    ensures { is_decimal (number_of number) ≡ true }
+{
+    let (_mantissa, _exponent) = (number.mantissa(), number.exponent());
+}
+
+fn is_written(value: &Data) -> bool
+    ensures { result ≡ is_written (value_of_data value.now) }
+{
+    match value {
+        Data::Int(_) | Data::Empty => false,
+        Data::Error(error) => !matches!(error, CellErrorType::GettingData),
+        Data::Decimal(number) => {
+            decimals_have_one_form(*number);
+            true
+        }
+        Data::DateTime(time) => {
+            decimals_have_one_form(time.value);
+            true
+        }
+        _ => true,
+    }
+}
+
+/// Whether the time of a value counts from 1904, or from 1900, where it is one.
+fn counts_from(is_1904: bool, value: &Data) -> bool
+    ensures { result ≡ counts_from is_1904 (value_of_data value.now) }
+{
+    match value {
+        Data::DateTime(time) => time.is_1904 == is_1904,
+        _ => true,
+    }
+}
+
+fn are_written(values: &Range<Data>) -> bool
+    ensures { result ≡ list_all (λ entry. is_written entry.1) (value_pairs values.now) }
+{
+    for (_, value) in values.used() {
+        if !is_written(value) {
+            return false;
+        }
+    }
+    true
+}
+
+/// Whether all times count from 1904, or from 1900.
+fn all_count_from(is_1904: bool, values: &Range<Data>) -> bool
+    ensures { result ≡ list_all (λ entry. counts_from is_1904 entry.1) (value_pairs values.now) }
+{
+    for (_, value) in values.used() {
+        if !counts_from(is_1904, value) {
+            return false;
+        }
+    }
+    true
+}
+
+fn are_writable_values(values: &Range<Data>) -> bool
+    ensures { result ≡ are_writable_values (value_pairs values.now) }
+{
+    are_written(values) && (all_count_from(true, values) || all_count_from(false, values))
+}
+
+fn are_writable_formulas(formulas: &Range<String>) -> bool
+    ensures { result ≡ are_writable_formulas (formula_pairs formulas.now) }
+{
+    for (_, formula) in formulas.used() {
+        if formula.is_empty() {
+            return false;
+        }
+    }
+    true
+}
+
+/// Whether values and formulas are written so that they read back: each area is the least that has
+/// the used cells, no value is `Empty`, an `Int` or the error `GettingData`, all dates and durations
+/// count from the same first year, and no formula is empty. It takes no memory.
+pub fn is_writable(values: &Range<Data>, formulas: &Range<String>) -> bool
+    ensures { IsTrue result ↔ IsWritable values.now formulas.now }
+{
+    (values.is_least() && formulas.is_least())
+        && (are_writable_values(values) && are_writable_formulas(formulas))
+}
+
+fn is_from_1904(value: &Data) -> bool
+    ensures { result ≡ is_from_1904 (value_of_data value.now) }
+{
+    match value {
+        Data::DateTime(time) => time.is_1904,
+        _ => false,
+    }
+}
+
+/// Whether some date or duration counts from 1904.
+pub fn has_time_from_1904(values: &Range<Data>) -> bool
+    ensures { result ≡ list_any (λ entry. is_from_1904 entry.1) (value_pairs values.now) }
+{
+    for (_, value) in values.used() {
+        if is_from_1904(value) {
+            return true;
+        }
+    }
+    false
+}
