@@ -41,7 +41,7 @@ use Rattle.xlsx_commands.specs.PivotLists.{HasPivots}
 use Rattle.xlsx_commands.specs.SheetsOpened.{sheets_opened, ListedCause}
 use Rattle.xlsx_commands.specs.TableLists.{HasTables, HasNamedTable, NamesNoTable, HasTableCause}
 use Rattle.xlsx_commands.specs.TableLists.{NamedTableCause, HasTable}
-use Rattle.xlsx_ways.specs.Ways.{Each, OfEachSheet, HaveSameOpening, HaveSameProperties}
+use Rattle.xlsx_ways.specs.Ways.{OfEachSheet, HaveSameOpening, HaveSameProperties}
 use Rattle.xlsx_ways.specs.Ways.{HaveSameTables, HaveSamePivots}
 use Rattle.xlsx_ways.specs.Ways.{HaveSameTableData, HaveSameCache}
 use Rattle.xlsx_ways.proofs.OpeningsAlike.{opening_over, opening_cause_over, opening_back}
@@ -130,7 +130,8 @@ properties_back one two same = record {
 
 -- ---- tables
 
-pub tables_had_over : (one two : List Part) (tables : List SheetTable) → HaveSameOpening one two
+-- the tables are had by the same opening
+abbrev pub tables_had_over : (one two : List Part) (tables : List SheetTable) → HaveSameOpening one two
     → OfEachSheet (HaveSameTables one two) one → HasTables one tables → HasTables two tables
 tables_had_over one two tables same each has = record {
   opening = has.opening;
@@ -155,7 +156,8 @@ each_tables_back one two same each =
 
 -- ---- the data of one
 
-named_table_over : (one two : List Part) (name : List ℕ) (own : SheetTable)
+-- and so is the one of a name
+abbrev pub named_table_over : (one two : List Part) (name : List ℕ) (own : SheetTable)
     → HaveSameTableData one two name → HasNamedTable one name own → HasNamedTable two name own
 named_table_over one two name own same has = record {
   tables = has.tables;
@@ -163,7 +165,7 @@ named_table_over one two name own same has = record {
   named = has.named;
 }
 
-table_events : (one two : List Part) (name : List ℕ) (own : SheetTable)
+pub table_events : (one two : List Part) (name : List ℕ) (own : SheetTable)
     (same : HaveSameTableData one two name) (has : HasNamedTable one name own)
     → events_at (path_named own.sheet has.has.opening.sheets) one
     ≡ events_at (path_named own.sheet has.has.opening.sheets) two
@@ -171,7 +173,7 @@ table_events one two name own same has =
     events_over one two (path_named own.sheet has.has.opening.sheets)
     (λ (path : List ℕ) is. same.sheet own has.has.opening path has has.has.opens is)
 
-used_over : (grounds : Grounds) (header : HeaderRow) (area : Option Dimensions)
+pub used_over : (grounds : Grounds) (header : HeaderRow) (area : Option Dimensions)
     (path : Option (List ℕ)) (one two : List Part) (range : Range Data)
     → events_at path one ≡ events_at path two → ReadsValuesIn grounds header area path one range
     → ReadsValuesIn grounds header area path two range
@@ -182,7 +184,8 @@ used_over grounds header (Some area) path one two range same reads =
     × IsRangeIn value_of_data header area (with_texts grounds.strings values) nothing range))
     same reads
 
-pub table_over : (one two : List Part) (name : List ℕ) (table : Table Data)
+-- the table and its data, by the same part of its sheet
+abbrev pub table_over : (one two : List Part) (name : List ℕ) (table : Table Data)
     → HaveSameTableData one two name → HasTable one name table → HasTable two name table
 table_over one two name table same has = record {
   own = has.own;
@@ -249,7 +252,8 @@ table_data_back one two name same =
 
 -- ---- pivot tables
 
-pub pivots_had_over : (one two : List Part) (pivots : List PivotSaid) → HaveSameOpening one two
+-- the pivot tables are had by the same opening
+abbrev pub pivots_had_over : (one two : List Part) (pivots : List PivotSaid) → HaveSameOpening one two
     → OfEachSheet (HaveSamePivots one two) one → HasPivots one pivots → HasPivots two pivots
 pivots_had_over one two pivots same each has = record {
   opening = has.opening;

@@ -1,5 +1,5 @@
 -- Openings of packages that have the same parts of their workbooks, and why they are refused.
-use Rattle.std.proofs.Common.{◌≡◌, ℕ, List, Option, Some, None, sym, ◌∙◌, ap, subst, inl, inr}
+use Rattle.std.proofs.Common.{◌≡◌, ℕ, List, Option, sym, ap, subst, inl, inr}
 use Rattle.std.proofs.Common.{codes, Ok}
 use Rattle.std.specs.Prelude.{option_and_then, unwrap_or}
 use Rattle.part_events.specs.Event.{Event}
@@ -13,21 +13,37 @@ use Rattle.xlsx_theme.specs.ThemePart.{own_colors, theme_colors}
 use Rattle.xlsx_strings.specs.Strings.{strings_in, end_in_strings}
 use Rattle.xlsx_stylesheet.specs.StyleSheet.{cell_formats_in, end_in_styles}
 use Rattle.xlsx_relationships.specs.Paths.{folder_of}
-use Rattle.xlsx_relationships.specs.Relationships.{related_in}
+use Rattle.xlsx_relationships.specs.Relationships.{related_in, IsPathRefused}
+use Rattle.xlsx_relationships.specs.Relationships.{AreRelationshipsRefused}
 use Rattle.xlsx_workbook.specs.Paths.{workbook_part, relationships_part, strings_part, theme_part}
 use Rattle.xlsx_workbook.specs.Paths.{styles_part}
-use Rattle.xlsx_open.specs.Opening.{Opening, HasPath, OpensAs, OpensSoundly, OpeningCause, BookCause}
-use Rattle.xlsx_open.specs.Opening.{IsPathRefused, AreRelationshipsRefused, AreContentsRefused}
+use Rattle.xlsx_workbook.specs.Workbook.{AreContentsRefused}
+use Rattle.xlsx_open.specs.Opening.{Opening, OpensAs, OpensSoundly, OpeningCause, BookCause}
+use Rattle.xlsx_open.specs.Opening.{HasNothing, IsOpening}
 use Rattle.xlsx_open.specs.SharedParts.{SharedCause}
 use Rattle.xlsx_core.specs.Agreement.{HaveSamePart, HaveSameBook, HaveSameSheet}
-use Rattle.xlsx_core.proofs.Agreeing.{section_over, path_over, opens_over}
+use Rattle.xlsx_core.proofs.Agreeing.{section_over, optional_over, path_over, shared_over}
 use Rattle.xlsx_commands.specs.SheetLists.{OpensAt}
 use Rattle.xlsx_ways.specs.Ways.{HaveSameOpening}
 use Rattle.xlsx_ways.proofs.PartsAlike.{part_cause_over}
 
-pub opening_over : (one two : List Part) (opening : Opening) → HaveSameOpening one two
+-- the workbook opens in the other, too, at the very path
+abbrev pub opening_over : (one two : List Part) (opening : Opening) → HaveSameOpening one two
     → OpensAs one opening → OpensAs two opening
-opening_over one two opening same opens = opens_over one two opening same.root same.book opens
+opening_over one two opening same opens = record {
+  path = opens.path;
+  related = opens.related;
+  found = path_over one two opens.path same.root opens.found;
+  relationships = section_over (codes "Relationships") (relationships_part opens.path) one two
+      (λ inside. (id : List ℕ) → related_in inside id ≡ Ok (opens.related id))
+      (same.book opens.path opens.found).relationships opens.relationships;
+  shared = shared_over one two opens.path opening.shared (same.book opens.path opens.found)
+      opens.shared;
+  workbook = optional_over (codes "workbook") (workbook_part opens.path) one two
+      (HasNothing opening)
+      (λ inside. IsOpening (folder_of opens.path) opens.related inside opening)
+      (same.book opens.path opens.found).workbook opens.workbook;
+}
 
 pub soundly_over : (one two : List Part) → HaveSameOpening one two → OpensSoundly one
     → OpensSoundly two

@@ -1,5 +1,5 @@
 -- What a part says that two packages have in the same way, and why it can't be taken.
-use Rattle.std.proofs.Common.{◌≡◌, ℕ, List, [], ◌∷◌, Option, Some, None, sym, ◌∙◌, ap, subst}
+use Rattle.std.proofs.Common.{◌≡◌, ℕ, List, [], Option, sym, ◌∙◌, ap, subst}
 use Rattle.std.proofs.Common.{inl, inr, codes}
 use Rattle.std.specs.Prelude.{option_and_then}
 use Rattle.part_events.specs.Event.{Event}

@@ -1,10 +1,9 @@
 -- The pivot tables of sheets whose parts two packages have in the same way, and their caches.
-use Rattle.std.proofs.Common.{◌≡◌, ℕ, List, [], ◌∷◌, Option, Some, sym, ◌∙◌, ap, subst, inl, inr}
+use Rattle.std.proofs.Common.{◌≡◌, ℕ, List, Option, sym, ◌∙◌, ap, subst, inl, inr}
 use Rattle.std.proofs.Common.{codes}
 use Rattle.std.specs.Prelude.{MatchOption, option_map, option_and_then}
 use Rattle.part_events.specs.Event.{Event}
 use Rattle.part_events.specs.Package.{Part, part_of}
-use Rattle.cell_data.specs.CellValue.{CellValue}
 use Rattle.xlsx_error.specs.declared.error.XlsxError.{XlsxError}
 use Rattle.xlsx_sections.specs.Elements.{IsInsideRefused}
 use Rattle.xlsx_sections.specs.PartSection.{always}
@@ -14,8 +13,8 @@ use Rattle.xlsx_parts.specs.WholePart.{IfThere}
 use Rattle.xlsx_relationships.specs.Paths.{relationships_beside}
 use Rattle.xlsx_relationships.specs.RelatedParts.{target_path, related_parts}
 use Rattle.xlsx_pivots.specs.PivotParts.{name_in_part, NameCause}
-use Rattle.xlsx_pivots.specs.Pivots.{PivotSaid, pivot_type, pivot_with, pivot_name_at, pivot_from}
-use Rattle.xlsx_pivots.specs.Pivots.{pivot_named, pivot_at, one_pivot, pivots_at, pivots_by, pivots_on}
+use Rattle.xlsx_pivots.specs.Pivots.{pivot_type, pivot_with, pivot_name_at, pivot_from}
+use Rattle.xlsx_pivots.specs.Pivots.{pivot_named, one_pivot, pivots_at, pivots_by, pivots_on}
 use Rattle.xlsx_pivots.specs.Pivots.{pivots_of, NameAtCause, CacheAtCause, PivotCause}
 use Rattle.xlsx_pivots.specs.Pivots.{PivotsByCause, PivotsAtCause, PivotsCause}
 use Rattle.xlsx_pivots.specs.Singles.{only_one, Lacks}
@@ -24,7 +23,7 @@ use Rattle.xlsx_pivots.specs.Targets.{target_beside, TargetCause, definitions_at
 use Rattle.xlsx_pivots.specs.Targets.{records_at}
 use Rattle.xlsx_pivots.specs.declared.single.Single.{Single}
 use Rattle.xlsx_pivots.specs.declared.single.Single.TheVariants as single
-use Rattle.xlsx_pivot_cache.specs.CacheFields.{FieldSaid, fields_said, fields_at, FieldsAtCause}
+use Rattle.xlsx_pivot_cache.specs.CacheFields.{FieldSaid, fields_said, fields_at}
 use Rattle.xlsx_pivot_cache.specs.CacheFields.{FieldsCause}
 use Rattle.xlsx_pivot_cache.specs.CacheRecords.{records_name, rows_in, names_first, rows_at}
 use Rattle.xlsx_pivot_cache.specs.CacheRecords.{cache_rows, RowsCause, OpenRowsCause, CacheCause}

@@ -10,7 +10,7 @@ use Rattle.xlsx_sections.specs.PartSection.{closed_section_of}
 use Rattle.xlsx_relationships.specs.Paths.{folder_of}
 use Rattle.xlsx_relationships.specs.Relationships.{Related, path_in, related_in}
 use Rattle.xlsx_workbook.specs.Paths.{workbook_part, relationships_part}
-use Rattle.xlsx_open.specs.Opening.{Opening, HasPath, OpensAs, OpensSoundly, OpeningCause, HasNothing}
+use Rattle.xlsx_open.specs.Opening.{Opening, OpensAs, OpensSoundly, OpeningCause, HasNothing}
 use Rattle.xlsx_open.specs.Opening.{IsOpening}
 use Rattle.xlsx_open.specs.SharedParts.{SharedSaid, HasShared}
 use Rattle.xlsx_core.specs.SheetReading.{path_named}

@@ -16,10 +16,9 @@ use Rattle.xlsx_areas.specs.Hyperlinks.{Link, links_of, links_at}
 use Rattle.xlsx_areas.specs.LinkErrors.{LinksCause, SheetLinksCause}
 use Rattle.xlsx_areas.specs.MergeErrors.{MergesCause}
 use Rattle.xlsx_areas.specs.MergedCells.{merges_of}
-use Rattle.xlsx_open.specs.Opening.{Opening, OpensAs, OpeningCause}
+use Rattle.xlsx_open.specs.Opening.{Opening, OpeningCause}
 use Rattle.xlsx_core.specs.Agreement.{HaveSamePart, HaveSameSheet}
-use Rattle.xlsx_core.specs.Links.{links_placed, PlacedLinksCause}
-use Rattle.xlsx_core.specs.Merges.{merges_placed}
+use Rattle.xlsx_core.specs.Links.{PlacedLinksCause}
 use Rattle.xlsx_core.specs.SheetReading.{PlacedCause, SheetCause, HasPartCause, LacksSheet}
 use Rattle.xlsx_core.specs.SheetReading.{events_at, path_named}
 use Rattle.xlsx_core.proofs.Agreeing.{events_over}

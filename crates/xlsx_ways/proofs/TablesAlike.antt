@@ -1,5 +1,5 @@
 -- The tables of sheets whose parts two packages have in the same way.
-use Rattle.std.proofs.Common.{◌≡◌, ℕ, List, [], ◌∷◌, Option, Some, sym, ◌∙◌, ap, subst, inl, inr}
+use Rattle.std.proofs.Common.{◌≡◌, ℕ, List, [], ◌∷◌, Option, sym, ◌∙◌, ap, subst, inl, inr}
 use Rattle.std.proofs.Common.{map}
 use Rattle.std.specs.Prelude.{MatchOption, option_map, option_and_then}
 use Rattle.part_events.specs.Event.{Event}

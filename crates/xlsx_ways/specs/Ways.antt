@@ -1,5 +1,5 @@
 -- Where each command looks in a package, and packages that have the same parts there.
-use Rattle.std.specs.Prelude.{◌≡◌, ⊤, ℕ, List, [], ◌∷◌, Option, Some, codes}
+use Rattle.std.specs.Prelude.{◌≡◌, ⊤, ℕ, List, [], ◌∷◌, Some, codes}
 use Rattle.part_events.specs.Package.{Part}
 use Rattle.xlsx_parts.specs.SheetPaths.{SheetPath}
 use Rattle.xlsx_properties.specs.Parts.{core_part, program_part, custom_part}
