@@ -1,0 +1,257 @@
+-- A row for each command: what packages have that have the same parts where it looks.
+use Rattle.std.proofs.Common.{ℕ, List, Option, Some, sym, ◌∙◌, subst, inl, inr}
+use Rattle.part_events.specs.Package.{Part}
+use Rattle.xlsx_error.specs.declared.error.XlsxError.{XlsxError}
+use Rattle.xlsx_error.specs.declared.error.XlsxError.TheVariants.{WorksheetNotFound}
+use Rattle.xlsx_core.proofs.Agreeing.{same_back, reads_over}
+use Rattle.xlsx_commands.specs.Command.{Command, cells, sheets, names, merges, links, props, csv}
+use Rattle.xlsx_commands.specs.Command.{csv_table, tables, table, pivots, pivot, precedents}
+use Rattle.xlsx_commands.specs.Command.{dependents, check, part, upgrade, sample}
+use Rattle.xlsx_commands.specs.Outputs.{IsOutput, RefusedWorkbookCause, IsTooLarge, OutputCause}
+use Rattle.xlsx_commands.specs.Outputs.{IsUpgrade}
+use Rattle.xlsx_commands.specs.PartNames.{PartPathCause}
+use Rattle.xlsx_commands.specs.PropertyLists.{ListedPropertiesCause, text_of_name}
+use Rattle.xlsx_commands.specs.SampleLines.{sample_name}
+use Rattle.xlsx_commands.specs.declared.error.ToolError.{ToolError}
+use Rattle.xlsx_commands.specs.declared.error.ToolError.TheVariants.{Workbook, BoxTooLarge}
+use Rattle.xlsx_ways.specs.Ways.{HaveSameWay, HaveSameOpening, HaveSameProperties}
+use Rattle.xlsx_ways.proofs.ListsAlike.{properties_over, properties_cause_over, properties_back}
+use Rattle.xlsx_ways.proofs.ListsAlike.{tables_had_over, tables_listed_over, each_tables_back}
+use Rattle.xlsx_ways.proofs.ListsAlike.{table_over, table_cause_over, table_data_back}
+use Rattle.xlsx_ways.proofs.ListsAlike.{pivots_had_over, pivots_listed_over, each_pivots_back}
+use Rattle.xlsx_ways.proofs.ListsAlike.{has_cache_over, pivot_cause_over, cache_back}
+use Rattle.xlsx_ways.proofs.OpeningsAlike.{opening_over, soundly_over, opens_at_over}
+use Rattle.xlsx_ways.proofs.OpeningsAlike.{opening_cause_over, opening_of_sheet, opening_back}
+use Rattle.xlsx_ways.proofs.PivotsAlike.{cache_over}
+use Rattle.xlsx_ways.proofs.SheetsAlike.{named_over, sheet_cause_over, merges_over}
+use Rattle.xlsx_ways.proofs.SheetsAlike.{merges_cause_over, links_over, links_cause_over, links_back}
+
+-- a package that has the same way back
+pub way_back : (command : Command) (one two : List Part) → HaveSameWay command one two
+    → HaveSameWay command two one
+unfolding HaveSameWay
+way_back (cells name) one two same = same_back one two name same
+way_back sheets one two same = opening_back one two same
+way_back names one two same = opening_back one two same
+way_back (merges name) one two same = same_back one two name same
+way_back (links name) one two same =
+    let back = same_back one two name same.0 in
+    (back, links_back one two name (opening_of_sheet two one name back) same.1)
+way_back props one two same = (opening_back one two same.0, properties_back one two same.1)
+way_back (csv name) one two same = same_back one two name same
+way_back (csv_table name) one two same = table_data_back one two name same
+way_back tables one two same =
+    (opening_back one two same.0, each_tables_back one two same.0 same.1)
+way_back (table name) one two same = table_data_back one two name same
+way_back pivots one two same =
+    (opening_back one two same.0, each_pivots_back one two same.0 same.1)
+way_back (pivot sheet name) one two same = cache_back one two sheet name same
+way_back (precedents name) one two same = same_back one two name same
+way_back (dependents name position) one two same = same_back one two name same
+way_back (check name) one two same = same_back one two name same
+way_back (part name) one two same = opening_back one two same
+way_back upgrade one two same = sym same
+way_back (sample rows) one two same = same_back one two sample_name same
+
+-- its output
+pub output_over : (command : Command) (one two : List Part) (output : List ℕ)
+    → HaveSameWay command one two → IsOutput command one output → IsOutput command two output
+unfolding HaveSameWay IsOutput
+output_over (cells name) one two output same prints = record {
+  values = prints.values;
+  formulas = prints.formulas;
+  styles = prints.styles;
+  reads = reads_over one two name prints.values prints.formulas prints.styles same prints.reads;
+  listed = prints.listed;
+}
+output_over sheets one two output same prints = record {
+  opening = prints.opening;
+  opens = opening_over one two prints.opening same prints.opens;
+  listed = prints.listed;
+}
+output_over names one two output same prints = record {
+  opening = prints.opening;
+  opens = opening_over one two prints.opening same prints.opens;
+  listed = prints.listed;
+}
+output_over (merges name) one two output same prints = record {
+  areas = prints.areas;
+  has = merges_over one two name prints.areas same prints.has;
+  listed = prints.listed;
+}
+output_over (links name) one two output same prints = record {
+  links = prints.links;
+  has = links_over one two name prints.links same.0 same.1 prints.has;
+  listed = prints.listed;
+}
+output_over props one two output same prints = record {
+  texts = prints.texts;
+  customs = prints.customs;
+  opens = soundly_over one two same.0 prints.opens;
+  say = properties_over one two prints.texts (text_of_name prints.customs) same.1 prints.say;
+  by_name = prints.by_name;
+  listed = prints.listed;
+}
+output_over (csv name) one two output same prints = record {
+  values = prints.values;
+  formulas = prints.formulas;
+  styles = prints.styles;
+  reads = reads_over one two name prints.values prints.formulas prints.styles same prints.reads;
+  fits = prints.fits;
+  listed = prints.listed;
+}
+output_over (csv_table name) one two output same prints = record {
+  table = prints.table;
+  has = table_over one two name prints.table same prints.has;
+  fits = prints.fits;
+  listed = prints.listed;
+}
+output_over tables one two output same prints = record {
+  tables = prints.tables;
+  has = tables_had_over one two prints.tables same.0 same.1 prints.has;
+  listed = prints.listed;
+}
+output_over (table name) one two output same prints = record {
+  table = prints.table;
+  has = table_over one two name prints.table same prints.has;
+  listed = prints.listed;
+}
+output_over pivots one two output same prints = record {
+  pivots = prints.pivots;
+  has = pivots_had_over one two prints.pivots same.0 same.1 prints.has;
+  listed = prints.listed;
+}
+output_over (pivot sheet name) one two output same prints =
+    let parts = same.cache prints.definitions prints.records prints.has in
+    record {
+      definitions = prints.definitions;
+      records = prints.records;
+      has = has_cache_over one two sheet name prints.definitions prints.records same.opening
+          same.pivots prints.has;
+      rows = prints.rows;
+      read = sym (cache_over one two prints.definitions prints.records parts.0 parts.1)
+          ∙ prints.read;
+      listed = prints.listed;
+    }
+output_over (precedents name) one two output same prints = record {
+  values = prints.values;
+  formulas = prints.formulas;
+  styles = prints.styles;
+  reads = reads_over one two name prints.values prints.formulas prints.styles same prints.reads;
+  listed = prints.listed;
+}
+output_over (dependents name position) one two output same prints = record {
+  values = prints.values;
+  formulas = prints.formulas;
+  styles = prints.styles;
+  reads = reads_over one two name prints.values prints.formulas prints.styles same prints.reads;
+  listed = prints.listed;
+}
+output_over (check name) one two output same prints = record {
+  values = prints.values;
+  formulas = prints.formulas;
+  styles = prints.styles;
+  reads = reads_over one two name prints.values prints.formulas prints.styles same prints.reads;
+  listed = prints.listed;
+}
+output_over (part name) one two output same prints = record {
+  path = prints.path;
+  opens = opens_at_over one two name (Some prints.path) same prints.opens;
+  printed = prints.printed;
+}
+output_over upgrade one two output same prints =
+    subst (λ (parts : List Part). IsUpgrade parts output) same prints
+output_over (sample rows) one two output same prints = record {
+  values = prints.values;
+  formulas = prints.formulas;
+  styles = prints.styles;
+  reads = reads_over one two sample_name prints.values prints.formulas prints.styles same
+      prints.reads;
+  listed = prints.listed;
+}
+
+listed_properties_over : (one two : List Part) (error : XlsxError) → HaveSameOpening one two
+    → HaveSameProperties one two → ListedPropertiesCause one error
+    → ListedPropertiesCause two error
+listed_properties_over one two error same own (inl opening) =
+    inl (opening_cause_over one two error same opening)
+listed_properties_over one two error same own (inr has) =
+    inr (soundly_over one two same has.0, properties_cause_over one two error own has.1)
+
+part_path_over : (name : List ℕ) (path : Option (List ℕ)) (one two : List Part) (error : XlsxError)
+    → PartPathCause name path one error → PartPathCause name path two error
+part_path_over name path one two (WorksheetNotFound asked) cause = cause
+part_path_over name path one two error cause = cause
+
+-- why its workbook refuses it
+pub cause_over : (command : Command) (one two : List Part) (error : XlsxError)
+    → HaveSameWay command one two → RefusedWorkbookCause command one error
+    → RefusedWorkbookCause command two error
+unfolding HaveSameWay RefusedWorkbookCause
+cause_over (cells name) one two error same cause = sheet_cause_over one two name error same cause
+cause_over sheets one two error same cause = opening_cause_over one two error same cause
+cause_over names one two error same cause = opening_cause_over one two error same cause
+cause_over (merges name) one two error same cause = merges_cause_over one two name error same cause
+cause_over (links name) one two error same cause =
+    links_cause_over one two name error same.0 same.1 cause
+cause_over props one two error same cause =
+    listed_properties_over one two error same.0 same.1 cause
+cause_over (csv name) one two error same cause = sheet_cause_over one two name error same cause
+cause_over (csv_table name) one two error same cause =
+    table_cause_over one two name error same cause
+cause_over tables one two error same cause = tables_listed_over one two error same.0 same.1 cause
+cause_over (table name) one two error same cause = table_cause_over one two name error same cause
+cause_over pivots one two error same cause = pivots_listed_over one two error same.0 same.1 cause
+cause_over (pivot sheet name) one two error same cause =
+    pivot_cause_over one two sheet name error same cause
+cause_over (precedents name) one two error same cause =
+    sheet_cause_over one two name error same cause
+cause_over (dependents name position) one two error same cause =
+    sheet_cause_over one two name error same cause
+cause_over (check name) one two error same cause = sheet_cause_over one two name error same cause
+cause_over (part name) one two error same cause =
+    named_over (PartPathCause name) one two name error same
+    (λ path at has. part_path_over name path one two error has) cause
+cause_over upgrade one two error same cause = cause
+cause_over (sample rows) one two error same cause =
+    sheet_cause_over one two sample_name error same cause
+
+-- and an area that has too many cells
+pub large_over : (command : Command) (one two : List Part) → HaveSameWay command one two
+    → IsTooLarge command one → IsTooLarge command two
+unfolding HaveSameWay IsTooLarge
+large_over (csv name) one two same large = record {
+  values = large.values;
+  formulas = large.formulas;
+  styles = large.styles;
+  reads = reads_over one two name large.values large.formulas large.styles same large.reads;
+  large = large.large;
+}
+large_over (csv_table name) one two same large = record {
+  table = large.table;
+  has = table_over one two name large.table same large.has;
+  large = large.large;
+}
+large_over (cells name) one two same large = large
+large_over sheets one two same large = large
+large_over names one two same large = large
+large_over (merges name) one two same large = large
+large_over (links name) one two same large = large
+large_over props one two same large = large
+large_over tables one two same large = large
+large_over (table name) one two same large = large
+large_over pivots one two same large = large
+large_over (pivot sheet name) one two same large = large
+large_over (precedents name) one two same large = large
+large_over (dependents name position) one two same large = large
+large_over (check name) one two same large = large
+large_over (part name) one two same large = large
+large_over upgrade one two same large = large
+large_over (sample rows) one two same large = large
+
+pub output_cause_over : (command : Command) (one two : List Part) (error : ToolError)
+    → HaveSameWay command one two → OutputCause command one error → OutputCause command two error
+output_cause_over command one two (Workbook error) same cause =
+    cause_over command one two error same cause
+output_cause_over command one two BoxTooLarge same large = large_over command one two same large
+output_cause_over command one two error same cause = cause

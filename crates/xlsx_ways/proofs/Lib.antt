@@ -1,0 +1,9 @@
+pub mod SaidAlike
+pub mod PartsAlike
+pub mod TablesAlike
+pub mod PivotsAlike
+pub mod OpeningsAlike
+pub mod SheetsAlike
+pub mod ListsAlike
+pub mod CommandsAlike
+pub mod PlacesAlike

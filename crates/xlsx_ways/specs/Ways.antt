@@ -1,0 +1,124 @@
+-- Where each command looks in a package, and packages that have the same parts there.
+use Rattle.std.specs.Prelude.{◌≡◌, ⊤, ℕ, List, [], ◌∷◌, Some, codes}
+use Rattle.part_events.specs.Package.{Part}
+use Rattle.xlsx_parts.specs.SheetPaths.{SheetPath}
+use Rattle.xlsx_properties.specs.Parts.{core_part, program_part, custom_part}
+use Rattle.xlsx_relationships.specs.Paths.{relationships_beside}
+use Rattle.xlsx_relationships.specs.RelatedParts.{related_parts}
+use Rattle.xlsx_workbook.specs.Paths.{workbook_part, relationships_part}
+use Rattle.xlsx_tables.specs.Tables.{table_type}
+use Rattle.xlsx_pivots.specs.Pivots.{pivot_type}
+use Rattle.xlsx_pivots.specs.Targets.{definitions_at}
+use Rattle.xlsx_open.specs.Opening.{Opening, OpensAs, HasPath}
+use Rattle.xlsx_core.specs.Agreement.{HaveSamePart, HaveSameBook, HaveSameSheet}
+use Rattle.xlsx_core.specs.SheetReading.{path_named}
+use Rattle.xlsx_commands.specs.CacheRows.{HasCache}
+use Rattle.xlsx_commands.specs.Command.{Command, cells, sheets, names, merges, links, props, csv}
+use Rattle.xlsx_commands.specs.Command.{csv_table, tables, table, pivots, pivot, precedents}
+use Rattle.xlsx_commands.specs.Command.{dependents, check, part, upgrade, sample}
+use Rattle.xlsx_commands.specs.SampleLines.{sample_name}
+use Rattle.xlsx_commands.specs.SheetsOpened.{sheets_opened}
+use Rattle.xlsx_commands.specs.TableLists.{HasNamedTable}
+use Rattle.xlsx_tables.specs.Tables.{SheetTable}
+
+-- a fact of each of these
+abbrev pub Each : {X : Type 0} → (X → Type 0) → List X → Type 0
+Each fact [] = ⊤
+Each fact (x ∷ xs) = fact x × Each fact xs
+
+-- two packages have the same parts from which the workbook is opened: the relationships of the
+-- package, and the book to which these lead
+pub record HaveSameOpening (one two : List Part) : Type 0 where
+  pub root : HaveSamePart one two (codes "_rels/.rels")
+  pub book : (path : List ℕ) → HasPath one path → HaveSameBook one two path
+
+-- they have the same parts that tell where the parts of sheets are
+pub record HaveSamePlaces (one two : List Part) : Type 0 where
+  pub root : HaveSamePart one two (codes "_rels/.rels")
+  pub relationships :
+      (path : List ℕ) → HasPath one path → HaveSamePart one two (relationships_part path)
+  pub workbook : (path : List ℕ) → HasPath one path → HaveSamePart one two (workbook_part path)
+
+-- they have the same relationships of the sheet of this name
+abbrev pub HaveSameLinks : List Part → List Part → List ℕ → Type 0
+HaveSameLinks one two name =
+    (opening : Opening) (path : List ℕ) → OpensAs one opening →
+    path_named name opening.sheets ≡ Some path → HaveSamePart one two (relationships_beside path)
+
+-- they have the same properties
+pub record HaveSameProperties (one two : List Part) : Type 0 where
+  pub core : HaveSamePart one two core_part
+  pub program : HaveSamePart one two program_part
+  pub custom : HaveSamePart one two custom_part
+
+-- they have the same relationships of the sheet at this path, and the same parts of its tables
+pub record HaveSameTables (one two : List Part) (path : List ℕ) : Type 0 where
+  pub relationships : HaveSamePart one two (relationships_beside path)
+  pub tables :
+      (paths : List (List ℕ)) → related_parts one table_type path ≡ Some paths →
+      Each (HaveSamePart one two) paths
+
+-- they have the same pivot table at this path: its part, its relationships and, where these lead to
+-- definitions, those of these
+pub record HaveSamePivot (one two : List Part) (path : List ℕ) : Type 0 where
+  pub own : HaveSamePart one two path
+  pub relationships : HaveSamePart one two (relationships_beside path)
+  pub definitions :
+      (there : List ℕ) → definitions_at one path ≡ Some there →
+      HaveSamePart one two (relationships_beside there)
+
+-- they have the same relationships of the sheet at this path, and the same pivot tables
+pub record HaveSamePivots (one two : List Part) (path : List ℕ) : Type 0 where
+  pub relationships : HaveSamePart one two (relationships_beside path)
+  pub pivots :
+      (paths : List (List ℕ)) → related_parts one pivot_type path ≡ Some paths →
+      Each (HaveSamePivot one two) paths
+
+-- what is the same of each sheet's path
+abbrev pub OfEachSheet : (List ℕ → Type 0) → List Part → Type 0
+OfEachSheet same parts =
+    (opening : Opening) → OpensAs parts opening →
+    Each (λ (sheet : SheetPath). same sheet.path) (sheets_opened opening.sheets)
+
+-- the same part of the sheet on which the first table of this name stands
+abbrev pub HaveSameTableSheet : List Part → List Part → List ℕ → Type 0
+HaveSameTableSheet one two name =
+    (own : SheetTable) (opening : Opening) (path : List ℕ) → HasNamedTable one name own →
+    OpensAs one opening → path_named own.sheet opening.sheets ≡ Some path →
+    HaveSamePart one two path
+
+-- the same tables, and the same data of the first of this name
+pub record HaveSameTableData (one two : List Part) (name : List ℕ) : Type 0 where
+  pub opening : HaveSameOpening one two
+  pub tables : OfEachSheet (HaveSameTables one two) one
+  pub sheet : HaveSameTableSheet one two name
+
+-- the same definitions and records of the first pivot table of this name on a sheet of that name
+pub record HaveSameCache (one two : List Part) (sheet name : List ℕ) : Type 0 where
+  pub opening : HaveSameOpening one two
+  pub pivots : OfEachSheet (HaveSamePivots one two) one
+  pub cache :
+      (definitions records : List ℕ) → HasCache one sheet name definitions records →
+      HaveSamePart one two definitions × HaveSamePart one two records
+
+-- Two packages have the same parts where a command looks. Other parts, and the order of all, may
+-- differ.
+unfoldable pub HaveSameWay : Command → List Part → List Part → Type 0
+HaveSameWay (cells name) one two = HaveSameSheet one two name
+HaveSameWay sheets one two = HaveSameOpening one two
+HaveSameWay names one two = HaveSameOpening one two
+HaveSameWay (merges name) one two = HaveSameSheet one two name
+HaveSameWay (links name) one two = HaveSameSheet one two name × HaveSameLinks one two name
+HaveSameWay props one two = HaveSameOpening one two × HaveSameProperties one two
+HaveSameWay (csv name) one two = HaveSameSheet one two name
+HaveSameWay (csv_table name) one two = HaveSameTableData one two name
+HaveSameWay tables one two = HaveSameOpening one two × OfEachSheet (HaveSameTables one two) one
+HaveSameWay (table name) one two = HaveSameTableData one two name
+HaveSameWay pivots one two = HaveSameOpening one two × OfEachSheet (HaveSamePivots one two) one
+HaveSameWay (pivot sheet name) one two = HaveSameCache one two sheet name
+HaveSameWay (precedents name) one two = HaveSameSheet one two name
+HaveSameWay (dependents name position) one two = HaveSameSheet one two name
+HaveSameWay (check name) one two = HaveSameSheet one two name
+HaveSameWay (part name) one two = HaveSameOpening one two
+HaveSameWay upgrade one two = one ≡ two
+HaveSameWay (sample rows) one two = HaveSameSheet one two sample_name

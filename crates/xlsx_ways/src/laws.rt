@@ -1,0 +1,35 @@
+ghost use Rattle.std.specs.Prelude.{ℕ, List};
+ghost use Rattle.part_events.specs.Package.{Part};
+ghost use Rattle.xlsx_open.specs.Opening.{OpensSoundly};
+ghost use Rattle.xlsx_commands.specs.Command.{Command, part};
+ghost use Rattle.xlsx_commands.specs.Outputs.{IsOutput, OutputCause};
+ghost use Rattle.xlsx_commands.specs.declared.error.ToolError.{ToolError};
+ghost use Rattle.xlsx_ways.specs.Ways.{HaveSameWay, HaveSamePlaces};
+
+use xlsx_open::openings_have_no_cause_of_a_refusal;
+
+/// Two packages that have the same parts where a command looks have the same outputs for it and the
+/// same causes of a refusal, those by an area with too many cells among them.
+pub fn commands_go_by_their_ways()
+    ensures back { (command : Command) (one two : List Part) →
+        HaveSameWay command one two → HaveSameWay command two one }
+    ensures outputs { (command : Command) (one two : List Part) (output : List ℕ) →
+        HaveSameWay command one two → IsOutput command one output →
+        IsOutput command two output }
+    ensures causes { (command : Command) (one two : List Part) (error : ToolError) →
+        HaveSameWay command one two → OutputCause command one error →
+        OutputCause command two error }
+{}
+
+/// Two packages that both open, and have the same parts that tell where the parts of sheets are,
+/// name the same part of each sheet, whatever their strings, styles, theme and sheets are, and lack
+/// the same sheets.
+pub fn parts_of_sheets_go_by_their_places()
+    ensures outputs { (one two : List Part) (name output : List ℕ) → HaveSamePlaces one two →
+        OpensSoundly two → IsOutput (part name) one output → IsOutput (part name) two output }
+    ensures causes { (one two : List Part) (name : List ℕ) (error : ToolError) →
+        HaveSamePlaces one two → OpensSoundly one → OpensSoundly two →
+        OutputCause (part name) one error → OutputCause (part name) two error }
+{
+    openings_have_no_cause_of_a_refusal();
+}

@@ -1,0 +1,16 @@
+//! Where each command looks in a package: laws over the definitions of the commands. It has no code.
+//!
+//! Room: `laws`. Two packages have the same way (`HaveSameWay`) where they have the same parts at
+//! which a command looks; other parts, and the order of all, may differ. So whoever feeds the
+//! program may leave out what stands in no way, as `./xlsx` leaves out other worksheets' parts.
+//!
+//! Every definition goes by `part_of` alone, so each row is a rewriting by equal parts. Its lemma
+//! files, from below: `SaidAlike` (what is said of several parts), `PartsAlike` (relationships, and
+//! why a part isn't read), `TablesAlike` and `PivotsAlike` (what sheets lead to), `OpeningsAlike`,
+//! `SheetsAlike` (what is had of a sheet), `ListsAlike` (of all sheets), `CommandsAlike` (a row for
+//! each command) and `PlacesAlike` (the parts of sheets, by the places alone).
+#![tactic(auto)]
+
+mod laws;
+
+pub use laws::{commands_go_by_their_ways, parts_of_sheets_go_by_their_places};
