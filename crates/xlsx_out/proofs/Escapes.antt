@@ -132,3 +132,13 @@ pub ends_with : {T E : Type 0} (r : Result T E) (old new rest whole : List ℕ) 
     new ≡ if◌then◌else◌ (is_ok r) (old ++ rest) old → old ++ rest ≡ whole → OnOk r (new ≡ whole)
 ends_with (Ok t) old new rest whole bytes same = bytes ∙ same
 ends_with (Err e) old new rest whole bytes same = tt
+
+-- pieces that were appended one behind another, and a last one
+pub pieces : (none one two three four a b c d e : List ℕ) → none ≡ [] → one ≡ none ++ a →
+    two ≡ one ++ b → three ≡ two ++ c → four ≡ three ++ d →
+    four ++ e ≡ a ++ (b ++ (c ++ (d ++ e)))
+pieces none one two three four a b c d e is_none is_one is_two is_three is_four =
+    ap (λ own. own ++ e) (is_four ∙ ap (λ own. own ++ d) (is_three ∙ ap (λ own. own ++ c)
+    (is_two ∙ ap (λ own. own ++ b) (is_one ∙ ap (λ own. own ++ a) is_none))))
+    ∙ append_assoc ((a ++ b) ++ c) d e ∙ append_assoc (a ++ b) c (d ++ e)
+    ∙ append_assoc a b (c ++ (d ++ e))

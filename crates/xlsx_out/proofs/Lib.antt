@@ -1,1 +1,4 @@
 pub mod Escapes
+pub mod Heads
+pub mod LastRows
+pub mod Places
