@@ -2,6 +2,10 @@
 use Rattle.std.proofs.Common.{◌≡◌, ◌≢◌, ℕ, zero, suc, ◌+◌, ◌<◌, ◌≤◌, Bool, true, false, ◌&&◌, cond}
 use Rattle.std.proofs.Common.{List, [], ◌∷◌, ◌++◌, length, get_or, refl, sym, ap, ◌∙◌, arith, subst}
 use Rattle.std.proofs.Common.{Option, Some, None, inl, inr, length-append, add-one, append_assoc}
+use Rattle.std.proofs.lemmas.List.Elements.{All-map}
+use Rattle.cell_data.specs.Cells.{IsPlacedInSheet}
+use Rattle.cell_data.specs.Pairs.{with_meaning}
+use Rattle.cell_data.specs.Splitting.{AreInOrder}
 use Rattle.cell_data.proofs.Stepping.{meant, meant_below}
 use Rattle.std.specs.Prelude.{◌==◌, nat_lt, slice_index}
 use Rattle.std.specs.declared.cmp.Ordering.{Ordering}
@@ -355,3 +359,11 @@ next_member F A B H p t above place h rising whole heads count first further sto
     heads_more F H h p t heads (omega (arith, count, found.0))
     (ap (λ (k : ℕ). entry_at F k) count ∙ next.own) found.1,
     passed_further A B place p t within left passed)
+
+-- what is meant by cells is in order as they are
+pub meant_in_order : {X Y : Type 0} (g : X → Y) (es : List ((ℕ × ℕ) × X)) → AreInOrder es →
+    AreInOrder (meant g es)
+meant_in_order g es order = record {
+  rising = meant_rises g es ∙ order.rising;
+  sheet = All-map IsPlacedInSheet (with_meaning g) es order.sheet;
+}

@@ -1,4 +1,5 @@
 pub mod Escapes
 pub mod Heads
 pub mod LastRows
+pub mod Masters
 pub mod Places

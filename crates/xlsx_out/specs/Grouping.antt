@@ -6,6 +6,8 @@ use Rattle.std.specs.Str.{bytes_eq}
 use Rattle.cell_refs.specs.Positions.{position_cmp}
 use Rattle.formula_shift.specs.Relocation.{moved, offset_between}
 use Rattle.xlsx_out.specs.Groups.{Placed, is_same, group_head, group_end}
+use Rattle.xlsx_out.specs.declared.groups.FormulaForm.{FormulaForm}
+use Rattle.xlsx_out.specs.declared.groups.FormulaForm.TheVariants as form
 use Rattle.xlsx_out.specs.declared.groups.Member.{Member}
 
 -- the formula at a place, with its position
@@ -71,3 +73,16 @@ abbrev pub AreLastRows : Placed → List ℕ → Type 0
 AreLastRows formulas rows =
     (place : ℕ) → place < length formulas →
     slice_index rows place ≡ group_end formulas (entry_at formulas place).0
+
+-- how a formula is written, by whether it is its own head, its row, the last row of its group, and
+-- the group's index
+abbrev pub form_by : Bool → ℕ → ℕ → ℕ → FormulaForm
+form_by is_head row last index =
+    if is_head then (if nat_lt row last then form.Master last index else form.Plain)
+    else form.Derived index
+
+-- how many masters a formula is: one, or none
+abbrev pub masters_in : FormulaForm → ℕ
+masters_in (form.Master last index) = 1
+masters_in form.Plain = 0
+masters_in (form.Derived index) = 0
