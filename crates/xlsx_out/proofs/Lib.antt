@@ -3,3 +3,4 @@ pub mod Heads
 pub mod LastRows
 pub mod Masters
 pub mod Places
+pub mod Rows

@@ -1,14 +1,15 @@
 -- What is written step by step: the formulas with how they are written, and the rows of positions.
-use Rattle.std.specs.Prelude.{ℕ, ◌<◌, ◌==◌, Bool, true, false, if◌then◌else◌, List, [], ◌∷◌, ◌++◌}
-use Rattle.std.specs.Prelude.{codes, map, Option, Some, None}
+use Rattle.std.specs.Prelude.{◌≡◌, ◌⊎◌, ℕ, ◌<◌, ◌==◌, Bool, true, false, if◌then◌else◌, List, [], ◌∷◌, ◌++◌}
+use Rattle.std.specs.Prelude.{codes, map, drop, Option, Some, None}
 use Rattle.std.specs.FinMap.{find}
 use Rattle.std.specs.List.{flat_map}
 use Rattle.std.specs.Option.{option_map, unwrap_or}
 use Rattle.cell_refs.specs.Positions.{position_cmp}
 use Rattle.cell_refs.specs.Reference.{row_reference}
-use Rattle.cell_refs.specs.declared.TheConstants.{MAX_ROWS}
+use Rattle.cell_refs.specs.declared.TheConstants.{MAX_ROWS, MAX_COLUMNS}
 use Rattle.cell_data.specs.CellValue.{CellValue, nothing, value_of_data}
-use Rattle.cell_data.specs.Stepping.{used, positions_of}
+use Rattle.cell_data.specs.Splitting.{none_earlier}
+use Rattle.cell_data.specs.Stepping.{IsOfFirst, used, positions_of}
 use Rattle.cell_data.specs.declared.value.Data.{Data}
 use Rattle.part_events.specs.Event.{Event, start, end}
 use Rattle.written_markup.specs.Markup.{element, attribute}
@@ -18,6 +19,7 @@ use Rattle.xlsx_out.specs.WrittenSheet.{formula_events, SheetRow, in_rows}
 use Rattle.xlsx_out.specs.declared.groups.FormulaForm.{FormulaForm}
 use Rattle.xlsx_out.specs.declared.groups.FormulaForm.TheVariants as form
 use Rattle.xlsx_out.specs.declared.groups.GroupedFormula.{GroupedFormula}
+use Rattle.xlsx_out.specs.declared.sheet.FormsLeft.{FormsLeft}
 
 -- formulas by their positions, each as it is written
 abbrev pub PlacedForms : Type 0
@@ -50,6 +52,14 @@ IsFormInSheet formula = IsLastInSheet formula.form
 -- such formulas by their positions
 abbrev pub form_entries : List GroupedFormula → PlacedForms
 form_entries formulas = map form_entry formulas
+
+-- those that are left to write
+abbrev pub left_of : FormsLeft → List GroupedFormula
+left_of forms = drop forms.next forms.all.now
+
+-- the same by their positions
+abbrev pub forms_left : FormsLeft → PlacedForms
+forms_left forms = form_entries (left_of forms)
 
 -- each of the formulas as it is written
 abbrev pub placed_forms : Placed → PlacedForms
@@ -137,3 +147,13 @@ entering open_row row = if is_open open_row row then [] else leaving open_row ++
 abbrev pub data_left : Option ℕ → PlacedValues → PlacedForms → List Event
 data_left row values forms =
     rows_left (cell_among values forms) row (positions_among values forms)
+
+-- the first position that has a value or a formula
+pub record IsFirstOfBoth
+    {X Y : Type 0} (values : List ((ℕ × ℕ) × X)) (formulas : List ((ℕ × ℕ) × Y))
+    (position : ℕ × ℕ) : Type 0 where
+  pub in_rows : position.0 < MAX_ROWS
+  pub in_columns : position.1 < MAX_COLUMNS
+  pub before_values : none_earlier position values ≡ true
+  pub before_formulas : none_earlier position formulas ≡ true
+  pub is_used : IsOfFirst position values ⊎ IsOfFirst position formulas

@@ -81,12 +81,12 @@ fn push_some_formula(
     draft: &mut Draft,
     buffer: &mut String,
     position: (u32, u32),
-    formula: &GroupedFormula<'_>,
+    formula: GroupedFormula<'_>,
 ) -> Result<(), AllocError>
     requires in_rows { position.0 < MAX_ROWS }
     requires in_columns { position.1 < MAX_COLUMNS }
-    requires last { IsFormInSheet formula.now }
-    ensures { let events = formula_events position (written_of formula.now) in
+    requires last { IsFormInSheet formula }
+    ensures { let events = formula_events position (written_of formula.entry) in
         OnOk result (draft.new ≡ with_events draft.old events) }
 {
     match formula.form {
@@ -108,13 +108,13 @@ fn push_formula(
     draft: &mut Draft,
     buffer: &mut String,
     position: (u32, u32),
-    formula: Option<&GroupedFormula<'_>>,
+    formula: Option<GroupedFormula<'_>>,
 ) -> Result<(), AllocError>
     requires in_rows { position.0 < MAX_ROWS }
     requires in_columns { position.1 < MAX_COLUMNS }
-    requires last { IfSome (option_copied formula) IsFormInSheet }
+    requires last { IfSome formula IsFormInSheet }
     ensures { let events =
-        given_formula position (option_map written_of (option_copied formula.entry)) in
+        given_formula position (option_map written_of formula.entry) in
         OnOk result (draft.new ≡ with_events draft.old events) }
 {
     match formula {
@@ -151,13 +151,13 @@ fn push_inside(
     buffer: &mut String,
     position: (u32, u32),
     value: Option<&Data>,
-    formula: Option<&GroupedFormula<'_>>,
+    formula: Option<GroupedFormula<'_>>,
 ) -> Result<(), AllocError>
     requires in_rows { position.0 < MAX_ROWS }
     requires in_columns { position.1 < MAX_COLUMNS }
-    requires last { IfSome (option_copied formula) IsFormInSheet }
+    requires last { IfSome formula IsFormInSheet }
     ensures { let inside =
-        given_formula position (option_map written_of (option_copied formula.entry))
+        given_formula position (option_map written_of formula.entry)
         ++ value_events (value_given (option_copied value.entry)) in
         OnOk result (draft.new ≡ with_events draft.old inside) }
 {
@@ -171,13 +171,13 @@ pub fn push_cell(
     buffer: &mut String,
     position: (u32, u32),
     value: Option<&Data>,
-    formula: Option<&GroupedFormula<'_>>,
+    formula: Option<GroupedFormula<'_>>,
 ) -> Result<(), AllocError>
     requires in_rows { position.0 < MAX_ROWS }
     requires in_columns { position.1 < MAX_COLUMNS }
-    requires last { IfSome (option_copied formula) IsFormInSheet }
+    requires last { IfSome formula IsFormInSheet }
     ensures { let cell = given_cell position (value_given (option_copied value.entry))
-        (option_map written_of (option_copied formula.entry)) in
+        (option_map written_of formula.entry) in
         OnOk result (draft.new ≡ with_events draft.old cell) }
 {
     put_cell_attributes(buffer, position, value)?;

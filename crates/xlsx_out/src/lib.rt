@@ -4,6 +4,7 @@
 mod cells;
 mod groups;
 mod parts;
+mod sheet;
 mod texts;
 mod values;
 mod writable;

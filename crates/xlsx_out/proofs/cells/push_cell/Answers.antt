@@ -11,7 +11,7 @@ pub returns : goal.returns
 returns c =
     let position = c.args.position in
     let value = value_given (option_copied c.args.value) in
-    let formula = option_map written_of (option_copied c.args.formula) in
+    let formula = option_map written_of c.args.formula in
     on_ok_weaker c.close.result
     (element_written c.args.draft.now c.open.new.self c.push_inside.new.draft c.close.new.self
     (codes "c") c.as_str.result.now (cell_attributes position value)
