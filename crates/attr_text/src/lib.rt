@@ -5,7 +5,7 @@
 //! the words of the definitions), `items` (one item, the iterator), `lookup` (local names, one key,
 //! the trait `RawAttributes`), `values` (several keys in one reading; `get_attrs!`), `uses` (a use
 //! of each of the macro's lines), `entity` (characters of names, `decode_attr`, `push_entity`),
-//! `line_ends`, `escapes` (`_xHHHH_`), `equality` (`==` of the faults).
+//! `line_ends`, `escapes` (`_xHHHH_`), `equality` (`==` and copies).
 //!
 //! A use of `get_attrs!` expands to one of `two_values` to `six_values` over `attributes_raw()`, so
 //! that a caller gets `lookup` of its keys without a proof.

@@ -1,9 +1,13 @@
 pub mod Digits
 pub mod Equality
+pub mod Nearest
+pub mod NoneNearer
 pub mod OneForm
 pub mod Parsed
 pub mod Parts
 pub mod PowerLemmas
 pub mod Printed
 pub mod ReadsBack
+pub mod Rounded
+pub mod RoundedLaws
 pub mod Significands

@@ -390,7 +390,7 @@ number_read : (n : ℕ) (power : ℤ) → n < 2 ^ 128 → (n % 10 ≡ 0 → ⊥)
 number_read n power small last fits =
     digits_read (decimal n) n power (decimal_some n small) (decimal_writes n small) last fits
 
-it_fits : (number : ℤ × ℤ) → has_bits 127 number.0 ≡ true → has_bits 31 number.1 ≡ true →
+pub it_fits : (number : ℤ × ℤ) → has_bits 127 number.0 ≡ true → has_bits 31 number.1 ≡ true →
     fitting number ≡ Some number
 it_fits number fits power_fits =
     ap (λ t. cond {A = Option (ℤ × ℤ)} (t && has_bits 31 number.1) (Some number) None) fits
@@ -429,11 +429,11 @@ printed_back (negsuc n) power fits power_fits no_power last =
     ap (λ k. decimal_of (45 ∷ printed_digits (decimal k) power)) (add-one n)
     ∙ (reads.reads true ∙ it_fits (negsuc n, power) fits power_fits)
 
-mantissa_fits : (z : ℤ) → FitsSigned w128 z → has_bits 127 z ≡ true
+pub mantissa_fits : (z : ℤ) → FitsSigned w128 z → has_bits 127 z ≡ true
 mantissa_fits (pos n) fits = grind (arith, nat_tests, fits.sfits)
 mantissa_fits (negsuc n) fits = grind (arith, nat_tests, fits.sfits)
 
-power_fits : (z : ℤ) → FitsSigned w32 z → has_bits 31 z ≡ true
+pub power_fits : (z : ℤ) → FitsSigned w32 z → has_bits 31 z ≡ true
 power_fits (pos n) fits = grind (arith, nat_tests, fits.sfits)
 power_fits (negsuc n) fits = grind (arith, nat_tests, fits.sfits)
 

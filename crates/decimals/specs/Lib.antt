@@ -2,4 +2,5 @@ pub mod Canonical
 pub mod Decimal
 pub mod Decimals
 pub mod Powers
+pub mod Rounding
 pub mod Significand

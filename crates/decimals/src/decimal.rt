@@ -6,6 +6,7 @@ ghost use Rattle.decimals.specs.Decimals.{with_sign};
 
 use crate::decimal_printing::{push_digits, push_sign};
 use crate::decimal_text::{behind_sign, moved_power, read_fraction, read_power};
+use crate::rounding::{digit_count, nearest};
 use crate::significand::{Significand, without_zeros};
 use itoa::Buffer;
 use std::alloc::AllocError;
@@ -41,6 +42,7 @@ impl Decimal {
     ghost use Rattle.std.specs.Option.{option_map};
     ghost use Rattle.decimals.specs.Decimals.{fitting, decimal_from, decimal_of, printed};
     ghost use Rattle.decimals.specs.Decimal.{number_of};
+    ghost use Rattle.decimals.specs.Rounding.{rounded_number};
 
     /// The number times ten to the power, where both fit. It has no zeros at its end.
     fn fitting(is_negative: bool, number: u128, power: i128) -> Option<Decimal>
@@ -109,6 +111,27 @@ impl Decimal {
         out.reserve(LONGEST_TEXT)?;
         push_sign(out, self.mantissa < 0)?;
         push_digits(out, digits, power)
+    }
+
+    /// The nearest number of so many significant digits, halves away from 0.
+    ///
+    /// There is none where its power no longer fits 32 bits. A number that has no more digits is
+    /// itself, and of no digits there is 0 alone. No float is made, and it takes no memory.
+    pub fn rounded(self, digits: u8) -> Option<Decimal>
+        ensures { option_map number_of result
+            ≡ decimal_from (rounded_number digits (number_of self)) }
+    {
+        if digits == 0 {
+            return Decimal::fitting(false, 0, 0);
+        }
+        let number = self.mantissa.unsigned_abs();
+        let behind = digit_count(number).saturating_sub(u32::from(digits));
+        if behind == 0 {
+            return Some(self);
+        }
+        let (number, zeros) = without_zeros(nearest(number, behind));
+        let power = i128::from(self.exponent) + i128::from(behind) + i128::from(zeros);
+        Decimal::fitting(self.mantissa < 0, number, power)
     }
 
     /// The whole number.

@@ -1,8 +1,11 @@
-ghost use Rattle.std.specs.Prelude.{◌≡◌, ◌*◌, ◌%◌, ◌^◌, ◌+ℤ◌, ◌*ℤ◌, ℕ, pos, List, true};
+ghost use Rattle.std.specs.Prelude.{◌≡◌, ◌*◌, ◌%◌, ◌^◌, ◌<◌, ◌+ℤ◌, ◌*ℤ◌, ℕ, pos};
+ghost use Rattle.std.specs.Prelude.{List, true, Some, nat_abs};
 ghost use Rattle.std.specs.Str.{all_ascii_digits};
 ghost use Rattle.std.specs.Str.Parse.{digits_value};
 ghost use Rattle.decimals.specs.Decimal.{number_of};
-ghost use Rattle.decimals.specs.Decimals.{trailing_zeros, without_trailing_zeros};
+ghost use Rattle.decimals.specs.Decimals.{decimal_from, trailing_zeros, without_trailing_zeros};
+ghost use Rattle.decimals.specs.Rounding.{rounded_number, IsAtMost, IsWithinHalfAUnit};
+ghost use Rattle.decimals.specs.Rounding.{NoneIsNearer};
 ghost use Rattle.equalities.specs.Equality.{IsEquality, CopiesItself};
 ghost use Rattle.decimals.specs.declared.decimal.Decimal.{Decimal};
 
@@ -36,4 +39,32 @@ pub fn equality_is_by_all_fields()
 /// A copy of a decimal is that decimal.
 pub fn copies_are_the_same()
     ensures { CopiesItself ⟦<Decimal as Clone>⟧.is_clone ⟦<Decimal as Clone>⟧.is_infallible }
+{}
+
+/// A number is rounded to one of at most so many digits, and that stays as it is where it is
+/// rounded again.
+pub fn rounding_twice_is_rounding_once(number: Decimal, digits: u8)
+    ensures few { (once : Decimal)
+        → decimal_from (rounded_number digits (number_of number)) ≡ Some (number_of once)
+        → nat_abs once.mantissa < 10 ^ digits }
+    ensures again { (once : Decimal)
+        → decimal_from (rounded_number digits (number_of number)) ≡ Some (number_of once)
+        → decimal_from (rounded_number digits (number_of once)) ≡ Some (number_of once) }
+{}
+
+/// A number that is no greater than another is no greater once both are rounded.
+pub fn rounding_keeps_the_order(one: Decimal, other: Decimal, digits: u8)
+    ensures { IsAtMost (number_of one) (number_of other)
+        → IsAtMost (rounded_number digits (number_of one))
+        (rounded_number digits (number_of other)) }
+{}
+
+/// No number of so many digits is nearer than the one that a number is rounded to.
+pub fn no_number_of_so_many_digits_is_nearer(number: Decimal, digits: u8)
+    ensures { NoneIsNearer digits (number_of number) }
+{}
+
+/// A number is rounded by half a unit of its last digit at most.
+pub fn rounding_moves_by_half_a_unit_at_most(number: Decimal, digits: u8)
+    ensures { 0 < digits → IsWithinHalfAUnit digits (number_of number) }
 {}

@@ -1,12 +1,11 @@
-ghost use Rattle.std.specs.Prelude.{◌≡◌, ◌+◌, ◌<◌, ◌≤◌, ◌++◌, [], length, IfOk, IfSome, OnOk};
+ghost use Rattle.std.specs.Prelude.{◌≡◌, ◌+◌, ◌<◌, ◌≤◌, ◌++◌, [], length, IfOk, OnOk};
 ghost use Rattle.std.specs.Prelude.{OnErr, IsOk, string_bytes, string_len, string_capacity};
 ghost use Rattle.formula_shift.specs.Pieces.{piece_text, joined_pieces};
 ghost use Rattle.formula_shift.specs.MovedReference.{pieces_found, IsFoundInside};
-ghost use Rattle.formula_shift.specs.References.{IsInWorksheet};
-ghost use Rattle.formula_shift.specs.Relocation.{offset_between, first_byte, is_name_before};
-ghost use Rattle.formula_shift.specs.Relocation.{piece_reference, moved_piece, moved};
+ghost use Rattle.formula_shift.specs.Relocation.{offset_between, first_byte};
+ghost use Rattle.formula_shift.specs.Relocation.{moved_piece, moved};
 
-use crate::piece::{Piece, Pieces};
+use crate::piece::{Piece, Pieces, first_byte};
 use crate::reference::Reference;
 use std::alloc::{AllocError, Global};
 
@@ -142,33 +141,11 @@ fn moved_reference(piece: Piece<'_>, rest: &str, offset: (i64, i64)) -> MovedRef
         ≡ moved_piece offset (piece_text piece.entry) (first_byte rest.now) }
     ensures inside { IsFoundInside result }
 {
-    let Some(reference) = piece_reference(piece, rest) else {
+    let Some(reference) = piece.reference(first_byte(rest)) else {
         return MovedReference::NoReference;
     };
     match reference.displaced(offset) {
         Some(moved) => MovedReference::Moved(moved),
         None => MovedReference::Leaves,
-    }
-}
-
-/// The reference that a piece is, if any.
-#[tactic(auto, unfolding(crate::specs::Relocation::piece_reference))]
-fn piece_reference(piece: Piece<'_>, rest: &str) -> Option<Reference>
-    ensures value { result ≡ piece_reference (piece_text piece.entry) (first_byte rest.now) }
-    ensures inside { IfSome result IsInWorksheet }
-{
-    match piece {
-        Piece::Word(word) if !is_name_before(rest) => Reference::parse(word),
-        _ => None,
-    }
-}
-
-/// Whether a Word before this text is a function's name, or a sheet's.
-fn is_name_before(rest: &str) -> bool
-    ensures { result ≡ is_name_before (first_byte rest.now) }
-{
-    match rest.as_bytes().first() {
-        Some(&b) => b == b'(' || b == b'!',
-        None => false,
     }
 }

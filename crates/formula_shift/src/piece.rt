@@ -1,8 +1,12 @@
-ghost use Rattle.std.specs.Prelude.{◌≡◌, ◌≤◌, ◌∷◌, length, Some};
+ghost use Rattle.std.specs.Prelude.{◌≡◌, ◌≤◌, ◌∷◌, length, Some, IfSome};
 ghost use Rattle.std.specs.List.{prefix_len};
 ghost use Rattle.formula_shift.specs.Pieces.{piece_text, piece_kind, string_length, quoted_length};
 ghost use Rattle.formula_shift.specs.Pieces.{group_length, length_behind, is_word_byte};
 ghost use Rattle.formula_shift.specs.Pieces.{is_other_byte, joined_pieces, pieces, first_size};
+ghost use Rattle.formula_shift.specs.References.{IsInWorksheet};
+ghost use Rattle.formula_shift.specs.Relocation.{first_byte, is_name_before, piece_reference};
+
+use crate::reference::Reference;
 
 /// A piece of a formula. Its first byte decides which.
 #[derive(Clone, Copy, Debug, PartialEq, Eq)]
@@ -33,6 +37,33 @@ impl<'a> Piece<'a> {
             | Piece::Other(text) => text,
         }
     }
+
+    /// The reference that the piece is, where this byte stands directly behind it. None but a Word
+    /// is one, and no function's name and no sheet's, which have `(` and `!` behind them.
+    #[tactic(auto, unfolding(crate::specs::Relocation::piece_reference))]
+    pub fn reference(self, behind: Option<u8>) -> Option<Reference>
+        ensures value { result ≡ piece_reference (piece_text self.entry) behind }
+        ensures inside { IfSome result IsInWorksheet }
+    {
+        match self {
+            Piece::Word(word) if !is_name_before(behind) => Reference::parse(word),
+            _ => None,
+        }
+    }
+}
+
+/// Whether a Word before this byte is a function's name, or a sheet's.
+fn is_name_before(behind: Option<u8>) -> bool
+    ensures { result ≡ is_name_before behind }
+{
+    behind == Some(b'(') || behind == Some(b'!')
+}
+
+/// The first byte of a text.
+pub(crate) fn first_byte(text: &str) -> Option<u8>
+    ensures { result ≡ first_byte text.now }
+{
+    text.as_bytes().first().copied()
 }
 
 /// The pieces of a formula, from the left. Joined they are the formula; one that is not closed runs
@@ -60,6 +91,13 @@ impl<'a> Pieces<'a> {
         ensures { result.now ≡ text_left self.now }
     {
         self.rest
+    }
+
+    /// The byte directly behind the pieces that were given.
+    pub fn first_byte(&self) -> Option<u8>
+        ensures { result ≡ first_byte (text_left self.now) }
+    {
+        first_byte(self.rest)
     }
 }
 

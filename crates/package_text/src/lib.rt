@@ -1,6 +1,7 @@
 //! Package text: the package of parts that a JSON value spells (docs/FORMAT.md).
 //!
-//! One room, `spelled` (JSON to a package).
+//! Rooms: `spelled` (JSON to a package), `written` (a package to JSON, each empty element in one
+//! event), `laws`.
 //!
 //! **Each event of the JSON value is looked at once.** A number that is no integer of 64 bits
 //! refuses the package wherever it stands. Events are texts alone, so numbers are looked for beside

@@ -82,8 +82,8 @@ impl Cursor {
         Ok(true)
     }
 
-    /// Leaves the part, which can't be read on.
-    pub(crate) fn give_up(&mut self)
+    /// Leaves the part, which can't be read on from here.
+    pub fn give_up(&mut self)
         ensures { self.new ≡ record self.old { failed = true } }
     {
         self.failed = true;

@@ -5,7 +5,7 @@
 //! (`MemoryPackage`), `failing` (`FailingPackage`), `quiet` (`QuietPackage`), `open_names` (the
 //! names of the open elements), `cursor` (what a reader keeps beside its package), `text` (an
 //! element's text), `walk` (the step through a section, and the loop to its next wanted start),
-//! `reader` (`XlReader`), `fault` (`XmlFault`, `StreamError`), `equality` (`==` of the faults),
+//! `reader` (`XlReader`), `fault` (`XmlFault`, `StreamError`), `equality` (`==` and copies),
 //! `laws`.
 //!
 //! The trait `Package` has one ghost member, `state`: what the package is to its reader

@@ -1,7 +1,8 @@
 //! Code of one's own that calls the reader, with a contract that stands on the reader's. The README
 //! quotes it.
 //!
-//! Four rooms. `counting` is a count of formulas, whose contract stands on that of `read_sheet`;
+//! Five rooms. `apart` reads a sheet by a reader and then a table of the same workbook, whose tables
+//! are still loaded; its contract stands on that of `Workbook`. `counting` is a count of formulas, whose contract stands on that of `read_sheet`;
 //! README.md and docs/USING.md quote it. `taking` takes cells one by one, by one call to the end
 //! and by two calls in turn, or up to the first error; its contracts stand on those of
 //! `XlsxCellReader` and on the lemmas `WholeReadings` of `xlsx_cells`; its own are `FirstErrors`
@@ -9,11 +10,13 @@
 //! `whole_cells` takes all that a cell has in one pass.
 #![tactic(auto)]
 
+mod apart;
 mod counting;
 mod in_memory;
 mod taking;
 mod whole_cells;
 
+pub use apart::cells_and_table;
 pub use counting::formula_count;
 pub use in_memory::{
     cells_in_memory, part_in_memory, pivot_rows_in_memory, rows_in_memory, sheet_in_memory,

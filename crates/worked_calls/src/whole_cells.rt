@@ -35,11 +35,7 @@ pub fn full_cells<P: Package>(
     };
     let mut sheet = sheet;
     let asked = Asked {
-        wants: Wants {
-            values: true,
-            formulas: true,
-            styles: true,
-        },
+        wants: Wants::ALL,
         book,
         style_count: book.formats.len(),
         keeps_masters: false,

@@ -159,3 +159,76 @@ fn decimals_are_made_of_their_parts(rt: HostRuntime) -> Result<(), Fail> {
     }
     Ok(())
 }
+
+/// Numbers with how many digits they are rounded to, and what they are then.
+const ROUNDED: &str = "
+37.619999999999997
+15
+= 37.62
+
+845.60000000000014
+15
+= 845.6
+
+0.1
+15
+= 0.1
+
+999999999999999.5
+15
+= 1000000000000000
+
+0.0000001234567890123456
+15
+= 123456789012346E-21
+
+-5E-324
+15
+= -5E-324
+
+170141183460469231731687303715884105727
+15
+= 170141183460469E24
+
+-170141183460469231731687303715884105728
+38
+= -170141183460469231731687303715884105730
+
+1E2147483647
+15
+= 1E2147483647
+
+95E2147483646
+1
+= no number
+
+-2.5
+1
+= -3
+
+12
+0
+= 0
+";
+
+/// The text of the number that a text writes, rounded to so many digits.
+fn rounded(alloc: Global, text: &str, digits: &str) -> Result<String, AllocError> {
+    let mut out = String::new(alloc);
+    let number = Decimal::parse(text).zip(digits.parse().ok());
+    match number.and_then(|(number, digits)| number.rounded(digits)) {
+        Some(number) => number.push_to(&mut out)?,
+        None => out.push_str("no number")?,
+    }
+    Ok(out)
+}
+
+#[test]
+fn numbers_are_rounded_to_so_many_digits(rt: HostRuntime) -> Result<(), Fail> {
+    let alloc = rt.alloc();
+    for case in cases(ROUNDED) {
+        let (asked, wanted) = cut(case);
+        let (text, digits) = asked.split_once('\n').ok_or("no digits")?;
+        assert_text(&rounded(alloc, text, digits)?, wanted, text)?;
+    }
+    Ok(())
+}

@@ -1,1 +1,5 @@
 pub mod Drafted
+pub mod TextsReadBack
+pub mod PairsReadBack
+pub mod EventsReadBack
+pub mod Nested

@@ -1,2 +1,3 @@
 pub mod Markup
 pub mod WrittenText
+pub mod Nests

@@ -23,6 +23,11 @@ abbrev pub attributes_of : List (List ℕ × List ℕ) → List ℕ
 attributes_of [] = []
 attributes_of (pair ∷ pairs) = attribute pair.0 pair.1 ++ attributes_of pairs
 
+-- the pair of a key and its value, where it has one
+abbrev pub pair_if : List ℕ → Option (List ℕ) → List (List ℕ × List ℕ)
+pair_if key None = []
+pair_if key (Some value) = (key, value) ∷ []
+
 -- white space, or `=`: neither stands in a key
 abbrev pub is_no_key_byte : ℕ → Bool
 is_no_key_byte b = is_ascii_whitespace b || is_equals_sign b

@@ -2,6 +2,7 @@ ghost use Rattle.std.specs.Prelude.{◌≡◌, ◌≤◌, ◌++◌, ℕ, List, m
 ghost use Rattle.std.specs.Prelude.{option_map, option_and_then, Result, IfOk, OnOk, IfErr};
 ghost use Rattle.std.specs.Prelude.{codes, option_to_list, string_bytes};
 ghost use Rattle.std.specs.Option.{option_copied};
+ghost use Rattle.std.specs.Result.{is_err};
 ghost use Rattle.cell_refs.specs.A1.{area};
 ghost use Rattle.part_events.specs.Event.{tag_of};
 ghost use Rattle.part_events.specs.Reader.{reading_by, SamePackage};
@@ -223,6 +224,7 @@ pub fn read_hyperlinks<P: Package>(
         let by = target_held rels.now in
         old.source.is_told ≡ true → IfOk result (λ links.
         links_in by (content 0 (ahead old)) ≡ Ok (map link_said links.items)) }
+    ensures failed { (reading_by P.state xml.new).is_failed ≡ is_err result }
     ensures err { let old = reading_by P.state xml.old in
         let new = reading_by P.state xml.new in
         let meaning = links_in (target_held rels.now) in
@@ -231,5 +233,9 @@ pub fn read_hyperlinks<P: Package>(
 {
     let alloc = xml.cursor.alloc();
     let base = xml.cursor.depth();
-    links_in(alloc, xml.package, &mut xml.cursor, base, rels)
+    let read = links_in(alloc, xml.package, &mut xml.cursor, base, rels);
+    if read.is_err() {
+        xml.cursor.give_up();
+    }
+    read
 }

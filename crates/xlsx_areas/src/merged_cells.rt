@@ -1,6 +1,7 @@
 ghost use Rattle.std.specs.Prelude.{◌≡◌, ◌≤◌, ◌++◌, ℕ, List, [], suc, length, true, Some, Ok};
 ghost use Rattle.std.specs.Prelude.{Result};
 ghost use Rattle.std.specs.Prelude.{IfOk, OnOk, IfErr, option_to_list};
+ghost use Rattle.std.specs.Result.{is_err};
 ghost use Rattle.cell_refs.specs.declared.dimensions.Dimensions.{Dimensions};
 ghost use Rattle.part_events.specs.Event.{tag_of};
 ghost use Rattle.part_events.specs.Reader.{reading_by, SamePackage};
@@ -111,6 +112,7 @@ pub fn read_merge_cells<P: Package>(xml: &mut XlReader<'_, P>) -> Result<Vec<Dim
     ensures merges { let old = reading_by P.state xml.old in
         old.source.is_told ≡ true →
         IfOk result (λ areas. merges_in (content 0 (ahead old)) ≡ Ok areas.items) }
+    ensures failed { (reading_by P.state xml.new).is_failed ≡ is_err result }
     ensures err { let old = reading_by P.state xml.old in
         let new = reading_by P.state xml.new in
         IfErr result (ElementReadFails (always []) merges_in old new) }
@@ -118,7 +120,11 @@ pub fn read_merge_cells<P: Package>(xml: &mut XlReader<'_, P>) -> Result<Vec<Dim
 {
     let alloc = xml.cursor.alloc();
     let base = xml.cursor.depth();
-    merges_in(alloc, xml.package, &mut xml.cursor, base)
+    let read = merges_in(alloc, xml.package, &mut xml.cursor, base);
+    if read.is_err() {
+        xml.cursor.give_up();
+    }
+    read
 }
 
 /// The areas of all merged cells of a part of which nothing was taken, wherever they stand in it.

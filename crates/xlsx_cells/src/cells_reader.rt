@@ -250,12 +250,7 @@ impl<'a, P: Package> XlsxCellReader<'a, P> {
             IsErrAnd result (λ error. error ≡ Failed) }
         ensures failed { (stream_by P.state self.new).is_failed ≡ is_err result }
     {
-        let wants = Wants {
-            values: true,
-            formulas: false,
-            styles: false,
-        };
-        let asked = self.asked(wants, false);
+        let asked = self.asked(Wants::VALUES, false);
         let Some(read) = self.sheet.next(self.package, asked)? else {
             return Ok(None);
         };
@@ -295,12 +290,7 @@ impl<'a, P: Package> XlsxCellReader<'a, P> {
             IsErrAnd result (λ error. error ≡ Failed) }
         ensures failed { (stream_by P.state self.new).is_failed ≡ is_err result }
     {
-        let wants = Wants {
-            values: false,
-            formulas: true,
-            styles: false,
-        };
-        let asked = self.asked(wants, true);
+        let asked = self.asked(Wants::FORMULAS, true);
         let Some(found) = self.sheet.next_text(self.package, asked)? else {
             return Ok(None);
         };
@@ -337,12 +327,7 @@ impl<'a, P: Package> XlsxCellReader<'a, P> {
             IsErrAnd result (λ error. error ≡ Failed) }
         ensures failed { (stream_by P.state self.new).is_failed ≡ is_err result }
     {
-        let wants = Wants {
-            values: true,
-            formulas: false,
-            styles: true,
-        };
-        let asked = self.asked(wants, false);
+        let asked = self.asked(Wants::VALUES_AND_STYLES, false);
         let Some(read) = self.sheet.next(self.package, asked)? else {
             return Ok(None);
         };
@@ -384,12 +369,7 @@ impl<'a, P: Package> XlsxCellReader<'a, P> {
             IsErrAnd result (λ error. error ≡ Failed) }
         ensures failed { (stream_by P.state self.new).is_failed ≡ is_err result }
     {
-        let wants = Wants {
-            values: true,
-            formulas: true,
-            styles: false,
-        };
-        let asked = self.asked(wants, true);
+        let asked = self.asked(Wants::VALUES_AND_FORMULAS, true);
         let Some(found) = self.sheet.next_text(self.package, asked)? else {
             return Ok(None);
         };
@@ -438,12 +418,7 @@ impl<'a, P: Package> XlsxCellReader<'a, P> {
             IsErrAnd result (λ error. error ≡ Failed) }
         ensures failed { (stream_by P.state self.new).is_failed ≡ is_err result }
     {
-        let wants = Wants {
-            values: true,
-            formulas: true,
-            styles: false,
-        };
-        let asked = self.asked(wants, false);
+        let asked = self.asked(Wants::VALUES_AND_FORMULAS, false);
         let Some(read) = self.sheet.next(self.package, asked)? else {
             return Ok(None);
         };

@@ -35,6 +35,50 @@ pub struct Wants {
     pub styles: bool,
 }
 
+impl Wants {
+    /// The values alone.
+    pub const VALUES: Wants = Wants {
+        values: true,
+        formulas: false,
+        styles: false,
+    };
+
+    /// The formulas alone.
+    pub const FORMULAS: Wants = Wants {
+        values: false,
+        formulas: true,
+        styles: false,
+    };
+
+    /// The style ids alone.
+    pub const STYLES: Wants = Wants {
+        values: false,
+        formulas: false,
+        styles: true,
+    };
+
+    /// Values and style ids.
+    pub const VALUES_AND_STYLES: Wants = Wants {
+        values: true,
+        formulas: false,
+        styles: true,
+    };
+
+    /// Values and formulas.
+    pub const VALUES_AND_FORMULAS: Wants = Wants {
+        values: true,
+        formulas: true,
+        styles: false,
+    };
+
+    /// All that a cell has.
+    pub const ALL: Wants = Wants {
+        values: true,
+        formulas: true,
+        styles: true,
+    };
+}
+
 /// What the start of a cell says.
 #[derive(Debug, Drop)]
 pub struct CellStart {

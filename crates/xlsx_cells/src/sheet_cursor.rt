@@ -307,11 +307,7 @@ impl SheetCursor {
             return Ok(None);
         }
         let asked = Asked {
-            wants: Wants {
-                values: false,
-                formulas: false,
-                styles: true,
-            },
+            wants: Wants::STYLES,
             book,
             style_count,
             keeps_masters: false,

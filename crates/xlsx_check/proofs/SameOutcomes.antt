@@ -1,5 +1,5 @@
 -- Comparisons of what is computed, and of what is said of it, hold exactly of the same.
-use Rattle.std.proofs.Common.{◌≡◌, Bool, true, refl, ap, rules}
+use Rattle.std.proofs.Common.{◌≡◌, true, refl, ap}
 use Rattle.std.specs.Cmp.{booleans_Decides}
 use Rattle.equalities.specs.Equality.{IsEquality}
 use Rattle.decimals.proofs.Equality.{of_decimal}

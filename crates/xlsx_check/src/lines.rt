@@ -1,7 +1,8 @@
 //! The lines of a sheet's formulas beside the values of their cells (docs/FORMAT.md).
-ghost use Rattle.std.specs.Prelude.{◌≡◌, ◌<◌, ◌++◌, OnOk, string_bytes};
+ghost use Rattle.std.specs.Prelude.{◌≡◌, ◌<◌, ◌++◌, OnOk, OnErr, string_bytes};
 ghost use Rattle.cell_data.specs.Cells.{IsPlacedInSheet};
 ghost use Rattle.cell_data.specs.Range.{cells_of};
+ghost use Rattle.escaped_text.specs.Escaped.{Extends};
 ghost use Rattle.xlsx_check.specs.Denoting.{values_of};
 ghost use Rattle.xlsx_check.specs.Lines.{computed_text, verdict_text, verdict_line};
 ghost use Rattle.xlsx_check.specs.Lines.{formulas_of, check_lines};
@@ -11,12 +12,14 @@ use crate::checking::verdict;
 use crate::outcome::{Computed, Verdict};
 use cell_data::{Data, Range};
 use cell_refs::{MAX_COLUMNS, MAX_ROWS, push_reference};
+use escaped_text::or_cut_back;
 use std::alloc::AllocError;
 
-/// Appends what was computed, behind its kind.
+/// Appends what was computed, behind its kind. A refusal may leave a front of it behind.
 fn push_computed(out: &mut String, computed: Computed) -> Result<(), AllocError>
-    ensures { let printed = computed_text (computed_of computed) in
+    ensures ok { let printed = computed_text (computed_of computed) in
         OnOk result (string_bytes out.new ≡ string_bytes out.old ++ printed) }
+    ensures err { OnErr result (Extends (string_bytes out.old) (string_bytes out.new)) }
 {
     match computed {
         Computed::Number(number) => {
@@ -28,10 +31,11 @@ fn push_computed(out: &mut String, computed: Computed) -> Result<(), AllocError>
     }
 }
 
-/// Appends a verdict in words.
+/// Appends a verdict in words. A refusal may leave a front of them behind.
 fn push_verdict(out: &mut String, verdict: Verdict) -> Result<(), AllocError>
-    ensures { let printed = verdict_text (verdict_of verdict) in
+    ensures ok { let printed = verdict_text (verdict_of verdict) in
         OnOk result (string_bytes out.new ≡ string_bytes out.old ++ printed) }
+    ensures err { OnErr result (Extends (string_bytes out.old) (string_bytes out.new)) }
 {
     match verdict {
         Verdict::Agrees => out.push_str("agrees"),
@@ -45,7 +49,8 @@ fn push_verdict(out: &mut String, verdict: Verdict) -> Result<(), AllocError>
     }
 }
 
-/// Appends the line of a verdict on the formula at a position, counted from 0.
+/// Appends the line of a verdict on the formula at a position, counted from 0. A refusal may leave a
+/// front of it behind.
 fn push_verdict_line(
     out: &mut String,
     position: (u32, u32),
@@ -53,8 +58,9 @@ fn push_verdict_line(
 ) -> Result<(), AllocError>
     requires in_rows { position.0 < MAX_ROWS }
     requires in_columns { position.1 < MAX_COLUMNS }
-    ensures { let printed = verdict_line position (verdict_of verdict) in
+    ensures ok { let printed = verdict_line position (verdict_of verdict) in
         OnOk result (string_bytes out.new ≡ string_bytes out.old ++ printed) }
+    ensures err { OnErr result (Extends (string_bytes out.old) (string_bytes out.new)) }
 {
     push_reference(out, position.0, position.1)?;
     out.push_str("\t")?;
@@ -62,19 +68,37 @@ fn push_verdict_line(
     out.push_str("\n")
 }
 
-/// Appends a line for each used cell of the formulas, row by row: its reference, a tab, and the
-/// verdict on its formula beside the value that it has, in words. It goes over the formulas once.
-pub fn push_checks(
+/// Appends those lines, going over the formulas once. A refusal may leave a front of them behind.
+fn push_check_lines(
     out: &mut String,
     values: &Range<Data>,
     formulas: &Range<String>,
 ) -> Result<(), AllocError>
-    ensures { let printed = check_lines (values_of values.now) (formulas_of formulas.now) in
+    ensures ok { let printed = check_lines (values_of values.now) (formulas_of formulas.now) in
         OnOk result (string_bytes out.new ≡ string_bytes out.old ++ printed) }
+    ensures err { OnErr result (Extends (string_bytes out.old) (string_bytes out.new)) }
 {
     for (position, formula) in formulas.used() {
         let said = verdict(values, formula.as_str(), position);
         push_verdict_line(out, position, said)?;
     }
     Ok(())
+}
+
+/// Appends a line for each used cell of the formulas, row by row: its reference, a tab, and the
+/// verdict on its formula beside the value that it has, in words. A refusal leaves the text as it
+/// was.
+#[tactic(auto, using(escaped_text::proofs::Extending::cut_back))]
+pub fn push_checks(
+    out: &mut String,
+    values: &Range<Data>,
+    formulas: &Range<String>,
+) -> Result<(), AllocError>
+    ensures ok { let printed = check_lines (values_of values.now) (formulas_of formulas.now) in
+        OnOk result (string_bytes out.new ≡ string_bytes out.old ++ printed) }
+    ensures err { OnErr result (string_bytes out.new ≡ string_bytes out.old) }
+{
+    let len = out.len();
+    let appended = push_check_lines(out, values, formulas);
+    or_cut_back(out, len, appended)
 }

@@ -1,14 +1,14 @@
 ghost use Rattle.std.specs.Prelude.{◌≡◌};
 ghost use Rattle.std.specs.Option.{option_map};
 ghost use Rattle.formula_shift.specs.Pieces.{word_kind};
-ghost use Rattle.formula_shift.specs.Relocation.{piece_reference, is_name_before};
+ghost use Rattle.formula_shift.specs.Relocation.{piece_reference};
 ghost use Rattle.xlsx_check.specs.Tokens.{symbol, pair_symbol, is_space, is_plain_number};
 ghost use Rattle.xlsx_check.specs.Tokens.{word_token, refers_or, is_operand_end, signed};
 ghost use Rattle.xlsx_check.specs.Denoting.{wanted_by};
 ghost use Rattle.xlsx_check.specs.TokenView.{token_of};
 
 use cell_data::Decimal;
-use formula_shift::Reference;
+use formula_shift::{Piece, Reference};
 
 /// How two numbers are compared.
 #[derive(Clone, Copy, Debug, PartialEq, Eq)]
@@ -120,13 +120,6 @@ pub fn pair_symbol(first: u8, second: u8) -> Option<Token>
     }
 }
 
-/// Whether a Word before this byte is a function's name, or a sheet's.
-fn is_name_before(behind: Option<u8>) -> bool
-    ensures { result ≡ is_name_before behind }
-{
-    behind == Some(b'(') || behind == Some(b'!')
-}
-
 /// Whether a Word has digits and points alone.
 fn is_plain_number(word: &str) -> bool
     ensures { result ≡ is_plain_number word.now }
@@ -153,16 +146,13 @@ fn other_word(word: &str, behind: Option<u8>) -> Token
 }
 
 /// The token of a Word, where this byte is behind it.
-#[tactic(auto, unfolding(formula_shift::specs::Relocation::piece_reference))]
 pub fn word_token(word: &str, behind: Option<u8>) -> Token
     ensures { token_of result ≡ refers_or
         (piece_reference (record { kind = word_kind; bytes = word.now }) behind)
         (word_token word.now behind) }
 {
-    if !is_name_before(behind) {
-        if let Some(reference) = Reference::parse(word) {
-            return Token::Refers(reference);
-        }
+    if let Some(reference) = Piece::Word(word).reference(behind) {
+        return Token::Refers(reference);
     }
     other_word(word, behind)
 }

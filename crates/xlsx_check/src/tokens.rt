@@ -6,12 +6,6 @@ ghost use Rattle.xlsx_check.specs.TokenView.{token_of};
 use crate::token::{Token, is_space, pair_symbol, symbol, word_token};
 use formula_shift::{Piece, Pieces};
 
-fn first_byte(text: &str) -> Option<u8>
-    ensures { result ≡ first_byte text.now }
-{
-    text.as_bytes().first().copied()
-}
-
 /// The text without the white space in front.
 fn skip_spaces(text: &[u8]) -> &[u8]
     ensures same { symbols result.now ≡ symbols text.now }
@@ -84,7 +78,7 @@ impl<'a> Tokens<'a> {
                 Piece::Other(text) => self.symbols = text.as_bytes(),
                 Piece::Word(word) => {
                     self.symbols = &[];
-                    return Some(word_token(word, first_byte(self.pieces.as_str())));
+                    return Some(word_token(word, self.pieces.first_byte()));
                 }
                 _ => {
                     self.symbols = &[];

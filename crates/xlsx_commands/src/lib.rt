@@ -3,7 +3,8 @@
 //!
 //! Rooms: `command` (the words that ask for a command), `cell_lines`, `book_lists`, `merge_lines`,
 //! `link_lines`, `property_lines`, `table_lines`, `pivot_lines`, `pivot_rows`, `sheet_rows`,
-//! `table_rows`, `formula_lines`, `upgraded_text` and `sample_lines` (what each command prints),
+//! `table_rows`, `formula_lines`, `part_line`, `upgraded_text` and `sample_lines` (what each command
+//! prints),
 //! `output` (each command's own package, where it has one, and its output), `laws`, and `error`
 //! (`ToolError`).
 //!
@@ -40,6 +41,7 @@ mod laws;
 mod link_lines;
 mod merge_lines;
 mod output;
+mod part_line;
 mod pivot_lines;
 mod pivot_rows;
 mod property_lines;

@@ -1,13 +1,13 @@
 -- The part of a sheet is read once.
 use Rattle.std.proofs.Common.{◌≡◌, ◌+◌, ◌≤◌, ℕ, List, ◌∷◌, true, Option, Some, None, Result}
 use Rattle.std.proofs.Common.{Ok, Err, ◌∙◌, ap, subst, inr, arith, string_bytes}
-use Rattle.std.specs.Prelude.{IsSomeAnd}
+use Rattle.std.specs.Prelude.{IsSomeAnd, OnOk}
 use Rattle.std.specs.List.{sum_by}
 use Rattle.std.proofs.lemmas.List.Sums.{sum_by-cons}
 use Rattle.cell_refs.specs.declared.dimensions.Dimensions.{Dimensions}
 use Rattle.cell_styles.specs.declared.style.Style.{Style}
 use Rattle.part_events.specs.Package.{Part, PackageState, SameParts, NeverFalls, UsesPackage}
-use Rattle.part_events.specs.Package.{LeavesPackage, Uses, event_count}
+use Rattle.part_events.specs.Package.{LeavesPackage, Uses, event_count, CountsUp}
 use Rattle.part_events.specs.Reading.{Reading, ReadsPart}
 use Rattle.part_events.proofs.Uses.{same_further}
 use Rattle.xlsx_error.specs.declared.error.XlsxError.{XlsxError}
@@ -16,9 +16,9 @@ use Rattle.xlsx_values.specs.Value.{Grounds}
 use Rattle.xlsx_cells.specs.SheetPart.{EntersData}
 use Rattle.xlsx_cells.specs.Stream.{Stream}
 use Rattle.xlsx_workbook.specs.declared.sheet.Sheet.{Sheet}
-use Rattle.xlsx_open.specs.Opening.{TakesOpening}
+use Rattle.xlsx_open.specs.Opening.{TakesOpening, TakesSections}
 use Rattle.xlsx_core.specs.Listing.{listed_events}
-use Rattle.xlsx_core.specs.SheetReading.{placed_events, TakesSheet}
+use Rattle.xlsx_core.specs.SheetReading.{placed_events, TakesSheet, data_events, ReadsToData}
 use Rattle.xlsx_core.proofs.SheetsRead.{OpensPlaced}
 
 -- whatever a call answers
@@ -129,3 +129,24 @@ sheet_taken name path grounds palette old mid new same opens takes once =
           (subst (λ (parts : List Part). new.taken ≤ mid.taken + placed_events path parts)
           same.parts once);
     })
+
+-- where its sheet is read to the end of its data
+pub sheet_to_data : {A : Type 0} (result : Result A XlsxError) (name : List ℕ)
+    (path : Option (List ℕ)) (grounds : Grounds) (palette : List Style)
+    (old mid new : PackageState) → SameParts old mid
+    → OpensPlaced name path grounds palette old.parts
+    → TakesSections old.parts old.taken mid.taken
+    → OnOk result (CountsUp (data_events path mid.parts) mid.taken new.taken)
+    → OnOk result (ReadsToData old.parts name old.taken new.taken)
+sheet_to_data (Err error) name path grounds palette old mid new same opens takes exact = tt
+sheet_to_data (Ok value) name path grounds palette old mid new same opens takes exact = record {
+  opening = opens.opening;
+  behind = mid.taken;
+  opens = opens.opens;
+  takes = takes;
+  to_end =
+      subst (λ (own : Option (List ℕ)). CountsUp (data_events own old.parts) mid.taken new.taken)
+      opens.listed
+      (subst (λ (parts : List Part). CountsUp (data_events path parts) mid.taken new.taken)
+      same.parts exact);
+}

@@ -25,6 +25,7 @@ use Rattle.xlsx_cells.specs.SheetPart.{SheetPartCause, IsSoundSheet}
 use Rattle.xlsx_cells.specs.declared.children.Wants.{Wants}
 use Rattle.xlsx_workbook.specs.Sheets.{PlacedSheet}
 use Rattle.xlsx_open.specs.Opening.{Opening, OpensAs, IsOpeningError, OpeningCause, TakesOpening}
+use Rattle.xlsx_open.specs.Opening.{TakesSections}
 use Rattle.xlsx_core.specs.declared.sheet_reading.SheetReading.{SheetReading}
 use Rattle.xlsx_sections.specs.Failing.{FailsBy}
 use Rattle.xlsx_sections.specs.SectionEvents.{section_events}
@@ -203,3 +204,13 @@ pub record TakesPart (parts : List Part) (name : List ℕ) (before after : ℕ) 
 abbrev pub TakesSheet : List Part → List ℕ → ℕ → ℕ → Type 0
 TakesSheet parts name before after =
     TakesOpening parts before after ⊎ TakesPart parts name before after
+
+-- The workbook was opened, and its sheet of this name read to the end of its data and no further:
+-- each section of the opening was taken to its end, and behind them the events of the sheet's part
+-- up to the end of its data.
+pub record ReadsToData (parts : List Part) (name : List ℕ) (before after : ℕ) : Type 0 where
+  pub opening : Opening
+  pub behind : ℕ
+  pub opens : OpensAs parts opening
+  pub takes : TakesSections parts before behind
+  pub to_end : CountsUp (data_events (path_named name opening.sheets) parts) behind after

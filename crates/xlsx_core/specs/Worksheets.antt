@@ -277,6 +277,12 @@ pub record EntersSheet
   pub going : IsGoing new
   pub enters : IsSomeAnd path (λ there. EntersData there area old new)
 
+-- why the path of a sheet's part isn't told: the workbook has no sheet of this name
+abbrev pub LacksPath : List ℕ → Option (List ℕ) → XlsxError → Type 0
+LacksPath name path (WorksheetNotFound asked) = (string_bytes asked ≡ name) × (path ≡ None)
+LacksPath name path OutOfMemory = ⊤
+LacksPath name path error = ⊥
+
 -- when they aren't: nothing is said of the package then, which nobody holds
 abbrev pub ReaderFails : List ℕ → Option (List ℕ) → PackageState → XlsxError → Type 0
 ReaderFails name path old Io = ⊤

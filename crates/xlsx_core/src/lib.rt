@@ -1,6 +1,7 @@
 //! What a workbook's worksheets hold.
 //!
-//! Rooms: `xlsx` (`Xlsx`, `OpenFailure`), `worksheets` (the calls of `Xlsx` that read a worksheet),
+//! Rooms: `xlsx` (`Xlsx`, `OpenFailure`), `workbook` (`Workbook`, an open workbook apart from its
+//! package), `worksheets` (the calls of `Xlsx` that read a worksheet),
 //! `worksheet_list` (the one that reads all), `placed_sheet` (the sheet of a name, and its part),
 //! `standing` (the last cell of each position, from the header row on), `ranges` (cells as ranges),
 //! `sheet_reading` (`read_sheet`, `SheetReading`, `SheetAnswer`), `merges` (the calls on merged
@@ -59,6 +60,7 @@ mod sheet_reading;
 mod standing;
 mod table_data;
 mod table_list;
+mod workbook;
 mod worksheet_list;
 mod worksheets;
 mod xlsx;
@@ -70,6 +72,7 @@ pub use laws::{
 };
 pub use sheet_reading::{SheetAnswer, SheetReading, read_sheet};
 pub use table_list::TableNames;
+pub use workbook::Workbook;
 pub use xlsx::{OpenFailure, Xlsx};
 pub use xlsx_areas::{Hyperlink, MergedRegion, MergedRegions};
 pub use xlsx_cells::{SheetCursor, XlsxCellFormula, XlsxCellFormulaMetadataRecord, XlsxCellReader};

@@ -1,9 +1,9 @@
 ghost use Rattle.std.specs.Prelude.{◌≡◌, true, IfOk, OnOk, IfErr};
+ghost use Rattle.cell_data.specs.Pairs.{value_pairs, formula_pairs};
 ghost use Rattle.part_events.specs.Package.{SameParts, KeepsFaults};
 ghost use Rattle.xlsx_error.specs.declared.error.XlsxError.TheVariants.{Io};
 ghost use Rattle.xlsx_core.specs.SheetReading.{ReadsAs, SheetFails, IsSheetError};
-ghost use Rattle.cell_data.specs.Pairs.{value_pairs, formula_pairs};
-ghost use Rattle.xlsx_core.specs.SheetReading.{TakesSheet};
+ghost use Rattle.xlsx_core.specs.SheetReading.{TakesSheet, ReadsToData};
 ghost use Rattle.xlsx_core.specs.Worksheets.{HasLeastRanges};
 
 use crate::xlsx::{OpenFailure, Xlsx};
@@ -39,6 +39,7 @@ pub struct SheetAnswer<P: Package> {
 /// Fails as `Xlsx::new` where the workbook doesn't open, and with `WorksheetNotFound` where it has
 /// no sheet of this name or the first such sheet no part. Else the first start, row or cell of the
 /// part that can't be read gives the refusal. The package is handed back, with the same parts.
+/// Where nothing is refused, each section was read to its end and no further.
 pub fn read_sheet<P: Package>(alloc: Global, package: P, name: &str) -> SheetAnswer<P>
     ensures keeps { SameParts (P.state «package») (P.state result.package) }
     ensures faults { OnOk result.result
@@ -54,6 +55,10 @@ pub fn read_sheet<P: Package>(alloc: Global, package: P, name: &str) -> SheetAns
     ensures taken { let old = P.state «package» in
         let new = P.state result.package in
         old.is_told ≡ true → TakesSheet old.parts name.now old.taken new.taken }
+    ensures to_end { let old = P.state «package» in
+        let new = P.state result.package in
+        old.is_told ≡ true →
+        OnOk result.result (ReadsToData old.parts name.now old.taken new.taken) }
     ensures kind { IfErr result.result (IsSheetError name.now) }
 {
     match Xlsx::new(alloc, package) {

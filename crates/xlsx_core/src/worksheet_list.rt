@@ -186,12 +186,7 @@ impl<P: Package> Xlsx<P> {
         ensures err { IfErr result
             (SoundFails (P.state self.old.package) (P.state self.new.package)) }
     {
-        let wants = Wants {
-            values: true,
-            formulas: false,
-            styles: false,
-        };
-        let asked = asked_of(&self.shared, self.is_1904, wants);
+        let asked = asked_of(&self.shared, self.is_1904, Wants::VALUES);
         ranges_listed(
             self.alloc,
             &mut self.package,

@@ -1,4 +1,5 @@
-ghost use Rattle.std.specs.Prelude.{◌≡◌, true, false, length, IfOk, IfErr, IsSomeAnd};
+ghost use Rattle.std.specs.Prelude.{◌≡◌, true, false, length, IfOk, IfErr, IsSomeAnd, Some};
+ghost use Rattle.std.specs.Prelude.{string_bytes};
 ghost use Rattle.part_events.specs.Lending.{LentFails};
 ghost use Rattle.part_events.specs.Package.{Uses};
 ghost use Rattle.xlsx_error.specs.declared.error.XlsxError.TheVariants.{Io};
@@ -13,7 +14,7 @@ ghost use Rattle.xlsx_core.specs.SheetReading.{data_events, TakesExactly};
 ghost use Rattle.xlsx_core.specs.SheetReading.{PlacedSheetFails, PlacedHeadFails};
 ghost use Rattle.xlsx_core.specs.SheetReading.{IsPlacedHeadError, IsPlacedError, ReadsPlaced};
 ghost use Rattle.xlsx_core.specs.Worksheets.{path_of, grounds_of_book, KeepsWorkbook, HoldsWanted};
-ghost use Rattle.xlsx_core.specs.Worksheets.{AnswersCells, ReadsValues, ReadsPlaces};
+ghost use Rattle.xlsx_core.specs.Worksheets.{AnswersCells, ReadsValues, ReadsPlaces, LacksPath};
 ghost use Rattle.xlsx_core.specs.Worksheets.{ReadsFormulas, RangeFails};
 ghost use Rattle.xlsx_core.specs.Worksheets.{IsRangeError, EntersSheet, ReaderFails, ReadsStyles};
 ghost use Rattle.xlsx_core.specs.Worksheets.{IsStyleRangeError, palette_of_book, HasLeastRanges};
@@ -71,6 +72,9 @@ impl<P: Package> Xlsx<P> {
         ensures uses { let old = P.state self.package in
             let new = P.state result.package in
             Uses (placed_events (path_of self name.now) old.parts) Io result.result old new }
+        ensures to_end { let old = P.state self.package in
+            let count = data_events (path_of self name.now) old.parts in
+            TakesExactly count result.result old (P.state result.package) }
         ensures ranges { IfOk result.result HasLeastRanges }
         ensures reads { let old = P.state self.package in
             old.is_told ≡ true → IfOk result.result
@@ -81,13 +85,8 @@ impl<P: Package> Xlsx<P> {
             (P.state result.package)) }
         ensures kind { IfErr result.result (IsPlacedError name.now) }
     {
-        let wants = Wants {
-            values: true,
-            formulas: true,
-            styles: true,
-        };
         let mut xlsx = self;
-        let found = xlsx.placed_cells(name, wants);
+        let found = xlsx.placed_cells(name, Wants::ALL);
         let Xlsx {
             package,
             shared,
@@ -169,13 +168,8 @@ impl<P: Package> Xlsx<P> {
             (path_of self.old name.now) (P.state self.old.package) (P.state self.new.package)) }
         ensures kind { IfErr result (IsRangeError name.now) }
     {
-        let wants = Wants {
-            values: true,
-            formulas: false,
-            styles: false,
-        };
         let path = path_named(&self.metadata.sheets, &self.paths, name);
-        let asked = asked_of(&self.shared, self.is_1904, wants);
+        let asked = asked_of(&self.shared, self.is_1904, Wants::VALUES);
         let header_row = self.header_row;
         read_values(self.alloc, &mut self.package, path, name, asked, header_row)
     }
@@ -198,12 +192,7 @@ impl<P: Package> Xlsx<P> {
             (path_of self.old name.now) (P.state self.old.package) (P.state self.new.package)) }
         ensures kind { IfErr result (IsRangeError name.now) }
     {
-        let wants = Wants {
-            values: true,
-            formulas: false,
-            styles: false,
-        };
-        let cells = self.worksheet_cells(name, wants)?;
+        let cells = self.worksheet_cells(name, Wants::VALUES)?;
         Ok(place_range(self.alloc, cells.values, self.header_row)?)
     }
 
@@ -228,12 +217,7 @@ impl<P: Package> Xlsx<P> {
             (path_of self.old name.now) (P.state self.old.package) (P.state self.new.package)) }
         ensures kind { IfErr result (IsRangeError name.now) }
     {
-        let wants = Wants {
-            values: false,
-            formulas: true,
-            styles: false,
-        };
-        let cells = self.worksheet_cells(name, wants)?;
+        let cells = self.worksheet_cells(name, Wants::FORMULAS)?;
         Ok(formula_range(self.alloc, cells.formulas)?)
     }
 
@@ -261,14 +245,23 @@ impl<P: Package> Xlsx<P> {
             (P.state self.new.package)) }
         ensures kind { IfErr result (IsStyleRangeError name.now) }
     {
-        let wants = Wants {
-            values: false,
-            formulas: false,
-            styles: true,
-        };
-        let found = self.placed_cells(name, wants)?;
+        let found = self.placed_cells(name, Wants::STYLES)?;
         let styles = &self.shared.style_sheet.styles;
         Ok(copied_style_range(self.alloc, found.style_ids, styles)?)
+    }
+
+    /// The name of the part that the first sheet of this name is read from, by the relationships of
+    /// the workbook (ECMA-376 part 1, section 18.2.19), whether the package has that part or not.
+    ///
+    /// Fails with `WorksheetNotFound` where no sheet has the name.
+    pub fn worksheet_path(&self, name: &str) -> Result<String, XlsxError>
+        ensures path { IfOk result (λ path. path_of self.now name.now ≡ Some (string_bytes path)) }
+        ensures err { IfErr result (LacksPath name.now (path_of self.now name.now)) }
+    {
+        match path_named(&self.metadata.sheets, &self.paths, name) {
+            Some(path) => Ok(path.joined(self.alloc)?),
+            None => Err(XlsxError::WorksheetNotFound(String::from_str(self.alloc, name)?)),
+        }
     }
 
     /// Enters the data of the first sheet of this name (18.3.1.80), and answers where reading

@@ -3,7 +3,7 @@
 //!
 //! Rooms: `formula` (an `f`, and whose formula it writes), `masters` (the groups of a sheet),
 //! `cell_formula` (a cell's formula, and its text), `metadata` (what a formula tells with none of a
-//! group written out), `equality` (its `==`).
+//! group written out), `equality` (`==` and copies).
 //!
 //! **A formula is seen by those that stand before it in the sheet**, the latest first. `master_of`
 //! looks back to the last master of an index, and `formula_of` is a formula's text by it. The code

@@ -1,3 +1,4 @@
+pub mod DecimalsRead
 pub mod Escapes
 pub mod Heads
 pub mod LastRows

@@ -7,12 +7,14 @@ use Rattle.std.specs.FinMap.{find, from_entries, entries}
 use Rattle.std.specs.FinMap.Entries.{below_all}
 use Rattle.std.specs.List.{flat_map}
 use Rattle.std.specs.Option.{option_map, unwrap_or}
-use Rattle.std.specs.Ordering.{is_lt}
+use Rattle.std.specs.Cmp.{tied_itself}
+use Rattle.std.specs.Ordering.{is_lt, is_eq}
+use Rattle.std.proofs.Math.Bool.{or-true}
 use Rattle.std.proofs.lemmas.Bool.{cases_eq, ne_eqb, eq-eqb}
 use Rattle.std.proofs.lemmas.List.{append-nil}
 use Rattle.cell_refs.specs.Positions.{position_cmp}
 use Rattle.cell_refs.specs.declared.TheConstants.{MAX_ROWS, MAX_COLUMNS}
-use Rattle.cell_refs.proofs.PositionOrder.{and_both}
+use Rattle.cell_refs.proofs.PositionOrder.{and_both, position_total}
 use Rattle.cell_data.specs.CellValue.{CellValue, nothing, value_of_data}
 use Rattle.cell_data.specs.Splitting.{AreInOrder, given, Splits}
 use Rattle.cell_data.specs.Stepping.{used, positions_of, IsEarlier, IsOfFirst}
@@ -22,14 +24,17 @@ use Rattle.cell_data.proofs.Stepping.{used_given, used_both, first_entries, belo
 use Rattle.cell_data.proofs.Stepping.{below_used, below_both, no_positions, meant, meant_given}
 use Rattle.cell_data.proofs.Stepping.{meant_below, stands_first, no_cell, first_is, first_in_sheet}
 use Rattle.cell_data.proofs.Stepping.{no_longer, first_shorter}
-use Rattle.sorted_cells.specs.Placed.{first_position, left_behind}
+use Rattle.sorted_cells.specs.Placed.{first_position, value_first, left_behind}
 use Rattle.part_events.specs.Event.{Event}
+use Rattle.part_events.specs.Memory.{Contents}
+use Rattle.written_markup.specs.Markup.{with_events}
+use Rattle.written_markup.proofs.Drafted.{events_joined}
 use Rattle.xlsx_out.specs.Groups.{WrittenFormula}
 use Rattle.xlsx_out.specs.WrittenSheet.{PlacedValues, SheetRow, in_rows, with_position}
 use Rattle.xlsx_out.specs.Writing.{PlacedForms, given_cell, cell_among, positions_among}
 use Rattle.xlsx_out.specs.Writing.{row_front, row_behind, row_start, row_end, row_by, rows_by}
 use Rattle.xlsx_out.specs.Writing.{rows_left, leaving, is_open, entering, data_left}
-use Rattle.xlsx_out.specs.Writing.{IsFirstOfBoth}
+use Rattle.xlsx_out.specs.Writing.{IsFirstOfBoth, value_given}
 
 -- ---- positions by rows
 
@@ -278,3 +283,55 @@ shorter p values vs formulas fs first is_v is_f =
           let fewer = first_shorter p formulas of_formulas in
           omega (arith, left_v, left_f, fewer, in_values)
     ]
+
+-- what stands at the first position of a list is taken
+pub first_taken : {X : Type 0} (p : ℕ × ℕ) (cells : List ((ℕ × ℕ) × X)) → IsOfFirst p cells →
+    is_some (value_first p cells) ≡ true
+first_taken p [] first = absurd first
+first_taken p (cell ∷ cells) first =
+    ap (λ (test : Bool). is_some (cond test (Some cell.1) None))
+    (ap is_eq (ap (position_cmp p) first ∙ tied_itself position_total p))
+
+mapped_some : {X Y : Type 0} (g : X → Y) (v : Option X) → is_some (option_map g v) ≡ is_some v
+mapped_some g None = refl
+mapped_some g (Some v) = refl
+
+-- some of both lists has the first position
+pub some_taken : (p : ℕ × ℕ) (values : List ((ℕ × ℕ) × Data)) (forms : PlacedForms)
+    (v : Option Data) (w : Option WrittenFormula) → IsFirstOfBoth values forms p →
+    v ≡ value_first p values → w ≡ value_first p forms →
+    (is_some (option_map value_of_data v) || is_some w) ≡ true
+some_taken p values forms v w first is_v is_w =
+    elim first.is_used [
+      | inl of_values ↦
+          ap (λ (test : Bool). test || is_some w)
+          (mapped_some value_of_data v ∙ ap is_some is_v ∙ first_taken p values of_values)
+      | inr of_forms ↦
+          ap (λ (test : Bool). is_some (option_map value_of_data v) || test)
+          (ap is_some is_w ∙ first_taken p forms of_forms)
+          ∙ or-true (is_some (option_map value_of_data v))
+    ]
+
+-- one position is written, and what is left to write is as before
+pub goes_on_with : (old entered celled : Contents) (row : Option ℕ) (p : ℕ × ℕ)
+    (v : Option Data) (w : Option WrittenFormula) (values vs : List ((ℕ × ℕ) × Data))
+    (forms fs : PlacedForms) (whole : Contents) → Splits p values v vs → Splits p forms w fs →
+    (is_some (option_map value_of_data v) || is_some w) ≡ true →
+    entered ≡ with_events old (entering row p.0) →
+    celled ≡ with_events entered (given_cell p (value_given v) w) →
+    with_events old (data_left row (meant value_of_data values) forms) ≡ whole →
+    with_events celled (data_left (Some p.0) (meant value_of_data vs) fs) ≡ whole
+goes_on_with old entered celled row p v w values vs forms fs whole splits_v splits_w some
+    is_entered is_celled same =
+    let cell = given_cell p (value_given v) w in
+    let rest = data_left (Some p.0) (meant value_of_data vs) fs in
+    let seen = ap (meant value_of_data) splits_v.whole ∙ meant_given value_of_data p v vs in
+    let step =
+    (λ i. data_left row (seen i) (splits_w.whole i))
+    ∙ data_step p (option_map value_of_data v) w (meant value_of_data vs) fs row some
+    (meant_below value_of_data p vs ∙ splits_v.below) splits_w.below in
+    ap (λ (held : Contents). with_events held rest) is_celled
+    ∙ events_joined entered cell rest
+    ∙ ap (λ (held : Contents). with_events held (cell ++ rest)) is_entered
+    ∙ events_joined old (entering row p.0) (cell ++ rest)
+    ∙ ap (with_events old) (sym step) ∙ same

@@ -1,15 +1,17 @@
 -- Which values and formulas are written so that they read back.
-use Rattle.std.specs.Prelude.{◌≡◌, ℕ, ◌&&◌, ◌==◌, not, length, Bool, true, false, List}
-use Rattle.std.specs.Prelude.{if◌then◌else◌, String}
+use Rattle.std.specs.Prelude.{◌≡◌, ℕ, ℤ, ◌%◌, ◌&&◌, ◌||◌, ◌==◌, not, nat_abs, length, Bool, true}
+use Rattle.std.specs.Prelude.{false, List, if◌then◌else◌, String}
 use Rattle.std.specs.List.{list_all}
 use Rattle.std.specs.declared.alloc.Global.{Global}
-use Rattle.cell_data.specs.CellValue.{CellValue, nothing, integer, shared_text, time, failure}
+use Rattle.cell_data.specs.CellValue.{CellValue, nothing, integer, number, shared_text, time}
+use Rattle.cell_data.specs.CellValue.{failure}
 use Rattle.cell_data.specs.Pairs.{value_pairs, formula_pairs}
 use Rattle.cell_data.specs.Range.{IsLeast}
 use Rattle.cell_data.specs.declared.range.Range.{Range}
 use Rattle.cell_data.specs.declared.value.CellErrorType.{CellErrorType}
 use Rattle.cell_data.specs.declared.value.CellErrorType.TheVariants.{GettingData}
 use Rattle.cell_data.specs.declared.value.Data.{Data}
+use Rattle.decimals.specs.Decimals.{has_bits}
 use Rattle.xlsx_out.specs.Groups.{Placed}
 use Rattle.xlsx_out.specs.WrittenSheet.{PlacedValues}
 
@@ -18,8 +20,16 @@ abbrev pub is_kept : CellErrorType → Bool
 is_kept GettingData = false
 is_kept _ = true
 
+-- a number in the one form that a decimal has: it fits, and its last digit is 0 for zero alone
+abbrev pub is_decimal : ℤ × ℤ → Bool
+is_decimal n =
+    (has_bits 127 n.0 && has_bits 31 n.1)
+    && (not (nat_abs n.0 % 10 == 0) || (nat_abs n.0 == 0 && nat_abs n.1 == 0))
+
 -- a value that reads back as itself
 abbrev pub is_written : CellValue → Bool
+is_written (number n) = is_decimal n
+is_written (time days kind is_1904) = is_decimal days
 is_written nothing = false
 is_written (integer n) = false
 is_written (shared_text place) = false

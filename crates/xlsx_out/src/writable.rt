@@ -1,13 +1,22 @@
 //! Which values and formulas are written so that they read back.
-ghost use Rattle.std.specs.Prelude.{◌≡◌, ◌↔◌, IsTrue, map, not, length, ◌==◌};
+ghost use Rattle.std.specs.Prelude.{◌≡◌, ◌↔◌, IsTrue, map, not, length, ◌==◌, true};
 ghost use Rattle.std.specs.List.{list_all, list_any};
 ghost use Rattle.cell_data.specs.CellValue.{value_of_data};
+ghost use Rattle.decimals.specs.Decimal.{number_of};
 ghost use Rattle.cell_data.specs.Pairs.{value_pairs, formula_pairs};
-ghost use Rattle.xlsx_out.specs.Writable.{is_kept, is_written, counts_from, have_one_epoch};
+ghost use Rattle.xlsx_out.specs.Writable.{is_decimal, is_kept, is_written, counts_from, have_one_epoch};
 ghost use Rattle.xlsx_out.specs.Writable.{are_writable_values, are_writable_formulas, IsWritable};
 ghost use Rattle.xlsx_out.specs.WrittenSheet.{is_from_1904};
 
 use cell_data::{CellErrorType, Data, Range};
+use decimals::Decimal;
+
+/// A decimal is in its one form, as its parts fit their types.
+fn decimals_have_one_form(number: Decimal)
+    ensures { is_decimal (number_of number) ≡ true }
+{
+    let (_mantissa, _exponent) = (number.mantissa(), number.exponent());
+}
 
 fn is_written(value: &Data) -> bool
     ensures { result ≡ is_written (value_of_data value.now) }
@@ -15,6 +24,14 @@ fn is_written(value: &Data) -> bool
     match value {
         Data::Int(_) | Data::Empty => false,
         Data::Error(error) => !matches!(error, CellErrorType::GettingData),
+        Data::Decimal(number) => {
+            decimals_have_one_form(*number);
+            true
+        }
+        Data::DateTime(time) => {
+            decimals_have_one_form(time.value);
+            true
+        }
         _ => true,
     }
 }

@@ -43,20 +43,20 @@ pub own_areas_begin : (text : List ℕ) (ps : List PieceText) → ps ≡ pieces 
 unfolding areas
 own_areas_begin text ps is = ap (λ ps. map area_named (own_references None ps)) is
 
--- the areas of a piece, and those behind it, in front of which stands what the code has as `seen`
-pub own_areas_next : (out more : List Dimensions) (before last : Option ℕ)
-    (text rest seen bytes : List ℕ) (p : PieceText) → pieces text ≡ p ∷ pieces rest → seen ≡ rest →
-    more ≡ out ++ map area_named (own_reference before p (first_byte seen)) →
+-- the areas of a piece, and those behind it, in front of which stands this byte
+pub own_areas_next : (out more : List Dimensions) (before last behind : Option ℕ)
+    (text rest bytes : List ℕ) (p : PieceText) → pieces text ≡ p ∷ pieces rest →
+    behind ≡ first_byte rest → more ≡ out ++ map area_named (own_reference before p behind) →
     last ≡ last_byte before bytes → bytes ≡ p.bytes →
     more ++ map area_named (own_references last (pieces rest))
     ≡ out ++ map area_named (own_references before (pieces text))
-own_areas_next out more before last text rest seen bytes p cut is more_is last_is bytes_are =
+own_areas_next out more before last behind text rest bytes p cut is more_is last_is bytes_are =
     let own = own_reference before p (first_byte rest) in
     let others = own_references (last_byte before p.bytes) (pieces rest) in
     let here : own_references before (pieces text) ≡ own ++ others =
     ap (own_references before) cut
     ∙ ap (λ t. own_reference before p (first_byte t) ++ others) (joined_pieces-pieces rest) in
-    (λ i. (more_is ∙ ap (λ t. out ++ map area_named (own_reference before p (first_byte t))) is) i
+    (λ i. (more_is ∙ ap (λ o. out ++ map area_named (own_reference before p o)) is) i
     ++ map area_named (own_references ((last_is ∙ ap (last_byte before) bytes_are) i)
     (pieces rest)))
     ∙ append_assoc out (map area_named own) (map area_named others)

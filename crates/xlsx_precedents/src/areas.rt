@@ -1,16 +1,14 @@
 //! The areas that a formula names.
-ghost use Rattle.std.specs.Prelude.{◌≡◌, ◌++◌, true, map, IfOk, IfSome, OnOk};
+ghost use Rattle.std.specs.Prelude.{◌≡◌, ◌++◌, true, map, IfOk, OnOk};
 ghost use Rattle.std.specs.List.{list_all};
 ghost use Rattle.cell_refs.specs.Positions.{is_sheet_area};
 ghost use Rattle.formula_shift.specs.Areas.{last_byte, is_elsewhere, area_named};
 ghost use Rattle.formula_shift.specs.Pieces.{piece_text};
-ghost use Rattle.formula_shift.specs.References.{IsInWorksheet};
-ghost use Rattle.formula_shift.specs.Relocation.{first_byte, is_name_before, piece_reference};
 ghost use Rattle.xlsx_precedents.specs.Kept.{own_reference};
 ghost use Rattle.xlsx_precedents.specs.Precedents.{areas};
 
 use cell_refs::Dimensions;
-use formula_shift::{Piece, Pieces, Reference};
+use formula_shift::{Piece, Pieces};
 use std::alloc::{AllocError, Global};
 
 /// The areas that a formula names on its own sheet, in order, each by its first and its last cell,
@@ -35,55 +33,32 @@ pub(crate) fn push_areas(out: &mut Vec<Dimensions>, formula: &str) -> Result<(),
     let mut pieces = Pieces::new(formula);
     while let Some(piece) = pieces.next() {
         let text = piece.as_str();
-        let rest = pieces.as_str();
-        push_own(out, before, piece, rest)?;
+        push_own(out, before, piece, pieces.first_byte())?;
         before = last_byte(before, text);
     }
     Ok(())
 }
 
-/// Appends the area that a piece names, if it is a reference of its own sheet, where this byte is
-/// before it and this text behind it.
+/// Appends the area that a piece names, if it is a reference of its own sheet, where these bytes
+/// are before it and behind it.
 fn push_own(
     out: &mut Vec<Dimensions>,
     before: Option<u8>,
     piece: Piece<'_>,
-    rest: &str,
+    behind: Option<u8>,
 ) -> Result<(), AllocError>
     ensures ok { OnOk result (out.new.items ≡ out.old.items ++ map area_named
-        (own_reference before (piece_text piece.entry) (first_byte rest.now))) }
+        (own_reference before (piece_text piece.entry) behind)) }
     ensures on_sheet { OnOk result (list_all is_sheet_area out.old.items ≡ true →
         list_all is_sheet_area out.new.items ≡ true) }
 {
     if is_elsewhere(before) {
         return Ok(());
     }
-    if let Some(reference) = piece_reference(piece, rest) {
+    if let Some(reference) = piece.reference(behind) {
         out.push(reference.area_named())?;
     }
     Ok(())
-}
-
-/// The reference that a piece is, if any.
-#[tactic(auto, unfolding(formula_shift::specs::Relocation::piece_reference))]
-fn piece_reference(piece: Piece<'_>, rest: &str) -> Option<Reference>
-    ensures value { result ≡ piece_reference (piece_text piece.entry) (first_byte rest.now) }
-    ensures inside { IfSome result IsInWorksheet }
-{
-    match piece {
-        Piece::Word(word) if !is_name_before(rest) => Reference::parse(word),
-        _ => None,
-    }
-}
-
-/// Whether a Word before this text is a function's name, or a sheet's.
-fn is_name_before(rest: &str) -> bool
-    ensures { result ≡ is_name_before (first_byte rest.now) }
-{
-    match rest.as_bytes().first() {
-        Some(&b) => b == b'(' || b == b'!',
-        None => false,
-    }
 }
 
 /// Whether what stands behind this byte is another sheet's.

@@ -1,6 +1,7 @@
 ghost use Rattle.std.specs.Prelude.{◌≡◌, ◌≤◌, ◌++◌, ℕ, List, Ok, Some, None, suc, length, map};
 ghost use Rattle.std.specs.Prelude.{true, codes, Result, option_map, option_to_list, string_bytes};
 ghost use Rattle.std.specs.Prelude.{IfOk, OnOk, IfErr, IfSome, MatchOption, option_and_then};
+ghost use Rattle.std.specs.Result.{is_err};
 ghost use Rattle.cell_refs.specs.Positions.{are_sheet_bounds};
 ghost use Rattle.part_events.specs.Event.{tag_of};
 ghost use Rattle.part_events.specs.Package.{Uses, event_count, part_of};
@@ -169,13 +170,18 @@ pub fn read_table_part<P: Package>(xml: &mut XlReader<'_, P>) -> Result<TablePar
         old.source.is_told ≡ true →
         IfOk result (λ part. table_of (events_of old) ≡ Some (table_kept part)) }
     ensures inside { IfOk result (λ part. are_sheet_bounds part.area ≡ true) }
+    ensures failed { (reading_by P.state xml.new).is_failed ≡ is_err result }
     ensures err { let old = reading_by P.state xml.old in
         let new = reading_by P.state xml.new in
         IfErr result (FailsBy (TableCause (events_of old)) old.source new.source) }
     ensures kind { IfErr result IsTableError }
 {
     let alloc = xml.cursor.alloc();
-    table_of(alloc, xml.package, &mut xml.cursor)
+    let read = table_of(alloc, xml.package, &mut xml.cursor);
+    if read.is_err() {
+        xml.cursor.give_up();
+    }
+    read
 }
 
 /// The table of the part at this path, as `read_table_part` reads it. Answers None where the part

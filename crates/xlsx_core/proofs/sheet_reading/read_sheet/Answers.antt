@@ -7,7 +7,7 @@ use Rattle.xlsx_core.specs.SheetReading.{all_wanted, grounds_with}
 use Rattle.xlsx_core.specs.SheetReading.{ReadsAs, placed_events}
 use Rattle.xlsx_core.specs.SheetReading.{ReadsPlaced, SheetFails, PlacedSheetFails}
 use Rattle.xlsx_core.proofs.SheetsRead.{opens_placed, reads_as, sheet_fails, opening_fails}
-use Rattle.xlsx_core.proofs.TakenOnce.{sheet_taken, uses_taken}
+use Rattle.xlsx_core.proofs.TakenOnce.{sheet_taken, sheet_to_data, uses_taken}
 use Rattle.xlsx_core.proofs.sheet_reading.read_sheet.Goals as goal
 
 pub returns-in-Ok-clause-reading : goal.returns-in-Ok-clause-reading
@@ -72,3 +72,20 @@ returns-in-Ok-clause-taken g c = λ told.
     (opens_placed name opened.0 opened.1 opened.2) (c.in-Ok.ensures.uses.taken told)
     (uses_taken (placed_events path mid.parts) Io c.into_sheet.result.result mid new
     c.into_sheet.ensures.uses (same.is_told ∙ told))
+
+pub returns-in-Ok-clause-to_end : goal.returns-in-Ok-clause-to_end
+returns-in-Ok-clause-to_end g c = λ told.
+    let xlsx = c.in-Ok.xlsx in
+    let old = g.P.Package.state c.args.package in
+    let mid = g.P.Package.state xlsx.package in
+    let new = g.P.Package.state c.into_sheet.result.package in
+    let name = c.args.name.now in
+    let path = path_listed name xlsx.metadata.sheets.items xlsx.paths.items in
+    let grounds = grounds_with (map string_bytes xlsx.shared.strings.items)
+    xlsx.shared.style_sheet.formats.items xlsx.is_1904 in
+    let palette = xlsx.shared.style_sheet.styles.items in
+    let opened = c.in-Ok.ensures.opens told in
+    let same = c.in-Ok.ensures.uses.parts in
+    sheet_to_data c.into_sheet.result.result name path grounds palette old mid new same
+    (opens_placed name opened.0 opened.1 opened.2) (c.in-Ok.ensures.uses.to_end told)
+    (c.into_sheet.ensures.to_end (same.is_told ∙ told))

@@ -16,9 +16,9 @@ pub loop-piece-preserved : goal.loop-piece-preserved
 loop-piece-preserved c =
     record {
       areas = own_areas_next c.loop-piece.out.items c.push_own.new.out.items c.loop-piece.before
-          c.last_byte-before.result c.loop-piece.pieces.rest.now c.next.new.self.rest.now
-          c.as_str-rest.result.now c.as_str-text.result.now (piece_text c.in-Some.piece)
-          c.in-Some.ensures.steps c.as_str-rest.ensures c.in_ok-push_own.ensures.ok
+          c.last_byte-before.result c.first_byte.result c.loop-piece.pieces.rest.now
+          c.next.new.self.rest.now c.as_str-text.result.now (piece_text c.in-Some.piece)
+          c.in-Some.ensures.steps c.first_byte.ensures c.in_ok-push_own.ensures.ok
           c.last_byte-before.ensures c.as_str-text.ensures
           ∙ c.loop-piece.invariant.areas;
       on_sheet = λ all. c.in_ok-push_own.ensures.on_sheet (c.loop-piece.invariant.on_sheet all);

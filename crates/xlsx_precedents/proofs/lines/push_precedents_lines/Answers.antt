@@ -1,11 +1,12 @@
 use Rattle.std.proofs.Common.{◌≡◌, ◌++◌, suc, map, string_bytes, append_assoc, sym, ap, ◌∙◌, subst}
 use Rattle.std.proofs.Common.{arith}
 use Rattle.cell_data.specs.Cells.{AreInSheet}
+use Rattle.escaped_text.proofs.Extending.{Extends-push, Extends-trans}
 use Rattle.list_lines.specs.Lines.{position_areas_line}
 use Rattle.sorted_cells.specs.Placed.{placed_left}
 use Rattle.xlsx_precedents.specs.Lines.{precedents_lines}
 use Rattle.xlsx_precedents.specs.Precedents.{areas, formula_entry}
-use Rattle.xlsx_precedents.proofs.lines.push_precedents.Goals as goal
+use Rattle.xlsx_precedents.proofs.lines.push_precedents_lines.Goals as goal
 
 pub loop-pos-preserved : goal.loop-pos-preserved
 loop-pos-preserved c =
@@ -25,5 +26,11 @@ loop-pos-preserved c =
           ∙ ap (λ left. string_bytes c.loop-pos.out
           ++ precedents_lines (map formula_entry left)) (sym c.in-Some.ensures.steps)
           ∙ c.loop-pos.invariant.lines;
+      extends = Extends-trans (string_bytes c.args.out.now) (string_bytes c.loop-pos.out)
+          (string_bytes c.push_position_areas_line.new.out) c.loop-pos.invariant.extends
+          (Extends-push (string_bytes c.loop-pos.out)
+          (string_bytes c.push_position_areas_line.new.out)
+          (position_areas_line c.in-Some.pos c.deref.result.now)
+          c.in_ok-push_position_areas_line.ensures.ok);
       sheet = λ k d within. all (suc k) d (omega (arith, within));
     }

@@ -1,0 +1,171 @@
+ghost use Rattle.std.specs.Prelude.{◌≡◌, IfOk, IfErr};
+ghost use Rattle.part_events.specs.Lending.{LentFails};
+ghost use Rattle.part_events.specs.Package.{Uses};
+ghost use Rattle.xlsx_error.specs.declared.error.XlsxError.TheVariants.{Io};
+ghost use Rattle.xlsx_cells.specs.CellsReader.{area_held, grounds_by, reference_of, stream_by};
+ghost use Rattle.xlsx_cells.specs.CellsReader.{styles_held};
+ghost use Rattle.xlsx_cells.specs.Stream.{stream, IsStreaming};
+ghost use Rattle.xlsx_core.specs.Apart.{workbook_of, path_in, grounds_in, palette_in};
+ghost use Rattle.xlsx_core.specs.SheetReading.{placed_events, PlacedHeadFails, IsPlacedHeadError};
+ghost use Rattle.xlsx_core.specs.Worksheets.{EntersSheet, ReaderFails};
+
+use crate::lists::Lists;
+use crate::placed_sheet::{open_placed, path_named};
+use crate::xlsx::Xlsx;
+use cell_data::HeaderRow;
+use cell_refs::Dimensions;
+use part_events::Package;
+use std::alloc::Global;
+use std::sync::ArcStr;
+use xlsx_cells::{SheetCursor, XlsxCellReader};
+use xlsx_error::XlsxError;
+use xlsx_open::{KeptPath, Metadata, SharedParts};
+
+/// What is known of an open workbook beside its package: what it was opened as, the header row that
+/// was set, and the lists that were loaded.
+///
+/// A reader of cells borrows it and may change nothing of it. So whoever has to know what the
+/// workbook is once the reader is gone takes it apart (`Xlsx::into_parts`), reads, and puts it
+/// together again (`Xlsx::from_parts`).
+#[derive(Drop)]
+pub struct Workbook {
+    pub(crate) metadata: Metadata,
+    pub(crate) paths: Vec<KeptPath>,
+    pub(crate) folder: ArcStr,
+    pub(crate) shared: SharedParts,
+    pub(crate) is_1904: bool,
+    pub(crate) header_row: HeaderRow,
+    pub(crate) lists: Lists,
+    pub(crate) alloc: Global,
+}
+
+/// A workbook and its package, apart and together.
+impl<P: Package> Xlsx<P> {
+    /// The package, and what is known of the workbook beside it.
+    pub fn into_parts(self) -> (P, Workbook)
+        ensures kept { result.0 ≡ self.package }
+        ensures workbook { result.1 ≡ workbook_of self }
+    {
+        let Xlsx {
+            package,
+            metadata,
+            paths,
+            folder,
+            shared,
+            is_1904,
+            header_row,
+            lists,
+            alloc,
+        } = self;
+        let workbook = Workbook {
+            metadata,
+            paths,
+            folder,
+            shared,
+            is_1904,
+            header_row,
+            lists,
+            alloc,
+        };
+        (package, workbook)
+    }
+
+    /// The workbook of which this is known, over this package.
+    pub fn from_parts(package: P, workbook: Workbook) -> Xlsx<P>
+        ensures kept { result.package ≡ «package» }
+        ensures workbook { workbook_of result ≡ workbook }
+    {
+        Xlsx {
+            package,
+            metadata: workbook.metadata,
+            paths: workbook.paths,
+            folder: workbook.folder,
+            shared: workbook.shared,
+            is_1904: workbook.is_1904,
+            header_row: workbook.header_row,
+            lists: workbook.lists,
+            alloc: workbook.alloc,
+        }
+    }
+}
+
+/// Reading the cells of a worksheet over a package that is lent beside the workbook.
+impl Workbook {
+    /// Enters the data of the first sheet of this name (ECMA-376 part 1, 18.3.1.80), and answers
+    /// where reading stands behind their start, and the sheet's dimensions. The package is lent for
+    /// this call alone, so its clauses say what a refusal leaves. `resume_worksheet` goes on from
+    /// there.
+    ///
+    /// Fails with `WorksheetNotFound` where no sheet has the name or the first such sheet has no
+    /// part, with `NotAWorksheet` where its part is none, and else as `XlsxCellReader::new`.
+    pub fn enter_worksheet<P: Package>(
+        &self,
+        package: &mut P,
+        name: &str,
+    ) -> Result<(SheetCursor, Dimensions), XlsxError>
+        ensures uses { let old = P.state «package».old in
+            let new = P.state «package».new in
+            Uses (placed_events (path_in self.now name.now) old.parts) Io result old new }
+        ensures enters { let new = P.state «package».new in
+            IfOk result (λ entered. EntersSheet (path_in self.now name.now) entered.1
+            (P.state «package».old) (stream new entered.0)) }
+        ensures err { IfErr result (PlacedHeadFails name.now (path_in self.now name.now)
+            (P.state «package».old) (P.state «package».new)) }
+        ensures kind { IfErr result (IsPlacedHeadError name.now) }
+    {
+        let path = path_named(&self.metadata.sheets, &self.paths, name);
+        open_placed(self.alloc, package, path, name)
+    }
+
+    /// A reader of the cells of a sheet of this workbook with these dimensions, that goes on where
+    /// reading stands, over this very package.
+    pub fn resume_worksheet<'a, P: Package>(
+        &'a self,
+        package: &'a mut P,
+        sheet: SheetCursor,
+        dimensions: Dimensions,
+    ) -> XlsxCellReader<'a, P>
+        requires { IsStreaming (stream (P.state «package».old) sheet) }
+        ensures same_reference { reference_of result ≡ «package».entry.ghost_name }
+        ensures same { result.package.now ≡ «package».old }
+        ensures grounds { grounds_by result ≡ grounds_in self.now }
+        ensures styles { styles_held result ≡ palette_in self.now }
+        ensures dimensions { area_held result ≡ dimensions }
+        ensures stream { stream_by P.state result ≡ stream (P.state «package».old) sheet }
+    {
+        XlsxCellReader::resume(
+            package,
+            &self.shared.strings,
+            &self.shared.style_sheet.formats,
+            &self.shared.style_sheet.styles,
+            self.is_1904,
+            sheet,
+            dimensions,
+        )
+    }
+
+    /// A reader of the cells of the first sheet of this name, which stands behind the start of its
+    /// data and has taken nothing of them: `enter_worksheet` and then `resume_worksheet`. Whoever
+    /// has to know what a refusal leaves of the package makes these two calls.
+    ///
+    /// It is refused as `enter_worksheet` is.
+    pub fn worksheet_cells_reader<'a, P: Package>(
+        &'a self,
+        package: &'a mut P,
+        name: &str,
+    ) -> Result<XlsxCellReader<'a, P>, XlsxError>
+        ensures same_reference { IfOk result (λ reader.
+            reference_of reader ≡ «package».entry.ghost_name) }
+        ensures enters { IfOk result (λ reader. EntersSheet (path_in self.now name.now)
+            (area_held reader) (P.state «package».old) (stream_by P.state reader)) }
+        ensures grounds { IfOk result (λ reader. grounds_by reader ≡ grounds_in self.now) }
+        ensures styles { IfOk result (λ reader. styles_held reader ≡ palette_in self.now) }
+        ensures err { IfErr result (ReaderFails name.now (path_in self.now name.now)
+            (P.state «package».old)) }
+        ensures fault { IfErr result (LentFails Io P.state (P.state «package».old)) }
+        ensures kind { IfErr result (IsPlacedHeadError name.now) }
+    {
+        let (sheet, dimensions) = self.enter_worksheet(package, name)?;
+        Ok(self.resume_worksheet(package, sheet, dimensions))
+    }
+}

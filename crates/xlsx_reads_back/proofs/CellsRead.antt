@@ -1,0 +1,230 @@
+-- What is read of one written cell: its position, its formulas and its style id, wherever it
+-- stands.
+use Rattle.std.proofs.Common.{◌≡◌, ℕ, ◌<◌, List, [], ◌∷◌, ◌++◌, length}
+use Rattle.std.proofs.Common.{Some, None, Option, refl, sym, ap, ap₂, ◌∙◌, append-nil}
+use Rattle.std.specs.Prelude.{Ok, codes, Result}
+use Rattle.cell_refs.proofs.References.{corner_of_reference, row_of_reference}
+use Rattle.cell_refs.specs.A1.{corner, row_of}
+use Rattle.cell_refs.specs.Reference.{row_reference}
+use Rattle.cell_data.specs.CellValue.{CellValue, nothing, integer, number, text, shared_text, truth}
+use Rattle.cell_data.specs.CellValue.{time, iso_time, failure}
+use Rattle.cell_data.specs.declared.value.ExcelDateTimeType.{ExcelDateTimeType}
+use Rattle.cell_data.specs.declared.value.ExcelDateTimeType.TheVariants.{DateTime, TimeDelta}
+use Rattle.part_events.specs.Event.{Tag, Event, end}
+use Rattle.part_events.specs.Section.{children, is_any}
+use Rattle.written_markup.specs.Markup.{element, attribute}
+use Rattle.written_markup.specs.Nests.{IsNested, none}
+use Rattle.written_markup.specs.WrittenText.{text_events}
+use Rattle.written_markup.proofs.Nested.{nested_in_row, nested_element, text_events_nested}
+use Rattle.written_markup.proofs.Nested.{content_of_element, behind_element, outermost_of_elements}
+use Rattle.xlsx_sections.specs.Answers.{some_answers, and_others_if}
+use Rattle.xlsx_sections.specs.Placed.{named_by, some_placed}
+use Rattle.xlsx_sections.specs.Refusal.{Refusal, answer_further, events_behind}
+use Rattle.xlsx_formulas.specs.Formula.{FormulaText, formula_text, child_formula, formulas_in}
+use Rattle.xlsx_formulas.specs.Formula.{some_formula}
+use Rattle.xlsx_cells.specs.Marks.{Mark}
+use Rattle.xlsx_cells.specs.Position.{or_implied, cell_position, row_named}
+use Rattle.xlsx_cells.specs.Sheet.{at_position, placed_formulas}
+use Rattle.xlsx_cells.specs.StyleIds.{id_looked_up, id_named, with_id, placed_id}
+use Rattle.xlsx_out.specs.Groups.{Placed, formula_placed, WrittenFormula, plain, master, derived}
+use Rattle.xlsx_out.specs.Groups.{written_formula}
+use Rattle.xlsx_out.specs.WrittenSheet.{cell_attributes, style_written, value_events, value_written}
+use Rattle.xlsx_out.specs.WrittenSheet.{formula_events, optional_formula, master_attributes}
+use Rattle.xlsx_out.specs.WrittenSheet.{derived_attributes, time_style}
+use Rattle.xlsx_reads_back.specs.ReadFormulas.{formula_read, formulas_read, formulas_read_by}
+use Rattle.xlsx_reads_back.specs.ReadSheet.{id_of, time_id}
+use Rattle.xlsx_reads_back.proofs.CellPairs.{position_looked_up, style_looked_up, row_looked_up}
+use Rattle.xlsx_reads_back.proofs.DataRead.{IsPassed, CellGives, cell_tag, row_tag}
+
+-- ---- its position
+
+pub cell_placed : (before : List Mark) (position : ℕ × ℕ) (value : CellValue) →
+    position.0 < 1048576 → position.1 < 16384 →
+    cell_position before (cell_tag (cell_attributes position value)) ≡ Ok position
+cell_placed before position value in_rows in_columns =
+    ap (λ found. or_implied before (named_by corner found))
+    (position_looked_up position value in_rows)
+    ∙ ap (λ place. or_implied before (some_placed place))
+    (corner_of_reference position.0 position.1 in_rows in_columns)
+
+pub row_placed : (row : ℕ) → row < 1048576 →
+    row_named (row_tag (attribute (codes "r") (row_reference row))) ≡ Ok (Some row)
+row_placed row inside =
+    ap (named_by row_of) (row_looked_up row inside)
+    ∙ ap some_placed (row_of_reference row inside)
+
+-- ---- what stands in it
+
+-- what holds of nothing, and of the `v` of each text, holds of what stands for a value
+value_by : (P : List Event → Type 0) → P [] →
+    ((written : List ℕ) → P (element (codes "v") [] (text_events written))) → (value : CellValue) →
+    P (value_events value)
+value_by P lacks has nothing = lacks
+value_by P lacks has (integer n) = has (value_written (integer n))
+value_by P lacks has (number n) = has (value_written (number n))
+value_by P lacks has (text bytes) = has (value_written (text bytes))
+value_by P lacks has (shared_text place) = has (value_written (shared_text place))
+value_by P lacks has (truth holds) = has (value_written (truth holds))
+value_by P lacks has (time days kind is_1904) = has (value_written (time days kind is_1904))
+value_by P lacks has (iso_time bytes) = has (value_written (iso_time bytes))
+value_by P lacks has (failure error) = has (value_written (failure error))
+
+pub value_nested : (value : CellValue) → IsNested (value_events value)
+value_nested =
+    value_by IsNested none
+    (λ written. nested_element (codes "v") [] (text_events written) (text_events_nested written))
+
+pub formula_nested : (position : ℕ × ℕ) (w : WrittenFormula) → IsNested (formula_events position w)
+formula_nested position (plain formula) = nested_element _ _ _ (text_events_nested formula)
+formula_nested position (master formula last index) =
+    nested_element _ _ _ (text_events_nested formula)
+formula_nested position (derived index) = nested_element _ _ _ none
+
+pub optional_nested : (formulas : Placed) (position : ℕ × ℕ) (o : Option (List ℕ)) →
+    IsNested (optional_formula formulas position o)
+optional_nested formulas position None = none
+optional_nested formulas position (Some formula) =
+    formula_nested position (written_formula formulas position formula)
+
+-- what stands in the cell of a position with a value
+abbrev pub cell_inside : Placed → ℕ × ℕ → CellValue → List Event
+cell_inside formulas position value =
+    optional_formula formulas position (formula_placed formulas position) ++ value_events value
+
+pub cell_nested : (formulas : Placed) (position : ℕ × ℕ) (value : CellValue) →
+    IsNested (cell_inside formulas position value)
+cell_nested formulas position value =
+    nested_in_row (optional_formula formulas position (formula_placed formulas position))
+    (value_events value) (optional_nested formulas position (formula_placed formulas position))
+    (value_nested value)
+
+pub nested_passed : (inside : List Event) → IsNested inside → IsPassed inside
+nested_passed inside is = record {
+  content = λ name rest. content_of_element inside name rest is;
+  behind = λ name rest. behind_element inside name rest is;
+}
+
+-- ---- its formulas
+
+-- a `v` writes no formula
+no_formula : (inside : List Event) → IsNested inside →
+    some_answers child_formula (children (element (codes "v") [] inside)) ≡ Ok []
+no_formula inside is =
+    ap (λ (es : List Event). some_answers child_formula (children es))
+    (sym (append-nil (element (codes "v") [] inside)))
+    ∙ ap (some_answers child_formula)
+    (outermost_of_elements is_any (codes "v") [] inside [] is refl)
+
+value_no_formula : (value : CellValue) →
+    some_answers child_formula (children (value_events value)) ≡ Ok []
+value_no_formula =
+    value_by (λ (es : List Event). some_answers child_formula (children es) ≡ Ok []) refl
+    (λ written. no_formula (text_events written) (text_events_nested written))
+
+-- the start of an `f`
+abbrev pub formula_tag : List ℕ → Tag
+formula_tag attributes = record { name = codes "f"; attributes = attributes }
+
+-- an `f` before a `v` is the cell's one formula
+one_formula : (attributes : List ℕ) (inside : List Event) (found : FormulaText)
+    (value : CellValue) → IsNested inside →
+    formula_text (formula_tag attributes) inside ≡ Ok found →
+    formulas_in (element (codes "f") attributes inside ++ value_events value) ≡ Ok (found ∷ [])
+one_formula attributes inside found value is reads =
+    ap (some_answers child_formula)
+    (outermost_of_elements is_any (codes "f") attributes inside (value_events value) is refl)
+    ∙ ap₂ and_others_if
+    (ap (λ (answer : Result FormulaText Refusal). answer_further (events_behind (record {
+      tag = formula_tag attributes;
+      inside = inside;
+      behind = length (inside ++ end (codes "f") ∷ value_events value);
+    })) (some_formula answer)) reads)
+    (value_no_formula value)
+
+-- how a formula's `f` reads
+abbrev pub FormulaReads : ℕ × ℕ → WrittenFormula → Type 0
+FormulaReads position (plain formula) =
+    formula_text (formula_tag []) (text_events formula)
+    ≡ Ok (formula_read position (plain formula))
+FormulaReads position (master formula last index) =
+    formula_text (formula_tag (master_attributes position last index)) (text_events formula)
+    ≡ Ok (formula_read position (master formula last index))
+FormulaReads position (derived index) =
+    formula_text (formula_tag (derived_attributes index)) []
+    ≡ Ok (formula_read position (derived index))
+
+formula_by_case : (position : ℕ × ℕ) (w : WrittenFormula) (value : CellValue) →
+    FormulaReads position w →
+    formulas_in (formula_events position w ++ value_events value)
+    ≡ Ok (formula_read position w ∷ [])
+formula_by_case position (plain formula) value reads =
+    one_formula [] (text_events formula) (formula_read position (plain formula)) value
+    (text_events_nested formula) reads
+formula_by_case position (master formula last index) value reads =
+    one_formula (master_attributes position last index) (text_events formula)
+    (formula_read position (master formula last index)) value (text_events_nested formula) reads
+formula_by_case position (derived index) value reads =
+    one_formula (derived_attributes index) [] (formula_read position (derived index)) value none
+    reads
+
+pub cell_formulas : (formulas : Placed) (position : ℕ × ℕ) (value : CellValue) →
+    ((formula : List ℕ) → formula_placed formulas position ≡ Some formula →
+    FormulaReads position (written_formula formulas position formula)) →
+    formulas_in (cell_inside formulas position value) ≡ Ok (formulas_read formulas position)
+cell_formulas formulas position value reads =
+    by (formula_placed formulas position) refl where
+      by : (o : Option (List ℕ)) → formula_placed formulas position ≡ o →
+          formulas_in (optional_formula formulas position o ++ value_events value)
+          ≡ Ok (formulas_read_by formulas position o)
+      by None is = value_no_formula value
+      by (Some formula) is =
+          formula_by_case position (written_formula formulas position formula) value
+          (reads formula is)
+
+pub cell_gives_formulas : (formulas : Placed) (position : ℕ × ℕ) (value : CellValue) →
+    position.0 < 1048576 → position.1 < 16384 →
+    ((formula : List ℕ) → formula_placed formulas position ≡ Some formula →
+    FormulaReads position (written_formula formulas position formula)) →
+    CellGives placed_formulas (cell_attributes position value)
+    (cell_inside formulas position value) (position, formulas_read formulas position)
+cell_gives_formulas formulas position value in_rows in_columns reads before behind =
+    ap₂ at_position (cell_placed before position value in_rows in_columns)
+    (ap (answer_further (events_behind (record {
+      tag = cell_tag (cell_attributes position value);
+      inside = cell_inside formulas position value;
+      behind = behind;
+    }))) (cell_formulas formulas position value reads))
+
+-- ---- its style
+
+cell_id : (position : ℕ × ℕ) (value : CellValue) → position.0 < 1048576 →
+    id_named (cell_tag (cell_attributes position value)) ≡ Ok (id_of value)
+cell_id position value inside =
+    ap id_looked_up (style_looked_up position value inside) ∙ by value where
+      kinds : (kind : ExcelDateTimeType) →
+          id_looked_up (Ok (Some (time_style kind))) ≡ Ok (time_id kind)
+      kinds DateTime = refl
+      kinds TimeDelta = refl
+
+      by : (value : CellValue) → id_looked_up (Ok (style_written value)) ≡ Ok (id_of value)
+      by nothing = refl
+      by (integer n) = refl
+      by (number n) = refl
+      by (text bytes) = refl
+      by (shared_text place) = refl
+      by (truth holds) = refl
+      by (time days kind is_1904) = kinds kind
+      by (iso_time bytes) = refl
+      by (failure error) = refl
+
+pub cell_gives_id : (position : ℕ × ℕ) (value : CellValue) (inside : List Event) →
+    position.0 < 1048576 → position.1 < 16384 →
+    CellGives placed_id (cell_attributes position value) inside
+    (position.0, position.1, id_of value)
+cell_gives_id position value inside in_rows in_columns before behind =
+    ap₂ with_id (cell_placed before position value in_rows in_columns)
+    (ap (answer_further (events_behind (record {
+      tag = cell_tag (cell_attributes position value);
+      inside = inside;
+      behind = behind;
+    }))) (cell_id position value in_rows))

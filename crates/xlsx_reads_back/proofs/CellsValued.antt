@@ -1,0 +1,48 @@
+-- Each cell that is written is read as the value of its position.
+use Rattle.std.proofs.Common.{◌≡◌, ℕ, Bool, true, Option, Some, None, refl}
+use Rattle.std.specs.FinMap.{find}
+use Rattle.std.specs.List.{list_all}
+use Rattle.std.specs.Option.{unwrap_or}
+use Rattle.cell_refs.specs.Positions.{position_cmp}
+use Rattle.cell_data.specs.CellValue.{CellValue, nothing}
+use Rattle.xlsx_values.specs.Value.{Grounds}
+use Rattle.xlsx_out.specs.Groups.{Placed, formula_placed}
+use Rattle.xlsx_out.specs.Writable.{is_written, counts_from}
+use Rattle.xlsx_out.specs.WrittenSheet.{PlacedValues}
+use Rattle.xlsx_reads_back.specs.ReadSheet.{value_at}
+use Rattle.xlsx_reads_back.specs.ReadValues.{IsReadBack, written_formats}
+use Rattle.xlsx_reads_back.proofs.SheetBounds.{on_sheet_parts}
+use Rattle.xlsx_reads_back.proofs.SheetHeld.{CellsHaveValues}
+use Rattle.xlsx_reads_back.proofs.ValuesPlaced.{found_passes}
+use Rattle.xlsx_reads_back.proofs.ValuesRead.{cell_value_read, written_reads_back}
+
+-- the value at a position, or nothing, reads back
+value_reads_back : (is_1904 : Bool) (values : PlacedValues) (p : ℕ × ℕ)
+    → ((v : CellValue) → find position_cmp p values ≡ Some v → IsReadBack is_1904 v)
+    → IsReadBack is_1904 (value_at values p)
+value_reads_back is_1904 values p each = by (find position_cmp p values) each where
+  by : (o : Option CellValue) → ((v : CellValue) → o ≡ Some v → IsReadBack is_1904 v)
+      → IsReadBack is_1904 (unwrap_or o nothing)
+  by None each = tt
+  by (Some v) each = each v refl
+
+-- where each value reads back, each cell has its value
+pub cells_have_values : (grounds : Grounds) (values : PlacedValues) (formulas : Placed)
+    → grounds.formats ≡ written_formats
+    → ((p : ℕ × ℕ) (v : CellValue) → find position_cmp p values ≡ Some v
+    → IsReadBack grounds.is_1904 v)
+    → CellsHaveValues grounds values formulas
+cells_have_values grounds values formulas are each p on =
+    cell_value_read grounds are formulas p (formula_placed formulas p) (value_at values p)
+    (on_sheet_parts p on).0 (value_reads_back grounds.is_1904 values p (each p))
+
+-- values that are written, and count from the first year, are read in their cells
+pub written_cells_have_values : (grounds : Grounds) (values : PlacedValues) (formulas : Placed)
+    → grounds.formats ≡ written_formats → list_all (λ e. is_written e.1) values ≡ true
+    → list_all (λ e. counts_from grounds.is_1904 e.1) values ≡ true
+    → CellsHaveValues grounds values formulas
+written_cells_have_values grounds values formulas are written counts =
+    cells_have_values grounds values formulas are
+    (λ p v found. written_reads_back grounds.is_1904 v
+    (found_passes is_written values p v written found)
+    (found_passes (counts_from grounds.is_1904) values p v counts found))

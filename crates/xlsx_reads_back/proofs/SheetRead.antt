@@ -1,0 +1,128 @@
+-- What is read of the data of a written sheet: its formulas, its style ids and its values, in
+-- the order of the positions.
+use Rattle.std.proofs.Common.{◌≡◌, ℕ, ◌<◌, Bool, true, false, cond, List, [], map}
+use Rattle.std.proofs.Common.{Some, ap, ap₂, arith}
+use Rattle.std.proofs.lemmas.Bool.Decides.{nat_tests}
+use Rattle.std.specs.Prelude.{Ok, Result, codes, nat_lt}
+use Rattle.cell_refs.specs.Positions.{is_rising}
+use Rattle.cell_refs.specs.Reference.{row_reference}
+use Rattle.cell_refs.proofs.PositionOrder.{and_both}
+use Rattle.cell_data.specs.Cells.{AreInSheet}
+use Rattle.part_events.specs.Event.{Event}
+use Rattle.part_events.specs.Section.{Element}
+use Rattle.xlsx_sections.specs.Refusal.{Refusal, answer_further, events_behind}
+use Rattle.xlsx_values.specs.Value.{Grounds, cell_value}
+use Rattle.xlsx_cells.specs.Marks.{Mark}
+use Rattle.xlsx_cells.specs.Sheet.{at_position, placed_formulas}
+use Rattle.xlsx_cells.specs.Sheet.{formulas_written, placed_value, values_in}
+use Rattle.xlsx_cells.specs.StyleIds.{placed_id, ids_in}
+use Rattle.written_markup.specs.Markup.{attribute}
+use Rattle.xlsx_out.specs.Groups.{Placed, formula_placed, written_formula, is_same, is_master}
+use Rattle.xlsx_out.specs.Groups.{group_head, group_end, group_index, plain, master, derived}
+use Rattle.xlsx_out.specs.WrittenSheet.{PlacedValues, written_positions, cell_attributes}
+use Rattle.xlsx_out.specs.WrittenSheet.{data_events}
+use Rattle.xlsx_reads_back.specs.ReadFormulas.{formulas_read, formulas_read_along}
+use Rattle.xlsx_reads_back.specs.ReadSheet.{is_on_sheet, value_at, values_read_along, id_read}
+use Rattle.xlsx_reads_back.proofs.CellsRead.{cell_inside, cell_nested, nested_passed, row_placed}
+use Rattle.xlsx_reads_back.proofs.CellsRead.{FormulaReads, cell_gives_formulas, cell_gives_id}
+use Rattle.xlsx_reads_back.proofs.CellsRead.{cell_placed}
+use Rattle.xlsx_reads_back.proofs.DataRead.{CellGives, Gives, gives_data, cell_tag}
+use Rattle.xlsx_reads_back.proofs.FormulaTexts.{FormulaFits, formula_reads}
+use Rattle.xlsx_reads_back.proofs.SheetBounds.{on_sheet_parts, written_on_sheet}
+use Rattle.xlsx_reads_back.proofs.SheetBounds.{end_fits, index_fits}
+
+module _ (values : PlacedValues) (formulas : Placed)
+    (one : AreInSheet values) (two : AreInSheet formulas) where
+  -- the attributes and the inside of a position's cell
+  abbrev attributes : ℕ × ℕ → List ℕ
+  attributes p = cell_attributes p (value_at values p)
+
+  abbrev inside : ℕ × ℕ → List Event
+  inside p = cell_inside formulas p (value_at values p)
+
+  -- a row lies on a sheet
+  abbrev is_row : ℕ → Bool
+  is_row row = nat_lt row 1048576
+
+  row_fits : (p : ℕ × ℕ) → is_on_sheet p ≡ true → is_row p.0 ≡ true
+  row_fits p on = (and_both (nat_lt p.0 1048576) (nat_lt p.1 16384) on).0
+
+  -- what each cell gives by itself is what the data give
+  pub data_give : {A : Type 0} (answer : List Mark → Element → Result A Refusal)
+      (tell : ℕ × ℕ → A) →
+      ((p : ℕ × ℕ) → is_on_sheet p ≡ true → CellGives answer (attributes p) (inside p) (tell p)) →
+      Gives answer (data_events values formulas) (map tell (written_positions values formulas))
+  data_give answer tell each =
+      gives_data answer is_on_sheet attributes inside tell
+      (λ p. nested_passed (inside p) (cell_nested formulas p (value_at values p))) each is_row
+      (λ row. attribute (codes "r") (row_reference row))
+      (λ row fits. row_placed row (row_inside row fits)) row_fits
+      (written_positions values formulas) (written_on_sheet values formulas one two) where
+        row_inside : (row : ℕ) → nat_lt row 1048576 ≡ true → row < 1048576
+        row_inside row fits = grind (arith, nat_tests)
+
+  pub ids_of_data : ids_in (data_events values formulas)
+      ≡ Ok (map (id_read values) (written_positions values formulas))
+  ids_of_data =
+      data_give placed_id (id_read values)
+      (λ p on. let parts = on_sheet_parts p on in
+      cell_gives_id p (value_at values p) (inside p) parts.0 parts.1) []
+
+  pub formulas_of_data :
+      ((p : ℕ × ℕ) (formula : List ℕ) → is_on_sheet p ≡ true →
+      formula_placed formulas p ≡ Some formula →
+      FormulaReads p (written_formula formulas p formula)) →
+      formulas_written (data_events values formulas)
+      ≡ Ok (formulas_read_along formulas (written_positions values formulas))
+  formulas_of_data reads =
+      data_give placed_formulas (λ p. (p, formulas_read formulas p))
+      (λ p on. let parts = on_sheet_parts p on in
+      cell_gives_formulas formulas p (value_at values p) parts.0 parts.1
+      (λ formula placed. reads p formula on placed)) []
+
+-- the numbers of each written formula fit
+written_fits : (formulas : Placed) → is_rising formulas ≡ true → AreInSheet formulas →
+    (p : ℕ × ℕ) (formula : List ℕ) → is_on_sheet p ≡ true →
+    FormulaFits p (written_formula formulas p formula)
+written_fits formulas rising are p formula on =
+    by (is_same (group_head formulas p) p) (is_master formulas p) (on_sheet_parts p on) where
+      by : (t u : Bool) → (p.0 < 1048576) × (p.1 < 16384) →
+          FormulaFits p (cond t (cond u
+          (master formula (group_end formulas p) (group_index formulas p)) (plain formula))
+          (derived (group_index formulas (group_head formulas p))))
+      by true true parts = record {
+        row = parts.0;
+        column = parts.1;
+        last_row = end_fits formulas p are parts.0;
+        number = index_fits formulas p rising are;
+      }
+      by true false parts = tt
+      by false u parts = index_fits formulas (group_head formulas p) rising are
+
+-- the formulas that are written
+pub formulas_of_sheet : (values : PlacedValues) (formulas : Placed) → AreInSheet values →
+    AreInSheet formulas → is_rising formulas ≡ true →
+    formulas_written (data_events values formulas)
+    ≡ Ok (formulas_read_along formulas (written_positions values formulas))
+formulas_of_sheet values formulas one two rising =
+    formulas_of_data values formulas one two
+    (λ p formula on placed. formula_reads p (written_formula formulas p formula)
+    (written_fits formulas rising two p formula on))
+
+-- the values, where each cell gives its own
+pub values_of_sheet : (grounds : Grounds) (values : PlacedValues) (formulas : Placed) →
+    AreInSheet values → AreInSheet formulas →
+    ((p : ℕ × ℕ) → is_on_sheet p ≡ true →
+    cell_value grounds (cell_tag (cell_attributes p (value_at values p)))
+    (cell_inside formulas p (value_at values p)) ≡ Ok (value_at values p)) →
+    values_in grounds (data_events values formulas)
+    ≡ Ok (values_read_along values (written_positions values formulas))
+values_of_sheet grounds values formulas one two reads =
+    data_give values formulas one two (placed_value grounds) (λ p. (p, value_at values p))
+    (λ p on before behind. let parts = on_sheet_parts p on in
+    ap₂ at_position (cell_placed before p (value_at values p) parts.0 parts.1)
+    (ap (answer_further (events_behind (record {
+      tag = cell_tag (cell_attributes p (value_at values p));
+      inside = cell_inside formulas p (value_at values p);
+      behind = behind;
+    }))) (reads p on))) []

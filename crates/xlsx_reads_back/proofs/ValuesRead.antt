@@ -1,0 +1,321 @@
+-- A written cell has the value that was written, in the format of the style that was written.
+use Rattle.std.proofs.Common.{◌≡◌, ℕ, ℤ, ◌<◌, Bool, true, false, List, [], ◌∷◌, ◌++◌}
+use Rattle.std.proofs.Common.{map, Option, Some, None, Ok, Err, Result, refl, sym, ap, ◌∙◌}
+use Rattle.std.proofs.Common.{append-nil, arith}
+use Rattle.std.specs.Prelude.{◌==◌, ◌&&◌, ◌||◌, ◌%◌, not, nat_abs, pos, negsuc, codes}
+use Rattle.std.proofs.lemmas.Bool.{eq-eqb, eqb-true}
+use Rattle.cell_refs.proofs.PositionOrder.{and_both}
+use Rattle.std.specs.Str.{trim_start, trim_end, chars}
+use lib.Utf8.{encode}
+use Rattle.attr_text.specs.Attributes.{lookup, first_values}
+use Rattle.part_events.specs.Event.{Event, leaf, text as text_leaf}
+use Rattle.part_events.specs.JoinedText.{joined_text}
+use Rattle.part_events.specs.Section.{children, is_any}
+use Rattle.cell_refs.specs.Reference.{reference}
+use Rattle.cell_data.specs.CellValue.{CellValue, nothing, integer, number, text, shared_text, truth}
+use Rattle.cell_data.specs.CellValue.{time, iso_time, failure}
+use Rattle.cell_data.specs.declared.format.CellFormat.{CellFormat}
+use Rattle.cell_data.specs.declared.format.CellFormat.TheVariants as format
+use Rattle.cell_data.specs.declared.value.CellErrorType.{CellErrorType}
+use Rattle.cell_data.specs.declared.value.CellErrorType.TheVariants.{Div0, NA, Name, Null, Num, Ref}
+use Rattle.cell_data.specs.declared.value.CellErrorType.TheVariants.{Value, GettingData}
+use Rattle.cell_data.specs.declared.value.ExcelDateTimeType.{ExcelDateTimeType}
+use Rattle.cell_data.specs.declared.value.ExcelDateTimeType.TheVariants.{DateTime, TimeDelta}
+use Rattle.decimals.specs.Decimals.{decimal_of, printed, has_bits}
+use Rattle.decimals.proofs.ReadsBack.{printed_back}
+use Rattle.written_markup.specs.Markup.{element}
+use Rattle.written_markup.specs.Nests.{IsNested, none}
+use Rattle.written_markup.specs.WrittenText.{has_byte, underscores_escaped, text_events}
+use Rattle.written_markup.proofs.EventsReadBack.{joined_text_events, text_events_are_known}
+use Rattle.written_markup.proofs.EventsReadBack.{events_without_return}
+use Rattle.written_markup.proofs.Nested.{outermost_of_elements, text_events_nested}
+use Rattle.written_markup.proofs.PairsReadBack.{lookup_written}
+use Rattle.written_markup.proofs.TextsReadBack.{unescaped_escaped}
+use Rattle.xlsx_sections.specs.Answers.{last_answer, or_later}
+use Rattle.xlsx_sections.specs.ElementText.{known_text, element_text}
+use Rattle.xlsx_sections.specs.Refusal.{Refusal}
+use Rattle.xlsx_values.specs.CellType.{CellKind, of_text, of_date, kind_named}
+use Rattle.xlsx_values.specs.Value.{Grounds, cell_value, looked_value, value_in, value_element}
+use Rattle.xlsx_values.specs.Value.{child_value, or_nothing, format_of, first_text}
+use Rattle.xlsx_values.specs.Value.{number_value, formatted, of_first, of_joined}
+use Rattle.xlsx_values.specs.Value.{value_of_joined, some_value}
+use Rattle.xlsx_out.specs.Groups.{Placed, WrittenFormula, plain, master, derived, written_formula}
+use Rattle.xlsx_out.specs.Writable.{is_decimal, is_written, counts_from}
+use Rattle.xlsx_out.specs.WrittenSheet.{cell_attributes, style_written, type_written, value_written}
+use Rattle.xlsx_out.specs.WrittenSheet.{value_events, formula_events, optional_formula}
+use Rattle.xlsx_out.specs.WrittenSheet.{master_attributes, derived_attributes}
+use Rattle.xlsx_reads_back.specs.ReadValues.{IsReadBack, written_formats}
+use Rattle.xlsx_reads_back.proofs.CellPairs.{cell_pairs, cell_attributes_are, cell_pairs_writable}
+use Rattle.xlsx_reads_back.proofs.WrittenBytes.{printed_has_no_return}
+
+-- ---- the text of a `v`
+
+-- the text of a `v` whose texts are joined
+pub element_text_written : (bytes : List ℕ) → element_text false (text_events bytes) ≡ Ok bytes
+element_text_written bytes =
+    ap (known_text (joined_text false (text_events bytes))) (text_events_are_known bytes)
+    ∙ ap Ok (joined_text_events bytes)
+
+-- what is read of the first text of events that are one text
+first_of_one : (read : List ℕ → Result CellValue Refusal) (bytes : List ℕ) (events : List Event)
+    → events ≡ leaf (text_leaf bytes) ∷ [] → of_first read (first_text events) ≡ read bytes
+first_of_one read bytes events is =
+    ap (λ (own : List Event). of_first read (first_text own)) is
+
+-- ---- numbers
+
+abs_zero : (z : ℤ) → nat_abs z ≡ 0 → z ≡ pos 0
+abs_zero (pos n) is = ap pos is
+abs_zero (negsuc n) is = absurd (omega (arith, is))
+
+zero_ends : (z : ℤ) → z ≡ pos 0 → nat_abs z % 10 ≡ 0
+zero_ends z is = ap (λ (own : ℤ). nat_abs own % 10) is
+
+-- only zero ends in a zero, and has the power 0
+zero_alone : (a b : ℕ) → (not (a % 10 == 0) || (a == 0 && b == 0)) ≡ true → a % 10 ≡ 0
+    → (a ≡ 0) × (b ≡ 0)
+zero_alone a b test ends =
+    let both = and_both (a == 0) (b == 0) (rw (eq-eqb (a % 10) 0 ends) at test) in
+    (eqb-true a 0 both.0, eqb-true b 0 both.1)
+
+-- the bits of a decimal
+decimal_fits : (n : ℤ × ℤ) → is_decimal n ≡ true
+    → (has_bits 127 n.0 ≡ true) × (has_bits 31 n.1 ≡ true)
+decimal_fits n is =
+    and_both (has_bits 127 n.0) (has_bits 31 n.1)
+    (and_both (has_bits 127 n.0 && has_bits 31 n.1)
+    (not (nat_abs n.0 % 10 == 0) || (nat_abs n.0 == 0 && nat_abs n.1 == 0)) is).0
+
+-- the text of a decimal says it
+decimal_is_back : (n : ℤ × ℤ) → is_decimal n ≡ true → decimal_of (printed n) ≡ Some n
+decimal_is_back n is =
+    let fits = decimal_fits n is in
+    let form = zero_alone (nat_abs n.0) (nat_abs n.1)
+    (and_both (has_bits 127 n.0 && has_bits 31 n.1)
+    (not (nat_abs n.0 % 10 == 0) || (nat_abs n.0 == 0 && nat_abs n.1 == 0)) is).1 in
+    printed_back n.0 n.1 fits.0 fits.1
+    (λ zero. abs_zero n.1 (form (zero_ends n.0 zero)).1)
+    (λ ends. abs_zero n.0 (form ends).0)
+
+no_decimal : decimal_of [] ≡ None
+unfolding decimal_of
+no_decimal = refl
+
+-- a text of a number is read by the format of its style
+number_of_text : (is_1904 : Bool) (form : CellFormat) (n : ℤ × ℤ) (bytes : List ℕ)
+    → has_byte 13 bytes ≡ false → decimal_of bytes ≡ Some n
+    → of_first (number_value is_1904 form false) (first_text (text_events bytes))
+    ≡ Ok (formatted is_1904 form n)
+number_of_text is_1904 form n [] no_return reads =
+    absurd (let none : decimal_of [] ≡ None = no_decimal in cc)
+number_of_text is_1904 form n (b ∷ bs) no_return reads =
+    first_of_one (number_value is_1904 form false) (b ∷ bs) (text_events (b ∷ bs))
+    (events_without_return b bs no_return)
+    ∙ (rw reads refl)
+
+number_read : (is_1904 : Bool) (form : CellFormat) (n : ℤ × ℤ) → is_decimal n ≡ true
+    → of_first (number_value is_1904 form false) (first_text (text_events (printed n)))
+    ≡ Ok (formatted is_1904 form n)
+number_read is_1904 form n is =
+    let fits = decimal_fits n is in
+    number_of_text is_1904 form n (printed n) (printed_has_no_return n fits.0 fits.1)
+    (decimal_is_back n is)
+
+-- ---- one case a kind
+
+-- what the `v` of a value says, in a cell with the style and the type that are written of it
+abbrev Says : Grounds → CellValue → Type 0
+Says grounds value =
+    value_element grounds (format_of grounds.formats (style_written value))
+    (kind_named (type_written value)) (text_events (value_written value)) ≡ Ok (Some value)
+
+truth_says : (grounds : Grounds) (holds : Bool) → Says grounds (truth holds)
+unfolding trim_start trim_end chars encode
+truth_says grounds true = refl
+truth_says grounds false = refl
+
+error_says : (grounds : Grounds) (error : CellErrorType)
+    → IsReadBack grounds.is_1904 (failure error) → Says grounds (failure error)
+error_says grounds Div0 is = refl
+error_says grounds NA is = refl
+error_says grounds Name is = refl
+error_says grounds Null is = refl
+error_says grounds Num is = refl
+error_says grounds Ref is = refl
+error_says grounds Value is = refl
+error_says grounds GettingData is = absurd (cc)
+
+text_says : (grounds : Grounds) (bytes : List ℕ) → Says grounds (text bytes)
+text_says grounds bytes =
+    ap (λ own. some_value (of_joined (value_of_joined of_text) own))
+    (element_text_written (underscores_escaped bytes))
+    ∙ ap (λ (own : List ℕ). Ok (Some (text own))) (unescaped_escaped bytes)
+
+iso_says : (grounds : Grounds) (bytes : List ℕ) → Says grounds (iso_time bytes)
+iso_says grounds bytes =
+    ap (λ own. some_value (of_joined (value_of_joined of_date) own)) (element_text_written bytes)
+
+number_says : (grounds : Grounds) (n : ℤ × ℤ) → is_decimal n ≡ true → Says grounds (number n)
+number_says grounds n is = ap some_value (number_read grounds.is_1904 format.Other n is)
+
+-- the formats that the styles of times have
+time_format : (formats : List CellFormat) → formats ≡ written_formats
+    → (days : ℤ × ℤ) (kind : ExcelDateTimeType) (is_1904 : Bool)
+    → formatted is_1904 (format_of formats (style_written (time days kind is_1904))) days
+    ≡ time days kind is_1904
+time_format formats are days DateTime is_1904 = rw are refl
+time_format formats are days TimeDelta is_1904 = rw are refl
+
+time_says : (grounds : Grounds) → grounds.formats ≡ written_formats
+    → (days : ℤ × ℤ) (kind : ExcelDateTimeType) (is_1904 : Bool) → is_decimal days ≡ true
+    → is_1904 ≡ grounds.is_1904 → Says grounds (time days kind is_1904)
+time_says grounds are days kind is_1904 is epoch =
+    ap some_value (number_read grounds.is_1904
+    (format_of grounds.formats (style_written (time days kind is_1904))) days is)
+    ∙ ap (λ (own : Bool). Ok (Some (formatted own
+    (format_of grounds.formats (style_written (time days kind is_1904))) days))) (sym epoch)
+    ∙ ap (λ (own : CellValue). Ok (Some own)) (time_format grounds.formats are days kind is_1904)
+
+-- ---- the cell
+
+-- what a cell of no type gives behind an `f`
+formula_says_nothing : (grounds : Grounds) (form : CellFormat) (kind : CellKind)
+    (position : ℕ × ℕ) (w : WrittenFormula) (rest : List Event)
+    → last_answer (child_value grounds form kind) (children (formula_events position w ++ rest))
+    ≡ last_answer (child_value grounds form kind) (children rest)
+formula_says_nothing grounds form kind position w rest =
+    by w where
+      later : (r : Result (Option CellValue) Refusal) → or_later (Ok None) r ≡ r
+      later (Ok (Some found)) = refl
+      later (Ok None) = refl
+      later (Err refusal) = refl
+
+      one : (attributes : List ℕ) (inside : List Event) → IsNested inside
+          → last_answer (child_value grounds form kind)
+          (children (element (codes "f") attributes inside ++ rest))
+          ≡ last_answer (child_value grounds form kind) (children rest)
+      one attributes inside is =
+          ap (last_answer (child_value grounds form kind))
+          (outermost_of_elements is_any (codes "f") attributes inside rest is refl)
+          ∙ later (last_answer (child_value grounds form kind) (children rest))
+
+      by : (w : WrittenFormula)
+          → last_answer (child_value grounds form kind)
+          (children (formula_events position w ++ rest))
+          ≡ last_answer (child_value grounds form kind) (children rest)
+      by (plain formula) = one [] (text_events formula) (text_events_nested formula)
+      by (master formula last index) =
+          one (master_attributes position last index) (text_events formula)
+          (text_events_nested formula)
+      by (derived index) = one (derived_attributes index) [] none
+
+optional_says_nothing : (grounds : Grounds) (form : CellFormat) (kind : CellKind)
+    (formulas : Placed) (position : ℕ × ℕ) (o : Option (List ℕ)) (rest : List Event)
+    → last_answer (child_value grounds form kind)
+    (children (optional_formula formulas position o ++ rest))
+    ≡ last_answer (child_value grounds form kind) (children rest)
+optional_says_nothing grounds form kind formulas position None rest = refl
+optional_says_nothing grounds form kind formulas position (Some formula) rest =
+    formula_says_nothing grounds form kind position (written_formula formulas position formula) rest
+
+-- a `v` alone
+one_value : (grounds : Grounds) (form : CellFormat) (kind : CellKind) (bytes : List ℕ)
+    (value : CellValue) → value_element grounds form kind (text_events bytes) ≡ Ok (Some value)
+    → value_in grounds form kind (element (codes "v") [] (text_events bytes)) ≡ Ok value
+one_value grounds form kind bytes value says =
+    ap (λ (events : List Event). or_nothing (last_answer (child_value grounds form kind)
+    (children events))) (sym (append-nil (element (codes "v") [] (text_events bytes))))
+    ∙ ap (λ elements. or_nothing (last_answer (child_value grounds form kind) elements))
+    (outermost_of_elements is_any (codes "v") [] (text_events bytes) [] (text_events_nested bytes)
+    refl)
+    ∙ (rw says refl)
+
+-- the `v` of a value, in a cell with what is written of it
+its_value : (grounds : Grounds) (value : CellValue) → Says grounds value
+    → value_in grounds (format_of grounds.formats (style_written value))
+    (kind_named (type_written value)) (element (codes "v") [] (text_events (value_written value)))
+    ≡ Ok value
+its_value grounds value says =
+    one_value grounds (format_of grounds.formats (style_written value))
+    (kind_named (type_written value)) (value_written value) value says
+
+-- the value of what is written in a cell
+written_value : (grounds : Grounds) → grounds.formats ≡ written_formats → (value : CellValue)
+    → IsReadBack grounds.is_1904 value
+    → value_in grounds (format_of grounds.formats (style_written value))
+    (kind_named (type_written value)) (value_events value) ≡ Ok value
+written_value grounds are nothing is = refl
+written_value grounds are (integer n) is = absurd is
+written_value grounds are (number n) is =
+    its_value grounds (number n) (number_says grounds n is)
+written_value grounds are (text bytes) is =
+    its_value grounds (text bytes) (text_says grounds bytes)
+written_value grounds are (shared_text place) is = absurd is
+written_value grounds are (truth holds) is =
+    its_value grounds (truth holds) (truth_says grounds holds)
+written_value grounds are (time days kind is_1904) is =
+    its_value grounds (time days kind is_1904)
+    (time_says grounds are days kind is_1904 is.0 is.1)
+written_value grounds are (iso_time bytes) is =
+    its_value grounds (iso_time bytes) (iso_says grounds bytes)
+written_value grounds are (failure error) is =
+    its_value grounds (failure error) (error_says grounds error is)
+
+-- what is looked up at the start of a cell: its position, its style and its type
+pub cell_keys_read : (position : ℕ × ℕ) (value : CellValue) → position.0 < 1048576
+    → lookup (codes "r" ∷ codes "s" ∷ codes "t" ∷ []) (cell_attributes position value)
+    ≡ Ok (Some (reference position) ∷ style_written value ∷ type_written value ∷ [])
+cell_keys_read position value inside =
+    ap (lookup (codes "r" ∷ codes "s" ∷ codes "t" ∷ [])) (cell_attributes_are position value)
+    ∙ lookup_written (codes "r" ∷ codes "s" ∷ codes "t" ∷ []) (cell_pairs position value)
+    (cell_pairs_writable position value inside)
+    ∙ ap Ok (found value) where
+      found : (value : CellValue)
+          → first_values (codes "r" ∷ codes "s" ∷ codes "t" ∷ [])
+          (map Ok (cell_pairs position value))
+          ≡ Some (reference position) ∷ style_written value ∷ type_written value ∷ []
+      found nothing = refl
+      found (integer n) = refl
+      found (number n) = refl
+      found (text bytes) = refl
+      found (shared_text place) = refl
+      found (truth holds) = refl
+      found (time days kind is_1904) = refl
+      found (iso_time bytes) = refl
+      found (failure error) = refl
+
+-- the value of a written cell is the value that was written
+pub cell_value_read : (grounds : Grounds) → grounds.formats ≡ written_formats
+    → (formulas : Placed) (position : ℕ × ℕ) (o : Option (List ℕ)) (value : CellValue)
+    → position.0 < 1048576 → IsReadBack grounds.is_1904 value
+    → cell_value grounds (record { name = codes "c"; attributes = cell_attributes position value })
+    (optional_formula formulas position o ++ value_events value) ≡ Ok value
+cell_value_read grounds are formulas position o value inside is =
+    let form = format_of grounds.formats (style_written value) in
+    let kind = kind_named (type_written value) in
+    ap (looked_value grounds (optional_formula formulas position o ++ value_events value))
+    (cell_keys_read position value inside)
+    ∙ ap or_nothing
+    (optional_says_nothing grounds form kind formulas position o (value_events value))
+    ∙ written_value grounds are value is
+
+same_epoch : (epoch is_1904 : Bool) → (days : ℤ × ℤ) (kind : ExcelDateTimeType)
+    → counts_from is_1904 (time days kind epoch) ≡ true → epoch ≡ is_1904
+same_epoch true true days kind counts = refl
+same_epoch false true days kind counts = absurd (cc)
+same_epoch true false days kind counts = absurd (cc)
+same_epoch false false days kind counts = refl
+
+-- a value that is written, and counts from the first year, reads back
+pub written_reads_back : (is_1904 : Bool) (value : CellValue) → is_written value ≡ true
+    → counts_from is_1904 value ≡ true → IsReadBack is_1904 value
+written_reads_back is_1904 nothing written counts = tt
+written_reads_back is_1904 (integer n) written counts = absurd (cc)
+written_reads_back is_1904 (number n) written counts = written
+written_reads_back is_1904 (text bytes) written counts = tt
+written_reads_back is_1904 (shared_text place) written counts = absurd (cc)
+written_reads_back is_1904 (truth holds) written counts = tt
+written_reads_back is_1904 (time days kind epoch) written counts =
+    (written, same_epoch epoch is_1904 days kind counts)
+written_reads_back is_1904 (iso_time bytes) written counts = tt
+written_reads_back is_1904 (failure error) written counts = written

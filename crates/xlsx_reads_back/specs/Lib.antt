@@ -1,0 +1,5 @@
+pub mod ReadFormulas
+pub mod ReadSheet
+pub mod ReadStyles
+pub mod ReadValues
+pub mod ReadParts

@@ -1,0 +1,46 @@
+-- What is read of formulas as they are written.
+use Rattle.std.specs.Prelude.{ℕ, Bool, true, false, List, [], ◌∷◌, map, Option, Some, None}
+use Rattle.cell_refs.specs.declared.dimensions.Dimensions.{Dimensions}
+use Rattle.xlsx_formulas.specs.Formula.{Sharing, FormulaText, own, master, derived}
+use Rattle.xlsx_out.specs.Groups as out
+use Rattle.xlsx_out.specs.Groups.{Placed, formula_placed, WrittenFormula, written_formula}
+
+-- the area of a group: from its first cell down to a last row
+abbrev pub area_down : ℕ × ℕ → ℕ → Dimensions
+area_down position last = record { start = position; end = (last, position.1) }
+
+-- a formula that is written at a position, as it is read
+abbrev pub formula_read : ℕ × ℕ → WrittenFormula → FormulaText
+formula_read position (out.plain formula) = record { sharing = own; text = formula }
+formula_read position (out.master formula last index) = record {
+  sharing = master index (area_down position last);
+  text = formula;
+}
+formula_read position (out.derived index) = record { sharing = derived index; text = [] }
+
+-- the formulas that are read of a position: its own, if it has one
+abbrev pub formulas_read_by : Placed → ℕ × ℕ → Option (List ℕ) → List FormulaText
+formulas_read_by formulas position None = []
+formulas_read_by formulas position (Some formula) =
+    formula_read position (written_formula formulas position formula) ∷ []
+
+-- the formulas that are read of a position
+abbrev pub formulas_read : Placed → ℕ × ℕ → List FormulaText
+formulas_read formulas position =
+    formulas_read_by formulas position (formula_placed formulas position)
+
+-- each of these positions with the formulas that are read of it
+abbrev pub formulas_read_along :
+    Placed → List (ℕ × ℕ) → List ((ℕ × ℕ) × List FormulaText)
+formulas_read_along formulas positions =
+    map (λ position. (position, formulas_read formulas position)) positions
+
+-- a formula is shared as one of a group that isn't its first
+abbrev pub is_shared_on : Sharing → Bool
+is_shared_on own = false
+is_shared_on (master index range) = false
+is_shared_on (derived index) = true
+
+-- a formula has no text of its own, but that of its group
+abbrev pub is_derived : FormulaText → Bool
+is_derived found = is_shared_on found.sharing
