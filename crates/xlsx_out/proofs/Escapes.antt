@@ -3,12 +3,12 @@ use Rattle.std.proofs.Common.{◌≡◌, ◌≢◌, ℕ, suc, ◌+◌, ◌<◌, 
 use Rattle.std.proofs.Common.{◌++◌, length, get_or, refl, sym, ap, ◌∙◌, arith, append_assoc, cond}
 use Rattle.std.proofs.Common.{length-append}
 use Rattle.std.specs.Prelude.{codes, ◌==◌, if◌then◌else◌, Result, Ok, Err, OnOk, is_ok}
-use Rattle.std.specs.List.{flat_map, slice_split}
+use Rattle.std.specs.List.{slice_split}
 use Rattle.std.proofs.lemmas.Bool.{ne_eqb}
 use Rattle.std.proofs.lemmas.Grind.{flat_map-append}
 use Rattle.std.proofs.lemmas.List.Elements.{All-from_get_or}
 use Rattle.std.proofs.lemmas.List.Splits.{slice_split_none, slice_split_at, length-slice_split}
-use Rattle.part_events.specs.Event.{Event, leaf, entity_ref}
+use Rattle.part_events.specs.Event.{leaf, entity_ref}
 use Rattle.written_markup.specs.WrittenText.{run_events, events_of_runs, text_events, has_byte}
 use Rattle.written_markup.specs.WrittenText.{underscores_escaped, escaped_byte, encoded, encoded_byte}
 

@@ -1,6 +1,6 @@
 -- The head of the next formula is the one that is found.
 use Rattle.std.proofs.Common.{◌≡◌, ◌≢◌, ℕ, zero, suc, ◌+◌, ◌<◌, ◌≤◌, Bool, true, false, ◌&&◌, cond}
-use Rattle.std.proofs.Common.{List, [], ◌∷◌, ◌++◌, length, get_or, refl, sym, ap, ◌∙◌, arith, subst}
+use Rattle.std.proofs.Common.{List, [], ◌∷◌, ◌++◌, length, refl, sym, ap, ◌∙◌, arith, subst}
 use Rattle.std.proofs.Common.{Option, Some, None, inl, inr, length-append, add-one, append_assoc}
 use Rattle.std.proofs.lemmas.List.Elements.{All-map}
 use Rattle.cell_data.specs.Cells.{IsPlacedInSheet}
@@ -16,11 +16,11 @@ use Rattle.std.specs.Ordering.{nat_cmp, ordering_then, is_lt, MatchOrdering}
 use Rattle.std.specs.Cmp.{nat_cmp_is}
 use Rattle.std.proofs.lemmas.Cmp.{ranked}
 use Rattle.std.specs.Str.{bytes_eq}
-use Rattle.std.proofs.lemmas.Bool.{cases_lt, eqb-true, eq-eqb, ne_eqb, lt-ltb, ltb-true}
+use Rattle.std.proofs.lemmas.Bool.{cases_lt, eqb-true, eq-eqb, lt-ltb, ltb-true}
 use Rattle.std.proofs.Math.ListN.{get_or-append}
 use Rattle.std.proofs.Math.Seq.{get_or-append_seam}
 use Rattle.cell_refs.specs.Positions.{position_cmp, is_rising}
-use Rattle.cell_refs.proofs.PositionOrder.{position_total, position_same, and_both, and_from}
+use Rattle.cell_refs.proofs.PositionOrder.{position_total, and_both, and_from}
 use Rattle.cell_refs.proofs.PositionOrder.{less_from}
 use Rattle.formula_shift.specs.Relocation.{moved, offset_between}
 use Rattle.xlsx_out.specs.Groups.{Placed, formula_placed, is_placed, is_moved_from, head_row}
@@ -219,9 +219,10 @@ module _ (F A : Placed) (H : List ℕ) (t : List ℕ) (place : ℕ) (heads : Are
 
   own_head : (p : ℕ × ℕ) → IsNext F A p t place → head_row F p.1 p.0 ≡ p.0 →
       IsHeadPlace p (length A)
-  own_head p next stays =
-      (omega arith,
-      ap (λ (e : (ℕ × ℕ) × List ℕ). e.0) next.own ∙ ap (λ (r : ℕ). (r, p.1)) (sym stays))
+  own_head p next stays = (
+    omega arith,
+    ap (λ (e : (ℕ × ℕ) × List ℕ). e.0) next.own ∙ ap (λ (r : ℕ). (r, p.1)) (sym stays),
+  )
 
   pub next_head : (row col : ℕ) → IsNext F A (row, col) t place →
       IsHeadPlace (row, col) (head_place A H place (row, col) t)
@@ -245,11 +246,12 @@ module _ (F A : Placed) (H : List ℕ) (t : List ℕ) (place : ℕ) (heads : Are
           ((goes_on row col next is_above).by_text
           ∙ ap (λ (test : Bool). cond test (head_row F col row) (suc row)) is)
       by true true is_above is =
-          let below = goes_on row col next is_above in
-          (below.known,
-          below.head_at ∙ ap (λ (r : ℕ). (r, col))
-          (sym (below.by_text
-          ∙ ap (λ (test : Bool). cond test (head_row F col row) (suc row)) is)))
+          let below = goes_on row col next is_above in (
+            below.known,
+            below.head_at ∙ ap (λ (r : ℕ). (r, col))
+                (sym (below.by_text
+                ∙ ap (λ (test : Bool). cond test (head_row F col row) (suc row)) is)),
+          )
 
 -- ---- one formula more
 
@@ -354,11 +356,12 @@ next_member F A B H p t above place h rising whole heads count first further sto
     let found =
     subst (λ (k : ℕ). (k ≤ length A) × ((entry_at F k).0 ≡ group_head F p)) (sym is)
     (next_head F A H t place heads count p.0 p.1 next) in
-    let left = rising_behind A ((p, t) ∷ B) (ap is_rising whole ∙ rising) in
-    (append_assoc A ((p, t) ∷ []) B ∙ whole,
-    heads_more F H h p t heads (omega (arith, count, found.0))
-    (ap (λ (k : ℕ). entry_at F k) count ∙ next.own) found.1,
-    passed_further A B place p t within left passed)
+    let left = rising_behind A ((p, t) ∷ B) (ap is_rising whole ∙ rising) in (
+      append_assoc A ((p, t) ∷ []) B ∙ whole,
+      heads_more F H h p t heads (omega (arith, count, found.0))
+          (ap (λ (k : ℕ). entry_at F k) count ∙ next.own) found.1,
+      passed_further A B place p t within left passed,
+    )
 
 -- what is meant by cells is in order as they are
 pub meant_in_order : {X Y : Type 0} (g : X → Y) (es : List ((ℕ × ℕ) × X)) → AreInOrder es →

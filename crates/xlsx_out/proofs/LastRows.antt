@@ -112,53 +112,54 @@ module _ (F : Placed) where
         let pushed = length-append rows (own ∷ []) in
         let size = length-set (rows ++ own ∷ []) h own in
         let whole = take_more F i ((0, 0), []) inside in
-        let count_front = length-take-le i F (omega arith) in
-        (omega (arith, pushed, size, known.0),
-        λ k before.
-        let after : end_among (take (i + 1) F) (entry_at F k).0
-            ≡ cond (is_same (group_head F (entry_at F i).0) (entry_at F k).0) own
-            (end_among (take i F) (entry_at F k).0) =
-        ap (λ (some : Placed). end_among some (entry_at F k).0) whole
-        ∙ end_more (take i F) (entry_at F i) (entry_at F k).0 in
-        elim (cases_eq k h) [
-          | inl here ↦
-              let led : is_same (group_head F (entry_at F i).0) (entry_at F k).0 ≡ true =
-              same_to (group_head F (entry_at F i).0) (entry_at F k).0
-              (sym head.1 ∙ ap (λ (j : ℕ). (entry_at F j).0) (sym here)) in
-              ap (λ (j : ℕ). slice_index (set (rows ++ own ∷ []) h own) j) here
-              ∙ get_or-set_same (rows ++ own ∷ []) h own 0 (omega (arith, pushed, known.0))
-              ∙ sym (after ∙ ap (λ (test : Bool). cond test own
-              (end_among (take i F) (entry_at F k).0)) led)
-          | inr other ↦
-              let led : is_same (group_head F (entry_at F i).0) (entry_at F k).0 ≡ false =
-              same_apart (group_head F (entry_at F i).0) (entry_at F k).0
-              (not_led i k inside (omega arith) other) in
-              let kept = get_or-set_other (rows ++ own ∷ []) h k own 0 other in
-              let stays : end_among (take (i + 1) F) (entry_at F k).0
-                  ≡ end_among (take i F) (entry_at F k).0 =
-              after ∙ ap (λ (test : Bool). cond test own
-              (end_among (take i F) (entry_at F k).0)) led in
-              elim (cases_lt k i) [
-                | inl earlier ↦
-                    kept ∙ get_or-append rows (own ∷ []) 0 k (omega (arith, known.0))
-                    ∙ known.1 k earlier ∙ sym stays
-                | inr last ↦
-                    let here : k ≡ i = omega arith in
-                    let at : k ≡ length rows = omega (arith, known.0) in
-                    let none : rows_led (entry_at F k).0 (take i F) ≡ [] =
-                    none_led (entry_at F k).0 (take i F) ((0, 0), [])
-                    (λ j within same. not_led j k (omega (arith, count_front)) (omega arith)
-                    (λ is. let up_to = (head_at j (omega (arith, count_front))).0 in
-                    omega (arith, count_front, is))
-                    (ap (λ (e : (ℕ × ℕ) × List ℕ). group_head F e.0)
-                    (sym (get_or-take i F j ((0, 0), []) (omega (arith, count_front)))) ∙ same)) in
-                    kept
-                    ∙ ap (λ (j : ℕ). slice_index (rows ++ own ∷ []) j) at
-                    ∙ get_or-append_seam rows own [] 0
-                    ∙ ap (λ (j : ℕ). (entry_at F j).0.0) (sym here)
-                    ∙ sym (stays ∙ ap (last_row (entry_at F k).0.0) none)
-              ]
-        ])
+        let count_front = length-take-le i F (omega arith) in (
+          omega (arith, pushed, size, known.0),
+          λ k before.
+              let after : end_among (take (i + 1) F) (entry_at F k).0
+              ≡ cond (is_same (group_head F (entry_at F i).0) (entry_at F k).0) own
+              (end_among (take i F) (entry_at F k).0) =
+              ap (λ (some : Placed). end_among some (entry_at F k).0) whole
+              ∙ end_more (take i F) (entry_at F i) (entry_at F k).0 in
+              elim (cases_eq k h) [
+                | inl here ↦
+                    let led : is_same (group_head F (entry_at F i).0) (entry_at F k).0 ≡ true =
+                    same_to (group_head F (entry_at F i).0) (entry_at F k).0
+                    (sym head.1 ∙ ap (λ (j : ℕ). (entry_at F j).0) (sym here)) in
+                    ap (λ (j : ℕ). slice_index (set (rows ++ own ∷ []) h own) j) here
+                    ∙ get_or-set_same (rows ++ own ∷ []) h own 0 (omega (arith, pushed, known.0))
+                    ∙ sym (after ∙ ap (λ (test : Bool). cond test own
+                    (end_among (take i F) (entry_at F k).0)) led)
+                | inr other ↦
+                    let led : is_same (group_head F (entry_at F i).0) (entry_at F k).0 ≡ false =
+                    same_apart (group_head F (entry_at F i).0) (entry_at F k).0
+                    (not_led i k inside (omega arith) other) in
+                    let kept = get_or-set_other (rows ++ own ∷ []) h k own 0 other in
+                    let stays : end_among (take (i + 1) F) (entry_at F k).0
+                    ≡ end_among (take i F) (entry_at F k).0 =
+                    after ∙ ap (λ (test : Bool). cond test own
+                    (end_among (take i F) (entry_at F k).0)) led in
+                    elim (cases_lt k i) [
+                      | inl earlier ↦
+                          kept ∙ get_or-append rows (own ∷ []) 0 k (omega (arith, known.0))
+                          ∙ known.1 k earlier ∙ sym stays
+                      | inr last ↦
+                          let here : k ≡ i = omega arith in
+                          let at : k ≡ length rows = omega (arith, known.0) in
+                          let none : rows_led (entry_at F k).0 (take i F) ≡ [] =
+                          none_led (entry_at F k).0 (take i F) ((0, 0), [])
+                          (λ j within same. not_led j k (omega (arith, count_front)) (omega arith)
+                          (λ is. let up_to = (head_at j (omega (arith, count_front))).0 in
+                          omega (arith, count_front, is))
+                          (ap (λ (e : (ℕ × ℕ) × List ℕ). group_head F e.0)
+                          (sym (get_or-take i F j ((0, 0), []) (omega (arith, count_front)))) ∙ same)) in
+                          kept
+                          ∙ ap (λ (j : ℕ). slice_index (rows ++ own ∷ []) j) at
+                          ∙ get_or-append_seam rows own [] 0
+                          ∙ ap (λ (j : ℕ). (entry_at F j).0.0) (sym here)
+                          ∙ sym (stays ∙ ap (last_row (entry_at F k).0.0) none)
+                    ]
+              ],
+        )
 
     -- those of all formulas are the last rows of their groups
     pub last_all : (i : ℕ) (rows : List ℕ) → i ≡ length F → AreLastOf i rows →

@@ -5,3 +5,4 @@ pub mod LastRows
 pub mod Masters
 pub mod Places
 pub mod Rows
+pub mod WholeData

@@ -1,10 +1,9 @@
 -- Masters before a formula, and how it is written by what was found.
-use Rattle.std.proofs.Common.{◌≡◌, ◌≢◌, ℕ, zero, suc, ◌+◌, ◌<◌, ◌≤◌, Bool, true, false, ◌&&◌, cond}
+use Rattle.std.proofs.Common.{◌≡◌, ℕ, zero, suc, ◌+◌, ◌<◌, ◌≤◌, Bool, true, false, ◌&&◌, cond}
 use Rattle.std.proofs.Common.{List, [], ◌∷◌, ◌++◌, length, get_or, take, refl, sym, ap, ◌∙◌, arith}
 use Rattle.std.proofs.Common.{inl, inr, ◌⊎◌, length-append, subst}
 use Rattle.std.specs.Prelude.{map, slice_index, ◌==◌, nat_lt, All}
 use Rattle.std.specs.List.{filter}
-use Rattle.std.specs.declared.cmp.Ordering.TheVariants.{Less, Equal, Greater}
 use Rattle.std.specs.Cmp.{tied_itself}
 use Rattle.std.specs.FinMap.Entries.{below_all}
 use Rattle.std.specs.Ordering.{is_lt}
@@ -16,7 +15,7 @@ use Rattle.cell_refs.specs.declared.TheConstants.{MAX_ROWS}
 use Rattle.cell_refs.proofs.PositionOrder.{position_total, and_both, less_from}
 use Rattle.cell_data.specs.Cells.{AreInSheet}
 use Rattle.xlsx_out.specs.Groups.{Placed, is_same, group_head, group_end, group_index, is_master}
-use Rattle.xlsx_out.specs.Groups.{WrittenFormula, plain, master, derived, written_formula}
+use Rattle.xlsx_out.specs.Groups.{plain, master, derived, written_formula}
 use Rattle.xlsx_out.specs.Grouping.{entry_at, AreHeads, AreLastRows, form_by, masters_in}
 use Rattle.xlsx_out.specs.Writing.{PlacedForms, written_as, IsLastInSheet}
 use Rattle.xlsx_out.specs.declared.groups.FormulaForm.{FormulaForm}

@@ -1,8 +1,8 @@
 -- Entries in the order of positions, by their places.
-use Rattle.std.proofs.Common.{◌≡◌, ◌≢◌, ℕ, zero, suc, ◌+◌, ◌<◌, ◌≤◌, Bool, true, false, ◌&&◌, cond}
-use Rattle.std.proofs.Common.{List, [], ◌∷◌, length, get_or, refl, sym, ap, ◌∙◌, arith, subst}
-use Rattle.std.proofs.Common.{Option, Some, None}
-use Rattle.std.proofs.Common.{◌⊎◌, inl, inr}
+use Rattle.std.proofs.Common.{◌≡◌, ◌≢◌, ℕ, zero, suc, ◌<◌, Bool, true, false, cond}
+use Rattle.std.proofs.Common.{List, [], ◌∷◌, length, get_or, refl, sym, ap, ◌∙◌, arith}
+use Rattle.std.proofs.Common.{Some, None}
+use Rattle.std.proofs.Common.{inl, inr}
 use Rattle.std.specs.declared.cmp.Ordering.{Ordering}
 use Rattle.std.specs.declared.cmp.Ordering.TheVariants.{Less, Equal, Greater}
 use Rattle.std.specs.Cmp.{tied_itself}
@@ -13,7 +13,7 @@ use Rattle.std.proofs.lemmas.Bool.{cases_lt}
 use Rattle.cell_refs.specs.Positions.{position_cmp, is_rising}
 use Rattle.cell_refs.proofs.PositionOrder.{position_total, position_same, and_both, less_from}
 
-equal_if : (o : Ordering) → is_eq o ≡ true → o ≡ Equal
+pub equal_if : (o : Ordering) → is_eq o ≡ true → o ≡ Equal
 equal_if Less tied = absurd (cc)
 equal_if Equal tied = refl
 equal_if Greater tied = absurd (cc)

@@ -1,9 +1,9 @@
 -- The rows of values and formulas are written position by position.
-use Rattle.std.proofs.Common.{◌≡◌, ◌≢◌, ℕ, suc, ◌+◌, ◌<◌, ◌≤◌, Bool, true, false, cond, ◌&&◌, ◌||◌}
+use Rattle.std.proofs.Common.{◌≡◌, ℕ, ◌+◌, ◌<◌, Bool, true, false, cond, ◌||◌}
 use Rattle.std.proofs.Common.{List, [], ◌∷◌, ◌++◌, length, refl, sym, ap, ◌∙◌, arith, append_assoc}
-use Rattle.std.proofs.Common.{Option, Some, None, inl, inr, ◌⊎◌, subst}
+use Rattle.std.proofs.Common.{Option, Some, None, inl, inr, ◌⊎◌}
 use Rattle.std.specs.Prelude.{map, is_some, ◌==◌, MatchOption}
-use Rattle.std.specs.FinMap.{find, from_entries, entries}
+use Rattle.std.specs.FinMap.{from_entries, entries}
 use Rattle.std.specs.FinMap.Entries.{below_all}
 use Rattle.std.specs.List.{flat_map}
 use Rattle.std.specs.Option.{option_map, unwrap_or}
@@ -11,7 +11,6 @@ use Rattle.std.specs.Cmp.{tied_itself}
 use Rattle.std.specs.Ordering.{is_lt, is_eq}
 use Rattle.std.proofs.Math.Bool.{or-true}
 use Rattle.std.proofs.lemmas.Bool.{cases_eq, ne_eqb, eq-eqb}
-use Rattle.std.proofs.lemmas.List.{append-nil}
 use Rattle.cell_refs.specs.Positions.{position_cmp}
 use Rattle.cell_refs.specs.declared.TheConstants.{MAX_ROWS, MAX_COLUMNS}
 use Rattle.cell_refs.proofs.PositionOrder.{and_both, position_total}
@@ -31,9 +30,9 @@ use Rattle.written_markup.specs.Markup.{with_events}
 use Rattle.written_markup.proofs.Drafted.{events_joined}
 use Rattle.xlsx_out.specs.Groups.{WrittenFormula}
 use Rattle.xlsx_out.specs.WrittenSheet.{PlacedValues, SheetRow, in_rows, with_position}
-use Rattle.xlsx_out.specs.Writing.{PlacedForms, given_cell, cell_among, positions_among}
+use Rattle.xlsx_out.specs.Writing.{PlacedForms, given_cell, cell_among}
 use Rattle.xlsx_out.specs.Writing.{row_front, row_behind, row_start, row_end, row_by, rows_by}
-use Rattle.xlsx_out.specs.Writing.{rows_left, leaving, is_open, entering, data_left}
+use Rattle.xlsx_out.specs.Writing.{rows_left, leaving, entering, data_left}
 use Rattle.xlsx_out.specs.Writing.{IsFirstOfBoth, value_given}
 
 -- ---- positions by rows
@@ -53,6 +52,7 @@ rows_first p (q ∷ qs) =
         ∷ in_rows (row_behind q.0 qs))
         ≡ record { row = p.0; positions = p ∷ row_front p.0 (q ∷ qs) }
         ∷ in_rows (row_behind p.0 (q ∷ qs))
+
     by_case : (p.0 ≡ q.0) ⊎ (p.0 ≡ q.0 → ⊥) →
         in_rows (q ∷ qs)
         ≡ record { row = q.0; positions = q ∷ row_front q.0 qs } ∷ in_rows (row_behind q.0 qs) →

@@ -216,7 +216,12 @@ fn forms_of<'a>(
         let place = formulas.len();
         indices.push(masters)?;
         let index = indices[member.head];
-        let form = form_of(member.head == place, member.position.0, last_rows[place], index);
+        let form = form_of(
+            member.head == place,
+            member.position.0,
+            last_rows[place],
+            index,
+        );
         masters += masters_in(form);
         formulas.push(GroupedFormula {
             position: member.position,

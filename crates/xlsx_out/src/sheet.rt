@@ -66,10 +66,7 @@ impl<'a> FormsLeft<'a> {
 }
 
 /// The first position that has a value or a formula, counted from 0.
-fn first_of_both(
-    values: &PlacedCells<'_, Data>,
-    formulas: &FormsLeft<'_>,
-) -> Option<(u32, u32)>
+fn first_of_both(values: &PlacedCells<'_, Data>, formulas: &FormsLeft<'_>) -> Option<(u32, u32)>
     requires values { AreInOrder (placed_left values.now) }
     requires formulas { AreInOrder (forms_left formulas.now) }
     ensures { MatchOption result

@@ -24,8 +24,15 @@ index-index-requires c =
     let up = c.requires.heads.up_to i
     (omega (arith, c.loop-member-test.true, length-map members member_head)) in
     let size : vec_len c.push.new.self ≡ length c.push.new.self.items = search rules in
-    omega (arith, size, head_is, up, c.loop-member.invariant.known, ap length c.in_ok-push.ensures.items,
-    length-append c.loop-member.indices.items (c.loop-member.masters ∷ []))
+    omega (
+      arith,
+      size,
+      head_is,
+      up,
+      c.loop-member.invariant.known,
+      ap length c.in_ok-push.ensures.items,
+      length-append c.loop-member.indices.items (c.loop-member.masters ∷ []),
+    )
 
 pub loop-member-preserved : goal.loop-member-preserved
 loop-member-preserved c =
@@ -48,7 +55,7 @@ loop-member-preserved c =
     let own_index =
     known.masters ∙ sym (index_at placed i c.requires.order.rising inside) in
     let all_indices : (k : ℕ) → k < i + 1 →
-        slice_index indices k ≡ group_index placed (entry_at placed k).0 =
+    slice_index indices k ≡ group_index placed (entry_at placed k).0 =
     λ k within. ap (λ (ns : List ℕ). slice_index ns k) pushed
     ∙ elim (cases_lt k i) [
       | inl earlier ↦
@@ -78,7 +85,7 @@ loop-member-preserved c =
     ∙ ap (λ (j : ℕ). slice_index rows j) place_is in
     let form = c.form_of-form.result in
     let form_is : form
-        ≡ form_by (slice_index heads i == i) (entry_at placed i).0.0 (slice_index rows i) idx =
+    ≡ form_by (slice_index heads i == i) (entry_at placed i).0.0 (slice_index rows i) idx =
     c.form_of-form.ensures
     ∙ (λ j. form_by (sym head_is j == place_is j) (sym entry_is j).0.0 (last_is j) idx) in
     let written =
@@ -95,8 +102,12 @@ loop-member-preserved c =
     let own : GroupedFormula =
     record { position = member.position; text = member.text; form = form } in
     record {
-      count = omega (arith, known.count, ap length c.in_ok-push-2.ensures.items,
-          length-append c.loop-member.formulas.items (own ∷ []));
+      count = omega (
+        arith,
+        known.count,
+        ap length c.in_ok-push-2.ensures.items,
+        length-append c.loop-member.formulas.items (own ∷ []),
+      );
       forms = ap (map form_entry) c.in_ok-push-2.ensures.items
           ∙ map-append form_entry c.loop-member.formulas.items (own ∷ [])
           ∙ (λ j. known.forms j ++ (((sym entry_is j).0, written_as (form_is j) (sym entry_is j).1) ∷ []))

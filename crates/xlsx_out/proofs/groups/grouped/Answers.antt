@@ -1,8 +1,7 @@
-use Rattle.std.proofs.Common.{◌∙◌, ap, sym, subst, List, ℕ, string_bytes, true, ◌≡◌}
+use Rattle.std.proofs.Common.{◌∙◌, ap, sym, subst, string_bytes}
 use Rattle.std.specs.Prelude.{map}
 use Rattle.cell_refs.specs.Positions.{is_rising}
 use Rattle.cell_data.specs.Splitting.{AreInOrder}
-use Rattle.cell_data.proofs.Stepping.{meant}
 use Rattle.sorted_cells.specs.Placed.{placed_left}
 use Rattle.xlsx_out.specs.Grouping.{member_entry}
 use Rattle.xlsx_out.specs.Groups.{Placed}

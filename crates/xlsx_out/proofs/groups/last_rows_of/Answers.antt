@@ -3,7 +3,7 @@ use Rattle.std.proofs.Common.{get_or, length-append}
 use Rattle.std.specs.Prelude.{map}
 use Rattle.std.proofs.lemmas.List.{length-map}
 use Rattle.std.proofs.Math.ListN.{get_or-map}
-use Rattle.xlsx_out.specs.Grouping.{entry_at, member_entry, member_head}
+use Rattle.xlsx_out.specs.Grouping.{member_entry, member_head}
 use Rattle.xlsx_out.proofs.Heads.{blank_member}
 use Rattle.xlsx_out.proofs.LastRows.{AreLastOf, last_more, last_all}
 use Rattle.xlsx_out.proofs.groups.last_rows_of.Goals as goal
@@ -18,8 +18,14 @@ index_mut-requires c =
     let head_is = get_or-map member_head members i blank_member in
     let up = c.requires.heads.up_to i
     (omega (arith, c.loop-member-test.true, length-map members member_head)) in
-    omega (arith, head_is, up, c.loop-member.invariant.0, ap length c.in_ok-push.ensures.items,
-    length-append c.loop-member.rows.items ((get_or members i blank_member).position.0 ∷ []))
+    omega (
+      arith,
+      head_is,
+      up,
+      c.loop-member.invariant.0,
+      ap length c.in_ok-push.ensures.items,
+      length-append c.loop-member.rows.items ((get_or members i blank_member).position.0 ∷ []),
+    )
 
 pub loop-member-preserved : goal.loop-member-preserved
 loop-member-preserved c =

@@ -1,8 +1,7 @@
 use Rattle.std.proofs.Common.{◌≡◌, ◌≤◌, ◌++◌, ◌∷◌, [], ◌∙◌, ap, sym, subst, arith, length, string_bytes}
-use Rattle.std.proofs.Common.{List, true, length-append}
+use Rattle.std.proofs.Common.{List, length-append}
 use Rattle.std.specs.Prelude.{map}
 use Rattle.std.proofs.lemmas.List.{length-map, map-append}
-use Rattle.cell_refs.specs.Positions.{is_rising}
 use Rattle.cell_data.proofs.Stepping.{meant}
 use Rattle.sorted_cells.specs.Placed.{placed_left}
 use Rattle.xlsx_out.specs.Grouping.{AreHeads, AreUpTo, ArePassed, StopsAt, head_place}
@@ -54,8 +53,13 @@ loop-position-preserved c =
     record {
       whole = ap (λ own. own ++ behind) more ∙ next.0;
       heads = subst (AreHeads placed) (sym more_heads) next.1;
-      within = omega (arith, c.pass-above.ensures.within, ap length known,
-          ap length c.in_ok-push.ensures.items, length-append items (member ∷ []));
+      within = omega (
+        arith,
+        c.pass-above.ensures.within,
+        ap length known,
+        ap length c.in_ok-push.ensures.items,
+        length-append items (member ∷ []),
+      );
       passed = subst (λ own. PassedBy own place behind) (sym more) next.2;
     }
 

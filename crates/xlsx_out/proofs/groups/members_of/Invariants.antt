@@ -1,6 +1,5 @@
-use Rattle.std.proofs.Common.{◌≡◌, ◌≤◌, ◌++◌, length, string_bytes, true}
+use Rattle.std.proofs.Common.{◌≡◌, ◌≤◌, ◌++◌, length, string_bytes}
 use Rattle.std.specs.Prelude.{map}
-use Rattle.cell_refs.specs.Positions.{is_rising}
 use Rattle.cell_data.proofs.Stepping.{meant}
 use Rattle.sorted_cells.specs.Placed.{placed_left}
 use Rattle.xlsx_out.specs.Grouping.{AreHeads, member_entry, member_head}

@@ -1,4 +1,4 @@
-use Rattle.std.proofs.Common.{◌≡◌, ◌∙◌, ℕ, ◌+◌, inl, inr, arith, true, ap, subst, sym, get_or, []}
+use Rattle.std.proofs.Common.{◌≡◌, ◌∙◌, ℕ, inl, inr, arith, true, ap, subst, sym}
 use Rattle.std.specs.Prelude.{map}
 use Rattle.std.specs.Ordering.{is_lt}
 use Rattle.std.proofs.lemmas.Bool.{cases_lt}
@@ -16,10 +16,12 @@ members-preserved c =
     let own : Passed c.members.next =
     ap (λ entry. is_lt (position_cmp (lowered entry.0) c.args.position))
     (get_or-map member_entry c.args.members.now c.members.next blank_member)
-    ∙ sym c.is_passed.ensures ∙ c.if-is_passed.true in
-    (omega arith, omega arith,
-    λ place from before. elim (cases_lt place c.members.next) [
-      | inl earlier ↦ c.members.invariant.2 place from earlier
-      | inr last ↦
-          let same : place ≡ c.members.next = omega arith in subst Passed (sym same) own
-    ])
+    ∙ sym c.is_passed.ensures ∙ c.if-is_passed.true in (
+      omega arith,
+      omega arith,
+      λ place from before. elim (cases_lt place c.members.next) [
+        | inl earlier ↦ c.members.invariant.2 place from earlier
+        | inr last ↦
+            let same : place ≡ c.members.next = omega arith in subst Passed (sym same) own
+      ],
+    )

@@ -3,7 +3,7 @@ use Rattle.std.proofs.lemmas.Bool.{cases_lt}
 use Rattle.std.proofs.lemmas.List.{drop_more}
 use Rattle.std.proofs.lemmas.List.Elements.{All-rest}
 use Rattle.std.proofs.Common.{get_or}
-use Rattle.xlsx_out.specs.Writing.{left_of, IsFormInSheet}
+use Rattle.xlsx_out.specs.Writing.{IsFormInSheet}
 use Rattle.xlsx_out.proofs.sheet.FormsLeft.next_at.Goals as goal
 
 pub returns-clause-left_fits : goal.returns-clause-left_fits
