@@ -3,12 +3,12 @@ use Rattle.std.proofs.Common.{◌≡◌, ◌≢◌, ℕ, suc, ◌+◌, ◌<◌, 
 use Rattle.std.proofs.Common.{◌++◌, length, get_or, refl, sym, ap, ◌∙◌, arith, append_assoc, cond}
 use Rattle.std.proofs.Common.{length-append}
 use Rattle.std.specs.Prelude.{codes, ◌==◌, if◌then◌else◌, Result, Ok, Err, OnOk, is_ok}
-use Rattle.std.specs.List.{flat_map, slice_split}
+use Rattle.std.specs.List.{slice_split}
 use Rattle.std.proofs.lemmas.Bool.{ne_eqb}
 use Rattle.std.proofs.lemmas.Grind.{flat_map-append}
 use Rattle.std.proofs.lemmas.List.Elements.{All-from_get_or}
 use Rattle.std.proofs.lemmas.List.Splits.{slice_split_none, slice_split_at, length-slice_split}
-use Rattle.part_events.specs.Event.{Event, leaf, entity_ref}
+use Rattle.part_events.specs.Event.{leaf, entity_ref}
 use Rattle.written_markup.specs.WrittenText.{run_events, events_of_runs, text_events, has_byte}
 use Rattle.written_markup.specs.WrittenText.{underscores_escaped, escaped_byte, encoded, encoded_byte}
 
@@ -132,3 +132,13 @@ pub ends_with : {T E : Type 0} (r : Result T E) (old new rest whole : List ℕ) 
     new ≡ if◌then◌else◌ (is_ok r) (old ++ rest) old → old ++ rest ≡ whole → OnOk r (new ≡ whole)
 ends_with (Ok t) old new rest whole bytes same = bytes ∙ same
 ends_with (Err e) old new rest whole bytes same = tt
+
+-- pieces that were appended one behind another, and a last one
+pub pieces : (none one two three four a b c d e : List ℕ) → none ≡ [] → one ≡ none ++ a →
+    two ≡ one ++ b → three ≡ two ++ c → four ≡ three ++ d →
+    four ++ e ≡ a ++ (b ++ (c ++ (d ++ e)))
+pieces none one two three four a b c d e is_none is_one is_two is_three is_four =
+    ap (λ own. own ++ e) (is_four ∙ ap (λ own. own ++ d) (is_three ∙ ap (λ own. own ++ c)
+    (is_two ∙ ap (λ own. own ++ b) (is_one ∙ ap (λ own. own ++ a) is_none))))
+    ∙ append_assoc ((a ++ b) ++ c) d e ∙ append_assoc (a ++ b) c (d ++ e)
+    ∙ append_assoc a b (c ++ (d ++ e))

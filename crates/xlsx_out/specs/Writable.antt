@@ -1,6 +1,6 @@
 -- Which values and formulas are written so that they read back.
-use Rattle.std.specs.Prelude.{◌≡◌, ℕ, ℤ, ◌%◌, ◌&&◌, ◌||◌, ◌==◌, not, nat_abs, length, Bool, true}
-use Rattle.std.specs.Prelude.{false, List, if◌then◌else◌, String}
+use Rattle.std.specs.Prelude.{◌≡◌, ℤ, ◌%◌, ◌&&◌, ◌||◌, ◌==◌, not, nat_abs, length, Bool, true}
+use Rattle.std.specs.Prelude.{false, if◌then◌else◌, String}
 use Rattle.std.specs.List.{list_all}
 use Rattle.std.specs.declared.alloc.Global.{Global}
 use Rattle.cell_data.specs.CellValue.{CellValue, nothing, integer, number, shared_text, time}

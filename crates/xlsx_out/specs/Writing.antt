@@ -1,13 +1,15 @@
 -- What is written step by step: the formulas with how they are written, and the rows of positions.
-use Rattle.std.specs.Prelude.{ℕ, ◌==◌, Bool, true, false, if◌then◌else◌, List, [], ◌∷◌, ◌++◌}
-use Rattle.std.specs.Prelude.{codes, map, Option, Some, None}
+use Rattle.std.specs.Prelude.{◌≡◌, ◌⊎◌, ℕ, ◌<◌, ◌==◌, Bool, true, false, if◌then◌else◌, List, [], ◌∷◌, ◌++◌}
+use Rattle.std.specs.Prelude.{codes, map, drop, Option, Some, None}
 use Rattle.std.specs.FinMap.{find}
 use Rattle.std.specs.List.{flat_map}
 use Rattle.std.specs.Option.{option_map, unwrap_or}
 use Rattle.cell_refs.specs.Positions.{position_cmp}
 use Rattle.cell_refs.specs.Reference.{row_reference}
+use Rattle.cell_refs.specs.declared.TheConstants.{MAX_ROWS, MAX_COLUMNS}
 use Rattle.cell_data.specs.CellValue.{CellValue, nothing, value_of_data}
-use Rattle.cell_data.specs.Stepping.{used, positions_of}
+use Rattle.cell_data.specs.Splitting.{none_earlier}
+use Rattle.cell_data.specs.Stepping.{IsOfFirst, used, positions_of}
 use Rattle.cell_data.specs.declared.value.Data.{Data}
 use Rattle.part_events.specs.Event.{Event, start, end}
 use Rattle.written_markup.specs.Markup.{element, attribute}
@@ -17,6 +19,7 @@ use Rattle.xlsx_out.specs.WrittenSheet.{formula_events, SheetRow, in_rows}
 use Rattle.xlsx_out.specs.declared.groups.FormulaForm.{FormulaForm}
 use Rattle.xlsx_out.specs.declared.groups.FormulaForm.TheVariants as form
 use Rattle.xlsx_out.specs.declared.groups.GroupedFormula.{GroupedFormula}
+use Rattle.xlsx_out.specs.declared.sheet.FormsLeft.{FormsLeft}
 
 -- formulas by their positions, each as it is written
 abbrev pub PlacedForms : Type 0
@@ -28,13 +31,35 @@ written_as form.Plain text = plain text
 written_as (form.Master last index) text = master text last index
 written_as (form.Derived index) text = derived index
 
--- a formula that was found to be written so, by its position
+-- a formula as it was found to be written
+abbrev pub written_of : GroupedFormula → WrittenFormula
+written_of formula = written_as formula.form formula.text.now
+
+-- such a formula by its position
 abbrev pub form_entry : GroupedFormula → (ℕ × ℕ) × WrittenFormula
-form_entry formula = (formula.position, written_as formula.form formula.text.now)
+form_entry formula = (formula.position, written_of formula)
+
+-- the last row of a group stands on a sheet
+abbrev pub IsLastInSheet : FormulaForm → Type 0
+IsLastInSheet (form.Master last index) = last < MAX_ROWS
+IsLastInSheet form.Plain = Unit {0}
+IsLastInSheet (form.Derived index) = Unit {0}
+
+-- that of a formula's group does
+abbrev pub IsFormInSheet : GroupedFormula → Type 0
+IsFormInSheet formula = IsLastInSheet formula.form
 
 -- such formulas by their positions
 abbrev pub form_entries : List GroupedFormula → PlacedForms
 form_entries formulas = map form_entry formulas
+
+-- those that are left to write
+abbrev pub left_of : FormsLeft → List GroupedFormula
+left_of forms = drop forms.next forms.all.now
+
+-- the same by their positions
+abbrev pub forms_left : FormsLeft → PlacedForms
+forms_left forms = form_entries (left_of forms)
 
 -- each of the formulas as it is written
 abbrev pub placed_forms : Placed → PlacedForms
@@ -109,12 +134,26 @@ abbrev pub leaving : Option ℕ → List Event
 leaving None = []
 leaving (Some row) = row_end
 
+-- this row is open
+abbrev pub is_open : Option ℕ → ℕ → Bool
+is_open None row = false
+is_open (Some current) row = current == row
+
 -- what ends the open row and begins another one, where that isn't the open one
 abbrev pub entering : Option ℕ → ℕ → List Event
-entering None row = row_start row
-entering (Some current) row = if current == row then [] else row_end ++ row_start row
+entering open_row row = if is_open open_row row then [] else leaving open_row ++ row_start row
 
 -- what is still to be written of values and formulas where this row is open, or none
 abbrev pub data_left : Option ℕ → PlacedValues → PlacedForms → List Event
 data_left row values forms =
     rows_left (cell_among values forms) row (positions_among values forms)
+
+-- the first position that has a value or a formula
+pub record IsFirstOfBoth
+    {X Y : Type 0} (values : List ((ℕ × ℕ) × X)) (formulas : List ((ℕ × ℕ) × Y))
+    (position : ℕ × ℕ) : Type 0 where
+  pub in_rows : position.0 < MAX_ROWS
+  pub in_columns : position.1 < MAX_COLUMNS
+  pub before_values : none_earlier position values ≡ true
+  pub before_formulas : none_earlier position formulas ≡ true
+  pub is_used : IsOfFirst position values ⊎ IsOfFirst position formulas

@@ -9,12 +9,12 @@ use Rattle.cell_refs.specs.Positions.{position_cmp}
 use Rattle.cell_refs.specs.Reference.{reference, row_reference}
 use Rattle.cell_data.specs.CellError.{cell_error_text}
 use Rattle.cell_data.specs.Stepping.{used, positions_of}
-use Rattle.cell_data.specs.CellValue.{CellValue, nothing, integer, number, text, shared_text, truth}
+use Rattle.cell_data.specs.CellValue.{CellValue, nothing, number, text, truth}
 use Rattle.cell_data.specs.CellValue.{time, iso_time, failure}
 use Rattle.cell_data.specs.declared.value.ExcelDateTimeType.{ExcelDateTimeType}
 use Rattle.cell_data.specs.declared.value.ExcelDateTimeType.TheVariants.{DateTime, TimeDelta}
 use Rattle.decimals.specs.Decimals.{printed}
-use Rattle.part_events.specs.Event.{Tag, Event, start, end, leaf}
+use Rattle.part_events.specs.Event.{Event}
 use Rattle.part_events.specs.Package.{Part}
 use Rattle.written_markup.specs.Markup.{element, attribute}
 use Rattle.written_markup.specs.WrittenText.{attribute_if, encoded}

@@ -67,11 +67,7 @@ fn put_sheet_attributes(buffer: &mut String, sheet_name: &str) -> Result<(), All
 }
 
 /// Appends the list of the one sheet, whose attributes are made in `buffer`.
-fn push_sheets(
-    draft: &mut Draft,
-    buffer: &mut String,
-    sheet_name: &str,
-) -> Result<(), AllocError>
+fn push_sheets(draft: &mut Draft, buffer: &mut String, sheet_name: &str) -> Result<(), AllocError>
     ensures { OnOk result (draft.new ≡ with_events draft.old (sheets_events sheet_name.now)) }
 {
     put_sheet_attributes(buffer, sheet_name)?;

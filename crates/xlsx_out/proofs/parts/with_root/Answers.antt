@@ -1,6 +1,5 @@
 use Rattle.std.specs.Prelude.{codes, []}
 use Rattle.part_events.specs.Memory.{Contents, closed}
-use Rattle.written_markup.specs.Markup.{element, attribute}
 use Rattle.written_markup.proofs.Drafted.{part_written}
 use Rattle.xlsx_out.specs.WrittenSheet.{relationship_to}
 use Rattle.xlsx_out.proofs.parts.with_root.Goals as goal

@@ -32,11 +32,12 @@ runs-preserved c =
     let behind = c.in-Some.behind.now in
     let parts =
     split_parts 38 c.runs.rest.now (Some (c.in-Some.run', c.in-Some.behind)) c.in-Some.ensures.cases
-    (omega arith) in
-    (search rules,
-    goes_on encoded (string_bytes c.runs.out) (string_bytes c.push_quoted.new.out)
-    (string_bytes c.push_str.new.self) (encoded run) (codes "&amp;") c.runs.rest.now behind
-    (string_bytes c.args.out.now ++ encoded c.args.text.now)
-    c.in_ok-push_quoted.ensures c.in_ok-push_str.ensures.bytes
-    (ap encoded parts.0 ∙ encoded_at_and run behind)
-    c.runs.invariant.1)
+    (omega arith) in (
+      search rules,
+      goes_on encoded (string_bytes c.runs.out) (string_bytes c.push_quoted.new.out)
+          (string_bytes c.push_str.new.self) (encoded run) (codes "&amp;") c.runs.rest.now behind
+          (string_bytes c.args.out.now ++ encoded c.args.text.now)
+          c.in_ok-push_quoted.ensures c.in_ok-push_str.ensures.bytes
+          (ap encoded parts.0 ∙ encoded_at_and run behind)
+          c.runs.invariant.1,
+    )

@@ -22,15 +22,17 @@ runs-preserved c =
     let parts =
     split_parts 34 c.runs.rest.now (Some (c.in-Some.run', c.in-Some.behind)) c.in-Some.ensures.cases
     (omega arith) in
-    let lacks = sym (ap (has_byte 38) parts.0) ∙ c.runs.invariant.2 in
-    (search rules,
-    goes_on encoded (string_bytes c.runs.out) (string_bytes c.push_str.new.self)
-    (string_bytes c.push_str-in-Some.new.self) run (codes "&quot;") c.runs.rest.now behind
-    (string_bytes c.args.out.now ++ encoded c.args.text.now)
-    c.in_ok-push_str.ensures.bytes c.in_ok-push_str-2.ensures.bytes
-    (ap encoded parts.0
-    ∙ encoded_at_quote run behind (lacks_in_run 38 34 run behind lacks) (lacks_byte 34 run parts.1))
-    c.runs.invariant.1, lacks_behind 38 34 run behind lacks)
+    let lacks = sym (ap (has_byte 38) parts.0) ∙ c.runs.invariant.2 in (
+      search rules,
+      goes_on encoded (string_bytes c.runs.out) (string_bytes c.push_str.new.self)
+          (string_bytes c.push_str-in-Some.new.self) run (codes "&quot;") c.runs.rest.now behind
+          (string_bytes c.args.out.now ++ encoded c.args.text.now)
+          c.in_ok-push_str.ensures.bytes c.in_ok-push_str-2.ensures.bytes
+          (ap encoded parts.0
+          ∙ encoded_at_quote run behind (lacks_in_run 38 34 run behind lacks) (lacks_byte 34 run parts.1))
+          c.runs.invariant.1,
+      lacks_behind 38 34 run behind lacks,
+    )
 
 pub returns : goal.returns
 returns c =

@@ -25,16 +25,17 @@ runs-preserved c =
     let parts =
     split_parts 13 c.runs.rest.now (Some (c.in-Some.run', c.in-Some.behind)) c.in-Some.ensures.cases
     (omega arith) in
-    let back = leaf (entity_ref (codes "#13")) ∷ [] in
-    (search rules,
-    ap (λ held. with_events held (text_events behind))
-    (joined_step c.runs.draft c.push_run.new.draft c.push.new.self (run_events run) back
-    c.in_ok-push_run.ensures c.in_ok-push.ensures)
-    ∙ events_joined c.runs.draft (run_events run ++ back) (text_events behind)
-    ∙ ap (with_events c.runs.draft)
-    (append_assoc (run_events run) back (text_events behind)
-    ∙ sym (ap text_events parts.0 ∙ run_and_return run behind parts.1))
-    ∙ c.runs.invariant.1)
+    let back = leaf (entity_ref (codes "#13")) ∷ [] in (
+      search rules,
+      ap (λ held. with_events held (text_events behind))
+          (joined_step c.runs.draft c.push_run.new.draft c.push.new.self (run_events run) back
+          c.in_ok-push_run.ensures c.in_ok-push.ensures)
+          ∙ events_joined c.runs.draft (run_events run ++ back) (text_events behind)
+          ∙ ap (with_events c.runs.draft)
+          (append_assoc (run_events run) back (text_events behind)
+          ∙ sym (ap text_events parts.0 ∙ run_and_return run behind parts.1))
+          ∙ c.runs.invariant.1,
+    )
 
 pub returns : goal.returns
 returns c =

@@ -21,14 +21,15 @@ runs-preserved c =
     let behind = c.in-Some.behind.now in
     let parts =
     split_parts 95 c.runs.rest.now (Some (c.in-Some.run', c.in-Some.behind)) c.in-Some.ensures.cases
-    (omega arith) in
-    (search rules,
-    goes_on underscores_escaped (string_bytes c.runs.out) (string_bytes c.push_str.new.self)
-    (string_bytes c.push_str-in-Some.new.self) run (codes "_x005F_") c.runs.rest.now behind
-    (string_bytes c.args.out.now ++ underscores_escaped c.args.text.now)
-    c.in_ok-push_str.ensures.bytes c.in_ok-push_str-2.ensures.bytes
-    (ap underscores_escaped parts.0 ∙ escaped_run run behind (lacks_byte 95 run parts.1))
-    c.runs.invariant.1)
+    (omega arith) in (
+      search rules,
+      goes_on underscores_escaped (string_bytes c.runs.out) (string_bytes c.push_str.new.self)
+          (string_bytes c.push_str-in-Some.new.self) run (codes "_x005F_") c.runs.rest.now behind
+          (string_bytes c.args.out.now ++ underscores_escaped c.args.text.now)
+          c.in_ok-push_str.ensures.bytes c.in_ok-push_str-2.ensures.bytes
+          (ap underscores_escaped parts.0 ∙ escaped_run run behind (lacks_byte 95 run parts.1))
+          c.runs.invariant.1,
+    )
 
 pub returns : goal.returns
 returns c =

@@ -1,11 +1,10 @@
-use Rattle.std.proofs.Common.{◌≡◌, ℕ, ◌<◌, ◌%◌, Bool, true, false, ◌&&◌, ◌||◌, refl, sym, ap, ap₂, ◌∙◌}
+use Rattle.std.proofs.Common.{◌≡◌, ℕ, ◌<◌, ◌%◌, Bool, true, false, ◌&&◌, ◌||◌, refl, ap₂, ◌∙◌}
 use Rattle.std.proofs.Common.{arith, subst}
 use Rattle.std.specs.Prelude.{◌==◌, ℤ, pos, negsuc, nat_abs, not}
 use Rattle.std.proofs.lemmas.Bool.Decides.{nat_tests}
 use lib.Signed.{mag}
 use Rattle.decimals.specs.Canonical.{IsTrimmed}
 use Rattle.decimals.specs.Decimals.{has_bits}
-use Rattle.xlsx_out.specs.Writable.{is_decimal}
 use Rattle.xlsx_out.proofs.writable.decimals_have_one_form.Goals as goal
 
 mantissa_fits : (z : ℤ) → mag z < 170141183460469231731687303715884105728 → has_bits 127 z ≡ true
@@ -22,6 +21,7 @@ one_form : (m p : ℤ) → (m ≡ pos 0 → p ≡ pos 0) → IsTrimmed m →
 one_form m p zero trimmed = by (nat_abs m % 10 == 0) refl where
   ends : (a : ℕ) → (a % 10 == 0) ≡ true → a % 10 ≡ 0
   ends a is = grind (arith, nat_tests)
+
   by : (t : Bool) → (nat_abs m % 10 == 0) ≡ t →
       (not t || (nat_abs m == 0 && nat_abs p == 0)) ≡ true
   by false is = refl

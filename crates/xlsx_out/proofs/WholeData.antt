@@ -1,0 +1,93 @@
+-- What is written step by step is the data of the sheet.
+use Rattle.std.proofs.Common.{◌≡◌, ℕ, Bool, true, false, ◌&&◌, cond, List, [], ◌∷◌, ◌++◌, refl, sym, ap, ◌∙◌}
+use Rattle.std.proofs.Common.{Option, Some, None}
+use Rattle.std.specs.Prelude.{map, codes}
+use Rattle.std.specs.FinMap.{find}
+use Rattle.std.specs.Option.{option_map, unwrap_or}
+use Rattle.std.specs.FinMap.Entries.{below_all}
+use Rattle.std.specs.Ordering.{is_lt, eq_by_cmp}
+use Rattle.std.proofs.lemmas.List.Elements.{All-map}
+use Rattle.cell_refs.specs.Positions.{position_cmp, is_rising}
+use Rattle.cell_refs.proofs.PositionOrder.{position_same}
+use Rattle.cell_data.specs.CellValue.{nothing}
+use Rattle.cell_data.specs.Cells.{IsPlacedInSheet}
+use Rattle.cell_data.specs.Splitting.{AreInOrder}
+use Rattle.cell_data.specs.Stepping.{used, positions_of}
+use Rattle.part_events.specs.Event.{Event}
+use Rattle.written_markup.specs.Markup.{element}
+use Rattle.xlsx_out.specs.Groups.{Placed, formula_placed, written_formula}
+use Rattle.xlsx_out.specs.WrittenSheet.{PlacedValues, cell_attributes, value_events, cell_events}
+use Rattle.xlsx_out.specs.WrittenSheet.{optional_formula, data_events}
+use Rattle.xlsx_out.specs.Writing.{PlacedForms, placed_forms, given_formula, given_cell, cell_among}
+use Rattle.xlsx_out.specs.Writing.{rows_by, data_left}
+use Rattle.xlsx_out.proofs.Places.{equal_if}
+
+module _ (F : Placed) where
+  abbrev forms_of : Placed → PlacedForms
+  forms_of some = map (λ entry. (entry.0, written_formula F entry.0 entry.1)) some
+
+  form_found : (p : ℕ × ℕ) (some : Placed) →
+      find position_cmp p (forms_of some)
+      ≡ option_map (written_formula F p) (find position_cmp p some)
+  form_found p [] = refl
+  form_found p (e ∷ some) = by_test (eq_by_cmp position_cmp p e.0) refl (form_found p some)
+    where
+      by_test : (test : Bool) → eq_by_cmp position_cmp p e.0 ≡ test →
+          find position_cmp p (forms_of some)
+          ≡ option_map (written_formula F p) (find position_cmp p some) →
+          cond test (Some (written_formula F e.0 e.1)) (find position_cmp p (forms_of some))
+          ≡ option_map (written_formula F p) (cond test (Some e.1) (find position_cmp p some))
+      by_test true tied rest =
+          ap (λ (q : ℕ × ℕ). Some (written_formula F q e.1))
+          (sym (position_same p e.0 (equal_if _ tied)))
+      by_test false other rest = rest
+
+  same_places : (some : Placed) → used (forms_of some) ≡ used some
+  same_places [] = refl
+  same_places (e ∷ some) = ap (λ es. (e.0, tt) ∷ es) (same_places some)
+
+  given_of : (p : ℕ × ℕ) (found : Option (List ℕ)) →
+      given_formula p (option_map (written_formula F p) found) ≡ optional_formula F p found
+  given_of p None = refl
+  given_of p (Some formula) = refl
+
+  same_cell : (V : PlacedValues) (p : ℕ × ℕ) →
+      cell_among V (placed_forms F) p ≡ cell_events V F p
+  same_cell V p =
+      let value = unwrap_or (find position_cmp p V) nothing in
+      ap (given_cell p value) (form_found p F)
+      ∙ ap (λ (formula : List Event). element (codes "c") (cell_attributes p value)
+      (formula ++ value_events value)) (given_of p (formula_placed F p))
+
+-- the rows of values and of formulas as they are written are the data
+pub data_same : (V : PlacedValues) (F : Placed) → data_left None V (placed_forms F) ≡ data_events V F
+data_same V F =
+    let places = same_places F F in
+    λ i. rows_by (λ p. same_cell F V p i) (positions_of (used V ++ places i))
+
+-- ---- in order
+
+module _ {X Y : Type 0} (g : (ℕ × ℕ) × X → Y) where
+  abbrev each : List ((ℕ × ℕ) × X) → List ((ℕ × ℕ) × Y)
+  each es = map (λ entry. (entry.0, g entry)) es
+
+  below_each : (p : ℕ × ℕ) (es : List ((ℕ × ℕ) × X)) →
+      below_all position_cmp p (each es) ≡ below_all position_cmp p es
+  below_each p [] = refl
+  below_each p (e ∷ es) = ap (λ t. is_lt (position_cmp p e.0) && t) (below_each p es)
+
+  each_rises : (es : List ((ℕ × ℕ) × X)) → is_rising (each es) ≡ is_rising es
+  each_rises [] = refl
+  each_rises (e ∷ es) =
+      let below = below_each e.0 es in
+      let rest = each_rises es in
+      λ i. below i && rest i
+
+  pub each_in_order : (es : List ((ℕ × ℕ) × X)) → AreInOrder es → AreInOrder (each es)
+  each_in_order es order = record {
+    rising = each_rises es ∙ order.rising;
+    sheet = All-map IsPlacedInSheet (λ entry. (entry.0, g entry)) es order.sheet;
+  }
+
+pub forms_in_order : (F : Placed) → AreInOrder F → AreInOrder (placed_forms F)
+forms_in_order F order = each_in_order (λ entry. written_formula F entry.0 entry.1) F order

@@ -1,0 +1,24 @@
+use Rattle.std.proofs.Common.{◌≡◌, ◌+◌, length}
+use Rattle.std.specs.Prelude.{None, All}
+use Rattle.cell_data.specs.CellValue.{value_of_data}
+use Rattle.cell_data.specs.Splitting.{AreInOrder}
+use Rattle.cell_data.proofs.Stepping.{meant}
+use Rattle.sorted_cells.specs.Placed.{placed_left}
+use Rattle.written_markup.specs.Markup.{with_events}
+use Rattle.xlsx_out.specs.Writing.{data_left, left_of, forms_left, IsFormInSheet}
+use Rattle.xlsx_out.proofs.sheet.push_rows.Given as goal
+
+abbrev pub invariant-positions : goal.invariant-positions
+invariant-positions l = record {
+  rows : with_events l.draft (data_left l.row (meant value_of_data (placed_left l.values_left))
+      (forms_left l.formulas_left))
+      ≡ with_events l.fn.draft (data_left None (meant value_of_data (placed_left l.fn.values))
+      (forms_left l.fn.formulas));
+  values_order : AreInOrder (placed_left l.values_left);
+  formulas_order : AreInOrder (forms_left l.formulas_left);
+  sheet : All IsFormInSheet (left_of l.formulas_left);
+}
+
+abbrev pub decreases-positions : goal.decreases-positions
+decreases-positions l =
+    length (placed_left l.values_left) + length (forms_left l.formulas_left)
