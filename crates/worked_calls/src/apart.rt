@@ -1,58 +1,51 @@
 //! A sheet by a reader of its cells, and then a table, of one open workbook that is taken apart.
 
 ghost use Rattle.std.specs.Prelude.{IsSome, IsSomeAnd, IfOk};
-ghost use Rattle.xlsx_cells.specs.CellsReader.{stream_by};
-ghost use Rattle.xlsx_cells.specs.Stream.{IsStreaming};
 ghost use Rattle.xlsx_core.specs.TableData.{table_of_book, IsOfTable};
 ghost use Rattle.xlsx_core.specs.Worksheets.{KeepsWorkbook};
 
 use cell_data::{Data, Table};
 use part_events::Package;
-use xlsx_core::{Workbook, Xlsx, XlsxCellReader};
+use xlsx_core::{Workbook, Xlsx};
 use xlsx_error::XlsxError;
 
-/// How many cells with a value a reader has still to give. The count is tested, and no clause says
-/// it.
-fn cells_left<P: Package>(reader: &mut XlsxCellReader<'_, P>) -> Result<u64, XlsxError>
-    requires { IsStreaming (stream_by P.state reader.old) }
-{
-    let mut count = 0u64;
-    'cells: while let Some(_cell) = reader.next_cell()? {
-        count = count.saturating_add(1);
-    }
-    Ok(count)
-}
-
-/// How many cells with a value the first sheet of this name has.
-fn cells_of<P: Package>(
+/// Where the first cell with a value of the first sheet of this name is, a row and a column counted
+/// from 0. The place is tested, and no clause says it.
+fn first_place<P: Package>(
     package: &mut P,
     workbook: &Workbook,
     name: &str,
-) -> Result<u64, XlsxError> {
+) -> Result<Option<(u32, u32)>, XlsxError> {
     let mut reader = workbook.worksheet_cells_reader(package, name)?;
-    cells_left(&mut reader)
+    match reader.next_cell()? {
+        Some(cell) => Ok(Some(cell.pos)),
+        None => Ok(None),
+    }
 }
 
-/// How many cells with a value the first sheet of a name has, and then the first table of a name,
-/// whose tables were loaded before. The reader borrows what is known of the workbook, so the tables
-/// are still loaded once it is gone, and nothing is asked for again. The workbook is handed back, as
-/// it was but for how its package was read.
-pub fn cells_and_table<P: Package>(
+/// Where the first cell with a value of the first sheet of a name is, and then the first table of a
+/// name, whose tables were loaded before. The reader borrows what is known of the workbook, so the
+/// tables are still loaded once it is gone, and nothing is asked for again. The workbook is handed
+/// back, as it was but for how its package was read.
+pub fn first_place_and_table<P: Package>(
     xlsx: Xlsx<P>,
     sheet_name: &str,
     table_name: &str,
-) -> (Xlsx<P>, Result<(u64, Table<Data>), XlsxError>)
+) -> (
+    Xlsx<P>,
+    Result<(Option<(u32, u32)>, Table<Data>), XlsxError>,
+)
     requires { IsSome xlsx.lists.tables }
     ensures kept { KeepsWorkbook xlsx result.0 }
     ensures table { IfOk result.1 (λ read.
         IsSomeAnd (table_of_book xlsx table_name.now) (λ own. IsOfTable own read.1)) }
 {
     let (mut package, workbook) = xlsx.into_parts();
-    let count = cells_of(&mut package, &workbook, sheet_name);
+    let place = first_place(&mut package, &workbook, sheet_name);
     let mut xlsx = Xlsx::from_parts(package, workbook);
     let table = xlsx.table_by_name(table_name);
-    let read = match (count, table) {
-        (Ok(count), Ok(table)) => Ok((count, table)),
+    let read = match (place, table) {
+        (Ok(place), Ok(table)) => Ok((place, table)),
         (Err(error), _) | (_, Err(error)) => Err(error),
     };
     (xlsx, read)

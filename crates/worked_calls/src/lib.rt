@@ -16,7 +16,7 @@ mod in_memory;
 mod taking;
 mod whole_cells;
 
-pub use apart::cells_and_table;
+pub use apart::first_place_and_table;
 pub use counting::formula_count;
 pub use in_memory::{
     cells_in_memory, part_in_memory, pivot_rows_in_memory, rows_in_memory, sheet_in_memory,

@@ -1,8 +1,9 @@
-use crate::{formula_count, full_cells};
+use crate::{first_place_and_table, formula_count, full_cells};
 use cell_data::CellFormat;
 use cell_refs::Dimensions;
 use std::test::Fail;
-use test_packages::{SHEET_NAME, package_with, sheet_part};
+use test_packages::{Part, SHEET_NAME, package_of, package_with, sheet_part};
+use xlsx_core::{Xlsx, XlsxError};
 use xlsx_formulas::XlsxFormulaMetadata;
 use xlsx_values::Book;
 
@@ -58,5 +59,47 @@ fn formulas_tell_their_group_and_equal_their_copies(rt: HostRuntime) -> Result<(
         assert!(rt; formula.clone_in(alloc)? == formula);
         assert!(rt; formula != other);
     }
+    Ok(())
+}
+
+/// A workbook of one sheet with a table over A1 and A2.
+const WITH_TABLE: [Part<'static>; 6] = [
+    (
+        "_rels/.rels",
+        r#"<Relationships><Relationship Type="http://schemas.openxmlformats.org/officeDocument/2006/relationships/officeDocument" Target="xl/workbook.xml"></Relationship></Relationships>"#,
+    ),
+    (
+        "xl/_rels/workbook.xml.rels",
+        r#"<Relationships><Relationship Id="a" Type="http://schemas.openxmlformats.org/officeDocument/2006/relationships/worksheet" Target="s.xml"></Relationship></Relationships>"#,
+    ),
+    (
+        "xl/workbook.xml",
+        r#"<workbook><sheets><sheet name="S" r:id="a"></sheet></sheets></workbook>"#,
+    ),
+    (
+        "xl/s.xml",
+        r#"<worksheet><sheetData><row r="1"><c r="A1"></c><c r="B1"><v>7</v></c></row><row r="2"><c r="A2"><v>8</v></c></row></sheetData></worksheet>"#,
+    ),
+    (
+        "xl/_rels/s.xml.rels",
+        r#"<Relationships><Relationship Type="http://schemas.openxmlformats.org/officeDocument/2006/relationships/table" Target="xl/t.xml"></Relationship></Relationships>"#,
+    ),
+    (
+        "xl/t.xml",
+        r#"<table displayName="T" ref="A1:A2"><tableColumns><tableColumn name="N"></tableColumn></tableColumns></table>"#,
+    ),
+];
+
+#[test]
+fn a_table_is_read_behind_a_reader(rt: HostRuntime) -> Result<(), Fail> {
+    let alloc = rt.alloc();
+    let Ok(mut xlsx) = Xlsx::new(alloc, package_of(alloc, &WITH_TABLE)?) else {
+        return Err(XlsxError::Failed.into());
+    };
+    xlsx.load_tables()?;
+    let (_, read) = first_place_and_table(xlsx, "S", "T");
+    let (place, table) = read?;
+    assert!(rt; place == Some((0, 1)));
+    assert_eq!(rt; table.name(), "T");
     Ok(())
 }
