@@ -1,5 +1,5 @@
 #!/usr/bin/env python3
-"""Runs `cells Sales` and `upgrade` over the shipped package, `sample 5`, and each other command
+"""Runs `cells Sales`, `upgrade` and `resave Sales` over the shipped package, `sample 5`, and each other command
 over a sample workbook, with its first allocation refused, then with its second, and so on, until
 none is left to refuse. Each of these runs must end with the status and the text of want of memory
 and print nothing, and the last one must print the stored lines."""
@@ -35,6 +35,9 @@ COMMANDS = [
 
 # The shipped package in version 2.
 UPGRADED = TOP / "tools" / "shipped.upgraded.json"
+
+# What is written of its sheet.
+RESAVED = TOP / "tools" / "shipped.resaved.json"
 
 SAMPLE_LINES = b"cells 15\nformulas 5\nstyled 3\nruns 5\nlast B5 =A5*2\n"
 
@@ -127,6 +130,7 @@ def main():
         words = [program, *(TOOL / "args").read_text().split()]
         refuse_each(words, TOOL / "stdin", (TOOL / "stdout").read_bytes(), library)
         refuse_each([program, "upgrade"], TOOL / "stdin", UPGRADED.read_bytes(), library)
+        refuse_each([program, "resave", "Sales"], TOOL / "stdin", RESAVED.read_bytes(), library)
         refuse_each([program, "sample", "5"], os.devnull, SAMPLE_LINES, library)
         for words, book, name in COMMANDS:
             lines = (SAMPLES / f"{name}.lines").read_bytes()

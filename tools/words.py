@@ -185,6 +185,16 @@ COMMANDS = {
             ),
         ),
         Command(
+            "resave",
+            ("NAME",),
+            A_SHEET,
+            Reads.SHEET,
+            (
+                "writes a package of the values and formulas of the worksheet NAME",
+                "alone, and prints its text in version 2",
+            ),
+        ),
+        Command(
             "sample",
             ("N",),
             "a number of rows, from 1 to 20,000",
@@ -215,7 +225,8 @@ STANDARD_INPUT = "-"
 
 USAGE = """\
 usage: ./xlsx FILE.xlsx cells NAME       (or merges, links, csv, csv-table, table, part,
-                                          precedents or check NAME, dependents NAME REF,
+                                          precedents, check or resave NAME,
+                                          dependents NAME REF,
                                           pivot SHEET NAME, or sheets, names, tables,
                                           pivots, props or upgrade)
        ./xlsx FILE.xlsx csv --all FOLDER

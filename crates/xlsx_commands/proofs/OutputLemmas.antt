@@ -13,7 +13,7 @@ use Rattle.xlsx_core.specs.SheetReading.{ReadsAs, IsReadable, SheetCause}
 use Rattle.xlsx_commands.specs.BookLists.{sheet_lines, name_lines}
 use Rattle.xlsx_commands.specs.Command.{Command, cells, sheets, names, merges, links, props, csv}
 use Rattle.xlsx_commands.specs.Command.{csv_table, tables, table, pivots, pivot, precedents}
-use Rattle.xlsx_commands.specs.Command.{dependents, check, part, upgrade, sample}
+use Rattle.xlsx_commands.specs.Command.{dependents, check, part, upgrade, resave, sample}
 use Rattle.xlsx_commands.specs.Outputs.{IsOutput, RefusedWorkbookCause, IsTooLarge, OutputCause}
 use Rattle.xlsx_commands.specs.Outputs.{HasOutput}
 use Rattle.xlsx_commands.specs.PartNames.{PartPathCause}
@@ -197,6 +197,8 @@ workbook_never never (part name) parts output error prints cause =
     named_never (PartPathCause name) parts name (Some prints.path) error never.openings
     prints.opens (path_never name prints.path parts error) cause
 workbook_never never upgrade parts output error prints cause = absurd cause
+workbook_never never (resave name) parts output error prints cause =
+    never.sheets parts name prints.values prints.formulas prints.styles error prints.reads cause
 workbook_never never (sample rows) parts output error prints cause =
     never.sheets parts sample_name prints.values prints.formulas prints.styles error prints.reads
     cause

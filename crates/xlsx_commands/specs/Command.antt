@@ -35,6 +35,7 @@ pub data Command : Type 0 where
   check : List ℕ → Command
   part : List ℕ → Command
   upgrade : Command
+  resave : List ℕ → Command
   sample : ℕ → Command
 
 -- the command that was asked, by the texts of its names
@@ -56,6 +57,7 @@ command_meant (asked.Dependents name position) = dependents name.now position
 command_meant (asked.Check name) = check name.now
 command_meant (asked.Part name) = part name.now
 command_meant asked.Upgrade = upgrade
+command_meant (asked.Resave name) = resave name.now
 command_meant (asked.Sample rows) = sample rows
 
 -- so many rows are those of a sample
@@ -97,8 +99,9 @@ named_command word name =
     else (if bytes_eq word (codes "precedents") then Some (precedents name)
     else (if bytes_eq word (codes "check") then Some (check name)
     else (if bytes_eq word (codes "part") then Some (part name)
+    else (if bytes_eq word (codes "resave") then Some (resave name)
     else (if bytes_eq word (codes "sample") then option_map sample (rows_asked name)
-    else None)))))))))
+    else None))))))))))
 
 -- a command of three
 abbrev pub placed_command : List ℕ → List ℕ → List ℕ → Option Command
@@ -134,4 +137,5 @@ own_parts (dependents name position) = None
 own_parts (check name) = None
 own_parts (part name) = None
 own_parts upgrade = None
+own_parts (resave name) = None
 own_parts (sample rows) = Some (sample_parts rows)

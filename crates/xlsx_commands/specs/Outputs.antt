@@ -8,11 +8,12 @@ use Rattle.sheet_listing.specs.SheetListing.{listing}
 use Rattle.package_text.specs.WrittenPackage.{written_package}
 use Rattle.xlsx_open.specs.Opening.{OpeningCause}
 use Rattle.xlsx_core.specs.SheetReading.{ReadsAs, SheetCause}
+use Rattle.xlsx_out.specs.WrittenSheet.{written_parts}
 use Rattle.xlsx_commands.specs.BookLists.{AreSheetLines, AreNameLines}
 use Rattle.xlsx_commands.specs.Command.{Command, cells, sheets, names, merges, links, props, csv}
 use Rattle.xlsx_commands.specs.CacheRows.{ArePivotRows, NamedPivotCause}
 use Rattle.xlsx_commands.specs.Command.{csv_table, tables, table, pivots, pivot, precedents}
-use Rattle.xlsx_commands.specs.Command.{dependents, check, part, upgrade, sample}
+use Rattle.xlsx_commands.specs.Command.{dependents, check, part, upgrade, resave, sample}
 use Rattle.xlsx_commands.specs.FormulaLists.{ArePrecedentLines, AreDependentLines, AreCheckLines}
 use Rattle.xlsx_commands.specs.PartNames.{IsPartLine, NamedPartCause}
 use Rattle.xlsx_commands.specs.PivotLists.{ArePivotLines, ListedPivotsCause}
@@ -40,6 +41,15 @@ pub record AreLinesOf (parts : List Part) (name lines : List ℕ) : Type 0 where
 abbrev pub IsUpgrade : List Part → List ℕ → Type 0
 IsUpgrade parts output = output ≡ written_package parts ++ 10 ∷ []
 
+-- the text, in version 2, of the package that is written of the sheet of this name, as it is read
+-- from these parts, and a line feed
+pub record IsResaved (parts : List Part) (name output : List ℕ) : Type 0 where
+  pub values : List ((ℕ × ℕ) × CellValue)
+  pub formulas : List ((ℕ × ℕ) × List ℕ)
+  pub styles : StyleMap
+  pub reads : ReadsAs parts name values formulas styles
+  pub saved : IsUpgrade (written_parts name values formulas) output
+
 -- ---- the rows
 
 -- these bytes are the output of a command on a package of these parts
@@ -61,6 +71,7 @@ IsOutput (dependents name position) parts output = AreDependentLines parts name 
 IsOutput (check name) parts output = AreCheckLines parts name output
 IsOutput (part name) parts output = IsPartLine parts name output
 IsOutput upgrade parts output = IsUpgrade parts output
+IsOutput (resave name) parts output = IsResaved parts name output
 IsOutput (sample rows) parts output = AreSampleLines rows parts output
 
 -- why its workbook refuses it
@@ -82,6 +93,7 @@ RefusedWorkbookCause (dependents name position) parts error = SheetCause parts n
 RefusedWorkbookCause (check name) parts error = SheetCause parts name error
 RefusedWorkbookCause (part name) parts error = NamedPartCause parts name error
 RefusedWorkbookCause upgrade parts error = ⊥
+RefusedWorkbookCause (resave name) parts error = SheetCause parts name error
 RefusedWorkbookCause (sample rows) parts error = SheetCause parts sample_name error
 
 -- why it is refused because an area has too many cells
@@ -103,6 +115,7 @@ IsTooLarge (dependents name position) parts = ⊥
 IsTooLarge (check name) parts = ⊥
 IsTooLarge (part name) parts = ⊥
 IsTooLarge upgrade parts = ⊥
+IsTooLarge (resave name) parts = ⊥
 IsTooLarge (sample rows) parts = ⊥
 
 -- ---- what the rows make

@@ -1,6 +1,7 @@
 ghost use Rattle.std.specs.Prelude.{IfOk, IfErr};
 ghost use Rattle.cell_data.specs.Pairs.{value_pairs, formula_pairs};
 ghost use Rattle.xlsx_core.specs.SheetReading.{SheetCause, ReadsAs};
+ghost use Rattle.xlsx_core.specs.Worksheets.{HasLeastRanges};
 ghost use Rattle.xlsx_commands.specs.Outputs.{AreLinesOf, CallFails};
 
 use crate::error::ToolError;
@@ -17,6 +18,7 @@ pub(crate) fn reading_of(
 ) -> Result<SheetReading, ToolError>
     ensures ok { IfOk result (λ found. ReadsAs «package».parts name.now
         (value_pairs found.values) (formula_pairs found.formulas) found.styles) }
+    ensures ranges { IfOk result HasLeastRanges }
     ensures err { IfErr result (CallFails (SheetCause «package».parts name.now)) }
 {
     let SheetAnswer { result, package } = read_sheet(alloc, package, name);

@@ -47,6 +47,8 @@ pub enum Command<'a> {
     Part(&'a str),
     /// The package text of version 2.
     Upgrade,
+    /// The package text of version 2 of a package that is written of the worksheet of this name.
+    Resave(&'a str),
     /// What is read of a workbook with so many rows.
     Sample(u32),
 }
@@ -116,6 +118,7 @@ fn named_command<'a>(word: &str, name: &'a str) -> Option<Command<'a>>
         "precedents" => Some(Command::Precedents(name)),
         "check" => Some(Command::Check(name)),
         "part" => Some(Command::Part(name)),
+        "resave" => Some(Command::Resave(name)),
         "sample" => sample_command(name),
         _ => None,
     }

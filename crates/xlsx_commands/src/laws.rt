@@ -1,8 +1,15 @@
-ghost use Rattle.std.specs.Prelude.{◌≡◌, ◌⊎◌, ℕ, List};
+ghost use Rattle.std.specs.Prelude.{◌≡◌, ◌⊎◌, ℕ, List, true};
+ghost use Rattle.cell_data.specs.Pairs.{value_pairs, formula_pairs};
+ghost use Rattle.cell_styles.specs.StyleMap.{StyleMap};
 ghost use Rattle.part_events.specs.Package.{Part};
 ghost use Rattle.xlsx_open.specs.Opening.{OpensSoundly};
 ghost use Rattle.xlsx_core.specs.Agreement.{HaveSameSheet};
-ghost use Rattle.xlsx_core.specs.SheetReading.{IsReadable};
+ghost use Rattle.xlsx_core.specs.SheetReading.{IsReadable, ReadsAs};
+ghost use Rattle.xlsx_core.specs.Worksheets.{HasLeastRanges};
+ghost use Rattle.xlsx_core.specs.declared.sheet_reading.SheetReading.{SheetReading};
+ghost use Rattle.xlsx_out.specs.Groups.{Placed};
+ghost use Rattle.xlsx_out.specs.Writable.{are_writable_values, are_writable_formulas, IsWritable};
+ghost use Rattle.xlsx_out.specs.WrittenSheet.{PlacedValues};
 ghost use Rattle.xlsx_commands.specs.Command.{Command, cells, sheets, names, csv, csv_table};
 ghost use Rattle.xlsx_commands.specs.Command.{table};
 ghost use Rattle.xlsx_commands.specs.Outputs.{AreLinesOf, IsOutput, IsTooLarge, OutputCause};
@@ -102,3 +109,15 @@ pub fn sheets_have_one_text_of_rows()
     sheets_are_read_alike();
     sheets_go_by_their_parts();
 }
+
+/// What is read of a sheet can be written: its values and its formulas by their positions, and the
+/// ranges that `read_sheet` gives.
+pub fn sheets_that_are_read_can_be_written()
+    ensures pairs { (parts : List Part) (name : List ℕ) (values : PlacedValues) (formulas : Placed)
+        (styles : StyleMap) → ReadsAs parts name values formulas styles →
+        (are_writable_values values ≡ true) × (are_writable_formulas formulas ≡ true) }
+    ensures ranges { (parts : List Part) (name : List ℕ) (styles : StyleMap)
+        (found : SheetReading) →
+        ReadsAs parts name (value_pairs found.values) (formula_pairs found.formulas) styles →
+        HasLeastRanges found → IsWritable found.values found.formulas }
+{}

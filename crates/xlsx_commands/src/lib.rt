@@ -3,10 +3,9 @@
 //!
 //! Rooms: `command` (the words that ask for a command), `cell_lines`, `book_lists`, `merge_lines`,
 //! `link_lines`, `property_lines`, `table_lines`, `pivot_lines`, `pivot_rows`, `sheet_rows`,
-//! `table_rows`, `formula_lines`, `part_line`, `upgraded_text` and `sample_lines` (what each command
-//! prints),
-//! `output` (each command's own package, where it has one, and its output), `laws`, and `error`
-//! (`ToolError`).
+//! `table_rows`, `formula_lines`, `part_line`, `upgraded_text`, `resaved_text` and `sample_lines`
+//! (what each command prints), `output` (each command's own package, where it has one, and its
+//! output), `laws`, and `error` (`ToolError`).
 //!
 //! **A command is a row of a few tables**: of the words that ask for it (`command_of`), of the
 //! package that it works on where it reads no input (`own_parts`), of its output (`IsOutput`), of
@@ -29,6 +28,9 @@
 //! in. That the rows of a range are these is the lemma `rows_meant` of `RowsPlaced`. The rows of a
 //! table are said so too, by the area that its part says and behind a header of that width
 //! (`table_records`), and `TablesPlaced` brings the range that was read to them.
+//!
+//! That what is read can be written is said here, where it is needed, and not among the laws on what
+//! is written (`ReadsWritable`): of a cell comes no value that a written cell can't have.
 #![tactic(auto)]
 
 mod book_lists;
@@ -45,6 +47,7 @@ mod part_line;
 mod pivot_lines;
 mod pivot_rows;
 mod property_lines;
+mod resaved_text;
 mod sample_lines;
 mod sheet_rows;
 mod table_lines;
@@ -56,7 +59,7 @@ pub use equality::{copies_are_the_same, equality_is_by_all_fields};
 pub use error::ToolError;
 pub use laws::{
     causes_leave_no_output, readable_sheets_have_lines, readable_sheets_have_rows,
-    sheets_have_one_listing, sheets_have_one_text_of_rows, tables_with_values_have_rows,
-    workbooks_that_open_have_lists,
+    sheets_have_one_listing, sheets_have_one_text_of_rows, sheets_that_are_read_can_be_written,
+    tables_with_values_have_rows, workbooks_that_open_have_lists,
 };
 pub use output::{output_of, own_package};

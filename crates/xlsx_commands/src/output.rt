@@ -13,6 +13,7 @@ use crate::part_line::part_line;
 use crate::pivot_lines::pivot_lines;
 use crate::pivot_rows::pivot_rows;
 use crate::property_lines::property_lines;
+use crate::resaved_text::resaved_text;
 use crate::sample_lines::sample_lines;
 use crate::sheet_rows::sheet_rows;
 use crate::table_lines::{table_lines, table_value_lines};
@@ -46,6 +47,7 @@ pub fn own_package(alloc: Global, command: Command<'_>) -> Result<Option<MemoryP
         Command::Check(_) => None,
         Command::Part(_) => None,
         Command::Upgrade => None,
+        Command::Resave(_) => None,
         Command::Sample(rows) => Some(sample_package(alloc, rows)?),
     };
     Ok(package)
@@ -80,6 +82,7 @@ pub fn output_of(
         Command::Check(name) => check_lines(alloc, package, name),
         Command::Part(name) => part_line(alloc, package, name),
         Command::Upgrade => upgraded_text(alloc, package),
+        Command::Resave(name) => resaved_text(alloc, package, name),
         Command::Sample(rows) => sample_lines(alloc, package, rows),
     }
 }

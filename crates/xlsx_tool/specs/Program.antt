@@ -29,6 +29,7 @@ help_text =
     ++ (codes "       xlsx_tool pivots < package.json\n"
     ++ (codes "       xlsx_tool props < package.json\n"
     ++ (codes "       xlsx_tool upgrade < package.json\n"
+    ++ (codes "       xlsx_tool resave NAME < package.json\n"
     ++ (codes "       xlsx_tool sample N\n\n"
     ++ (codes "One line is printed, of the worksheet NAME or of the workbook, for each\n\n"
     ++ (codes "  cells      cell with a value, formula or style: position, value, formula, fill\n"
@@ -49,8 +50,10 @@ help_text =
     ++ (codes "  props      property of the workbook: its name, its text\n\n"
     ++ (codes "The fields of a line have tabs between them, and those of CSV commas.\n\n"
     ++ (codes "upgrade prints the package text in version 2: an empty element is one event.\n\n"
+    ++ (codes "resave writes a package of the values and formulas of the worksheet NAME alone\n"
+    ++ (codes "and prints its text in version 2.\n\n"
     ++ codes "sample makes a package of 1 to 20,000 rows and prints how much is read of it.\n"
-    ))))))))))))))))))))))))))))))))))))
+    )))))))))))))))))))))))))))))))))))))))
 
 -- the line of the version
 abbrev pub version_text : List ℕ

@@ -33,6 +33,7 @@ Usage: xlsx_tool cells NAME < package.json
        xlsx_tool pivots < package.json
        xlsx_tool props < package.json
        xlsx_tool upgrade < package.json
+       xlsx_tool resave NAME < package.json
        xlsx_tool sample N
 
 One line is printed, of the worksheet NAME or of the workbook, for each
@@ -57,6 +58,9 @@ One line is printed, of the worksheet NAME or of the workbook, for each
 The fields of a line have tabs between them, and those of CSV commas.
 
 upgrade prints the package text in version 2: an empty element is one event.
+
+resave writes a package of the values and formulas of the worksheet NAME alone
+and prints its text in version 2.
 
 sample makes a package of 1 to 20,000 rows and prints how much is read of it.
 ";
