@@ -8,7 +8,9 @@ ghost use Rattle.xlsx_commands.specs.Command.{table};
 ghost use Rattle.xlsx_commands.specs.Outputs.{AreLinesOf, IsOutput, IsTooLarge, OutputCause};
 ghost use Rattle.xlsx_commands.specs.Outputs.{HasOutput};
 ghost use Rattle.xlsx_commands.specs.SheetRows.{AreRowsOf};
+ghost use Rattle.xlsx_commands.specs.declared.asked_rows.AskedRows.{AskedRows};
 ghost use Rattle.xlsx_commands.specs.declared.error.ToolError.{ToolError};
+ghost use Rattle.xlsx_rows.specs.declared.options.CsvOptions.{CsvOptions};
 
 use xlsx_areas::merges_have_no_cause_of_a_refusal;
 use xlsx_core::{
@@ -71,33 +73,35 @@ pub fn sheets_have_one_listing()
 /// A package has an output for `csv NAME`, or too large an area for it, exactly where its sheet
 /// NAME is readable.
 pub fn readable_sheets_have_rows()
-    ensures onward { (parts : List Part) (name : List ℕ) → IsReadable parts name →
-        HasOutput (csv name) parts ⊎ IsTooLarge (csv name) parts }
-    ensures back { (parts : List Part) (name : List ℕ) →
-        HasOutput (csv name) parts → IsReadable parts name }
-    ensures large { (parts : List Part) (name : List ℕ) →
-        IsTooLarge (csv name) parts → IsReadable parts name }
+    ensures onward { (parts : List Part) (name : List ℕ) (asked : AskedRows) →
+        IsReadable parts name →
+        HasOutput (csv name asked) parts ⊎ IsTooLarge (csv name asked) parts }
+    ensures back { (parts : List Part) (name : List ℕ) (asked : AskedRows) →
+        HasOutput (csv name asked) parts → IsReadable parts name }
+    ensures large { (parts : List Part) (name : List ℕ) (asked : AskedRows) →
+        IsTooLarge (csv name asked) parts → IsReadable parts name }
 {}
 
 /// A package has an output for `csv-table NAME`, or too large an area for it, exactly where it has
 /// one for `table NAME`.
 pub fn tables_with_values_have_rows()
-    ensures onward { (parts : List Part) (name : List ℕ) → HasOutput (table name) parts →
-        HasOutput (csv_table name) parts ⊎ IsTooLarge (csv_table name) parts }
-    ensures back { (parts : List Part) (name : List ℕ) →
-        HasOutput (csv_table name) parts → HasOutput (table name) parts }
-    ensures large { (parts : List Part) (name : List ℕ) →
-        IsTooLarge (csv_table name) parts → HasOutput (table name) parts }
+    ensures onward { (parts : List Part) (name : List ℕ) (options : CsvOptions) →
+        HasOutput (table name) parts →
+        HasOutput (csv_table name options) parts ⊎ IsTooLarge (csv_table name options) parts }
+    ensures back { (parts : List Part) (name : List ℕ) (options : CsvOptions) →
+        HasOutput (csv_table name options) parts → HasOutput (table name) parts }
+    ensures large { (parts : List Part) (name : List ℕ) (options : CsvOptions) →
+        IsTooLarge (csv_table name options) parts → HasOutput (table name) parts }
 {}
 
 /// A sheet has one text of rows, and so have the sheets of two packages that have the same parts
 /// where it is read from.
 pub fn sheets_have_one_text_of_rows()
-    ensures one { (parts : List Part) (name rows others : List ℕ) → AreRowsOf parts name rows →
-        AreRowsOf parts name others → rows ≡ others }
-    ensures alike { (parts other : List Part) (name rows others : List ℕ) →
-        HaveSameSheet parts other name → AreRowsOf parts name rows →
-        AreRowsOf other name others → rows ≡ others }
+    ensures one { (parts : List Part) (name : List ℕ) (asked : AskedRows) (rows others : List ℕ) →
+        AreRowsOf parts name asked rows → AreRowsOf parts name asked others → rows ≡ others }
+    ensures alike { (parts other : List Part) (name : List ℕ) (asked : AskedRows)
+        (rows others : List ℕ) → HaveSameSheet parts other name →
+        AreRowsOf parts name asked rows → AreRowsOf other name asked others → rows ≡ others }
 {
     sheets_are_read_alike();
     sheets_go_by_their_parts();
