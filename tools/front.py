@@ -17,7 +17,7 @@ import tempfile
 import words as of_words
 from program import ENDING, PROVING, UNPROVED, UNPROVED_SAYS, WRITE_FAULT, Ended, Program
 from program import build, is_fresh, say
-from words import one_line
+from words import Reads, one_line
 
 # The most bytes that the program reads.
 LIMIT = 64 * 1024 * 1024
@@ -120,18 +120,26 @@ class Book:
                     source = stack.enter_context(kept(standard_input())).fileno()
             self.workbook = stack.enter_context(workbook_of(source, limit=limit))
 
-        # What was made of it, by the sheets or the part that it is made for.
-        self.packages = {}
+        # What was made of it, by the sheets that it is made for, and the last one that was made for
+        # the part of one.
+        self.packages, self.part = {}, ("", None)
 
     def has_choice(self):
         """Whether there are sheets to choose from."""
         return self.workbook.sheet_count() > 1
 
+    def made(self, sheets):
+        with told_of(self.path):
+            return Package(self.workbook.text(sheets))
+
     def package(self, sheets):
         """The package text for some sheets, or for the part of one."""
+        if isinstance(sheets, str):
+            if self.part[0] != sheets:
+                self.part = sheets, self.made(sheets)
+            return self.part[1]
         if sheets not in self.packages:
-            with told_of(self.path):
-                self.packages[sheets] = Package(self.workbook.text(sheets))
+            self.packages[sheets] = self.made(sheets)
         return self.packages[sheets]
 
     def whole(self):
@@ -162,9 +170,13 @@ class Front:
     def __init__(self, program, source):
         self.program, self.source = program, source
 
-    def lines(self, words):
-        """The lines of a command, each as its fields."""
-        package = self.package(words)
+        # The names of worksheets' parts, by those of the worksheets.
+        self.parts = {}
+
+    def lines(self, words, package=None):
+        """The lines of a command, each as its fields, on a package text, or on that for its
+        words."""
+        package = package or self.package(words)
         with tempfile.TemporaryFile() as output:
             status, said = self.program.run(words, package.input(), output.fileno())
             if status:
@@ -174,14 +186,38 @@ class Front:
         return [[unescaped(field) for field in line.split("\t")] for line in text.split("\n")[:-1]]
 
     def package(self, words):
-        """The package text for the program's words: all that there is, or, where a command reads no
-        worksheet's own part, all but these."""
+        """The package text for the program's words: all that there is but worksheets' own parts at
+        which the command doesn't look."""
         command = of_words.COMMANDS.get(words[0])
-        if command is None or command.reads_sheets or not self.source.has_choice():
+        reads = Reads.ALL if command is None else command.reads
+        if reads is Reads.ALL or not self.source.has_choice():
             return self.source.whole()
         from package_text import Sheets
 
-        return self.source.package(Sheets.NONE)
+        name = self.of_table(words[1]) if reads is Reads.TABLE else None
+        name = words[1] if reads is Reads.SHEET else name
+        return self.source.package(Sheets.NONE if name is None else self.part_of(name))
+
+    def of_table(self, name):
+        """The name of the worksheet of the first table of this name, or None where the program
+        tells none: it then refuses the command, too."""
+        try:
+            tables = self.lines(["tables"])
+        except Refused:
+            return None
+        return next((sheet for table, sheet, *_ in tables if table == name), None)
+
+    def part_of(self, name):
+        """The name of the part of the worksheet NAME, or no sheet's where the program tells
+        none."""
+        from package_text import Sheets
+
+        if name not in self.parts:
+            try:
+                [[self.parts[name]]] = self.lines(["part", name], self.source.package(Sheets.BOOK))
+            except Refused:
+                self.parts[name] = Sheets.NONE
+        return self.parts[name]
 
     def sheet(self, number):
         """The name of the sheet at a place among all, from 1."""

@@ -3,19 +3,29 @@
 
 prove.py PROGRAM LOG          at the top of the repository
 
-Standard output has a line for each crate once it is proved; all that `rt` says goes to the file
-LOG. The status is 0 where all is proved and built, and else 1.
+Standard output has a line for each crate once it is proved, and, where none is for a while, one for
+those at work, with how many of their functions are proved; all that `rt` says goes to the file LOG.
+The status is 0 where all is proved and built, and else 1.
 """
 
+import contextlib
 import os
 import pathlib
+import re
 import signal
 import subprocess
 import sys
+import tempfile
 import time
 
 # What one proof may take of memory, in KiB.
 MEMORY = 4 * 1024 * 1024
+
+# After so many seconds without a line those at work are told.
+QUIET = 60
+
+# What `rt` says of each function that is proved: how many are by then, of how many.
+CHECKED = re.compile(rb"^checked .*, (\d+) of (\d+)$", re.MULTILINE)
 
 
 def needs_of(program, table):
@@ -65,6 +75,35 @@ def side_by_side():
     return max(1, most)
 
 
+class Work:
+    """The proof of a crate that is at work, and what `rt` says of it."""
+
+    def __init__(self, name, words):
+        self.said = tempfile.TemporaryFile()
+        self.child = subprocess.Popen(
+            words,
+            cwd=pathlib.Path("crates", name),
+            stdin=subprocess.DEVNULL,
+            stdout=self.said,
+            stderr=self.said,
+        )
+
+    def text(self):
+        # The place where the child writes next is its own.
+        return os.pread(self.said.fileno(), os.fstat(self.said.fileno()).st_size, 0)
+
+    def progress(self):
+        """How many functions are proved of how many, in words, where that is told."""
+        told = CHECKED.findall(self.text())
+        return "" if not told else f", {told[-1][0].decode()} of {told[-1][1].decode()} functions"
+
+    def end(self, log):
+        """Adds what was said to the whole log."""
+        with self.said:
+            log.write(self.text())
+        log.flush()
+
+
 class Proving:
     """The proofs of the crates below a program, some of them at work."""
 
@@ -72,17 +111,11 @@ class Proving:
         self.program, self.needs, self.log = program, needs, log
         self.heights = heights(needs)
         self.proved, self.at_work = set(), {}
-        self.began = time.monotonic()
+        self.began = self.told = time.monotonic()
 
     def begin(self, name):
         words = ["rt", "run", "--", "--version"] if name == self.program else ["rt", "lib"]
-        self.at_work[name] = subprocess.Popen(
-            words,
-            cwd=pathlib.Path("crates", name),
-            stdin=subprocess.DEVNULL,
-            stdout=self.log,
-            stderr=self.log,
-        )
+        self.at_work[name] = Work(name, words)
 
     def ready(self):
         """The crates that can be proved now, those with the longest chain above them first."""
@@ -93,29 +126,41 @@ class Proving:
         )
         return sorted(some, key=lambda name: -self.heights[name])
 
-    def say(self, name):
-        minutes = int(time.monotonic() - self.began) // 60
-        left = len(self.needs) - len(self.proved)
-        print(f"xlsx: {name} is proved; {left} left, {minutes} min so far", flush=True)
+    def say(self, text):
+        self.told = time.monotonic()
+        minutes = int(self.told - self.began) // 60
+        print(f"xlsx: {text}, {minutes} min so far", flush=True)
+
+    def say_work(self):
+        """Tells of those at work, where nothing was told for a while."""
+        if time.monotonic() - self.told >= QUIET:
+            works = (f"{name}{work.progress()}" for name, work in self.at_work.items())
+            self.say(f"at work: {'; '.join(works)}")
 
     def take_ended(self):
         """Waits for one of the proofs at work. Whether none has failed."""
         while True:
-            for name, child in self.at_work.items():
-                if child.poll() is not None:
+            for name, work in self.at_work.items():
+                if work.child.poll() is not None:
                     del self.at_work[name]
-                    if child.returncode:
+                    work.end(self.log)
+                    if work.child.returncode:
                         return False
                     self.proved.add(name)
-                    self.say(name)
+                    left = len(self.needs) - len(self.proved)
+                    self.say(f"{name} is proved; {left} left")
                     return True
+            self.say_work()
             time.sleep(0.05)
 
     def stop(self):
-        for child in self.at_work.values():
-            child.terminate()
-        for child in self.at_work.values():
-            child.wait()
+        for work in self.at_work.values():
+            work.child.terminate()
+        for work in self.at_work.values():
+            work.child.wait()
+            # What is said then goes nowhere where the log can't be written, either.
+            with contextlib.suppress(OSError):
+                work.end(self.log)
 
     def run(self, most):
         """Whether all is proved, with at most so many proofs at work."""

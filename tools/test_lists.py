@@ -387,6 +387,21 @@ class Lists(unittest.TestCase):
             wanted = refused(f"Worksheet '{name}' not found")
             self.check(package, ["merges", name], wanted, name)
 
+    def test_the_part_of_a_sheet_is_named_or_refused(self):
+        package = package_of(SHEETS)
+        for name, part in (("S", "xl/a.xml\n"), ("T", "xl/b.xml\n")):
+            self.check(package, ["part", name], part, "the first sheet of a name, or no part")
+            self.check(package_of(SHEETS[:3]), ["part", name], part, "no sheet's part")
+        for name in ("Z", "s", ""):
+            wanted = refused(f"Worksheet '{name}' not found")
+            self.check(package, ["part", name], wanted, name)
+        parts = [("xl/styles.xml", "<styleSheet>"), *SHEETS]
+        wanted = refused("Unexpected end of xml, expecting '</styleSheet>'")
+        self.check(package_of(parts), ["part", "S"], wanted, "broken styles")
+        self.check(package_of(parts), ["cells", "S"], wanted, "broken styles")
+        for words in (["part"], ["part", "S", "T"]):
+            self.check(package, words, [(2, b"", b"usage\n")], words)
+
     def test_links_are_listed_or_refused(self):
         for shown, related, sheet, wanted in LINKS:
             parts = [] if related is None else [(RELATED_NAME, related)]
@@ -409,7 +424,7 @@ class Lists(unittest.TestCase):
             (1, "File not found 'xl/_rels/workbook.xml.rels'"),
         ):
             package = package_of(SMALLEST[:left_out] + SMALLEST[left_out + 1 :])
-            for words in (["merges", "S"], ["links", "S"], ["props"]):
+            for words in (["merges", "S"], ["links", "S"], ["props"], ["part", "S"]):
                 self.check(package, words, refused(text), text)
         package = package_of([ROOT, RELATIONSHIPS, SHEET])
         self.check(package, ["merges", "S"], refused("Worksheet 'S' not found"), "no workbook")

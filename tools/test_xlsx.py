@@ -65,6 +65,18 @@ FED = """\
 grep -o '"name":"[^"]*"' | cut -d '"' -f 4 | tr '\\n' ' '
 echo
 """
+# The same, but that it tells of one table, and of one worksheet's part where nothing is fed but what
+# tells it.
+CHOOSING = """\
+#!/bin/sh
+fed=$(grep -o '"name":"[^"]*"' | cut -d '"' -f 4 | tr '\\n' ' ')
+case "$1:$2:$fed" in
+"part:Two:_rels/.rels xl/_rels/workbook.xml.rels xl/workbook.xml ") echo xl/sheets/two.xml ;;
+part:*) echo "Worksheet '$2' not found" >&2; exit 6 ;;
+tables:*) printf 'T\\tTwo\\tA1:B2\\tx\\n' ;;
+*) echo "$fed" ;;
+esac
+"""
 # Proves a crate, builds the program of this folder, or runs it unproved.
 RT = """\
 #!/bin/sh
@@ -81,6 +93,7 @@ if [ "$1" = try ]; then
     exit "$status"
 fi
 echo "rt $* speaks of $(basename "$PWD")"
+[ ! -e "$WAITING" ] || { echo "checked xlsx_tool::run, 3 of 7"; sleep 2; }
 [ ! -e "$FAILING" ] || [ "$1" != run ] || exit 1
 [ "$1" != run ] || cp "$STAND_IN" out/xlsx_tool
 """
@@ -134,6 +147,7 @@ class Wrapper(unittest.TestCase):
     def run_on(self, *words, data=b"", path=None, memory=None, **given):
         path = f"{self.folder / 'bin'}:{os.environ['PATH']}" if path is None else path
         about = {"STAND_IN": self.folder / "program", "FAILING": self.folder / "failing"}
+        about["WAITING"] = self.folder / "waiting"
         if memory is not None:
             about["XLSX_MEMORY"] = memory
         if "stdin" not in given:
@@ -169,6 +183,15 @@ class Wrapper(unittest.TestCase):
         self.assertEqual(ran, (0, b"cells 0: 2\n", self.built()))
         said = "rt lib speaks of low\nrt run -- --version speaks of xlsx_tool\n"
         self.assertEqual(self.log().read_text(), said)
+
+    def test_a_long_proof_tells_how_far_it_is(self):
+        self.written("waiting", "")
+        prove = self.folder / "top" / "tools" / "prove.py"
+        prove.write_text(prove.read_text().replace("QUIET = 60", "QUIET = 1"))
+        status, _, said = self.run_on("cells", "0", data=b"12")
+        self.assertEqual(status, 0)
+        line = "xlsx: at work: xlsx_tool, 3 of 7 functions, 0 min so far\n"
+        self.assertIn(line, said)
 
     def test_a_fresh_program_is_run_without_a_word(self):
         self.build()
@@ -432,8 +455,18 @@ class Wrapper(unittest.TestCase):
             with self.subTest(words=words):
                 ran = self.run_on("several.xlsx", *words)
                 self.assertEqual(ran, (0, f"{' '.join(none)} \n".encode(), ""))
+        self.build(self.written("choosing", CHOOSING))
+        of_sheet = (["csv", "Two"], ["precedents", "Two"], ["dependents", "Two", "A1"])
+        for words in (["cells", "Two"], ["table", "T"], ["csv-table", "T"], *of_sheet):
+            with self.subTest(words=words):
+                ran = self.run_on("several.xlsx", *words)
+                self.assertEqual(ran, (0, f"{' '.join([*none, sheets[1]])} \n".encode(), ""))
+        for words in (["cells", "Four"], ["table", "U"]):
+            with self.subTest(words=words):
+                ran = self.run_on("several.xlsx", *words)
+                self.assertEqual(ran, (0, f"{' '.join(none)} \n".encode(), ""))
         said = "several.xlsx: xl/sheets/one.xml is broken: markup without an end, at character 0\n"
-        for words in (["package"], ["cells", "Two"], ["table", "T"], ["upgrade"]):
+        for words in (["package"], ["upgrade"]):
             self.assertEqual(self.run_on("several.xlsx", *words), (13, b"", said))
 
     def test_the_whole_package_text(self):
@@ -651,18 +684,31 @@ class Wrapper(unittest.TestCase):
                 first = self.run_on(path, "csv")
                 self.assertEqual(first, each[names[0]])
 
-    def test_without_sheets_the_samples_answer_the_same(self):
-        """What is asked of no sheet is answered alike on the text that is fed and on the whole."""
+    def asked_of(self, path):
+        """What is asked of a workbook: each command, and each sheet, table and pivot table."""
+        yield from ([word] for word in ("sheets", "names", "props", "tables", "pivots"))
+        _, sheets, _ = self.run_on(path, "sheets")
+        for name in [*(line.split("\t")[0] for line in sheets.decode().splitlines()), "none"]:
+            for word in ("cells", "merges", "links", "csv", "precedents", "check", "part"):
+                yield [word, name]
+            yield ["dependents", name, "B2"]
+        _, tables, _ = self.run_on(path, "tables")
+        for name in [*(line.split("\t")[0] for line in tables.decode().splitlines()), "none"]:
+            yield from (["table", name], ["csv-table", name])
+        _, pivots, _ = self.run_on(path, "pivots")
+        yield from (["pivot", *line.split("\t")] for line in pivots.decode().splitlines())
+
+    def test_the_samples_answer_as_on_their_whole_texts(self):
+        """What is fed of a workbook gives the bytes, the status and the fault of its whole text."""
         self.build(PROGRAM)
         for path in sorted((TOP / "samples").glob("*.xlsx")):
             whole = self.run_on(path, "package")[1]
-            pivots = self.run_on(path, "pivots")[1].decode().splitlines()
-            asked = [["pivot", *line.split("\t")] for line in pivots]
-            for words in ([word] for word in ("sheets", "names", "props", "tables", "pivots")):
-                asked.append(words)
-            for words in asked:
+            for words in self.asked_of(path):
                 with self.subTest(sample=path.name, words=words):
-                    self.assertEqual(self.run_on(path, *words), self.run_on(*words, data=whole))
+                    status, lines, said = self.run_on(*words, data=whole)
+                    own = self.run_on(path, *words)
+                    self.assertEqual(own[:2], (status, lines))
+                    self.assertEqual(own[2].splitlines()[:1], said.splitlines()[:1])
 
     def test_the_program_finds_parts_by_names_in_any_case_and_with_backslashes(self):
         self.build(PROGRAM)

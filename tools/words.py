@@ -1,16 +1,25 @@
 """The words that ./xlsx takes: its commands, its page, and what is wrong with other words."""
 
 import collections
+import enum
 import re
 
 CONTROL = re.compile("[\0-\x1f\x7f-\x9f]")
 
 # What a command is told by: its word, the names of what stands behind it, the same as a sentence
-# says it, whether it reads worksheets' own parts, and the lines of the page.
-Command = collections.namedtuple("Command", "word parameters takes reads_sheets page")
+# says it, which worksheets' own parts it reads, and the lines of the page.
+Command = collections.namedtuple("Command", "word parameters takes reads page")
 
-# Whether a command reads worksheets' own parts, or none.
-SHEETS, NO_SHEET = True, False
+
+class Reads(enum.Enum):
+    """Which worksheets' own parts a command reads: those of all, that of the worksheet that its
+    first name is of, that of the worksheet with the table of this name, or none."""
+
+    ALL = "all"
+    SHEET = "sheet"
+    TABLE = "table"
+    NONE = "none"
+
 
 A_SHEET = "the name of a sheet, or --sheet and its number"
 A_CELL = f"{A_SHEET}, and the reference of a cell"
@@ -24,7 +33,7 @@ COMMANDS = {
             "cells",
             ("NAME",),
             A_SHEET,
-            SHEETS,
+            Reads.SHEET,
             (
                 "prints one line for each cell of the worksheet NAME with a value, a",
                 "formula or a style: its position, value, formula and fill, with tabs",
@@ -36,21 +45,21 @@ COMMANDS = {
             "sheets",
             (),
             NOTHING,
-            NO_SHEET,
+            Reads.NONE,
             ("prints one line for each sheet: its name, type and state",),
         ),
         Command(
             "names",
             (),
             NOTHING,
-            NO_SHEET,
+            Reads.NONE,
             ("prints one line for each defined name: the name and its text",),
         ),
         Command(
             "merges",
             ("NAME",),
             A_SHEET,
-            SHEETS,
+            Reads.SHEET,
             (
                 "prints one line for each area of merged cells of the worksheet NAME,",
                 "by its corners, as in A1:C1",
@@ -60,7 +69,7 @@ COMMANDS = {
             "links",
             ("NAME",),
             A_SHEET,
-            SHEETS,
+            Reads.SHEET,
             (
                 "prints one line for each link of the worksheet NAME: its area, target,",
                 "location, displayed text and tooltip, as in",
@@ -71,7 +80,7 @@ COMMANDS = {
             "props",
             (),
             NOTHING,
-            NO_SHEET,
+            Reads.NONE,
             (
                 "prints one line for each property of the workbook: its name and,",
                 "behind a tab and =, its text",
@@ -81,7 +90,7 @@ COMMANDS = {
             "csv",
             ("NAME",),
             A_SHEET,
-            SHEETS,
+            Reads.SHEET,
             (
                 "prints the rows of the values of the worksheet NAME as CSV. Behind the",
                 "name, each at most once: --dates --digits=N --delimiter=C --crlf --bom",
@@ -92,7 +101,7 @@ COMMANDS = {
             "csv-table",
             ("NAME",),
             A_TABLE,
-            SHEETS,
+            Reads.TABLE,
             (
                 "prints the names of the columns and the rows of the table NAME as CSV.",
                 "The options of csv stand behind the name, but for --from-a1",
@@ -102,7 +111,7 @@ COMMANDS = {
             "tables",
             (),
             NOTHING,
-            NO_SHEET,
+            Reads.NONE,
             (
                 "prints one line for each table: its name, its sheet, the area of its",
                 "data and the names of its columns",
@@ -112,21 +121,21 @@ COMMANDS = {
             "table",
             ("NAME",),
             A_TABLE,
-            SHEETS,
+            Reads.TABLE,
             ("prints one line for each value in the table NAME: position and value",),
         ),
         Command(
             "pivots",
             (),
             NOTHING,
-            NO_SHEET,
+            Reads.NONE,
             ("prints one line for each pivot table: its sheet and its name",),
         ),
         Command(
             "pivot",
             ("SHEET", "NAME"),
             "two names, of a sheet and of a pivot table",
-            NO_SHEET,
+            Reads.NONE,
             (
                 "prints one line for each row of the cache of the pivot table NAME on",
                 "SHEET: the names of its fields first, and then the records",
@@ -136,7 +145,7 @@ COMMANDS = {
             "precedents",
             ("NAME",),
             A_SHEET,
-            SHEETS,
+            Reads.SHEET,
             (
                 "prints one line for each formula of the worksheet NAME: its cell and",
                 "the areas that it names, with tabs between them, as in",
@@ -147,7 +156,7 @@ COMMANDS = {
             "dependents",
             ("NAME", "REF"),
             A_CELL,
-            SHEETS,
+            Reads.SHEET,
             (
                 "prints one line for each cell of the worksheet NAME whose formula names",
                 "the cell REF, such as A7: its reference",
@@ -157,7 +166,7 @@ COMMANDS = {
             "check",
             ("NAME",),
             A_SHEET,
-            SHEETS,
+            Reads.SHEET,
             (
                 "prints one line for each formula of the worksheet NAME: its cell, and",
                 "agrees, or differs and what it comes to, or no value, unsupported or",
@@ -166,10 +175,17 @@ COMMANDS = {
             ),
         ),
         Command(
+            "part",
+            ("NAME",),
+            A_SHEET,
+            Reads.NONE,
+            ("prints the name of the part that the worksheet NAME is read from",),
+        ),
+        Command(
             "upgrade",
             (),
             NOTHING,
-            SHEETS,
+            Reads.ALL,
             (
                 "prints the package text in version 2, where an empty element is one",
                 "event",
@@ -179,7 +195,7 @@ COMMANDS = {
             "sample",
             ("N",),
             "a number of rows, from 1 to 20,000",
-            NO_SHEET,
+            Reads.NONE,
             (
                 "makes a package of N rows, at most 20,000, and prints how much is read",
                 "of it",
@@ -223,7 +239,7 @@ REFERENCE = re.compile("([A-Za-z]{1,3})0*([1-9][0-9]{0,6})")
 STANDARD_INPUT = "-"
 
 USAGE = """\
-usage: ./xlsx FILE.xlsx cells NAME       (or merges, links, csv, csv-table, table,
+usage: ./xlsx FILE.xlsx cells NAME       (or merges, links, csv, csv-table, table, part,
                                           precedents or check NAME, dependents NAME REF,
                                           pivot SHEET NAME, or sheets, names, tables,
                                           pivots, props or upgrade)

@@ -14,6 +14,10 @@ next_field field = codes "\t" ++ field
 abbrev pub sheet_line : List ℕ → List ℕ → List ℕ → List ℕ
 sheet_line name typ state = escaped name ++ (next_field typ ++ (next_field state ++ codes "\n"))
 
+-- the line of a text alone: of the name of a part
+abbrev pub text_line : List ℕ → List ℕ
+text_line text = escaped text ++ codes "\n"
+
 -- the line of two texts: of a defined name and what it stands for, or of the sheet of a pivot table
 -- and its name
 abbrev pub pair_line : List ℕ → List ℕ → List ℕ

@@ -8,7 +8,7 @@ ghost use Rattle.list_lines.specs.Lines.{LiesInWorksheet, sheet_line, pair_line,
 ghost use Rattle.list_lines.specs.Lines.{link_line, property_line, custom_line};
 ghost use Rattle.list_lines.specs.Lines.{optional_area, column_fields, table_line};
 ghost use Rattle.list_lines.specs.Lines.{IsCellOfWorksheet, area_fields, position_line};
-ghost use Rattle.list_lines.specs.Lines.{position_areas_line};
+ghost use Rattle.list_lines.specs.Lines.{position_areas_line, text_line};
 
 use cell_refs::{Dimensions, push_reference};
 use escaped_text::{or_cut_back, push_escaped};
@@ -43,6 +43,27 @@ pub fn push_sheet_line(
 {
     let len = out.len();
     let appended = push_sheet_fields(out, name, typ, state);
+    or_cut_back(out, len, appended)
+}
+
+/// Appends the field of that line and its end. A refusal may leave a front of them behind.
+fn push_text_end(out: &mut String, text: &str) -> Result<(), AllocError>
+    ensures ok { OnOk result (string_bytes out.new ≡ string_bytes out.old ++ text_line text.now) }
+    ensures err { OnErr result (Extends (string_bytes out.old) (string_bytes out.new)) }
+{
+    push_escaped(out, text)?;
+    out.push_str("\n")
+}
+
+/// Appends the line of a text alone, escaped: of the name of a part. A refusal leaves the text as it
+/// was.
+#[tactic(auto, using(escaped_text::proofs::Extending::cut_back))]
+pub fn push_text_line(out: &mut String, text: &str) -> Result<(), AllocError>
+    ensures ok { OnOk result (string_bytes out.new ≡ string_bytes out.old ++ text_line text.now) }
+    ensures err { OnErr result (string_bytes out.new ≡ string_bytes out.old) }
+{
+    let len = out.len();
+    let appended = push_text_end(out, text);
     or_cut_back(out, len, appended)
 }
 

@@ -1,6 +1,6 @@
 use crate::{
     push_area_line, push_custom_line, push_link_line, push_pair_line, push_position_areas_line,
-    push_position_line, push_property_line, push_sheet_line, push_table_line,
+    push_position_line, push_property_line, push_sheet_line, push_table_line, push_text_line,
 };
 use cell_refs::Dimensions;
 use std::test::Fail;
@@ -94,5 +94,14 @@ fn positions_have_their_lines(rt: HostRuntime) -> Result<(), Fail> {
     push_position_areas_line(&mut out, (0, 0), &[COLUMN, ONE_CELL])?;
     let wanted = "lists:\nAB7\nXFD1048576\nA1\tC1:C1048576\tD1:D1\n";
     assert_eq!(rt; out.as_str(), wanted);
+    Ok(())
+}
+
+#[test]
+fn a_text_alone_has_its_line(rt: HostRuntime) -> Result<(), Fail> {
+    let mut out = String::from_str(rt.alloc(), "lists:\n")?;
+    push_text_line(&mut out, "xl/worksheets/a\tb.xml")?;
+    push_text_line(&mut out, "")?;
+    assert_eq!(rt; out.as_str(), "lists:\nxl/worksheets/a\\tb.xml\n\n");
     Ok(())
 }

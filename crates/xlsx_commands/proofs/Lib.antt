@@ -5,6 +5,7 @@ pub mod MemoryCalls
 pub mod NamedSheets
 pub mod OneListing
 pub mod OutputLemmas
+pub mod PartsNamed
 pub mod PivotsListed
 pub mod PropertiesListed
 pub mod RowsPlaced

@@ -36,6 +36,7 @@ pub data Command : Type 0 where
   precedents : List ℕ → Command
   dependents : List ℕ → ℕ × ℕ → Command
   check : List ℕ → Command
+  part : List ℕ → Command
   upgrade : Command
   sample : ℕ → Command
 
@@ -56,6 +57,7 @@ command_meant (asked.Pivot sheet name) = pivot sheet.now name.now
 command_meant (asked.Precedents name) = precedents name.now
 command_meant (asked.Dependents name position) = dependents name.now position
 command_meant (asked.Check name) = check name.now
+command_meant (asked.Part name) = part name.now
 command_meant asked.Upgrade = upgrade
 command_meant (asked.Sample rows) = sample rows
 
@@ -97,8 +99,9 @@ named_command word name =
     else (if bytes_eq word (codes "table") then Some (table name)
     else (if bytes_eq word (codes "precedents") then Some (precedents name)
     else (if bytes_eq word (codes "check") then Some (check name)
+    else (if bytes_eq word (codes "part") then Some (part name)
     else (if bytes_eq word (codes "sample") then option_map sample (rows_asked name)
-    else None))))))))
+    else None)))))))))
 
 -- a command of three
 abbrev pub placed_command : List ℕ → List ℕ → List ℕ → Option Command
@@ -144,5 +147,6 @@ own_parts (pivot sheet name) = None
 own_parts (precedents name) = None
 own_parts (dependents name position) = None
 own_parts (check name) = None
+own_parts (part name) = None
 own_parts upgrade = None
 own_parts (sample rows) = Some (sample_parts rows)

@@ -4,6 +4,7 @@ pub mod CacheRows
 pub mod Command
 pub mod FormulaLists
 pub mod Outputs
+pub mod PartNames
 pub mod PivotLists
 pub mod PropertyLists
 pub mod SampleLines

@@ -12,8 +12,9 @@ use Rattle.xlsx_commands.specs.BookLists.{AreSheetLines, AreNameLines}
 use Rattle.xlsx_commands.specs.Command.{Command, cells, sheets, names, merges, links, props, csv}
 use Rattle.xlsx_commands.specs.CacheRows.{ArePivotRows, NamedPivotCause}
 use Rattle.xlsx_commands.specs.Command.{csv_table, tables, table, pivots, pivot, precedents}
-use Rattle.xlsx_commands.specs.Command.{dependents, check, upgrade, sample}
+use Rattle.xlsx_commands.specs.Command.{dependents, check, part, upgrade, sample}
 use Rattle.xlsx_commands.specs.FormulaLists.{ArePrecedentLines, AreDependentLines, AreCheckLines}
+use Rattle.xlsx_commands.specs.PartNames.{IsPartLine, NamedPartCause}
 use Rattle.xlsx_commands.specs.PivotLists.{ArePivotLines, ListedPivotsCause}
 use Rattle.xlsx_commands.specs.PropertyLists.{ArePropertyLines, ListedPropertiesCause}
 use Rattle.xlsx_commands.specs.SampleLines.{AreSampleLines, sample_name}
@@ -58,6 +59,7 @@ IsOutput (pivot sheet name) parts output = ArePivotRows parts sheet name output
 IsOutput (precedents name) parts output = ArePrecedentLines parts name output
 IsOutput (dependents name position) parts output = AreDependentLines parts name position output
 IsOutput (check name) parts output = AreCheckLines parts name output
+IsOutput (part name) parts output = IsPartLine parts name output
 IsOutput upgrade parts output = IsUpgrade parts output
 IsOutput (sample rows) parts output = AreSampleLines rows parts output
 
@@ -78,6 +80,7 @@ RefusedWorkbookCause (pivot sheet name) parts error = NamedPivotCause parts shee
 RefusedWorkbookCause (precedents name) parts error = SheetCause parts name error
 RefusedWorkbookCause (dependents name position) parts error = SheetCause parts name error
 RefusedWorkbookCause (check name) parts error = SheetCause parts name error
+RefusedWorkbookCause (part name) parts error = NamedPartCause parts name error
 RefusedWorkbookCause upgrade parts error = ⊥
 RefusedWorkbookCause (sample rows) parts error = SheetCause parts sample_name error
 
@@ -98,6 +101,7 @@ IsTooLarge (pivot sheet name) parts = ⊥
 IsTooLarge (precedents name) parts = ⊥
 IsTooLarge (dependents name position) parts = ⊥
 IsTooLarge (check name) parts = ⊥
+IsTooLarge (part name) parts = ⊥
 IsTooLarge upgrade parts = ⊥
 IsTooLarge (sample rows) parts = ⊥
 

@@ -47,6 +47,8 @@ pub enum Command<'a> {
     Dependents(&'a str, (u32, u32)),
     /// The formulas of the worksheet of this name, with what each comes to beside its cell's value.
     Check(&'a str),
+    /// The part that the worksheet of this name is read from.
+    Part(&'a str),
     /// The package text of version 2.
     Upgrade,
     /// What is read of a workbook with so many rows.
@@ -117,6 +119,7 @@ fn named_command<'a>(word: &str, name: &'a str) -> Option<Command<'a>>
         "table" => Some(Command::Table(name)),
         "precedents" => Some(Command::Precedents(name)),
         "check" => Some(Command::Check(name)),
+        "part" => Some(Command::Part(name)),
         "sample" => sample_command(name),
         _ => None,
     }

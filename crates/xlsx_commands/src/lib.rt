@@ -3,9 +3,9 @@
 //!
 //! Rooms: `command` (the words that ask for a command), `asked_rows` (the words that ask more of
 //! rows), `cell_lines`, `book_lists`, `merge_lines`, `link_lines`, `property_lines`, `table_lines`,
-//! `pivot_lines`, `pivot_rows`, `sheet_rows`, `table_rows`, `formula_lines`, `upgraded_text` and
-//! `sample_lines` (what each command prints), `output` (each command's own package, where it has
-//! one, and its output), `laws`, and `error` (`ToolError`).
+//! `pivot_lines`, `pivot_rows`, `sheet_rows`, `table_rows`, `formula_lines`, `part_line`,
+//! `upgraded_text` and `sample_lines` (what each command prints), `output` (each command's own
+//! package, where it has one, and its output), `laws`, and `error` (`ToolError`).
 //!
 //! **A command is a row of a few tables**: of the words that ask for it (`command_of`), of the
 //! package that it works on where it reads no input (`own_parts`), of its output (`IsOutput`), of
@@ -41,6 +41,7 @@ mod laws;
 mod link_lines;
 mod merge_lines;
 mod output;
+mod part_line;
 mod pivot_lines;
 mod pivot_rows;
 mod property_lines;

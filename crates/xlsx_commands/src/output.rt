@@ -9,6 +9,7 @@ use crate::error::ToolError;
 use crate::formula_lines::{check_lines, dependent_lines, precedent_lines};
 use crate::link_lines::link_lines;
 use crate::merge_lines::merge_lines;
+use crate::part_line::part_line;
 use crate::pivot_lines::pivot_lines;
 use crate::pivot_rows::pivot_rows;
 use crate::property_lines::property_lines;
@@ -43,6 +44,7 @@ pub fn own_package(alloc: Global, command: Command<'_>) -> Result<Option<MemoryP
         Command::Precedents(_) => None,
         Command::Dependents(_, _) => None,
         Command::Check(_) => None,
+        Command::Part(_) => None,
         Command::Upgrade => None,
         Command::Sample(rows) => Some(sample_package(alloc, rows)?),
     };
@@ -76,6 +78,7 @@ pub fn output_of(
         Command::Precedents(name) => precedent_lines(alloc, package, name),
         Command::Dependents(name, position) => dependent_lines(alloc, package, name, position),
         Command::Check(name) => check_lines(alloc, package, name),
+        Command::Part(name) => part_line(alloc, package, name),
         Command::Upgrade => upgraded_text(alloc, package),
         Command::Sample(rows) => sample_lines(alloc, package, rows),
     }

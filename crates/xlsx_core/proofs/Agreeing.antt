@@ -24,14 +24,14 @@ use Rattle.xlsx_core.proofs.SheetLaws.{one_reading}
 
 -- ---- one part
 
-section_over : (section part : List ℕ) (one two : List Part) (P : List Event → Type 0)
+pub section_over : (section part : List ℕ) (one two : List Part) (P : List Event → Type 0)
     → HaveSamePart one two part → IsSomeAnd (closed_section_of section part one) P
     → IsSomeAnd (closed_section_of section part two) P
 section_over section part one two P same has =
     subst (λ (events : Option (List Event)).
     IsSomeAnd (option_and_then (closed_section section) events) P) same has
 
-optional_over : (section part : List ℕ) (one two : List Part) (none : Type 0)
+pub optional_over : (section part : List ℕ) (one two : List Part) (none : Type 0)
     (P : List Event → Type 0) → HaveSamePart one two part
     → MatchOption (part_of one part) none (λ _. IsSomeAnd (closed_section_of section part one) P)
     → MatchOption (part_of two part) none (λ _. IsSomeAnd (closed_section_of section part two) P)
@@ -41,13 +41,13 @@ optional_over section part one two none P same has =
 
 -- ---- the workbook
 
-path_over : (one two : List Part) (path : List ℕ) → HaveSamePart one two (codes "_rels/.rels")
+pub path_over : (one two : List Part) (path : List ℕ) → HaveSamePart one two (codes "_rels/.rels")
     → HasPath one path → HasPath two path
 path_over one two path same found =
     section_over (codes "Relationships") (codes "_rels/.rels") one two
     (λ inside. path_in inside ≡ Ok (Some path)) same found
 
-shared_over : (one two : List Part) (path : List ℕ) (shared : SharedSaid)
+pub shared_over : (one two : List Part) (path : List ℕ) (shared : SharedSaid)
     → HaveSameBook one two path → HasShared one path shared → HasShared two path shared
 shared_over one two path shared same has = record {
   strings = optional_over (codes "sst") (strings_part path) one two (shared.strings ≡ [])
@@ -65,7 +65,7 @@ shared_over one two path shared same has = record {
       (AreStyles shared.formats shared.styles)) same.styles has.styles);
 }
 
-opens_over : (one two : List Part) (opening : Opening)
+pub opens_over : (one two : List Part) (opening : Opening)
     → HaveSamePart one two (codes "_rels/.rels")
     → ((path : List ℕ) → HasPath one path → HaveSameBook one two path) → OpensAs one opening
     → OpensAs two opening
@@ -87,13 +87,13 @@ opens_over one two opening root book opens =
 
 -- ---- the sheet
 
-events_over : (one two : List Part) (path : Option (List ℕ))
+pub events_over : (one two : List Part) (path : Option (List ℕ))
     → ((at : List ℕ) → path ≡ Some at → HaveSamePart one two at)
     → events_at path one ≡ events_at path two
 events_over one two None same = refl
 events_over one two (Some at) same = same at refl
 
-same_back : (one two : List Part) (name : List ℕ) → HaveSameSheet one two name
+pub same_back : (one two : List Part) (name : List ℕ) → HaveSameSheet one two name
     → HaveSameSheet two one name
 same_back one two name same =
     let book : (path : List ℕ) → HasPath two path → HaveSameBook two one path =
@@ -114,7 +114,7 @@ same_back one two name same =
           (opens_over two one opening (sym same.root) book opens) named);
     }
 
-reads_over : (one two : List Part) (name : List ℕ) (values : List ((ℕ × ℕ) × CellValue))
+pub reads_over : (one two : List Part) (name : List ℕ) (values : List ((ℕ × ℕ) × CellValue))
     (formulas : List ((ℕ × ℕ) × List ℕ)) (styles : StyleMap) → HaveSameSheet one two name
     → ReadsAs one name values formulas styles → ReadsAs two name values formulas styles
 reads_over one two name values formulas styles same reads = record {

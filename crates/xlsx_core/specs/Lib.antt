@@ -1,4 +1,5 @@
 pub mod Agreement
+pub mod Apart
 pub mod Links
 pub mod Listing
 pub mod Merges

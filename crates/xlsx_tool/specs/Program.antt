@@ -22,6 +22,7 @@ help_text =
     ++ (codes "       xlsx_tool precedents NAME < package.json\n"
     ++ (codes "       xlsx_tool dependents NAME REF < package.json\n"
     ++ (codes "       xlsx_tool check NAME < package.json\n"
+    ++ (codes "       xlsx_tool part NAME < package.json\n"
     ++ (codes "       xlsx_tool sheets < package.json\n"
     ++ (codes "       xlsx_tool names < package.json\n"
     ++ (codes "       xlsx_tool tables < package.json\n"
@@ -40,6 +41,7 @@ help_text =
     ++ (codes "  precedents formula: its cell, the areas that it names\n"
     ++ (codes "  dependents cell whose formula names the cell REF, such as A7: its reference\n"
     ++ (codes "  check      formula: its cell, how what it comes to stands to the cell's value\n"
+    ++ (codes "  part       worksheet: the name of the part that it is read from\n"
     ++ (codes "  sheets     sheet: its name, type, state\n"
     ++ (codes "  names      defined name: the name, its text\n"
     ++ (codes "  tables     table: its name, its sheet, the area of its data, its columns\n"
@@ -55,7 +57,7 @@ help_text =
     ++ (codes "  --from-a1      of csv alone: records from row 1, and fields from column A\n\n"
     ++ (codes "upgrade prints the package text in version 2: an empty element is one event.\n\n"
     ++ codes "sample makes a package of 1 to 20,000 rows and prints how much is read of it.\n"
-    )))))))))))))))))))))))))))))))))))))))))
+    )))))))))))))))))))))))))))))))))))))))))))
 
 -- the line of the version
 abbrev pub version_text : List ℕ

@@ -26,6 +26,7 @@ Usage: xlsx_tool cells NAME < package.json
        xlsx_tool precedents NAME < package.json
        xlsx_tool dependents NAME REF < package.json
        xlsx_tool check NAME < package.json
+       xlsx_tool part NAME < package.json
        xlsx_tool sheets < package.json
        xlsx_tool names < package.json
        xlsx_tool tables < package.json
@@ -46,6 +47,7 @@ One line is printed, of the worksheet NAME or of the workbook, for each
   precedents formula: its cell, the areas that it names
   dependents cell whose formula names the cell REF, such as A7: its reference
   check      formula: its cell, how what it comes to stands to the cell's value
+  part       worksheet: the name of the part that it is read from
   sheets     sheet: its name, type, state
   names      defined name: the name, its text
   tables     table: its name, its sheet, the area of its data, its columns
