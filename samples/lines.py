@@ -4,6 +4,7 @@ It needs Python alone, and doesn't run the program."""
 
 import csv
 import datetime
+import decimal
 import io
 import pathlib
 from fractions import Fraction
@@ -11,6 +12,7 @@ from fractions import Fraction
 HERE = pathlib.Path(__file__).resolve().parent
 MADE = datetime.datetime(2024, 1, 2, 3, 4, 5)
 DAY = datetime.timedelta(days=1)
+FIFTEEN = decimal.Context(prec=15, rounding=decimal.ROUND_HALF_UP)
 FIRST_DAYS = {1900: datetime.datetime(1899, 12, 30), 1904: datetime.datetime(1904, 1, 1)}
 
 # The colors of the workbook's theme, by the numbers of an attribute `theme`.
@@ -23,14 +25,38 @@ def line(reference, value=None, formula=None, fill=None):
     return "\t".join("-" if field is None else field for field in fields) + "\n"
 
 
+KINDS = ["date", "date", "duration", None, "date", "date", "date", "duration", None]
+
+
 def dates(epoch):
     serial = format((MADE - FIRST_DAYS[epoch]) / DAY, ".16G")
-    kinds = ["date", "date", "duration", None, "date", "date", "date", "duration", None]
-    for row, kind in enumerate(kinds, 1):
+    for row, kind in enumerate(KINDS, 1):
         for column, number in (("A", serial), ("B", "45292.25")):
             value = f"n:{number}" if kind is None else f"t:{number} {kind} {epoch}"
             yield line(f"{column}{row}", value)
     yield line("A10", "n:45292.25")
+
+
+def hours(time):
+    """A time that has passed, in hours, minutes and seconds."""
+    minutes, seconds = divmod(int(time.total_seconds()), 60)
+    return f"{minutes // 60}:{minutes % 60:02}:{seconds:02}"
+
+
+def dated_rows(epoch):
+    """The rows of the same numbers, dates by their texts and numbers of 15 digits."""
+    first = FIRST_DAYS[epoch]
+    moments = [MADE, first + 45292.25 * DAY]
+    rows = []
+    for kind in KINDS:
+        if kind is None:
+            written = [format((moment - first) / DAY, ".16G") for moment in moments]
+            rows.append([FIFTEEN.create_decimal(number) for number in written])
+        elif kind == "date":
+            rows.append([moment.isoformat() for moment in moments])
+        else:
+            rows.append([hours(moment - first) for moment in moments])
+    return records([*rows, ["45292.25", ""]])
 
 
 def rich_text():
@@ -234,6 +260,8 @@ def libreoffice_rows():
 LINES = {
     "dates_1900": dates(1900),
     "dates_1904": dates(1904),
+    "dates_1900.csv": dated_rows(1900),
+    "dates_1904.csv": dated_rows(1904),
     "libreoffice": libreoffice(),
     "libreoffice.check": [
         "A4\tunsupported\n",

@@ -291,14 +291,14 @@ class Front:
             self.say_names(words, said)
         return status
 
-    def write_all(self, folder):
+    def write_all(self, folder, options):
         """Writes each worksheet as CSV into a file of a folder: the status."""
         worksheets = self.worksheets()
         try:
             os.makedirs(folder, exist_ok=True)
             with tempfile.TemporaryDirectory(dir=folder) as made:
                 for name in worksheets:
-                    self.write_one(name, os.path.join(made, file_of(name)))
+                    self.write_one(name, options, os.path.join(made, file_of(name)))
                 for name in worksheets:
                     file = file_of(name)
                     os.replace(os.path.join(made, file), os.path.join(folder, file))
@@ -306,9 +306,9 @@ class Front:
             raise Ended(7, f"{folder} can't be written: {error.strerror}") from None
         return 0
 
-    def write_one(self, name, path):
+    def write_one(self, name, options, path):
         with open(path, "xb") as output:
-            words = ["csv", name]
+            words = ["csv", name, *options]
             status, said = self.program.run(words, self.package(words).input(), output.fileno())
         if status:
             raise Refused(status, f"'{one_line(name)}': ".encode() + said)
@@ -402,7 +402,7 @@ def answered(words):
         else:
             say(UNPROVED_SAYS)
         front = Front(Program(is_proved, memory), source)
-        return front.write_all(words[2]) if of_words.is_all(words) else front.answer(words)
+        return front.write_all(words[2], words[3:]) if of_words.is_all(words) else front.answer(words)
 
 
 def end(number, frame):

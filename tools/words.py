@@ -91,14 +91,21 @@ COMMANDS = {
             ("NAME",),
             A_SHEET,
             Reads.SHEET,
-            ("prints the rows of the values of the worksheet NAME as CSV",),
+            (
+                "prints the rows of the values of the worksheet NAME as CSV. Behind the",
+                "name, each at most once: --dates --digits=N --delimiter=C --crlf --bom",
+                "--from-a1",
+            ),
         ),
         Command(
             "csv-table",
             ("NAME",),
             A_TABLE,
             Reads.TABLE,
-            ("prints the names of the columns and the rows of the table NAME as CSV",),
+            (
+                "prints the names of the columns and the rows of the table NAME as CSV.",
+                "The options of csv stand behind the name, but for --from-a1",
+            ),
         ),
         Command(
             "tables",
@@ -207,6 +214,24 @@ COMMANDS = {
     )
 }
 
+# What may stand behind the name of a command that writes CSV, each once and in any order: words
+# alone, and words with a value.
+FLAGS = {
+    "csv": ("--dates", "--crlf", "--bom", "--from-a1"),
+    "csv-table": ("--dates", "--crlf", "--bom"),
+}
+SETTINGS = {
+    "--digits": (
+        re.compile("[1-9]|[12][0-9]|3[0-8]"),
+        "a number from 1 to 38",
+    ),
+    "--delimiter": (
+        re.compile('tab|[\0-\x7f]', re.DOTALL),
+        "tab, or one ASCII character that is no quotation mark, CR or LF",
+    ),
+}
+NO_DELIMITER = ('"', "\r", "\n")
+
 # This one is of ./xlsx alone, and takes a file.
 PACKAGE = "package"
 
@@ -249,7 +274,7 @@ In place of the name of a sheet --sheet N is the sheet that stands at N among al
 
     csv --all FOLDER
                   writes each worksheet as CSV into a file of FOLDER, by its name: none
-                  where one of them is refused
+                  where one of them is refused. Options stand behind FOLDER
     package       prints the whole package text of FILE
 
 The program is proved and built first, where it is missing or older than its
@@ -308,8 +333,37 @@ def is_of_sheet(command):
     return command.takes in (A_SHEET, A_CELL) or command.parameters[:1] == ("SHEET",)
 
 
+def parted(words):
+    """The words of a command, and the options behind them."""
+    if not words or words[0] not in FLAGS:
+        return words, []
+    count = 3 if words[0] == "csv" and words[1:2] in (["--sheet"], ["--all"]) else 2
+    options = words[count:]
+    if all(option.startswith("--") for option in options):
+        return words[:count], options
+    return words, []
+
+
+def wrong_option(word, options):
+    """What is wrong with the options behind a name, or nothing."""
+    given = set()
+    for option in options:
+        key, equals, value = option.partition("=")
+        if key in given:
+            return f"{key} stands twice behind {word}"
+        given.add(key)
+        if equals and key in SETTINGS:
+            form, takes = SETTINGS[key]
+            if not form.fullmatch(value) or value in NO_DELIMITER:
+                return f"{key} takes {takes}, and not '{value}'"
+        elif option not in FLAGS[word]:
+            return f"{word} takes no option '{option}'"
+    return None
+
+
 def has_number(words):
     """Whether a sheet is told by its number among these words of a command."""
+    words, _ = parted(words)
     command = COMMANDS.get(words[0]) if words else None
     return (
         command is not None
@@ -321,11 +375,13 @@ def has_number(words):
 
 def is_all(words):
     """Whether words ask for each worksheet as CSV."""
+    words, _ = parted(words)
     return len(words) == 3 and words[:2] == ["csv", "--all"]
 
 
 def is_command(words):
     """Whether these words are a command, or ask for a page of the program."""
+    words, _ = parted(words)
     if not words:
         return False
     command = COMMANDS.get(words[0])
@@ -368,6 +424,9 @@ def check(words, file=None):
         raise Faulty(f"there is no command '{word}'{where}{nearest(word)}")
     if not is_command(words):
         raise Faulty(wrong_count(command, words[1:]))
+    wrong = wrong_option(word, parted(words)[1])
+    if wrong is not None:
+        raise Faulty(wrong)
     if word == "sample" and not is_number(words[1], ROWS):
         raise Faulty(f"sample takes {command.takes}, and not '{words[1]}'")
     if command is not None and command.takes == A_CELL and not is_reference(words[-1]):

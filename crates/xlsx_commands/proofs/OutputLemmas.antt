@@ -11,6 +11,8 @@ use Rattle.xlsx_open.specs.Opening.{OpensSoundly, without_path}
 use Rattle.xlsx_core.specs.Links.{links_placed, PlacedLinksCause}
 use Rattle.xlsx_core.specs.SheetReading.{ReadsAs, IsReadable, SheetCause}
 use Rattle.xlsx_commands.specs.BookLists.{sheet_lines, name_lines}
+use Rattle.xlsx_rows.specs.declared.options.CsvOptions.{CsvOptions}
+use Rattle.xlsx_commands.specs.declared.asked_rows.AskedRows.{AskedRows}
 use Rattle.xlsx_commands.specs.Command.{Command, cells, sheets, names, merges, links, props, csv}
 use Rattle.xlsx_commands.specs.Command.{csv_table, tables, table, pivots, pivot, precedents}
 use Rattle.xlsx_commands.specs.Command.{dependents, check, part, upgrade, resave, sample}
@@ -74,36 +76,38 @@ SheetsNever =
 
 -- ---- rows
 
-pub rows_of_readable : (parts : List Part) (name : List ℕ)
-    → IsReadable parts name → HasOutput (csv name) parts ⊎ IsTooLarge (csv name) parts
+pub rows_of_readable : (parts : List Part) (name : List ℕ) (asked : AskedRows)
+    → IsReadable parts name → HasOutput (csv name asked) parts ⊎ IsTooLarge (csv name asked) parts
 unfolding IsOutput IsTooLarge
-rows_of_readable parts name readable = rows_or_large parts name readable
+rows_of_readable parts name asked readable = rows_or_large parts name asked readable
 
-pub readable_by_rows : (parts : List Part) (name : List ℕ)
-    → HasOutput (csv name) parts → IsReadable parts name
+pub readable_by_rows : (parts : List Part) (name : List ℕ) (asked : AskedRows)
+    → HasOutput (csv name asked) parts → IsReadable parts name
 unfolding IsOutput
-readable_by_rows parts name (output, rows) =
+readable_by_rows parts name asked (output, rows) =
     (rows.values, rows.formulas, rows.styles, rows.reads)
 
-pub readable_by_area : (parts : List Part) (name : List ℕ)
-    → IsTooLarge (csv name) parts → IsReadable parts name
+pub readable_by_area : (parts : List Part) (name : List ℕ) (asked : AskedRows)
+    → IsTooLarge (csv name asked) parts → IsReadable parts name
 unfolding IsTooLarge
-readable_by_area parts name large = (large.values, large.formulas, large.styles, large.reads)
+readable_by_area parts name asked large = (large.values, large.formulas, large.styles, large.reads)
 
-pub records_of_values : (parts : List Part) (name : List ℕ) → HasOutput (table name) parts
-    → HasOutput (csv_table name) parts ⊎ IsTooLarge (csv_table name) parts
+pub records_of_values : (parts : List Part) (name : List ℕ) (options : CsvOptions)
+    → HasOutput (table name) parts
+    → HasOutput (csv_table name options) parts ⊎ IsTooLarge (csv_table name options) parts
 unfolding IsOutput IsTooLarge
-records_of_values parts name (output, lines) = records_or_large parts name lines.table lines.has
+records_of_values parts name options (output, lines) =
+    records_or_large parts name lines.table lines.has options
 
-pub values_by_records : (parts : List Part) (name : List ℕ)
-    → HasOutput (csv_table name) parts → HasOutput (table name) parts
+pub values_by_records : (parts : List Part) (name : List ℕ) (options : CsvOptions)
+    → HasOutput (csv_table name options) parts → HasOutput (table name) parts
 unfolding IsOutput
-values_by_records parts name (output, rows) = values_of_table parts name rows.table rows.has
+values_by_records parts name options (output, rows) = values_of_table parts name rows.table rows.has
 
-pub values_by_area : (parts : List Part) (name : List ℕ)
-    → IsTooLarge (csv_table name) parts → HasOutput (table name) parts
+pub values_by_area : (parts : List Part) (name : List ℕ) (options : CsvOptions)
+    → IsTooLarge (csv_table name options) parts → HasOutput (table name) parts
 unfolding IsOutput IsTooLarge
-values_by_area parts name large = values_of_table parts name large.table large.has
+values_by_area parts name options large = values_of_table parts name large.table large.has
 
 -- ---- sheets and names
 
@@ -172,9 +176,9 @@ workbook_never never (links name) parts output error prints cause =
 workbook_never never props parts output error prints cause =
     listed_never parts prints.texts (text_of_name prints.customs) error never.openings
     never.properties prints.opens prints.say cause
-workbook_never never (csv name) parts output error prints cause =
+workbook_never never (csv name asked) parts output error prints cause =
     never.sheets parts name prints.values prints.formulas prints.styles error prints.reads cause
-workbook_never never (csv_table name) parts output error prints cause =
+workbook_never never (csv_table name options) parts output error prints cause =
     table_never parts name prints.table error never.openings never.tables never.areas prints.has
     cause
 workbook_never never tables parts output error prints cause =
@@ -207,10 +211,10 @@ large_never :
     AreNever → (command : Command) (parts : List Part) (output : List ℕ)
     → IsOutput command parts output → IsTooLarge command parts → ⊥
 unfolding IsOutput IsTooLarge
-large_never never (csv name) parts output prints large =
-    rows_never parts name output (never.alike parts name) prints large
-large_never never (csv_table name) parts output prints large =
-    records_never parts name output prints large
+large_never never (csv name asked) parts output prints large =
+    rows_never parts name asked output (never.alike parts name) prints large
+large_never never (csv_table name options) parts output prints large =
+    records_never parts name options output prints large
 large_never never _ parts output prints large = absurd large
 
 pub never_both :

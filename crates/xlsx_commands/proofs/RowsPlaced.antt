@@ -1,16 +1,18 @@
 -- The rows of a sheet: those of a range by what its values mean, and when there are none.
 use Rattle.std.proofs.Common.{◌≡◌, ◌∙◌, ℕ, ◌+◌, ◌-◌, ◌<◌, ◌≤◌, List, [], ◌∷◌, ◌++◌, map, cond}
-use Rattle.std.proofs.Common.{true, false, refl, sym, ap, subst, arith, inl, inr, ◌⊎◌, Option, Some}
+use Rattle.std.proofs.Common.{Bool, true, false, refl, sym, ap, subst, arith, inl, inr, ◌⊎◌, Option, Some}
 use Rattle.std.proofs.Common.{None}
 use Rattle.std.proofs.Common.{Result, Ok, Err}
 use mathlib.Core.Path.{fun_ext}
 use Rattle.std.specs.Prelude.{Vec, ◌↔◌}
 use Rattle.std.specs.FinMap.{find}
-use Rattle.std.specs.List.{flat_map, range_with_len}
+use Rattle.std.specs.List.{flat_map, range_with_len, filter}
 use Rattle.std.specs.Option.{unwrap_or}
 use Rattle.std.specs.Ordering.{eq_by_cmp}
 use Rattle.std.specs.declared.alloc.Global.{Global}
 use Rattle.std.proofs.lemmas.Bool.{cases_lt}
+use Rattle.std.proofs.lemmas.Bool.Decides.{nat_tests}
+use Rattle.std.proofs.lemmas.List.{append-nil}
 use Rattle.std.proofs.lemmas.List.Folds.{flat_map-map}
 use Rattle.std.proofs.lemmas.Simd.{map-map}
 use Rattle.cell_data.specs.CellValue.{CellValue, nothing, value_of_data}
@@ -19,9 +21,10 @@ use Rattle.cell_data.specs.Range.{filled}
 use Rattle.cell_data.specs.RangeItems.{box_count, row_values}
 use Rattle.cell_data.specs.declared.range.Range.{Range}
 use Rattle.cell_data.specs.declared.value.Data.{Data}
-use Rattle.cell_refs.specs.Positions.{position_cmp, least_area}
+use Rattle.cell_refs.specs.Positions.{position_cmp, least_area, is_in_area, lie_inside}
+use Rattle.cell_refs.proofs.PositionOrder.{and_both}
 use Rattle.cell_refs.specs.declared.dimensions.Dimensions.{Dimensions}
-use Rattle.csv.specs.Writing.{default_writer, row_text}
+use Rattle.csv.specs.Writing.{row_text}
 use Rattle.part_events.specs.Package.{Part}
 use Rattle.sheet_listing.specs.SheetListing.{value_placed}
 use Rattle.xlsx_core.specs.SheetReading.{ReadsAs, IsReadable}
@@ -31,11 +34,14 @@ use Rattle.xlsx_core.specs.declared.sheet_reading.SheetReading.{SheetReading}
 use Rattle.xlsx_error.specs.declared.error.XlsxError.{XlsxError}
 use Rattle.xlsx_error.specs.declared.error.XlsxError.TheVariants as workbook
 use Rattle.xlsx_rows.specs.RowsText.{field_of, data_field, header_text, record_text, rows_text}
+use Rattle.xlsx_rows.specs.RowsText.{bom_text, writer_of}
+use Rattle.xlsx_rows.specs.declared.options.CsvOptions.{CsvOptions}
 use Rattle.xlsx_rows.specs.declared.error.CsvError.{CsvError}
 use Rattle.xlsx_rows.specs.declared.error.CsvError.TheVariants.{BoxTooLarge, OutOfMemory}
 use Rattle.xlsx_commands.specs.Outputs.{CallFails, RowsFail}
 use Rattle.xlsx_commands.specs.SheetRows.{fields_placed, rows_placed, area_count, AreRowsOf}
-use Rattle.xlsx_commands.specs.SheetRows.{HasLargeArea}
+use Rattle.xlsx_commands.specs.SheetRows.{HasLargeArea, asked_area, from_first, rows_asked}
+use Rattle.xlsx_commands.specs.declared.asked_rows.AskedRows.{AskedRows}
 use Rattle.xlsx_commands.specs.Status.{of_workbook, of_rows}
 use Rattle.xlsx_commands.specs.declared.error.ToolError.{ToolError}
 use Rattle.xlsx_commands.specs.declared.error.ToolError.TheVariants as tool
@@ -57,56 +63,100 @@ meant_there position (cell ∷ cells) blank is =
       | false ↦ meant_there position cells blank is
     ]
 
-fields_meant : (range : Range Data) (row : ℕ) → value_of_data (blank_of range) ≡ nothing
-    → map data_field (row_values range row 0)
-    ≡ fields_placed (value_pairs range) (bounds_of range) row
-fields_meant range row is =
+fields_meant : (options : CsvOptions) (range : Range Data) (row : ℕ)
+    → value_of_data (blank_of range) ≡ nothing
+    → map (data_field options) (row_values range row 0)
+    ≡ fields_placed options (value_pairs range) (bounds_of range) row
+fields_meant options range row is =
     let start = start_of (bounds_of range) in
     let width = width_of (bounds_of range) in
     let whole : width - 0 ≡ width = omega arith in
-    ap (λ (n : ℕ). map data_field (map (λ k. filled range (row, k)) (range_with_len 0 n))) whole
-    ∙ map-map data_field (λ k. filled range (row, k)) (range_with_len 0 width)
+    ap (λ (n : ℕ). map (data_field options) (map (λ k. filled range (row, k)) (range_with_len 0 n))) whole
+    ∙ map-map (data_field options) (λ k. filled range (row, k)) (range_with_len 0 width)
     ∙ ap (λ (field : ℕ → List ℕ). map field (range_with_len 0 width))
-    (fun_ext (λ k. ap field_of
+    (fun_ext (λ k. ap (field_of options)
     (meant_there (start.0 + row, start.1 + k) (cells_of range) (blank_of range) is)))
 
-pub rows_meant : (header : Option (List (List ℕ))) (range : Range Data)
+pub rows_meant : (options : CsvOptions) (header : Option (List (List ℕ))) (range : Range Data)
     → value_of_data (blank_of range) ≡ nothing
-    → rows_text header range
-    ≡ header_text header ++ rows_placed (value_pairs range) (bounds_of range)
+    → rows_text options header range
+    ≡ (bom_text options.bom ++ header_text options header)
+    ++ rows_placed options (value_pairs range) (bounds_of range)
 unfolding rows_text
-rows_meant header range is =
+rows_meant options header range is =
     let rows = range_with_len 0 (height_of (bounds_of range)) in
-    ap (λ (text : List ℕ). header_text header ++ text)
-    (flat_map-map record_text (λ row. row_values range row 0) rows
+    ap (λ (text : List ℕ). (bom_text options.bom ++ header_text options header) ++ text)
+    (flat_map-map (record_text options) (λ row. row_values range row 0) rows
     ∙ ap (λ (record_at : ℕ → List ℕ). flat_map record_at rows)
-    (fun_ext (λ row. ap (row_text default_writer) (fields_meant range row is))))
+    (fun_ext (λ row. ap (row_text (writer_of options)) (fields_meant options range row is))))
+
+-- the same cells in the area that is asked for
+pub record IsAskedRange (from_a1 : Bool) (values range : Range Data) : Type 0 where
+  pub cells : cells_of range ≡ cells_of values
+  pub bounds : bounds_of range ≡ asked_area from_a1 (bounds_of values)
+  pub blank : blank_of range ≡ blank_of values
+
+pub asked_range : (from_a1 : Bool) (values range : Range Data)
+    → cells_of range ≡ cells_of values
+    → bounds_of range ≡ asked_area from_a1 (bounds_of values) → blank_of range ≡ blank_of values
+    → IsAskedRange from_a1 values range
+asked_range from_a1 values range cells bounds blank =
+    record { cells = cells; bounds = bounds; blank = blank }
+
+-- what lies in an area lies in the one from A1 to its end
+wider : (area : Dimensions) (position : ℕ × ℕ) → is_in_area area position ≡ true
+    → is_in_area (from_first area) position ≡ true
+wider area position inside = grind (arith, nat_tests)
+
+pub all_kept : (area : Dimensions) (cells : List ((ℕ × ℕ) × Data))
+    → lie_inside (Some area) cells ≡ true
+    → filter (λ cell. is_in_area (from_first area) cell.0) cells ≡ cells
+all_kept area [] inside = refl
+all_kept area (cell ∷ cells) inside =
+    let (own, rest) = and_both (is_in_area area cell.0) (lie_inside (Some area) cells) inside in
+    ap (λ test. cond test (cell ∷ filter (λ cell. is_in_area (from_first area) cell.0) cells)
+    (filter (λ cell. is_in_area (from_first area) cell.0) cells)) (wider area cell.0 own)
+    ∙ ap (λ (kept : List ((ℕ × ℕ) × Data)). cell ∷ kept) (all_kept area cells rest)
 
 -- ---- a sheet that is read
 
 module _ (parts : List Part) (name : List ℕ) (found : SheetReading)
     (reads : ReadsAs parts name (value_pairs found.values) (formula_pairs found.formulas)
     found.styles)
-    (least : HasLeastRanges found) where
-  pub rows_of_sheet : (rows : List ℕ) → box_count found.values ≤ 16777216
-      → rows ≡ rows_text None found.values → AreRowsOf parts name rows
-  rows_of_sheet rows fits is = record {
+    (least : HasLeastRanges found) (from_a1 : Bool) (range : Range Data)
+    (same : IsAskedRange from_a1 found.values range) where
+  -- the range has the area that is asked for
+  area_asked : bounds_of range ≡ asked_area from_a1 (least_area (value_pairs found.values))
+  area_asked = same.bounds ∙ ap (asked_area from_a1) least.0.bounds
+
+  pub rows_of_sheet : (options : CsvOptions) (rows : List ℕ) → box_count range ≤ 16777216
+      → rows ≡ rows_text options None range
+      → AreRowsOf parts name (record { options = options; from_a1 = from_a1 }) rows
+  rows_of_sheet options rows fits is = record {
     values = value_pairs found.values;
     formulas = formula_pairs found.formulas;
     styles = found.styles;
     reads = reads;
-    fits = subst (λ (area : Option Dimensions). area_count area ≤ 16777216) least.0.bounds fits;
-    listed = is ∙ rows_meant None found.values least.0.blank
-        ∙ ap (rows_placed (value_pairs found.values)) least.0.bounds;
+    fits = subst (λ (area : Option Dimensions). area_count area ≤ 16777216) area_asked fits;
+    listed = is
+        ∙ rows_meant options None range (ap value_of_data same.blank ∙ least.0.blank)
+        ∙ ap (λ (front : List ℕ). front
+        ++ rows_placed options (value_pairs range) (bounds_of range))
+        (append-nil (bom_text options.bom))
+        ∙ ap (λ (values : List ((ℕ × ℕ) × CellValue)). bom_text options.bom
+        ++ rows_placed options values (bounds_of range))
+        (ap (map (with_meaning value_of_data)) same.cells)
+        ∙ ap (λ (area : Option Dimensions). bom_text options.bom
+        ++ rows_placed options (value_pairs found.values) area) area_asked;
   }
 
-  pub large_of_sheet : 16777216 < box_count found.values → HasLargeArea parts name
+  pub large_of_sheet : 16777216 < box_count range → HasLargeArea parts name from_a1
   large_of_sheet large = record {
     values = value_pairs found.values;
     formulas = formula_pairs found.formulas;
     styles = found.styles;
     reads = reads;
-    large = subst (λ (area : Option Dimensions). 16777216 < area_count area) least.0.bounds large;
+    large = subst (λ (area : Option Dimensions). 16777216 < area_count area) area_asked large;
   }
 
 -- a count that is not refused
@@ -141,10 +191,11 @@ refused_alike cause large error fails = fails
 -- ---- the laws
 
 -- a sheet that is read has rows, or too large an area
-pub rows_or_large : (parts : List Part) (name : List ℕ) → IsReadable parts name
-    → ((rows : List ℕ) × AreRowsOf parts name rows) ⊎ HasLargeArea parts name
-rows_or_large parts name (values, formulas, styles, reads) =
-    elim (cases_lt 16777216 (area_count (least_area values))) [
+pub rows_or_large : (parts : List Part) (name : List ℕ) (asked : AskedRows)
+    → IsReadable parts name
+    → ((rows : List ℕ) × AreRowsOf parts name asked rows) ⊎ HasLargeArea parts name asked.from_a1
+rows_or_large parts name asked (values, formulas, styles, reads) =
+    elim (cases_lt 16777216 (area_count (asked_area asked.from_a1 (least_area values)))) [
       | inl large ↦ inr (record {
         values = values;
         formulas = formulas;
@@ -153,7 +204,7 @@ rows_or_large parts name (values, formulas, styles, reads) =
         large = large;
       })
       | inr fits ↦ inl (
-        rows_placed values (least_area values),
+        rows_asked asked values (least_area values),
         record {
           values = values;
           formulas = formulas;
@@ -166,25 +217,28 @@ rows_or_large parts name (values, formulas, styles, reads) =
     ]
 
 -- sheets that are read in one way have one text of rows
-pub same_rows : (parts other : List Part) (name rows others : List ℕ)
-    → AreReadAlike parts other name → AreRowsOf parts name rows → AreRowsOf other name others
-    → rows ≡ others
-same_rows parts other name rows others law first second =
+pub same_rows : (parts other : List Part) (name : List ℕ) (asked : AskedRows)
+    (rows others : List ℕ) → AreReadAlike parts other name → AreRowsOf parts name asked rows
+    → AreRowsOf other name asked others → rows ≡ others
+same_rows parts other name asked rows others law first second =
     let same = law first.values second.values first.formulas second.formulas first.styles
     second.styles first.reads second.reads in
     first.listed
-    ∙ ap (λ (own : List ((ℕ × ℕ) × CellValue)). rows_placed own (least_area own)) same.0
+    ∙ ap (λ (own : List ((ℕ × ℕ) × CellValue)). rows_asked asked own (least_area own)) same.0
     ∙ sym second.listed
 
 pub not_both : (one two : ℕ) → one ≡ two → one ≤ 16777216 → 16777216 < two → ⊥
 not_both one two same fits large = omega arith
 
 -- and an area that is too large or isn't
-pub rows_never : (parts : List Part) (name rows : List ℕ)
-    → AreReadAlike parts parts name → AreRowsOf parts name rows → HasLargeArea parts name → ⊥
-rows_never parts name rows law prints has =
+pub rows_never : (parts : List Part) (name : List ℕ) (asked : AskedRows) (rows : List ℕ)
+    → AreReadAlike parts parts name → AreRowsOf parts name asked rows
+    → HasLargeArea parts name asked.from_a1 → ⊥
+rows_never parts name asked rows law prints has =
     let same = law prints.values has.values prints.formulas has.formulas prints.styles has.styles
     prints.reads has.reads in
-    not_both (area_count (least_area prints.values)) (area_count (least_area has.values))
-    (ap (λ (own : List ((ℕ × ℕ) × CellValue)). area_count (least_area own)) same.0)
+    not_both (area_count (asked_area asked.from_a1 (least_area prints.values)))
+    (area_count (asked_area asked.from_a1 (least_area has.values)))
+    (ap (λ (own : List ((ℕ × ℕ) × CellValue)). area_count
+    (asked_area asked.from_a1 (least_area own))) same.0)
     prints.fits has.large

@@ -26,7 +26,8 @@ use Rattle.xlsx_core.specs.SheetReading.{events_at, opened_grounds, path_named}
 use Rattle.xlsx_core.specs.TableData.{IsRangeIn, ReadsValuesIn}
 use Rattle.xlsx_cells.specs.Sheet.{with_texts}
 use Rattle.xlsx_core.specs.Worksheets.{AnswersValues}
-use Rattle.xlsx_rows.specs.RowsText.{header_text, rows_text}
+use Rattle.xlsx_rows.specs.RowsText.{bom_text, header_text, rows_text}
+use Rattle.xlsx_rows.specs.declared.options.CsvOptions.{CsvOptions}
 use Rattle.xlsx_commands.specs.SheetRows.{rows_placed, area_count}
 use Rattle.xlsx_commands.specs.TableLists.{HasTable, AreTableValueLines}
 use Rattle.xlsx_commands.specs.TableRows.{fitted_names, header_over, table_records, AreTableRows}
@@ -97,9 +98,10 @@ module _ (parts : List Part) (name : List ℕ) (table : Table Data)
       → range ≡ table_data table
       → map string_bytes header
       ≡ header_over (bounds_of (table_data table)) (table_columns table)
-      → box_count range ≤ 16777216 → rows ≡ rows_text (Some (map string_bytes header)) range
-      → AreTableRows parts name rows
-  records_of_data range header rows same fitted fits is =
+      → (options : CsvOptions) → box_count range ≤ 16777216
+      → rows ≡ rows_text options (Some (map string_bytes header)) range
+      → AreTableRows parts name options rows
+  records_of_data range header rows same fitted options fits is =
       let held = table_data table in
       let values = value_pairs held in
       let blank = blank_in (opened_grounds has.has.has.opening) FirstNonEmptyRow has.own.table.area
@@ -109,13 +111,13 @@ module _ (parts : List Part) (name : List ℕ) (table : Table Data)
         has = has;
         fits = subst (λ (own : Option Dimensions). area_count own ≤ 16777216)
             (area_said range same) fits;
-        listed = is ∙ ap (rows_text (Some (map string_bytes header))) same
-            ∙ rows_meant (Some (map string_bytes header)) held blank
-            ∙ ap (λ (own : List (List ℕ)). header_text (Some own)
-            ++ rows_placed values (bounds_of held)) fitted
-            ∙ ap (λ (own : Option Dimensions). table_records own (table_columns table) values)
-            has.is.area
-            ∙ ap (λ (own : List (List ℕ)). table_records has.own.table.area own values)
+        listed = is ∙ ap (rows_text options (Some (map string_bytes header))) same
+            ∙ rows_meant options (Some (map string_bytes header)) held blank
+            ∙ ap (λ (own : List (List ℕ)). (bom_text options.bom ++ header_text options (Some own))
+            ++ rows_placed options values (bounds_of held)) fitted
+            ∙ ap (λ (own : Option Dimensions). table_records options own (table_columns table)
+            values) has.is.area
+            ∙ ap (λ (own : List (List ℕ)). table_records options has.own.table.area own values)
             has.is.columns;
       }
 
@@ -131,12 +133,14 @@ module _ (parts : List Part) (name : List ℕ) (table : Table Data)
   -- ---- the laws
 
   -- a table with its data has records, or too large an area
-  pub records_or_large : ((rows : List ℕ) × AreTableRows parts name rows) ⊎ HasLargeTable parts name
-  records_or_large =
+  pub records_or_large : (options : CsvOptions)
+      → ((rows : List ℕ) × AreTableRows parts name options rows) ⊎ HasLargeTable parts name
+  records_or_large options =
       elim (cases_lt 16777216 (area_count has.own.table.area)) [
         | inl large ↦ inr (record { table = table; has = has; large = large })
         | inr fits ↦ inl (
-          table_records has.own.table.area has.own.table.columns (value_pairs (table_data table)),
+          table_records options has.own.table.area has.own.table.columns
+              (value_pairs (table_data table)),
           record { table = table; has = has; fits = fits; listed = refl },
         )
       ]
@@ -148,9 +152,9 @@ module _ (parts : List Part) (name : List ℕ) (table : Table Data)
   )
 
 -- and an area that is too large or isn't
-pub records_never : (parts : List Part) (name rows : List ℕ) → AreTableRows parts name rows
-    → HasLargeTable parts name → ⊥
-records_never parts name rows prints has =
+pub records_never : (parts : List Part) (name : List ℕ) (options : CsvOptions) (rows : List ℕ)
+    → AreTableRows parts name options rows → HasLargeTable parts name → ⊥
+records_never parts name options rows prints has =
     not_both (area_count prints.has.own.table.area) (area_count has.has.own.table.area)
     (ap (λ (own : SheetTable). area_count own.table.area)
     (same_table parts name prints.has.own has.has.own prints.has.has has.has.has))

@@ -9,6 +9,9 @@ use Rattle.cell_refs.specs.declared.error.RefError.{RefError}
 use Rattle.part_events.specs.Package.{Part}
 use Rattle.xlsx_sample.specs.Sample.{sample_parts}
 use Rattle.xlsx_sections.specs.NumberText.{number_text}
+use Rattle.xlsx_rows.specs.declared.options.CsvOptions.{CsvOptions}
+use Rattle.xlsx_commands.specs.AskedRows.{options_asked, plain_rows, table_rows_asked}
+use Rattle.xlsx_commands.specs.declared.asked_rows.AskedRows.{AskedRows}
 use Rattle.xlsx_commands.specs.declared.command.Command.{Command as Asked}
 use Rattle.xlsx_commands.specs.declared.command.Command.TheVariants as asked
 
@@ -24,8 +27,8 @@ pub data Command : Type 0 where
   merges : List ℕ → Command
   links : List ℕ → Command
   props : Command
-  csv : List ℕ → Command
-  csv_table : List ℕ → Command
+  csv : List ℕ → AskedRows → Command
+  csv_table : List ℕ → CsvOptions → Command
   tables : Command
   table : List ℕ → Command
   pivots : Command
@@ -46,8 +49,8 @@ command_meant asked.Names = names
 command_meant (asked.Merges name) = merges name.now
 command_meant (asked.Links name) = links name.now
 command_meant asked.Props = props
-command_meant (asked.Csv name) = csv name.now
-command_meant (asked.CsvTable name) = csv_table name.now
+command_meant (asked.Csv name rows) = csv name.now rows
+command_meant (asked.CsvTable name options) = csv_table name.now options
 command_meant asked.Tables = tables
 command_meant (asked.Table name) = table name.now
 command_meant asked.Pivots = pivots
@@ -93,8 +96,8 @@ named_command word name =
     if bytes_eq word (codes "cells") then Some (cells name)
     else (if bytes_eq word (codes "merges") then Some (merges name)
     else (if bytes_eq word (codes "links") then Some (links name)
-    else (if bytes_eq word (codes "csv") then Some (csv name)
-    else (if bytes_eq word (codes "csv-table") then Some (csv_table name)
+    else (if bytes_eq word (codes "csv") then Some (csv name plain_rows)
+    else (if bytes_eq word (codes "csv-table") then Some (csv_table name plain_rows.options)
     else (if bytes_eq word (codes "table") then Some (table name)
     else (if bytes_eq word (codes "precedents") then Some (precedents name)
     else (if bytes_eq word (codes "check") then Some (check name)
@@ -110,13 +113,25 @@ placed_command word sheet name =
     else (if bytes_eq word (codes "dependents")
     then option_map (dependents sheet) (position_asked name) else None)
 
+-- a command of three, by the word behind its name
+abbrev pub three_words : List ℕ → List ℕ → List (List ℕ) → Option Command
+three_words word name [] = None
+three_words word name (further ∷ []) = placed_command word name further
+three_words word name (further ∷ next ∷ words) = None
+
+-- a command with words behind its name: what is asked of rows, or a name in a sheet
+abbrev pub asked_command : List ℕ → List ℕ → List (List ℕ) → Option Command
+asked_command word name words =
+    if bytes_eq word (codes "csv") then option_map (csv name) (options_asked plain_rows words)
+    else (if bytes_eq word (codes "csv-table")
+    then option_map (csv_table name) (table_rows_asked words) else three_words word name words)
+
 -- the command that words are; no other words are one
 abbrev pub command_of : List (List ℕ) → Option Command
 command_of [] = None
 command_of (word ∷ []) = bare_command word
 command_of (word ∷ name ∷ []) = named_command word name
-command_of (word ∷ sheet ∷ name ∷ []) = placed_command word sheet name
-command_of (word ∷ sheet ∷ name ∷ further ∷ words) = None
+command_of (word ∷ name ∷ further ∷ words) = asked_command word name (further ∷ words)
 
 -- the parts that a command works on where it reads no input
 unfoldable pub own_parts : Command → Option (List Part)
@@ -126,8 +141,8 @@ own_parts names = None
 own_parts (merges name) = None
 own_parts (links name) = None
 own_parts props = None
-own_parts (csv name) = None
-own_parts (csv_table name) = None
+own_parts (csv name rows) = None
+own_parts (csv_table name options) = None
 own_parts tables = None
 own_parts (table name) = None
 own_parts pivots = None

@@ -1,3 +1,4 @@
+pub mod AskedRows
 pub mod BookLists
 pub mod CacheRows
 pub mod Command

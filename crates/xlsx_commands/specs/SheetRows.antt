@@ -1,48 +1,68 @@
 -- What `csv` prints of the values of a sheet, and when their area has too many cells for it.
-use Rattle.std.specs.Prelude.{◌≡◌, ◌≤◌, ◌<◌, ℕ, ◌+◌, ◌*◌, List, map, Option}
+use Rattle.std.specs.Prelude.{◌≡◌, ◌≤◌, ◌<◌, ℕ, ◌+◌, ◌*◌, List, ◌++◌, map, Option, option_map, Bool}
+use Rattle.std.specs.Prelude.{if◌then◌else◌}
 use Rattle.std.specs.List.{flat_map, range_with_len}
 use Rattle.cell_data.specs.CellValue.{CellValue}
 use Rattle.cell_data.specs.Range.{start_of, width_of, height_of}
 use Rattle.cell_refs.specs.Positions.{least_area}
 use Rattle.cell_refs.specs.declared.dimensions.Dimensions.{Dimensions}
 use Rattle.cell_styles.specs.StyleMap.{StyleMap}
-use Rattle.csv.specs.Writing.{default_writer, row_text}
+use Rattle.csv.specs.Writing.{row_text}
 use Rattle.part_events.specs.Package.{Part}
 use Rattle.sheet_listing.specs.SheetListing.{value_placed}
 use Rattle.xlsx_core.specs.SheetReading.{ReadsAs}
-use Rattle.xlsx_rows.specs.RowsText.{field_of}
+use Rattle.xlsx_rows.specs.RowsText.{bom_text, field_of, writer_of}
+use Rattle.xlsx_rows.specs.declared.options.CsvOptions.{CsvOptions}
+use Rattle.xlsx_commands.specs.declared.asked_rows.AskedRows.{AskedRows}
 
 -- a field for each column of an area, in a row of it that is counted from its first one
-abbrev pub fields_placed : List ((ℕ × ℕ) × CellValue) → Option Dimensions → ℕ → List (List ℕ)
-fields_placed values area row =
+abbrev pub fields_placed :
+    CsvOptions → List ((ℕ × ℕ) × CellValue) → Option Dimensions → ℕ → List (List ℕ)
+fields_placed options values area row =
     let start = start_of area in
-    map (λ column. field_of (value_placed (start.0 + row, start.1 + column) values))
+    map (λ column. field_of options (value_placed (start.0 + row, start.1 + column) values))
     (range_with_len 0 (width_of area))
 
 -- a record for each row of the area
-abbrev pub rows_placed : List ((ℕ × ℕ) × CellValue) → Option Dimensions → List ℕ
-rows_placed values area =
-    flat_map (λ row. row_text default_writer (fields_placed values area row))
+abbrev pub rows_placed :
+    CsvOptions → List ((ℕ × ℕ) × CellValue) → Option Dimensions → List ℕ
+rows_placed options values area =
+    flat_map (λ row. row_text (writer_of options) (fields_placed options values area row))
     (range_with_len 0 (height_of area))
+
+-- an area from A1 to the last row and column of this one
+abbrev pub from_first : Dimensions → Dimensions
+from_first area = record { start = (0, 0); end = area.end }
+
+-- the area that is asked for
+abbrev pub asked_area : Bool → Option Dimensions → Option Dimensions
+asked_area from_a1 area = if from_a1 then option_map from_first area else area
+
+-- the rows in the area that is asked for, behind a byte order mark where one is
+abbrev pub rows_asked :
+    AskedRows → List ((ℕ × ℕ) × CellValue) → Option Dimensions → List ℕ
+rows_asked asked values area =
+    bom_text asked.options.bom ++ rows_placed asked.options values (asked_area asked.from_a1 area)
 
 -- how many cells an area has
 abbrev pub area_count : Option Dimensions → ℕ
 area_count area = height_of area * width_of area
 
 -- the sheet of this name is read, and these are the rows of its values, in the least area that has
--- them all
-pub record AreRowsOf (parts : List Part) (name rows : List ℕ) : Type 0 where
+-- them all or from A1
+pub record AreRowsOf
+    (parts : List Part) (name : List ℕ) (asked : AskedRows) (rows : List ℕ) : Type 0 where
   pub values : List ((ℕ × ℕ) × CellValue)
   pub formulas : List ((ℕ × ℕ) × List ℕ)
   pub styles : StyleMap
   pub reads : ReadsAs parts name values formulas styles
-  pub fits : area_count (least_area values) ≤ 16777216
-  pub listed : rows ≡ rows_placed values (least_area values)
+  pub fits : area_count (asked_area asked.from_a1 (least_area values)) ≤ 16777216
+  pub listed : rows ≡ rows_asked asked values (least_area values)
 
 -- it is read, and that area has more cells than are written
-pub record HasLargeArea (parts : List Part) (name : List ℕ) : Type 0 where
+pub record HasLargeArea (parts : List Part) (name : List ℕ) (from_a1 : Bool) : Type 0 where
   pub values : List ((ℕ × ℕ) × CellValue)
   pub formulas : List ((ℕ × ℕ) × List ℕ)
   pub styles : StyleMap
   pub reads : ReadsAs parts name values formulas styles
-  pub large : 16777216 < area_count (least_area values)
+  pub large : 16777216 < area_count (asked_area from_a1 (least_area values))

@@ -11,7 +11,8 @@ use Rattle.cell_data.specs.declared.value.Data.{Data}
 use Rattle.cell_refs.specs.declared.dimensions.Dimensions.{Dimensions}
 use Rattle.part_events.specs.Package.{Part}
 use Rattle.cell_data.specs.Pairs.{value_pairs}
-use Rattle.xlsx_rows.specs.RowsText.{header_text}
+use Rattle.xlsx_rows.specs.RowsText.{bom_text, header_text}
+use Rattle.xlsx_rows.specs.declared.options.CsvOptions.{CsvOptions}
 use Rattle.xlsx_commands.specs.SheetRows.{rows_placed, area_count}
 use Rattle.xlsx_commands.specs.TableLists.{HasTable}
 
@@ -31,18 +32,20 @@ header_over area names = fitted_names (header_width area names) names
 
 -- its record, where it has a field, and one for each row of the area
 abbrev pub table_records :
-    Option Dimensions → List (List ℕ) → List ((ℕ × ℕ) × CellValue) → List ℕ
-table_records area names values =
-    header_text (Some (header_over area names)) ++ rows_placed values area
+    CsvOptions → Option Dimensions → List (List ℕ) → List ((ℕ × ℕ) × CellValue) → List ℕ
+table_records options area names values =
+    (bom_text options.bom ++ header_text options (Some (header_over area names)))
+    ++ rows_placed options values area
 
 -- these are the records of the first table of this name, in the area of its data
-pub record AreTableRows (parts : List Part) (name rows : List ℕ) : Type 0 where
+pub record AreTableRows
+    (parts : List Part) (name : List ℕ) (options : CsvOptions) (rows : List ℕ) : Type 0 where
   pub table : Table Data
   pub has : HasTable parts name table
   pub fits : area_count has.own.table.area ≤ 16777216
   pub listed :
       rows
-      ≡ table_records has.own.table.area has.own.table.columns (value_pairs (table_data table))
+      ≡ table_records options has.own.table.area has.own.table.columns (value_pairs (table_data table))
 
 -- its data are had, and their area has more cells than are written
 pub record HasLargeTable (parts : List Part) (name : List ℕ) : Type 0 where

@@ -1,9 +1,13 @@
 ghost use Rattle.std.specs.Prelude.{◌≡◌, option_map};
 ghost use Rattle.xlsx_commands.specs.Command.{texts, command_meant, bare_command, named_command};
 ghost use Rattle.xlsx_commands.specs.Command.{rows_asked, sample, placed_command, command_of};
-ghost use Rattle.xlsx_commands.specs.Command.{position_asked, dependents};
+ghost use Rattle.xlsx_commands.specs.AskedRows.{options_asked, plain_rows, table_rows_asked};
+ghost use Rattle.xlsx_commands.specs.Command.{position_asked, dependents, csv, csv_table};
+ghost use Rattle.xlsx_commands.specs.Command.{three_words, asked_command};
 
+use crate::asked_rows::{AskedRows, rows_asked_by, table_rows_asked};
 use cell_refs::get_row_column;
+use xlsx_rows::CsvOptions;
 use xlsx_sections::number_text;
 
 /// The most rows of a sample.
@@ -24,10 +28,10 @@ pub enum Command<'a> {
     Links(&'a str),
     /// The workbook's properties.
     Props,
-    /// The rows of the values of the worksheet of this name, as CSV.
-    Csv(&'a str),
-    /// The columns and the rows of the table of this name, as CSV.
-    CsvTable(&'a str),
+    /// The rows of the values of the worksheet of this name, as CSV, and what is asked of them.
+    Csv(&'a str, AskedRows),
+    /// The columns and the rows of the table of this name, as CSV, and how they are written.
+    CsvTable(&'a str, CsvOptions),
     /// The workbook's tables.
     Tables,
     /// The values in the table of this name.
@@ -112,8 +116,8 @@ fn named_command<'a>(word: &str, name: &'a str) -> Option<Command<'a>>
         "cells" => Some(Command::Cells(name)),
         "merges" => Some(Command::Merges(name)),
         "links" => Some(Command::Links(name)),
-        "csv" => Some(Command::Csv(name)),
-        "csv-table" => Some(Command::CsvTable(name)),
+        "csv" => Some(Command::Csv(name, AskedRows::PLAIN)),
+        "csv-table" => Some(Command::CsvTable(name, CsvOptions::PLAIN)),
         "table" => Some(Command::Table(name)),
         "precedents" => Some(Command::Precedents(name)),
         "check" => Some(Command::Check(name)),
@@ -135,6 +139,44 @@ fn placed_command<'a>(word: &str, sheet: &'a str, name: &'a str) -> Option<Comma
     }
 }
 
+fn csv_command<'a>(name: &'a str, words: &[String]) -> Option<Command<'a>>
+    ensures { option_map (λ command. command_meant command) result
+        ≡ option_map (csv name.now) (options_asked plain_rows (texts words.now)) }
+{
+    let asked = rows_asked_by(words)?;
+    Some(Command::Csv(name, asked))
+}
+
+fn csv_table_command<'a>(name: &'a str, words: &[String]) -> Option<Command<'a>>
+    ensures { option_map (λ command. command_meant command) result
+        ≡ option_map (csv_table name.now) (table_rows_asked (texts words.now)) }
+{
+    let options = table_rows_asked(words)?;
+    Some(Command::CsvTable(name, options))
+}
+
+fn three_words<'a>(word: &str, name: &'a str, words: &'a [String]) -> Option<Command<'a>>
+    ensures { option_map (λ command. command_meant command) result
+        ≡ three_words word.now name.now (texts words.now) }
+{
+    match words {
+        [further] => placed_command(word, name, further.as_str()),
+        _ => None,
+    }
+}
+
+/// A command with words behind its name.
+fn asked_command<'a>(word: &str, name: &'a str, words: &'a [String]) -> Option<Command<'a>>
+    ensures { option_map (λ command. command_meant command) result
+        ≡ asked_command word.now name.now (texts words.now) }
+{
+    match word {
+        "csv" => csv_command(name, words),
+        "csv-table" => csv_table_command(name, words),
+        _ => three_words(word, name, words),
+    }
+}
+
 /// The command that the words are.
 pub fn command_of(words: &[String]) -> Option<Command<'_>>
     ensures { option_map (λ command. command_meant command) result ≡ command_of (texts words.now) }
@@ -142,7 +184,7 @@ pub fn command_of(words: &[String]) -> Option<Command<'_>>
     match words {
         [word] => bare_command(word.as_str()),
         [word, name] => named_command(word.as_str(), name.as_str()),
-        [word, sheet, name] => placed_command(word.as_str(), sheet.as_str(), name.as_str()),
+        [word, name, words @ ..] => asked_command(word.as_str(), name.as_str(), words),
         _ => None,
     }
 }

@@ -1,11 +1,11 @@
 //! The commands: which words ask for one, what each prints of a package, and why it can't
 //! (docs/FORMAT.md).
 //!
-//! Rooms: `command` (the words that ask for a command), `cell_lines`, `book_lists`, `merge_lines`,
-//! `link_lines`, `property_lines`, `table_lines`, `pivot_lines`, `pivot_rows`, `sheet_rows`,
-//! `table_rows`, `formula_lines`, `part_line`, `upgraded_text`, `resaved_text` and `sample_lines`
-//! (what each command prints), `output` (each command's own package, where it has one, and its
-//! output), `laws`, and `error` (`ToolError`).
+//! Rooms: `command` (the words that ask for a command), `asked_rows` (the words that ask more of
+//! rows), `cell_lines`, `book_lists`, `merge_lines`, `link_lines`, `property_lines`, `table_lines`,
+//! `pivot_lines`, `pivot_rows`, `sheet_rows`, `table_rows`, `formula_lines`, `part_line`,
+//! `upgraded_text`, `resaved_text` and `sample_lines` (what each command prints), `output` (each
+//! command's own package, where it has one, and its output), `laws`, and `error` (`ToolError`).
 //!
 //! **A command is a row of a few tables**: of the words that ask for it (`command_of`), of the
 //! package that it works on where it reads no input (`own_parts`), of its output (`IsOutput`), of
@@ -33,6 +33,7 @@
 //! is written (`ReadsWritable`): of a cell comes no value that a written cell can't have.
 #![tactic(auto)]
 
+mod asked_rows;
 mod book_lists;
 mod cell_lines;
 mod command;
@@ -54,6 +55,7 @@ mod table_lines;
 mod table_rows;
 mod upgraded_text;
 
+pub use asked_rows::AskedRows;
 pub use command::{Command, command_of};
 pub use equality::{copies_are_the_same, equality_is_by_all_fields};
 pub use error::ToolError;

@@ -1,23 +1,58 @@
-ghost use Rattle.std.specs.Prelude.{IfOk, IfErr};
+ghost use Rattle.std.specs.Prelude.{◌≡◌, option_map, IfOk, IfErr};
+ghost use Rattle.cell_data.specs.Range.{cells_of, bounds_of, blank_of};
 ghost use Rattle.xlsx_core.specs.SheetReading.{SheetCause};
 ghost use Rattle.xlsx_commands.specs.Outputs.{RowsFail};
 ghost use Rattle.xlsx_commands.specs.SheetRows.{AreRowsOf, HasLargeArea};
+ghost use Rattle.xlsx_commands.specs.SheetRows.{from_first, asked_area};
 
+use crate::asked_rows::AskedRows;
 use crate::error::ToolError;
+use cell_data::{Data, Range};
 use part_events::MemoryPackage;
 use std::alloc::Global;
 use xlsx_core::{SheetAnswer, read_sheet};
 use xlsx_rows::rows_csv;
 
+/// The same values in the area from A1 to their last row and column.
+fn from_first_cell(values: Range<Data>) -> Range<Data>
+    ensures cells { cells_of result ≡ cells_of values }
+    ensures bounds { bounds_of result ≡ option_map from_first (bounds_of values) }
+    ensures blank { blank_of result ≡ blank_of values }
+{
+    match values.bounds() {
+        Some(area) => values.range((0, 0), area.end),
+        None => values,
+    }
+}
+
+/// The same values in the area that is asked for.
+fn in_asked_area(values: Range<Data>, from_a1: bool) -> Range<Data>
+    ensures cells { cells_of result ≡ cells_of values }
+    ensures bounds { bounds_of result ≡ asked_area from_a1 (bounds_of values) }
+    ensures blank { blank_of result ≡ blank_of values }
+{
+    if from_a1 {
+        from_first_cell(values)
+    } else {
+        values
+    }
+}
+
 /// The rows of the values of the sheet of this name, as CSV.
-pub fn sheet_rows(alloc: Global, package: MemoryPackage, name: &str) -> Result<Vec<u8>, ToolError>
-    ensures ok { IfOk result (λ output. AreRowsOf «package».parts name.now output.items) }
+pub fn sheet_rows(
+    alloc: Global,
+    package: MemoryPackage,
+    name: &str,
+    asked: AskedRows,
+) -> Result<Vec<u8>, ToolError>
+    ensures ok { IfOk result (λ output. AreRowsOf «package».parts name.now asked output.items) }
     ensures err { IfErr result (RowsFail (SheetCause «package».parts name.now)
-        (HasLargeArea «package».parts name.now)) }
+        (HasLargeArea «package».parts name.now asked.from_a1)) }
 {
     let SheetAnswer { result, package } = read_sheet(alloc, package, name);
     // What is read needs the package no more.
     drop(package);
     let reading = result?;
-    Ok(rows_csv(alloc, None, &reading.values)?)
+    let values = in_asked_area(reading.values, asked.from_a1);
+    Ok(rows_csv(alloc, None, &values, &asked.options)?)
 }

@@ -12,7 +12,7 @@ use crate::table_lines::table_of;
 use cell_data::{Data, Table};
 use part_events::MemoryPackage;
 use std::alloc::{AllocError, Global};
-use xlsx_rows::rows_csv;
+use xlsx_rows::{CsvOptions, rows_csv};
 
 /// The name at this index, and no text where there is none.
 fn name_at(names: &[String], index: usize) -> &str
@@ -53,12 +53,18 @@ fn header_of(alloc: Global, table: &Table<Data>) -> Result<Vec<String>, AllocErr
 
 /// The records of the first table of this name, as CSV: the names of its columns, and the rows of
 /// its data.
-pub fn table_rows(alloc: Global, package: MemoryPackage, name: &str) -> Result<Vec<u8>, ToolError>
-    ensures ok { IfOk result (λ output. AreTableRows «package».parts name.now output.items) }
+pub fn table_rows(
+    alloc: Global,
+    package: MemoryPackage,
+    name: &str,
+    options: CsvOptions,
+) -> Result<Vec<u8>, ToolError>
+    ensures ok { IfOk result
+        (λ output. AreTableRows «package».parts name.now options output.items) }
     ensures err { IfErr result (RowsFail (NamedTableCause «package».parts name.now)
         (HasLargeTable «package».parts name.now)) }
 {
     let table = table_of(alloc, package, name)?;
     let header = header_of(alloc, &table)?;
-    Ok(rows_csv(alloc, Some(&header), table.data())?)
+    Ok(rows_csv(alloc, Some(&header), table.data(), &options)?)
 }

@@ -19,9 +19,11 @@ use Rattle.cell_data.specs.Range.{bounds_of, width_of, filled}
 use Rattle.cell_data.specs.RangeItems.{row_left}
 use Rattle.cell_data.specs.declared.range_iterators.RowCells.{RowCells}
 use Rattle.cell_data.specs.declared.value.Data.{Data}
-use Rattle.csv.specs.Writing.{default_writer, row_text}
+use Rattle.csv.specs.Writing.{row_text}
 use Rattle.csv.specs.declared.writer.Writer.{Writer}
 use Rattle.xlsx_rows.specs.RowsText.{data_field, record_text, header_fields, header_text}
+use Rattle.xlsx_rows.specs.RowsText.{writer_of}
+use Rattle.xlsx_rows.specs.declared.options.CsvOptions.{CsvOptions}
 use Rattle.xlsx_rows.specs.RowSteps.{IsInRecord, IsBetweenRecords, TakesField, WritesRecord}
 
 -- the value that an item of a row shows
@@ -52,33 +54,36 @@ row_fits row =
 
 -- one field more
 pub value_taken : (row : RowCells Data) (values left rest : List Data) (value : Data)
-    (before : List ℕ) (old new : Writer (Vec ℕ Global)) → left ≡ value ∷ rest →
-    values ++ left ≡ row_left row → TakesField (data_field value) old new →
-    IsInRecord before (map data_field values) old →
-    IsInRecord before (map data_field (values ++ value ∷ [])) new
-value_taken row values left rest value before old new next whole takes inside =
-    let size : length (map data_field values) ≡ length values = length-map values data_field in
+    (options : CsvOptions) (before : List ℕ) (old new : Writer (Vec ℕ Global)) →
+    left ≡ value ∷ rest → values ++ left ≡ row_left row →
+    TakesField options (data_field options value) old new →
+    IsInRecord options before (map (data_field options) values) old →
+    IsInRecord options before (map (data_field options) (values ++ value ∷ [])) new
+value_taken row values left rest value options before old new next whole takes inside =
+    let size : length (map (data_field options) values) ≡ length values =
+    length-map values (data_field options) in
     let count : length values + length left ≡ length (row_left row) =
     sym (length-append values left) ∙ ap (λ (vs : List Data). length vs) whole in
     let most = row_fits row in
-    subst (λ fields. IsInRecord before fields new)
-    (sym (map-append data_field values (value ∷ [])))
-    (takes before (map data_field values) (omega (arith, size, count, most)) inside)
+    subst (λ fields. IsInRecord options before fields new)
+    (sym (map-append (data_field options) values (value ∷ [])))
+    (takes before (map (data_field options) values) (omega (arith, size, count, most)) inside)
 
 -- one record more
-pub record_taken : (rows : List (List Data)) (row : List Data) (before : List ℕ)
-    (old new : Writer (Vec ℕ Global)) → WritesRecord (map data_field row) old new →
-    IsBetweenRecords (before ++ flat_map record_text rows) old →
-    IsBetweenRecords (before ++ flat_map record_text (rows ++ row ∷ [])) new
-record_taken rows row before old new takes between =
-    let joined : flat_map record_text (rows ++ row ∷ [])
-    ≡ flat_map record_text rows ++ record_text row =
-    flat_map-append record_text rows (row ∷ [])
-    ∙ ap (λ t. flat_map record_text rows ++ t) (append-nil (record_text row)) in
-    subst (λ t. IsBetweenRecords t new)
-    (append_assoc before (flat_map record_text rows) (record_text row)
+pub record_taken : (rows : List (List Data)) (row : List Data) (options : CsvOptions)
+    (before : List ℕ) (old new : Writer (Vec ℕ Global)) →
+    WritesRecord options (map (data_field options) row) old new →
+    IsBetweenRecords options (before ++ flat_map (record_text options) rows) old →
+    IsBetweenRecords options (before ++ flat_map (record_text options) (rows ++ row ∷ [])) new
+record_taken rows row options before old new takes between =
+    let joined : flat_map (record_text options) (rows ++ row ∷ [])
+    ≡ flat_map (record_text options) rows ++ record_text options row =
+    flat_map-append (record_text options) rows (row ∷ [])
+    ∙ ap (λ t. flat_map (record_text options) rows ++ t) (append-nil (record_text options row)) in
+    subst (λ t. IsBetweenRecords options t new)
+    (append_assoc before (flat_map (record_text options) rows) (record_text options row)
     ∙ ap (λ t. before ++ t) (sym joined))
-    (takes (before ++ flat_map record_text rows) between)
+    (takes (before ++ flat_map (record_text options) rows) between)
 
 -- where nothing is left, those so far are all
 pub all_given : {A : Type 0} (given left whole : List A) → left ≡ [] → given ++ left ≡ whole →
@@ -88,23 +93,25 @@ all_given {A} given left whole none is =
 
 -- one name more
 pub name_taken : (names : List (String Global)) (i : ℕ) (d name : String Global) (field : List ℕ)
-    (before : List ℕ) (old new : Writer (Vec ℕ Global)) → i < length names → i < 2 ^ 64 - 1 →
-    get_or names i d ≡ name → field ≡ string_bytes name → TakesField field old new →
-    IsInRecord before (header_fields (take i names)) old →
-    IsInRecord before (header_fields (take (i + 1) names)) new
-name_taken names i d name field before old new within fits at own takes inside =
+    (options : CsvOptions) (before : List ℕ) (old new : Writer (Vec ℕ Global)) →
+    i < length names → i < 2 ^ 64 - 1 → get_or names i d ≡ name → field ≡ string_bytes name →
+    TakesField options field old new →
+    IsInRecord options before (header_fields (take i names)) old →
+    IsInRecord options before (header_fields (take (i + 1) names)) new
+name_taken names i d name field options before old new within fits at own takes inside =
     let more : header_fields (take (i + 1) names) ≡ header_fields (take i names) ++ field ∷ [] =
     ap header_fields (take_more names i d within)
     ∙ (map-append string_bytes (take i names) (get_or names i d ∷ [])
     ∙ ap (λ bytes. header_fields (take i names) ++ bytes ∷ []) (ap string_bytes at ∙ sym own)) in
     let size : length (header_fields (take i names)) ≡ min i (length names) =
     length-map (take i names) string_bytes ∙ length-take i names in
-    subst (λ fields. IsInRecord before fields new) (sym more)
+    subst (λ fields. IsInRecord options before fields new) (sym more)
     (takes before (header_fields (take i names)) (omega (arith, size, fits)) inside)
 
 -- a header with a name is a record
-pub header_is_record : (names : List (String Global)) (test : Bool) →
+pub header_is_record : (options : CsvOptions) (names : List (String Global)) (test : Bool) →
     test ≡ (length names == 0) → test ≡ false →
-    header_text (Some (header_fields names)) ≡ row_text default_writer (header_fields names)
-header_is_record [] test is fails = absurd (cc)
-header_is_record (name ∷ names) test is fails = refl
+    header_text options (Some (header_fields names))
+    ≡ row_text (writer_of options) (header_fields names)
+header_is_record options [] test is fails = absurd (cc)
+header_is_record options (name ∷ names) test is fails = refl

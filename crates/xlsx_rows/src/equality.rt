@@ -2,6 +2,7 @@
 ghost use Rattle.equalities.specs.Equality.{IsEquality, CopiesItself};
 
 use crate::error::CsvError;
+use crate::options::CsvOptions;
 
 /// `a == b` exactly where all fields are the same, at each type of this crate.
 pub fn equality_is_by_all_fields()
@@ -10,5 +11,8 @@ pub fn equality_is_by_all_fields()
 
 /// A copy of a value is that value, at each type of this crate that is `Copy`.
 pub fn copies_are_the_same()
-    ensures { CopiesItself ⟦<CsvError as Clone>⟧.is_clone ⟦<CsvError as Clone>⟧.is_infallible }
+    ensures error { CopiesItself ⟦<CsvError as Clone>⟧.is_clone
+        ⟦<CsvError as Clone>⟧.is_infallible }
+    ensures options { CopiesItself ⟦<CsvOptions as Clone>⟧.is_clone
+        ⟦<CsvOptions as Clone>⟧.is_infallible }
 {}

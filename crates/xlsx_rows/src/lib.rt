@@ -1,6 +1,6 @@
 //! The rows of a range as CSV.
 //!
-//! Rooms: `field` (the field of a value), `record` (a field, the end of a record and a header, by
+//! Rooms: `options` (how rows are written), `field` (the field of a value), `record` (a field, the end of a record and a header, by
 //! the writer of the kit's `csv`), `rows` (a row, all rows, `rows_csv`), `error` (`CsvError`).
 //!
 //! **Each row goes along the used cells**, by the range's own iterators. No list of fields is made
@@ -12,10 +12,12 @@
 mod equality;
 mod error;
 mod field;
+mod options;
 mod record;
 mod rows;
 
 pub use equality::{copies_are_the_same, equality_is_by_all_fields};
 pub use error::CsvError;
 pub use field::push_field;
+pub use options::CsvOptions;
 pub use rows::rows_csv;

@@ -15,8 +15,8 @@ help_text =
     codes "Usage: xlsx_tool cells NAME < package.json\n"
     ++ (codes "       xlsx_tool merges NAME < package.json\n"
     ++ (codes "       xlsx_tool links NAME < package.json\n"
-    ++ (codes "       xlsx_tool csv NAME < package.json\n"
-    ++ (codes "       xlsx_tool csv-table NAME < package.json\n"
+    ++ (codes "       xlsx_tool csv NAME [OPTION].. < package.json\n"
+    ++ (codes "       xlsx_tool csv-table NAME [OPTION].. < package.json\n"
     ++ (codes "       xlsx_tool table NAME < package.json\n"
     ++ (codes "       xlsx_tool pivot SHEET NAME < package.json\n"
     ++ (codes "       xlsx_tool precedents NAME < package.json\n"
@@ -49,11 +49,18 @@ help_text =
     ++ (codes "  pivots     pivot table: its sheet, its name\n"
     ++ (codes "  props      property of the workbook: its name, its text\n\n"
     ++ (codes "The fields of a line have tabs between them, and those of CSV commas.\n\n"
+    ++ (codes "OPTIONs of csv and csv-table, each at most once:\n\n"
+    ++ (codes "  --dates        dates as 2024-01-01T13:30:00, and durations as 36:30:00\n"
+    ++ (codes "  --digits=N     numbers of at most N significant digits, N from 1 to 38\n"
+    ++ (codes "  --delimiter=C  this ASCII character between fields, or for tab a tab\n"
+    ++ (codes "  --crlf         CR and LF at the end of a record\n"
+    ++ (codes "  --bom          the bytes EF BB BF in front\n"
+    ++ (codes "  --from-a1      of csv alone: records from row 1, and fields from column A\n\n"
     ++ (codes "upgrade prints the package text in version 2: an empty element is one event.\n\n"
     ++ (codes "resave writes a package of the values and formulas of the worksheet NAME alone\n"
     ++ (codes "and prints its text in version 2.\n\n"
     ++ codes "sample makes a package of 1 to 20,000 rows and prints how much is read of it.\n"
-    )))))))))))))))))))))))))))))))))))))))
+    ))))))))))))))))))))))))))))))))))))))))))))))
 
 -- the line of the version
 abbrev pub version_text : List ℕ

@@ -19,8 +19,8 @@ const HELP: &str = "\
 Usage: xlsx_tool cells NAME < package.json
        xlsx_tool merges NAME < package.json
        xlsx_tool links NAME < package.json
-       xlsx_tool csv NAME < package.json
-       xlsx_tool csv-table NAME < package.json
+       xlsx_tool csv NAME [OPTION].. < package.json
+       xlsx_tool csv-table NAME [OPTION].. < package.json
        xlsx_tool table NAME < package.json
        xlsx_tool pivot SHEET NAME < package.json
        xlsx_tool precedents NAME < package.json
@@ -56,6 +56,15 @@ One line is printed, of the worksheet NAME or of the workbook, for each
   props      property of the workbook: its name, its text
 
 The fields of a line have tabs between them, and those of CSV commas.
+
+OPTIONs of csv and csv-table, each at most once:
+
+  --dates        dates as 2024-01-01T13:30:00, and durations as 36:30:00
+  --digits=N     numbers of at most N significant digits, N from 1 to 38
+  --delimiter=C  this ASCII character between fields, or for tab a tab
+  --crlf         CR and LF at the end of a record
+  --bom          the bytes EF BB BF in front
+  --from-a1      of csv alone: records from row 1, and fields from column A
 
 upgrade prints the package text in version 2: an empty element is one event.
 

@@ -6,9 +6,10 @@ returns c =
     let alike = c.sheets_are_read_alike.ensures.alike in
     let agree = c.sheets_go_by_their_parts.ensures.alike in
     record {
-      one = λ parts name rows others. same_rows parts parts name rows others (alike parts name);
-      alike = λ parts other name rows others same.
-          same_rows parts other name rows others
+      one = λ parts name asked rows others.
+          same_rows parts parts name asked rows others (alike parts name);
+      alike = λ parts other name asked rows others same.
+          same_rows parts other name asked rows others
           (λ values more formulas further styles again.
           agree parts other name values more formulas further styles again same);
     }

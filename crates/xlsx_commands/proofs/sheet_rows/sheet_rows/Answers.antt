@@ -7,7 +7,7 @@ use Rattle.xlsx_commands.specs.SheetRows.{HasLargeArea}
 use Rattle.xlsx_commands.proofs.OutputLemmas.{ok_at, err_at}
 use Rattle.xlsx_commands.proofs.MemoryCalls.{memory_fails}
 use Rattle.xlsx_commands.proofs.RowsPlaced.{rows_of_sheet, large_of_sheet, fits_by, rows_fail}
-use Rattle.xlsx_commands.proofs.RowsPlaced.{call_fails}
+use Rattle.xlsx_commands.proofs.RowsPlaced.{call_fails, asked_range}
 use Rattle.xlsx_commands.proofs.sheet_rows.sheet_rows.Goals as goal
 
 pub returns-in_err-reading-clause-err : goal.returns-in_err-reading-clause-err
@@ -19,7 +19,7 @@ returns-in_err-reading-clause-err c =
     let parts = c.args.package.parts in
     let cause = SheetCause parts c.args.name.now in
     rw (handed.1, handed.2)
-    (call_fails cause (HasLargeArea parts c.args.name.now) _
+    (call_fails cause (HasLargeArea parts c.args.name.now c.args.asked.from_a1) _
     (memory_fails cause cause c.args.package c.read_sheet-result.result.package _ (λ own. own)
     fails))
 
@@ -34,10 +34,13 @@ returns-in_err-rows_csv-clause-err c =
     let parts = c.args.package.parts in
     let found = c.in_ok-reading.reading in
     rw (handed.1, handed.2)
-    (rows_fail (SheetCause parts c.args.name.now) (HasLargeArea parts c.args.name.now)
-    (box_count found.values) c.rows_csv.result c.in_err-rows_csv.field-0.0
+    (rows_fail (SheetCause parts c.args.name.now)
+    (HasLargeArea parts c.args.name.now c.args.asked.from_a1)
+    (box_count c.in_asked_area-values.result) c.rows_csv.result c.in_err-rows_csv.field-0.0
     c.rows_csv.ensures.large c.in_err-rows_csv.was
-    (large_of_sheet parts c.args.name.now found reads least))
+    (large_of_sheet parts c.args.name.now found reads least c.args.asked.from_a1
+    c.in_asked_area-values.result (asked_range _ _ _ c.in_asked_area-values.ensures.cells
+    c.in_asked_area-values.ensures.bounds c.in_asked_area-values.ensures.blank)))
 
 pub returns-clause-ok : goal.returns-clause-ok
 returns-clause-ok c =
@@ -47,6 +50,9 @@ returns-clause-ok c =
     let least = ok_at result _ _ answered c.read_sheet-result.ensures.ranges in
     let found = c.in_ok-reading.reading in
     let rows = c.in_ok-rows_csv.field-0 in
-    rows_of_sheet c.args.package.parts c.args.name.now found reads least rows.items
-    (fits_by (box_count found.values) c.rows_csv.result rows c.rows_csv.ensures.large
+    rows_of_sheet c.args.package.parts c.args.name.now found reads least c.args.asked.from_a1
+    c.in_asked_area-values.result (asked_range _ _ _ c.in_asked_area-values.ensures.cells
+    c.in_asked_area-values.ensures.bounds c.in_asked_area-values.ensures.blank)
+    c.args.asked.options rows.items
+    (fits_by (box_count c.in_asked_area-values.result) c.rows_csv.result rows c.rows_csv.ensures.large
     c.in_ok-rows_csv.was) c.in_ok-rows_csv.ensures.rows

@@ -42,6 +42,6 @@ returns-clause-ok c =
     let rows = c.in_ok-rows_csv.field-0 in
     records_of_data c.args.package.parts c.args.name.now c.in_ok-table.table
     c.in_ok-table.ensures.ok range c.deref.result.now rows.items c.data.ensures
-    (ap (map string_bytes) c.deref.ensures.value ∙ c.in_ok-header.ensures)
+    (ap (map string_bytes) c.deref.ensures.value ∙ c.in_ok-header.ensures) c.args.options
     (fits_by (box_count range) c.rows_csv.result rows c.rows_csv.ensures.large
     c.in_ok-rows_csv.was) c.in_ok-rows_csv.ensures.rows

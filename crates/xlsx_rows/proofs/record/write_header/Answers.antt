@@ -6,8 +6,8 @@ use Rattle.xlsx_rows.proofs.record.write_header.Goals as goal
 
 pub returns : goal.returns
 returns c =
-    let text = header_is_record c.args.names.now c.is_empty.result c.is_empty.ensures
+    on_ok_weaker c.write_names.result (λ takes options before between.
+    let text = header_is_record options c.args.names.now c.is_empty.result c.is_empty.ensures
     c.if-is_empty.false in
-    on_ok_weaker c.write_names.result (λ takes before between.
-    subst (λ text. IsBetweenRecords (before ++ text) c.write_names.new.writer) (sym text)
-    (takes before between)) c.write_names.ensures
+    subst (λ text. IsBetweenRecords options (before ++ text) c.write_names.new.writer) (sym text)
+    (takes options before between)) c.write_names.ensures

@@ -3,8 +3,8 @@ use Rattle.std.proofs.lemmas.List.{map-append}
 use Rattle.std.proofs.lemmas.Result.{on_ok_weaker}
 use Rattle.cell_data.specs.RangeItems.{row_left}
 use Rattle.cell_data.proofs.Placing.{one_further}
-use Rattle.csv.specs.Writing.{default_writer, row_text}
-use Rattle.xlsx_rows.specs.RowsText.{data_field}
+use Rattle.csv.specs.Writing.{row_text}
+use Rattle.xlsx_rows.specs.RowsText.{data_field, writer_of}
 use Rattle.xlsx_rows.specs.RowSteps.{IsInRecord, IsBetweenRecords}
 use Rattle.xlsx_rows.proofs.RecordSteps.{record_begun}
 use Rattle.xlsx_rows.proofs.RowFields.{shown, value_taken, all_given}
@@ -14,7 +14,7 @@ pub loop-value-init : goal.loop-value-init
 loop-value-init c =
     let whole : row_left c.into_iter-value-iterator.result ≡ row_left c.args.row = search rules in
     record {
-      taken = λ before between. record_begun before c.args.writer.now between;
+      taken = λ before between. record_begun c.args.options.now before c.args.writer.now between;
       whole = whole;
     }
 
@@ -24,9 +24,11 @@ loop-value-preserved c =
     let more = map-append shown c.loop-value.yielded (c.in-Some.value ∷ []) in
     record {
       taken = λ before between.
-          subst (λ vs. IsInRecord before (map data_field vs) c.write_value.new.writer) (sym more)
+          subst (λ vs. IsInRecord c.args.options.now before
+          (map (data_field c.args.options.now) vs) c.write_value.new.writer) (sym more)
           (value_taken c.args.row values (row_left c.loop-value.value-iterator)
-          (row_left c.next.new.self) c.in-Some.value.now before c.loop-value.writer
+          (row_left c.next.new.self) c.in-Some.value.now c.args.options.now before
+          c.loop-value.writer
           c.write_value.new.writer c.in-Some.ensures.steps c.loop-value.invariant.whole
           c.in_ok-write_value.ensures (c.loop-value.invariant.taken before between));
       whole = ap (λ vs. vs ++ row_left c.next.new.self) more
@@ -41,6 +43,7 @@ returns c =
     let all = all_given (map shown c.loop-value.yielded) (row_left c.loop-value.value-iterator)
     (row_left c.args.row) none c.loop-value.invariant.whole in
     on_ok_weaker c.end_record.result (λ ends before between.
-    subst (λ values. IsBetweenRecords (before ++ row_text default_writer (map data_field values))
+    subst (λ values. IsBetweenRecords c.args.options.now (before
+    ++ row_text (writer_of c.args.options.now) (map (data_field c.args.options.now) values))
     c.end_record.new.writer) all
-    (ends before _ (c.loop-value.invariant.taken before between))) c.end_record.ensures
+    (ends c.args.options.now before _ (c.loop-value.invariant.taken before between))) c.end_record.ensures

@@ -7,7 +7,7 @@ use Rattle.xlsx_rows.proofs.rows.write_row.Given as goal
 
 abbrev pub invariant-loop-value : goal.invariant-loop-value
 invariant-loop-value l = record {
-  taken : (before : List ℕ) → IsBetweenRecords before l.fn.writer →
-      IsInRecord before (map data_field (map shown l.yielded)) l.writer;
+  taken : (before : List ℕ) → IsBetweenRecords l.options before l.fn.writer →
+      IsInRecord l.options before (map (data_field l.options) (map shown l.yielded)) l.writer;
   whole : map shown l.yielded ++ row_left l.value-iterator ≡ row_left l.fn.row;
 }

@@ -16,9 +16,9 @@ loop-row-preserved c =
     let more = map-append (row_left {X = Data}) c.loop-row.yielded (c.in-Some.row ∷ []) in
     record {
       taken = λ before between.
-          subst (λ rows. IsBetweenRecords (before ++ flat_map record_text rows)
-          c.write_row.new.writer) (sym more)
-          (record_taken given own before c.loop-row.writer c.write_row.new.writer
+          subst (λ rows. IsBetweenRecords c.args.options.now
+          (before ++ flat_map (record_text c.args.options.now) rows) c.write_row.new.writer) (sym more)
+          (record_taken given own c.args.options.now before c.loop-row.writer c.write_row.new.writer
           c.in_ok-write_row.ensures (c.loop-row.invariant.taken before between));
       whole = ap (λ rows. rows ++ rows_left c.next.new.self) more
           ∙ one_further given own _ _ _ c.in-Some.ensures.steps c.loop-row.invariant.whole;
@@ -31,5 +31,6 @@ returns c = λ before between.
     let all = all_given (map (row_left {X = Data}) c.loop-row.yielded)
     (rows_left c.loop-row.row-iterator) (row_items c.args.range.now) none
     c.loop-row.invariant.whole in
-    subst (λ rows. IsBetweenRecords (before ++ flat_map record_text rows) c.loop-row.writer) all
+    subst (λ rows. IsBetweenRecords c.args.options.now
+    (before ++ flat_map (record_text c.args.options.now) rows) c.loop-row.writer) all
     (c.loop-row.invariant.taken before between)

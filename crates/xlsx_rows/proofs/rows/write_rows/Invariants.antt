@@ -7,7 +7,8 @@ use Rattle.xlsx_rows.proofs.rows.write_rows.Given as goal
 
 abbrev pub invariant-loop-row : goal.invariant-loop-row
 invariant-loop-row l = record {
-  taken : (before : List ℕ) → IsBetweenRecords before l.fn.writer →
-      IsBetweenRecords (before ++ flat_map record_text (map row_left l.yielded)) l.writer;
+  taken : (before : List ℕ) → IsBetweenRecords l.options before l.fn.writer →
+      IsBetweenRecords l.options
+      (before ++ flat_map (record_text l.options) (map row_left l.yielded)) l.writer;
   whole : map row_left l.yielded ++ rows_left l.row-iterator ≡ row_items l.range;
 }

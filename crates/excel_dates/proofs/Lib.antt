@@ -1,0 +1,4 @@
+pub mod Counting
+pub mod DayLaws
+pub mod Found
+pub mod SerialSteps

@@ -1,0 +1,4 @@
+pub mod CalendarDates
+pub mod IsoText
+pub mod Moments
+pub mod Serials

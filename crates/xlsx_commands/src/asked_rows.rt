@@ -1,0 +1,202 @@
+//! What is asked of rows behind the name of a sheet or of a table.
+ghost use Rattle.std.specs.Prelude.{◌≡◌, map, string_bytes, option_map};
+ghost use Rattle.xlsx_commands.specs.AskedRows.{behind, is_delimiter, one_delimiter};
+ghost use Rattle.xlsx_commands.specs.AskedRows.{delimiter_asked, one_digit, two_digits};
+ghost use Rattle.xlsx_commands.specs.AskedRows.{digits_asked, unless, delimiter_given};
+ghost use Rattle.xlsx_commands.specs.AskedRows.{digits_given, setting_asked, option_asked};
+ghost use Rattle.xlsx_commands.specs.AskedRows.{options_asked, plain_rows, table_rows_asked};
+
+use xlsx_rows::CsvOptions;
+
+/// How rows are written, and where their area begins.
+#[derive(Clone, Copy)]
+pub struct AskedRows {
+    pub options: CsvOptions,
+    /// The area begins in A1, and not in its least corner.
+    pub from_a1: bool,
+}
+
+impl AskedRows {
+    /// Nothing is asked.
+    pub const PLAIN: AskedRows = AskedRows {
+        options: CsvOptions::PLAIN,
+        from_a1: false,
+    };
+}
+
+/// What stands behind a front of a text.
+fn behind<'a>(text: &'a [u8], front: &[u8]) -> Option<&'a [u8]>
+    ensures { option_map (λ rest. rest.now) result ≡ behind front.now text.now }
+{
+    text.strip_prefix(front)
+}
+
+fn is_delimiter(byte: u8) -> bool
+    ensures { result ≡ is_delimiter byte }
+{
+    byte < 128 && byte != b'"' && byte != b'\r' && byte != b'\n'
+}
+
+fn one_delimiter(text: &[u8]) -> Option<u8>
+    ensures { result ≡ one_delimiter text.now }
+{
+    match text {
+        [byte] => {
+            if is_delimiter(*byte) {
+                Some(*byte)
+            } else {
+                None
+            }
+        }
+        _ => None,
+    }
+}
+
+/// The delimiter that stands behind `--delimiter=`: one ASCII character that is no quotation mark,
+/// CR or LF, or a tab by its name.
+fn delimiter_asked(text: &[u8]) -> Option<u8>
+    ensures { result ≡ delimiter_asked text.now }
+{
+    match text {
+        b"tab" => Some(b'\t'),
+        _ => one_delimiter(text),
+    }
+}
+
+fn one_digit(unit: u8) -> Option<u8>
+    ensures { result ≡ one_digit unit }
+{
+    if unit.is_ascii_digit() && unit != b'0' {
+        Some(unit - b'0')
+    } else {
+        None
+    }
+}
+
+fn two_digits(ten: u8, unit: u8) -> Option<u8>
+    ensures { result ≡ two_digits ten unit }
+{
+    if !ten.is_ascii_digit() || ten == b'0' || !unit.is_ascii_digit() {
+        return None;
+    }
+    let number = (ten - b'0') * 10 + (unit - b'0');
+    if number <= 38 { Some(number) } else { None }
+}
+
+/// The number that stands behind `--digits=`: from 1 to 38, without a zero in front.
+fn digits_asked(text: &[u8]) -> Option<u8>
+    ensures { result ≡ digits_asked text.now }
+{
+    match text {
+        [unit] => one_digit(*unit),
+        [ten, unit] => two_digits(*ten, *unit),
+        _ => None,
+    }
+}
+
+/// What is asked further, unless it was asked before.
+fn unless(given: bool, asked: AskedRows) -> Option<AskedRows>
+    ensures { result ≡ unless given asked }
+{
+    if given { None } else { Some(asked) }
+}
+
+fn delimiter_given(asked: AskedRows, text: &[u8]) -> Option<AskedRows>
+    ensures { result ≡ delimiter_given asked text.now }
+{
+    let delimiter = Some(delimiter_asked(text)?);
+    let options = CsvOptions {
+        delimiter,
+        ..asked.options
+    };
+    unless(
+        asked.options.delimiter.is_some(),
+        AskedRows { options, ..asked },
+    )
+}
+
+fn digits_given(asked: AskedRows, text: &[u8]) -> Option<AskedRows>
+    ensures { result ≡ digits_given asked text.now }
+{
+    let digits = Some(digits_asked(text)?);
+    let options = CsvOptions {
+        digits,
+        ..asked.options
+    };
+    unless(
+        asked.options.digits.is_some(),
+        AskedRows { options, ..asked },
+    )
+}
+
+/// What a word with a value asks further.
+fn setting_asked(asked: AskedRows, word: &[u8]) -> Option<AskedRows>
+    ensures { result ≡ setting_asked asked word.now }
+{
+    if let Some(text) = behind(word, b"--delimiter=") {
+        return delimiter_given(asked, text);
+    }
+    let text = behind(word, b"--digits=")?;
+    digits_given(asked, text)
+}
+
+/// What a word asks further. None where it asks nothing, or what was asked before.
+fn option_asked(asked: AskedRows, word: &str) -> Option<AskedRows>
+    ensures { result ≡ option_asked asked word.now }
+{
+    let options = asked.options;
+    match word {
+        "--dates" => {
+            let dates = CsvOptions {
+                dates: true,
+                ..options
+            };
+            unless(options.dates, AskedRows { options: dates, ..asked })
+        }
+        "--crlf" => {
+            let crlf = CsvOptions {
+                crlf: true,
+                ..options
+            };
+            unless(options.crlf, AskedRows { options: crlf, ..asked })
+        }
+        "--bom" => {
+            let bom = CsvOptions {
+                bom: true,
+                ..options
+            };
+            unless(options.bom, AskedRows { options: bom, ..asked })
+        }
+        "--from-a1" => unless(
+            asked.from_a1,
+            AskedRows {
+                options,
+                from_a1: true,
+            },
+        ),
+        _ => setting_asked(asked, word.as_bytes()),
+    }
+}
+
+/// What words ask of the rows of a sheet, each at most once, in any order. None where a word asks
+/// nothing.
+pub fn rows_asked_by(words: &[String]) -> Option<AskedRows>
+    ensures { result ≡ options_asked plain_rows (map string_bytes words.now) }
+{
+    let mut asked = AskedRows::PLAIN;
+    for word in words {
+        asked = option_asked(asked, word.as_str())?;
+    }
+    Some(asked)
+}
+
+/// What words ask of the rows of a table, whose area has its own corner.
+pub fn table_rows_asked(words: &[String]) -> Option<CsvOptions>
+    ensures { result ≡ table_rows_asked (map string_bytes words.now) }
+{
+    let asked = rows_asked_by(words)?;
+    if asked.from_a1 {
+        return None;
+    }
+    Some(asked.options)
+}
