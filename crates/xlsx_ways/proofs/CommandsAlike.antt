@@ -6,7 +6,7 @@ use Rattle.xlsx_error.specs.declared.error.XlsxError.TheVariants.{WorksheetNotFo
 use Rattle.xlsx_core.proofs.Agreeing.{same_back, reads_over}
 use Rattle.xlsx_commands.specs.Command.{Command, cells, sheets, names, merges, links, props, csv}
 use Rattle.xlsx_commands.specs.Command.{csv_table, tables, table, pivots, pivot, precedents}
-use Rattle.xlsx_commands.specs.Command.{dependents, check, part, upgrade, sample}
+use Rattle.xlsx_commands.specs.Command.{dependents, check, part, upgrade, resave, sample}
 use Rattle.xlsx_commands.specs.Outputs.{IsOutput, RefusedWorkbookCause, IsTooLarge, OutputCause}
 use Rattle.xlsx_commands.specs.Outputs.{IsUpgrade}
 use Rattle.xlsx_commands.specs.PartNames.{PartPathCause}
@@ -38,8 +38,8 @@ way_back (links name) one two same =
     let back = same_back one two name same.0 in
     (back, links_back one two name (opening_of_sheet two one name back) same.1)
 way_back props one two same = (opening_back one two same.0, properties_back one two same.1)
-way_back (csv name) one two same = same_back one two name same
-way_back (csv_table name) one two same = table_data_back one two name same
+way_back (csv name asked) one two same = same_back one two name same
+way_back (csv_table name options) one two same = table_data_back one two name same
 way_back tables one two same =
     (opening_back one two same.0, each_tables_back one two same.0 same.1)
 way_back (table name) one two same = table_data_back one two name same
@@ -51,6 +51,7 @@ way_back (dependents name position) one two same = same_back one two name same
 way_back (check name) one two same = same_back one two name same
 way_back (part name) one two same = opening_back one two same
 way_back upgrade one two same = sym same
+way_back (resave name) one two same = same_back one two name same
 way_back (sample rows) one two same = same_back one two sample_name same
 
 -- its output
@@ -92,7 +93,7 @@ output_over props one two output same prints = record {
   by_name = prints.by_name;
   listed = prints.listed;
 }
-output_over (csv name) one two output same prints = record {
+output_over (csv name asked) one two output same prints = record {
   values = prints.values;
   formulas = prints.formulas;
   styles = prints.styles;
@@ -100,7 +101,7 @@ output_over (csv name) one two output same prints = record {
   fits = prints.fits;
   listed = prints.listed;
 }
-output_over (csv_table name) one two output same prints = record {
+output_over (csv_table name options) one two output same prints = record {
   table = prints.table;
   has = table_over one two name prints.table same prints.has;
   fits = prints.fits;
@@ -161,6 +162,13 @@ output_over (part name) one two output same prints = record {
 }
 output_over upgrade one two output same prints =
     subst (λ (parts : List Part). IsUpgrade parts output) same prints
+output_over (resave name) one two output same prints = record {
+  values = prints.values;
+  formulas = prints.formulas;
+  styles = prints.styles;
+  reads = reads_over one two name prints.values prints.formulas prints.styles same prints.reads;
+  saved = prints.saved;
+}
 output_over (sample rows) one two output same prints = record {
   values = prints.values;
   formulas = prints.formulas;
@@ -196,8 +204,8 @@ cause_over (links name) one two error same cause =
     links_cause_over one two name error same.0 same.1 cause
 cause_over props one two error same cause =
     listed_properties_over one two error same.0 same.1 cause
-cause_over (csv name) one two error same cause = sheet_cause_over one two name error same cause
-cause_over (csv_table name) one two error same cause =
+cause_over (csv name asked) one two error same cause = sheet_cause_over one two name error same cause
+cause_over (csv_table name options) one two error same cause =
     table_cause_over one two name error same cause
 cause_over tables one two error same cause = tables_listed_over one two error same.0 same.1 cause
 cause_over (table name) one two error same cause = table_cause_over one two name error same cause
@@ -213,6 +221,7 @@ cause_over (part name) one two error same cause =
     named_over (PartPathCause name) one two name error same
     (λ path at has. part_path_over name path one two error has) cause
 cause_over upgrade one two error same cause = cause
+cause_over (resave name) one two error same cause = sheet_cause_over one two name error same cause
 cause_over (sample rows) one two error same cause =
     sheet_cause_over one two sample_name error same cause
 
@@ -220,14 +229,14 @@ cause_over (sample rows) one two error same cause =
 pub large_over : (command : Command) (one two : List Part) → HaveSameWay command one two
     → IsTooLarge command one → IsTooLarge command two
 unfolding HaveSameWay IsTooLarge
-large_over (csv name) one two same large = record {
+large_over (csv name asked) one two same large = record {
   values = large.values;
   formulas = large.formulas;
   styles = large.styles;
   reads = reads_over one two name large.values large.formulas large.styles same large.reads;
   large = large.large;
 }
-large_over (csv_table name) one two same large = record {
+large_over (csv_table name options) one two same large = record {
   table = large.table;
   has = table_over one two name large.table same large.has;
   large = large.large;
@@ -247,6 +256,7 @@ large_over (dependents name position) one two same large = large
 large_over (check name) one two same large = large
 large_over (part name) one two same large = large
 large_over upgrade one two same large = large
+large_over (resave name) one two same large = large
 large_over (sample rows) one two same large = large
 
 pub output_cause_over : (command : Command) (one two : List Part) (error : ToolError)

@@ -15,7 +15,7 @@ use Rattle.xlsx_core.specs.SheetReading.{path_named}
 use Rattle.xlsx_commands.specs.CacheRows.{HasCache}
 use Rattle.xlsx_commands.specs.Command.{Command, cells, sheets, names, merges, links, props, csv}
 use Rattle.xlsx_commands.specs.Command.{csv_table, tables, table, pivots, pivot, precedents}
-use Rattle.xlsx_commands.specs.Command.{dependents, check, part, upgrade, sample}
+use Rattle.xlsx_commands.specs.Command.{dependents, check, part, upgrade, resave, sample}
 use Rattle.xlsx_commands.specs.SampleLines.{sample_name}
 use Rattle.xlsx_commands.specs.SheetsOpened.{sheets_opened}
 use Rattle.xlsx_commands.specs.TableLists.{HasNamedTable}
@@ -110,8 +110,8 @@ HaveSameWay names one two = HaveSameOpening one two
 HaveSameWay (merges name) one two = HaveSameSheet one two name
 HaveSameWay (links name) one two = HaveSameSheet one two name × HaveSameLinks one two name
 HaveSameWay props one two = HaveSameOpening one two × HaveSameProperties one two
-HaveSameWay (csv name) one two = HaveSameSheet one two name
-HaveSameWay (csv_table name) one two = HaveSameTableData one two name
+HaveSameWay (csv name asked) one two = HaveSameSheet one two name
+HaveSameWay (csv_table name options) one two = HaveSameTableData one two name
 HaveSameWay tables one two = HaveSameOpening one two × OfEachSheet (HaveSameTables one two) one
 HaveSameWay (table name) one two = HaveSameTableData one two name
 HaveSameWay pivots one two = HaveSameOpening one two × OfEachSheet (HaveSamePivots one two) one
@@ -121,4 +121,5 @@ HaveSameWay (dependents name position) one two = HaveSameSheet one two name
 HaveSameWay (check name) one two = HaveSameSheet one two name
 HaveSameWay (part name) one two = HaveSameOpening one two
 HaveSameWay upgrade one two = one ≡ two
+HaveSameWay (resave name) one two = HaveSameSheet one two name
 HaveSameWay (sample rows) one two = HaveSameSheet one two sample_name
