@@ -8,6 +8,7 @@ pub mod OutputLemmas
 pub mod PartsNamed
 pub mod PivotsListed
 pub mod PropertiesListed
+pub mod ReadsWritable
 pub mod RowsPlaced
 pub mod SameErrors
 pub mod SheetsOpened

@@ -29,6 +29,9 @@
 //! in. That the rows of a range are these is the lemma `rows_meant` of `RowsPlaced`. The rows of a
 //! table are said so too, by the area that its part says and behind a header of that width
 //! (`table_records`), and `TablesPlaced` brings the range that was read to them.
+//!
+//! That what is read can be written is said here, where it is needed, and not among the laws on what
+//! is written (`ReadsWritable`): of a cell comes no value that a written cell can't have.
 #![tactic(auto)]
 
 mod book_lists;
@@ -56,7 +59,7 @@ pub use equality::{copies_are_the_same, equality_is_by_all_fields};
 pub use error::ToolError;
 pub use laws::{
     causes_leave_no_output, readable_sheets_have_lines, readable_sheets_have_rows,
-    sheets_have_one_listing, sheets_have_one_text_of_rows, tables_with_values_have_rows,
-    workbooks_that_open_have_lists,
+    sheets_have_one_listing, sheets_have_one_text_of_rows, sheets_that_are_read_can_be_written,
+    tables_with_values_have_rows, workbooks_that_open_have_lists,
 };
 pub use output::{output_of, own_package};
