@@ -5,11 +5,10 @@ ghost use Rattle.xlsx_cells.specs.CellsReader.{stream_by};
 ghost use Rattle.xlsx_cells.specs.Stream.{IsStreaming};
 ghost use Rattle.xlsx_core.specs.TableData.{table_of_book, IsOfTable};
 
-use cell_data::Data;
+use cell_data::{Data, Table};
 use part_events::Package;
 use xlsx_core::{Xlsx, XlsxCellReader};
 use xlsx_error::XlsxError;
-use xlsx_tables::Table;
 
 /// How many cells with a value a reader has still to give. The count is tested, and no clause says
 /// it.
