@@ -16,7 +16,7 @@ from unittest import mock
 from xml.etree import ElementTree
 
 import fixtures
-from fixtures import BROKEN_THEME, LISTED, MINIMAL, MIXED, SALES, archive, package_text
+from fixtures import BROKEN_THEME, LISTED, MINIMAL, MIXED, SALES, package_text
 from package_text import Refusal, workbook_of
 from test_samples import WORKBOOKS, parted
 from workbook_file import save

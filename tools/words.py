@@ -200,6 +200,9 @@ COMMANDS = {
 # This one is of ./xlsx alone, and takes a file.
 PACKAGE = "package"
 
+# The command whose answer can be written as a workbook file, and what stands before its name.
+SAVED, TO = "resave", "--to"
+
 # These ask for a page of the program.
 PAGES = ("--help", "--version")
 
@@ -313,14 +316,26 @@ def is_all(words):
     return len(words) == 3 and words[:2] == ["csv", "--all"]
 
 
+def is_of_program(words):
+    """Whether these words are a command of the program, whose sheet may be told by its number."""
+    command = COMMANDS.get(words[0])
+    return command is not None and (len(words) == len(command.parameters) + 1 or has_number(words))
+
+
+def parted(words):
+    """The words of a command, and the workbook file that its answer is written as, if any."""
+    if words[:1] == [SAVED] and words[-2:-1] == [TO] and is_of_program(words[:-2]):
+        return words[:-2], words[-1]
+    return words, None
+
+
 def is_command(words):
     """Whether these words are a command, or ask for a page of the program."""
     if not words:
         return False
-    command = COMMANDS.get(words[0])
-    if command is None:
+    if words[0] not in COMMANDS:
         return len(words) == 1 and words[0] in PAGES
-    return len(words) == len(command.parameters) + 1 or has_number(words) or is_all(words)
+    return is_of_program(parted(words)[0]) or is_all(words)
 
 
 def nearest(word):
@@ -335,6 +350,8 @@ def nearest(word):
 def wrong_count(command, words):
     """What is wrong with how many words stand behind a command."""
     said = f"{command.word} takes {command.takes}"
+    if command.word == SAVED and TO in words:
+        return f"{said}, and behind {TO} that of a file"
     if not command.parameters or len(words) <= len(command.parameters):
         return said
     return f"{said}: put a name that has blanks in quotes"
@@ -357,6 +374,7 @@ def check(words, file=None):
         raise Faulty(f"there is no command '{word}'{where}{nearest(word)}")
     if not is_command(words):
         raise Faulty(wrong_count(command, words[1:]))
+    words, _ = parted(words)
     if word == "sample" and not is_number(words[1], ROWS):
         raise Faulty(f"sample takes {command.takes}, and not '{words[1]}'")
     if command is not None and command.takes == A_CELL and not is_reference(words[-1]):
