@@ -5,8 +5,9 @@ import re
 import unittest
 import zipfile
 
-from fixtures import MINIMAL, package_text
-from front_copy import FrontCopy
+from fixtures import MINIMAL, MIXED, SALES, archive, package_text
+from front_copy import TOP, FrontCopy
+from words import COMMANDS, SAVED
 
 # Answers a package text, of the sheet S alone.
 ANSWERING = """\
@@ -85,6 +86,27 @@ class Saving(FrontCopy):
             self.assertEqual(ran, (7, b"", f"{name}: {said}\n"))
         self.assertEqual(sorted(self.folder.iterdir()), before)
         self.assertEqual((self.folder / "old.xlsx").read_bytes(), b"old")
+
+    def read(self, path, name):
+        """The positions, values and formulas that the program finds in a sheet of a file."""
+        status, lines, said = self.run_on(path, "cells", name)
+        self.assertEqual((status, said), (0, ""))
+        rows = (line.split("\t")[:3] for line in lines.decode().split("\n")[:-1])
+        return [row for row in rows if row[1:] != ["-", "-"]]
+
+    @unittest.skipUnless(SAVED in COMMANDS, "the program has no such command yet")
+    def test_stored_sheets_have_the_values_and_formulas_that_were_read(self):
+        self.build(TOP / "crates" / "xlsx_tool" / "out" / "xlsx_tool")
+        books = [self.written(f"{at}.xlsx", archive(one)) for at, one in enumerate((MIXED, SALES))]
+        out = self.folder / "out.xlsx"
+        for path in [*sorted((TOP / "samples").glob("*.xlsx")), *books]:
+            _, sheets, _ = self.run_on(path, "sheets")
+            for name, kind, _ in (line.split("\t") for line in sheets.decode().splitlines()):
+                if kind == "worksheet":
+                    with self.subTest(path=path.name, sheet=name):
+                        ran = self.run_on(path, "resave", name, "--to", out)
+                        self.assertEqual(ran, (0, b"", ""))
+                        self.assertEqual(self.read(out, name), self.read(path, name))
 
     def test_words_that_write_no_workbook_file(self):
         self.answer_with(package_text(MINIMAL, 2))

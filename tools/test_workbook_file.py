@@ -39,6 +39,7 @@ START, END = ["s", "a", ""], ["e", "a"]
 LONG = "n" * 41 + "/"
 OUTSIDE = "outside of the outermost element"
 PAIRS = "attributes that aren't names with texts in quotes, each behind a space"
+TWO = "two texts with nothing between them, which markup has as one"
 BARE = "a `&` in an attribute that begins no reference"
 REFUSED = [
     ([["e", "a"]], 0, "an end of 'a' that closes nothing"),
@@ -68,7 +69,7 @@ REFUSED = [
     ([["b", "a", ' b="&bogus;"']], 0, BARE),
     ([["b", "a", ' b="\0"']], 0, "a character 0"),
     ([START, ["t", ""]], 1, "an empty text"),
-    ([START, ["t", "x"], ["t", "y"]], 2, "two texts with nothing between them, which markup has as one"),
+    ([START, ["t", "x"], ["t", "y"]], 2, TWO),
     ([START, ["t", "x\0"]], 1, "a character 0"),
     ([["t", "x"]], 0, f"a text {OUTSIDE}"),
     ([["t", "\ufeff"]], 0, f"a text {OUTSIDE}"),
@@ -313,7 +314,8 @@ class Kept(Files):
         for events, place, said in REFUSED:
             with self.subTest(events=events):
                 said = f"'b.xml', event {place}, can't be written as markup: {said}"
-                self.check_refused(package(("a.xml", [["b", "a", ""]]), ("b.xml", events)), 15, said)
+                parts = ("a.xml", [["b", "a", ""]]), ("b.xml", events)
+                self.check_refused(package(*parts), 15, said)
 
     def test_a_part_that_ends_in_its_elements(self):
         said = "'xl/theme/theme1.xml', event 7, can't be written as markup: 'clrScheme' has no end"

@@ -222,6 +222,7 @@ usage: ./xlsx FILE.xlsx cells NAME       (or merges, links, csv, csv-table, tabl
                                           pivot SHEET NAME, or sheets, names, tables,
                                           pivots, props or upgrade)
        ./xlsx FILE.xlsx csv --all FOLDER
+       ./xlsx FILE.xlsx resave NAME --to OUT.xlsx
        ./xlsx cells NAME < package.json
        ./xlsx sample N
        ./xlsx --help
@@ -242,6 +243,9 @@ In place of the name of a sheet --sheet N is the sheet that stands at N among al
     csv --all FOLDER
                   writes each worksheet as CSV into a file of FOLDER, by its name: none
                   where one of them is refused
+    resave NAME --to OUT.xlsx
+                  writes the package of `resave NAME' as a workbook file: nothing
+                  where it is refused
     package       prints the whole package text of FILE
 
 The program is proved and built first, where it is missing or older than its
