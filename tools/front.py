@@ -9,18 +9,14 @@ import os
 import re
 import select
 import shutil
-import signal
 import stat
 import sys
 import tempfile
 
 import words as of_words
-from program import ENDING, PROVING, UNPROVED, UNPROVED_SAYS, WRITE_FAULT, Ended, Program
-from program import build, is_fresh, say
+from program import LIMIT, PROVING, UNPROVED, UNPROVED_SAYS, WRITE_FAULT, Ended, Program
+from program import build, end_by_signals, is_fresh, say
 from words import Reads, one_line
-
-# The most bytes that the program reads.
-LIMIT = 64 * 1024 * 1024
 
 # The most address space that the proved program gets, in MiB; 0 sets no bound.
 MEMORY = "4096"
@@ -286,9 +282,28 @@ class Front:
         status, said = self.program.run(words, self.package(words).input(), 1)
         if status == 7 and said == WRITE_FAULT and is_reader_gone():
             return 7
+        self.tell(words, status, said)
+        return status
+
+    def tell(self, words, status, said):
+        """Tells what the program said, and which names there are."""
         os.write(2, said)
         if status == 6 and len(words) > 1:
             self.say_names(words, said)
+
+    def save(self, words, path):
+        """Runs the program on words, and writes the package text that it answers as a workbook
+        file: the status."""
+        from workbook_file import save
+
+        words = self.named(words)
+        with tempfile.TemporaryFile() as answer:
+            status, said = self.program.run(words, self.package(words).input(), answer.fileno())
+            self.tell(words, status, said)
+            if status == 0:
+                answer.seek(0)
+                with told_of(path):
+                    save(answer, path)
         return status
 
     def write_all(self, folder, options):
@@ -387,6 +402,7 @@ def answered(words):
     is_proved = words[:1] != ["--unproved"]
     memory = memory_of(os.environ.get("XLSX_MEMORY", MEMORY))
     path, words = file_and_words(words if is_proved else words[1:])
+    words, saved = of_words.saved_apart(words)
     if words == ["--help"]:
         help_page(os.environ.get("XLSX_MEMORY", MEMORY))
         if not is_fresh():
@@ -402,18 +418,15 @@ def answered(words):
         else:
             say(UNPROVED_SAYS)
         front = Front(Program(is_proved, memory), source)
-        return front.write_all(words[2], words[3:]) if of_words.is_all(words) else front.answer(words)
-
-
-def end(number, frame):
-    """Ends by a signal, with the status that tells of it."""
-    sys.exit(128 + number)
+        if saved is not None:
+            return front.save(words, saved)
+        if of_words.is_all(words):
+            return front.write_all(words[2], words[3:])
+        return front.answer(words)
 
 
 def main(words):
-    for number in ENDING:
-        if signal.getsignal(number) != signal.SIG_IGN:
-            signal.signal(number, end)
+    end_by_signals()
     try:
         os.fstat(0)
     except OSError:

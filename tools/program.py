@@ -16,6 +16,9 @@ TOP = pathlib.Path(__file__).resolve().parent.parent
 CRATE = TOP / "crates" / "xlsx_tool"
 PROGRAM = CRATE / "out" / "xlsx_tool"
 
+# The most bytes that the program reads.
+LIMIT = 64 * 1024 * 1024
+
 # How long the first proof takes, and an answer without one, on four processors.
 PROVING = "twenty to forty minutes"
 UNPROVED = "a minute or two"
@@ -79,6 +82,18 @@ def is_fresh():
 
 # These signals end ./xlsx.
 ENDING = (signal.SIGHUP, signal.SIGINT, signal.SIGTERM)
+
+
+def end(number, frame):
+    """Ends by a signal, with the status that tells of it."""
+    sys.exit(128 + number)
+
+
+def end_by_signals():
+    """Has signals end this process in order, but those that are ignored."""
+    for number in ENDING:
+        if signal.getsignal(number) != signal.SIG_IGN:
+            signal.signal(number, end)
 
 
 @contextlib.contextmanager

@@ -1,30 +1,19 @@
-"""Tries ./xlsx in a copy of its own, with a program and an rt that stand in for the real ones."""
+"""Tries ./xlsx with a program and an rt that stand in for the real ones, and with those."""
 
 import os
-import pathlib
 import resource
 import shutil
 import signal
 import subprocess
 import sys
-import tempfile
 import unittest
 
 from fixtures import LINES, MINIMAL, archive, package_text, relationships
+from front_copy import TOP, FrontCopy
 from words import COMMANDS, USAGE
 
-TOP = pathlib.Path(__file__).resolve().parent.parent
 PROGRAM = TOP / "crates" / "xlsx_tool" / "out" / "xlsx_tool"
 
-# Takes the words `cells NAME`, prints them and its input's size, and ends with the status NAME.
-STAND_IN = """\
-#!/bin/sh
-[ "$*" != --help ] || { echo page; exit 0; }
-[ "$*" != --version ] || { echo version; exit 0; }
-[ "$#" -eq 2 ] && [ "$1" = cells ] || { echo usage >&2; exit 2; }
-echo "$*: $(wc -c | tr -d ' ')"
-exit "$2"
-"""
 # Waits behind its first line.
 SLOW = """\
 #!/bin/sh
@@ -77,90 +66,16 @@ tables:*) printf 'T\\tTwo\\tA1:B2\\tx\\n' ;;
 *) echo "$fed" ;;
 esac
 """
-# Proves a crate, builds the program of this folder, or runs it unproved.
-RT = """\
-#!/bin/sh
-if [ "$1" = try ]; then
-    shift 2
-    "$STAND_IN" "$@"
-    status=$?
-    echo "checked: ended status=$status" >&2
-    if [ "$2" = 9 ]; then
-        echo "run=none runners=0 proved=no" >&2
-        exit 6
-    fi
-    echo "run=ended status=$status runners=1 proved=no" >&2
-    exit "$status"
-fi
-echo "rt $* speaks of $(basename "$PWD")"
-[ ! -e "$WAITING" ] || { echo "checked xlsx_tool::run, 3 of 7"; sleep 2; }
-[ ! -e "$FAILING" ] || [ "$1" != run ] || exit 1
-[ "$1" != run ] || cp "$STAND_IN" out/xlsx_tool
-"""
-# What ./xlsx is made of.
-FRONT = ("front", "markup", "package_text", "program", "prove", "words")
 NAMED = ("cells", "merges", "links", "csv", "csv-table", "table", "precedents", "check", "sample")
 # Words that are references of a cell, and such that are none.
 REFERENCES = ("A1", "a7", "XFD1048576", "XFE1", "ZZZ1", "A1048577", "AAAA1", "A01", "A0", "7", "A")
 REFERENCES += ("", "$A$7", "A1:B2", "\u00e91", "A\u0661", "A1 ", "1A", "A" + "0" * 5_000 + "7")
-FILES = ("xlsx", *(f"tools/{name}.py" for name in FRONT))
 UNPROVED = (
     "xlsx: this answer is not proved; past 1 MiB of lines or a minute's run there is none\n"
 )
 
 
-class Wrapper(unittest.TestCase):
-    def setUp(self):
-        folder = tempfile.TemporaryDirectory()
-        self.addCleanup(folder.cleanup)
-        self.folder = pathlib.Path(folder.name)
-        self.crate = self.folder / "top" / "crates" / "xlsx_tool"
-        self.program = self.crate / "out" / "xlsx_tool"
-        (self.crate / "src").mkdir(parents=True)
-        self.source = self.crate / "src" / "main.rt"
-        self.source.write_text("")
-        (self.folder / "top" / "crates.txt").write_text("xlsx_tool: low\nlow:\nbeside: low\n")
-        (self.folder / "top" / "crates" / "low").mkdir()
-        (self.folder / "top" / "tools").mkdir()
-        for name in FILES:
-            shutil.copy(TOP / name, self.folder / "top" / name)
-        self.written("program", STAND_IN)
-        self.written("bin/rt", RT)
-        self.book = self.written("book.xlsx", archive(MINIMAL))
-        self.size = len(self.text_of_book())
-
-    def written(self, name, data):
-        path = self.folder / name
-        path.parent.mkdir(exist_ok=True)
-        path.write_bytes(data.encode() if isinstance(data, str) else data)
-        path.chmod(0o755)
-        return path
-
-    def text_of_book(self):
-        words = ["python3", self.folder / "top" / "tools" / "package_text.py", self.book]
-        return subprocess.run(words, stdout=subprocess.PIPE, check=True).stdout
-
-    def build(self, program=None):
-        self.program.parent.mkdir(exist_ok=True)
-        shutil.copy(program or self.folder / "program", self.program)
-
-    def run_on(self, *words, data=b"", path=None, memory=None, **given):
-        path = f"{self.folder / 'bin'}:{os.environ['PATH']}" if path is None else path
-        about = {"STAND_IN": self.folder / "program", "FAILING": self.folder / "failing"}
-        about["WAITING"] = self.folder / "waiting"
-        if memory is not None:
-            about["XLSX_MEMORY"] = memory
-        if "stdin" not in given:
-            given["input"] = data
-        ran = subprocess.run(
-            [self.folder / "top" / "xlsx", *words],
-            stderr=subprocess.PIPE,
-            env={**os.environ, **about, "PATH": path},
-            cwd=self.folder,
-            **{"stdout": subprocess.PIPE, **given},
-        )
-        return ran.returncode, ran.stdout, ran.stderr.decode()
-
+class Wrapper(FrontCopy):
     # The build
 
     def log(self):
@@ -294,13 +209,6 @@ class Wrapper(unittest.TestCase):
         self.build()
         self.written("cells", archive(MINIMAL))
         self.assertEqual(self.run_on("cells", "0", data=b"1"), (0, b"cells 0: 1\n", ""))
-
-    def check_words(self, *words, said, **given):
-        """Words that are refused with a line that says what is wrong."""
-        with self.subTest(words=words, **given):
-            more = "xlsx: ./xlsx --help says which words there are\n"
-            wanted = 2, b"", f"xlsx: {said}\n{more}"
-            self.assertEqual(self.run_on(*words, **given), wanted)
 
     def test_words_that_are_no_command(self):
         """What is wrong is told, before anything is built or read."""

@@ -235,6 +235,9 @@ NO_DELIMITER = ('"', "\r", "\n")
 # This one is of ./xlsx alone, and takes a file.
 PACKAGE = "package"
 
+# The command whose answer can be written as a workbook file, and what stands before its name.
+SAVED, TO = "resave", "--to"
+
 # These ask for a page of the program.
 PAGES = ("--help", "--version")
 
@@ -255,6 +258,7 @@ usage: ./xlsx FILE.xlsx cells NAME       (or merges, links, csv, csv-table, tabl
                                           pivot SHEET NAME, or sheets, names, tables,
                                           pivots, props or upgrade)
        ./xlsx FILE.xlsx csv --all FOLDER
+       ./xlsx FILE.xlsx resave NAME --to OUT.xlsx
        ./xlsx cells NAME < package.json
        ./xlsx sample N
        ./xlsx --help
@@ -275,6 +279,9 @@ In place of the name of a sheet --sheet N is the sheet that stands at N among al
     csv --all FOLDER
                   writes each worksheet as CSV into a file of FOLDER, by its name: none
                   where one of them is refused. Options stand behind FOLDER
+    resave NAME --to OUT.xlsx
+                  writes the package of `resave NAME' as a workbook file: nothing
+                  where it is refused
     package       prints the whole package text of FILE
 
 The program is proved and built first, where it is missing or older than its
@@ -379,15 +386,28 @@ def is_all(words):
     return len(words) == 3 and words[:2] == ["csv", "--all"]
 
 
+def is_of_program(words):
+    """Whether these words are a command of the program, whose sheet may be told by its number."""
+    command = COMMANDS.get(words[0])
+    return command is not None and (len(words) == len(command.parameters) + 1 or has_number(words))
+
+
+def saved_apart(words):
+    """The words of a command, and the workbook file that its answer is written as, if any."""
+    if words[:1] == [SAVED] and words[-2:-1] == [TO] and is_of_program(words[:-2]):
+        return words[:-2], words[-1]
+    return words, None
+
+
 def is_command(words):
     """Whether these words are a command, or ask for a page of the program."""
+    words, _ = saved_apart(words)
     words, _ = parted(words)
     if not words:
         return False
-    command = COMMANDS.get(words[0])
-    if command is None:
+    if words[0] not in COMMANDS:
         return len(words) == 1 and words[0] in PAGES
-    return len(words) == len(command.parameters) + 1 or has_number(words) or is_all(words)
+    return is_of_program(words) or is_all(words)
 
 
 def nearest(word):
@@ -402,6 +422,8 @@ def nearest(word):
 def wrong_count(command, words):
     """What is wrong with how many words stand behind a command."""
     said = f"{command.word} takes {command.takes}"
+    if command.word == SAVED and TO in words:
+        return f"{said}, and behind {TO} that of a file"
     if not command.parameters or len(words) <= len(command.parameters):
         return said
     return f"{said}: put a name that has blanks in quotes"
@@ -424,6 +446,7 @@ def check(words, file=None):
         raise Faulty(f"there is no command '{word}'{where}{nearest(word)}")
     if not is_command(words):
         raise Faulty(wrong_count(command, words[1:]))
+    words, _ = saved_apart(words)
     wrong = wrong_option(word, parted(words)[1])
     if wrong is not None:
         raise Faulty(wrong)

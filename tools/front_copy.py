@@ -1,0 +1,105 @@
+"""A copy of ./xlsx for tests, with a program and an rt that stand in for the real ones."""
+
+import os
+import pathlib
+import shutil
+import subprocess
+import tempfile
+import unittest
+
+from fixtures import MINIMAL, archive
+
+TOP = pathlib.Path(__file__).resolve().parent.parent
+
+# Takes the words `cells NAME`, prints them and its input's size, and ends with the status NAME.
+STAND_IN = """\
+#!/bin/sh
+[ "$*" != --help ] || { echo page; exit 0; }
+[ "$*" != --version ] || { echo version; exit 0; }
+[ "$#" -eq 2 ] && [ "$1" = cells ] || { echo usage >&2; exit 2; }
+echo "$*: $(wc -c | tr -d ' ')"
+exit "$2"
+"""
+# Proves a crate, builds the program of this folder, or runs it unproved.
+RT = """\
+#!/bin/sh
+if [ "$1" = try ]; then
+    shift 2
+    "$STAND_IN" "$@"
+    status=$?
+    echo "checked: ended status=$status" >&2
+    if [ "$2" = 9 ]; then
+        echo "run=none runners=0 proved=no" >&2
+        exit 6
+    fi
+    echo "run=ended status=$status runners=1 proved=no" >&2
+    exit "$status"
+fi
+echo "rt $* speaks of $(basename "$PWD")"
+[ ! -e "$WAITING" ] || { echo "checked xlsx_tool::run, 3 of 7"; sleep 2; }
+[ ! -e "$FAILING" ] || [ "$1" != run ] || exit 1
+[ "$1" != run ] || cp "$STAND_IN" out/xlsx_tool
+"""
+# What ./xlsx is made of.
+FRONT = ("front", "markup", "package_text", "program", "prove", "words", "workbook_file")
+FILES = ("xlsx", *(f"tools/{name}.py" for name in FRONT))
+
+
+class FrontCopy(unittest.TestCase):
+    def setUp(self):
+        folder = tempfile.TemporaryDirectory()
+        self.addCleanup(folder.cleanup)
+        self.folder = pathlib.Path(folder.name)
+        self.crate = self.folder / "top" / "crates" / "xlsx_tool"
+        self.program = self.crate / "out" / "xlsx_tool"
+        (self.crate / "src").mkdir(parents=True)
+        self.source = self.crate / "src" / "main.rt"
+        self.source.write_text("")
+        (self.folder / "top" / "crates.txt").write_text("xlsx_tool: low\nlow:\nbeside: low\n")
+        (self.folder / "top" / "crates" / "low").mkdir()
+        (self.folder / "top" / "tools").mkdir()
+        for name in FILES:
+            shutil.copy(TOP / name, self.folder / "top" / name)
+        self.written("program", STAND_IN)
+        self.written("bin/rt", RT)
+        self.book = self.written("book.xlsx", archive(MINIMAL))
+        self.size = len(self.text_of_book())
+
+    def written(self, name, data):
+        path = self.folder / name
+        path.parent.mkdir(exist_ok=True)
+        path.write_bytes(data.encode() if isinstance(data, str) else data)
+        path.chmod(0o755)
+        return path
+
+    def text_of_book(self):
+        words = ["python3", self.folder / "top" / "tools" / "package_text.py", self.book]
+        return subprocess.run(words, stdout=subprocess.PIPE, check=True).stdout
+
+    def build(self, program=None):
+        self.program.parent.mkdir(exist_ok=True)
+        shutil.copy(program or self.folder / "program", self.program)
+
+    def run_on(self, *words, data=b"", path=None, memory=None, **given):
+        path = f"{self.folder / 'bin'}:{os.environ['PATH']}" if path is None else path
+        about = {"STAND_IN": self.folder / "program", "FAILING": self.folder / "failing"}
+        about["WAITING"] = self.folder / "waiting"
+        if memory is not None:
+            about["XLSX_MEMORY"] = memory
+        if "stdin" not in given:
+            given["input"] = data
+        ran = subprocess.run(
+            [self.folder / "top" / "xlsx", *words],
+            stderr=subprocess.PIPE,
+            env={**os.environ, **about, "PATH": path},
+            cwd=self.folder,
+            **{"stdout": subprocess.PIPE, **given},
+        )
+        return ran.returncode, ran.stdout, ran.stderr.decode()
+
+    def check_words(self, *words, said, **given):
+        """Words that are refused with a line that says what is wrong."""
+        with self.subTest(words=words, **given):
+            more = "xlsx: ./xlsx --help says which words there are\n"
+            wanted = 2, b"", f"xlsx: {said}\n{more}"
+            self.assertEqual(self.run_on(*words, **given), wanted)
