@@ -15,3 +15,4 @@ pub mod SheetsOpened
 pub mod TablesListed
 pub mod TablesNamed
 pub mod TablesPlaced
+pub mod WordsAsked
