@@ -1,4 +1,2 @@
 pub mod Counting
-pub mod DayLaws
-pub mod Found
 pub mod SerialSteps

@@ -1,7 +1,9 @@
-//! What values are: tests of decimals, number formats, cells kept by rows, ranges, styles and their
-//! lines by their public calls.
+//! What values are: tests of decimals, dates, number formats, cells kept by rows, ranges, styles and
+//! their lines by their public calls.
 #![tactic(auto)]
 
+#[cfg(test)]
+mod date_tests;
 #[cfg(test)]
 mod decimal_tests;
 #[cfg(test)]

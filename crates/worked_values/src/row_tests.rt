@@ -9,7 +9,7 @@ use std::alloc::{AllocError, Global};
 use std::process::Abort;
 use std::test::Fail;
 use test_tables::assert_text;
-use xlsx_rows::{CsvError, push_field, rows_csv};
+use xlsx_rows::{CsvError, CsvOptions, push_field, rows_csv};
 
 fn number(text: &str) -> Data {
     match Decimal::parse(text) {
@@ -54,7 +54,7 @@ fn each_kind_of_value_has_its_field(rt: HostRuntime) -> Result<(), Fail> {
     ];
     let mut fields = String::new(alloc);
     for value in values {
-        push_field(&mut fields, &value)?;
+        push_field(&mut fields, &value, &CsvOptions::PLAIN)?;
         fields.push_str("|")?;
     }
     assert_text(&fields, FIELDS, "values")?;
@@ -94,7 +94,7 @@ fn rows_have_a_field_for_each_column(rt: HostRuntime) -> Result<(), Fail> {
         ("=A1", "", (1, 0), "=A1\n\"\"\n"),
     ] {
         let range = two_texts(alloc, first, second, place)?;
-        let rows = rows_csv(alloc, None, &range)?;
+        let rows = rows_csv(alloc, None, &range, &CsvOptions::PLAIN)?;
         assert_text(std::str::from_utf8(&rows)?, wanted, "rows")?;
     }
     Ok(())
@@ -124,7 +124,7 @@ fn a_reader_gives_the_rows_back(rt: HostRuntime) -> Result<(), Fail> {
         Cell::new((1, 1), number("1")),
     ];
     let range = Range::from_sparse(alloc, Vec::from_array(alloc, cells)?, Data::Empty)?;
-    let rows = rows_csv(alloc, None, &range)?;
+    let rows = rows_csv(alloc, None, &range, &CsvOptions::PLAIN)?;
     let wanted = "\"a,b\",\"say \"\"x\"\"\"\n,1\n";
     assert_text(std::str::from_utf8(&rows)?, wanted, "rows")?;
     assert_read(&rt, alloc, &rows, &[("a,b", "say \"x\""), ("", "1")]);
@@ -144,7 +144,7 @@ fn a_header_stands_before_the_rows(rt: HostRuntime) -> Result<(), Fail> {
     ];
     let used = Range::from_sparse(alloc, Vec::from_array(alloc, cells)?, Data::Empty)?;
     let table = used.range((1, 0), (2, 1));
-    let rows = rows_csv(alloc, Some(&header), &table)?;
+    let rows = rows_csv(alloc, Some(&header), &table, &CsvOptions::PLAIN)?;
     assert_text(std::str::from_utf8(&rows)?, "Name,Qty\nnut,3\n,\n", "rows")?;
     assert_read(
         &rt,
@@ -163,10 +163,10 @@ fn a_header_stands_alone_where_no_row_is(rt: HostRuntime) -> Result<(), Fail> {
         String::from_str(alloc, "Qty")?,
     ];
     let none = Range::from_sparse(alloc, Vec::new(alloc), Data::Empty)?;
-    let names = rows_csv(alloc, Some(&header), &none)?;
+    let names = rows_csv(alloc, Some(&header), &none, &CsvOptions::PLAIN)?;
     assert_text(std::str::from_utf8(&names)?, "Name,Qty\n", "rows")?;
-    assert!(rt; rows_csv(alloc, Some(&[]), &none)?.is_empty());
-    assert!(rt; rows_csv(alloc, None, &none)?.is_empty());
+    assert!(rt; rows_csv(alloc, Some(&[]), &none, &CsvOptions::PLAIN)?.is_empty());
+    assert!(rt; rows_csv(alloc, None, &none, &CsvOptions::PLAIN)?.is_empty());
     Ok(())
 }
 
@@ -178,7 +178,7 @@ fn a_blank_fills_places_without_a_cell(rt: HostRuntime) -> Result<(), Fail> {
         Cell::new((5, 3), Data::Empty),
     ];
     let range = Range::from_sparse(alloc, Vec::from_array(alloc, cells)?, Data::Bool(false))?;
-    let rows = rows_csv(alloc, None, &range)?;
+    let rows = rows_csv(alloc, None, &range, &CsvOptions::PLAIN)?;
     assert_text(std::str::from_utf8(&rows)?, "1,false\nfalse,\n", "rows")?;
     Ok(())
 }
@@ -200,7 +200,7 @@ fn length_of_rows(alloc: Global, place: (u32, u32)) -> Result<usize, CsvError>
     requires column { place.1 < MAX_COLUMNS }
 {
     let range = two_numbers(alloc, place)?;
-    Ok(rows_csv(alloc, None, &range)?.len())
+    Ok(rows_csv(alloc, None, &range, &CsvOptions::PLAIN)?.len())
 }
 
 #[test]
@@ -226,7 +226,7 @@ fn a_box_of_more_than_the_most_cells_is_too_large(rt: HostRuntime) -> Result<(),
     assert!(rt; length_of_rows(alloc, last) == Err(CsvError::BoxTooLarge));
     let none: Range<Data> = Range::from_sparse(alloc, Vec::new(alloc), Data::Empty)?;
     let table = none.range((0, 0), (1_024, last.1));
-    assert!(rt; rows_csv(alloc, None, &table) == Err(CsvError::BoxTooLarge));
+    assert!(rt; rows_csv(alloc, None, &table, &CsvOptions::PLAIN) == Err(CsvError::BoxTooLarge));
     Ok(())
 }
 
@@ -239,4 +239,50 @@ fn refusals_of_rows_have_texts(rt: HostRuntime) -> Result<(), Fail> {
     }
     assert_text(&told, "box too large;out of memory;", "refusals")?;
     Ok(())
+}
+
+/// Two texts in a row, with a semicolon between them and CR LF behind them.
+#[test]
+fn rows_of_another_form_are_read_back(rt: HostRuntime) -> Result<(), Fail> {
+    let alloc = rt.alloc();
+    let options = CsvOptions {
+        delimiter: Some(b';'),
+        crlf: true,
+        ..CsvOptions::PLAIN
+    };
+    let range = two_texts(alloc, "a;b", "c,d", (0, 1))?;
+    let rows = rows_csv(alloc, None, &range, &options)?;
+    assert_text(std::str::from_utf8(&rows)?, "\"a;b\";c,d\r\n", "a row")?;
+    let mut reader = ReaderBuilder::new()
+        .has_headers(false)
+        .delimiter(b';')
+        .from_reader(alloc, rows.as_slice());
+    let mut record = StringRecord::new(alloc);
+    assert!(rt; reader.read_record(&mut record)?);
+    assert!(rt; record.get(0) == Some("a;b") && record.get(1) == Some("c,d"));
+    Ok(())
+}
+
+/// A date with a time of day, and a number of more digits than are asked for.
+#[test]
+fn dates_and_digits_are_shown(rt: HostRuntime) -> Result<(), Fail> {
+    let alloc = rt.alloc();
+    let options = CsvOptions {
+        dates: true,
+        digits: Some(3),
+        bom: true,
+        ..CsvOptions::PLAIN
+    };
+    let cells = [
+        Cell::new((0, 0), days("45292.5", ExcelDateTimeType::DateTime, false)),
+        Cell::new((0, 1), number("1234.5")),
+        Cell::new((0, 2), Data::Int(-98765)),
+    ];
+    let range = Range::from_sparse(alloc, Vec::from_array(alloc, cells)?, Data::Empty)?;
+    let rows = rows_csv(alloc, None, &range, &options)?;
+    assert_text(
+        std::str::from_utf8(&rows)?,
+        "\u{FEFF}2024-01-01T12:00:00,1230,-98800\n",
+        "a row",
+    )
 }

@@ -14,3 +14,4 @@ pub mod SheetsOpened
 pub mod TablesListed
 pub mod TablesNamed
 pub mod TablesPlaced
+pub mod WordsAsked

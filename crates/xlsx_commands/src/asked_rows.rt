@@ -184,8 +184,8 @@ pub fn rows_asked_by(words: &[String]) -> Option<AskedRows>
     ensures { result ≡ options_asked plain_rows (map string_bytes words.now) }
 {
     let mut asked = AskedRows::PLAIN;
-    for word in words {
-        asked = option_asked(asked, word.as_str())?;
+    'words: for i in 0..words.len() {
+        asked = option_asked(asked, words[i].as_str())?;
     }
     Some(asked)
 }
