@@ -1,6 +1,6 @@
 -- What is read of a sheet can be written.
 use Rattle.std.proofs.Common.{◌≡◌, ℕ, Bool, true, false, cond, ◌&&◌, List, [], ◌∷◌, ◌++◌, map, Some}
-use Rattle.std.proofs.Common.{None, Option, length, refl, sym, ap, ap₂, ◌∙◌, arith}
+use Rattle.std.proofs.Common.{None, Option, length, refl, sym, ap, ◌∙◌, arith}
 use Rattle.std.specs.Prelude.{◌==◌, ℤ, Result, Ok, Err, codes, not, reverse, option_map, is_some}
 use Rattle.std.specs.Prelude.{slice_get, unwrap_or, string_bytes}
 use Rattle.std.specs.List.{list_all}
@@ -17,7 +17,6 @@ use Rattle.cell_refs.specs.Positions.{position_cmp, last_of_each, least_area, ar
 use Rattle.cell_refs.specs.declared.dimensions.Dimensions.{Dimensions}
 use Rattle.cell_refs.proofs.PositionOrder.{position_total, and_both, and_from}
 use Rattle.decimals.specs.Decimals.{decimal_of}
-use Rattle.cell_data.specs.CellError.{cell_error}
 use Rattle.cell_data.specs.CellValue.{CellValue, nothing, integer, number, text, shared_text, truth}
 use Rattle.cell_data.specs.CellValue.{time, iso_time, failure, value_of_data}
 use Rattle.cell_data.specs.Pairs.{with_meaning, pairs_by, value_pairs, formula_pairs}
@@ -33,7 +32,7 @@ use Rattle.cell_data.specs.declared.value.CellErrorType.TheVariants.{Value}
 use Rattle.cell_data.proofs.Placing.{none_placed}
 use Rattle.part_events.specs.Event.{Tag, Event}
 use Rattle.part_events.specs.Package.{Part}
-use Rattle.part_events.specs.Section.{Element, children}
+use Rattle.part_events.specs.Section.{children}
 use Rattle.xlsx_sections.specs.Answers.{last_answer, or_later, and_others}
 use Rattle.xlsx_sections.specs.ElementText.{element_text}
 use Rattle.xlsx_sections.specs.NumberText.{number_text}
@@ -47,9 +46,9 @@ use Rattle.xlsx_values.specs.Value.{Grounds, number_value, formatted, or_no_numb
 use Rattle.xlsx_values.specs.Value.{truth_value, trimmed_truth, or_wrong_truth, lower_truth}
 use Rattle.xlsx_values.specs.Value.{error_value, or_wrong_error, value_of_first, value_of_joined}
 use Rattle.xlsx_values.specs.Value.{of_first, of_joined, first_text, first_event_value}
-use Rattle.xlsx_values.specs.Value.{joined_value, counted_value, some_value, value_element}
+use Rattle.xlsx_values.specs.Value.{joined_value, counted_value, some_value}
 use Rattle.xlsx_values.specs.Value.{inline_value, is_child, said_value, child_value, or_nothing}
-use Rattle.xlsx_values.specs.Value.{value_in, format_of, typed_value, looked_value, cell_value}
+use Rattle.xlsx_values.specs.Value.{value_in, format_of, looked_value, cell_value}
 use Rattle.xlsx_values.specs.Value.{string_at, resolved}
 use Rattle.xlsx_cells.specs.Marks.{Mark, row_start, row_end, cell, marks}
 use Rattle.xlsx_cells.specs.Position.{row_named, cell_position}

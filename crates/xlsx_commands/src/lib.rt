@@ -29,8 +29,8 @@
 //! table are said so too, by the area that its part says and behind a header of that width
 //! (`table_records`), and `TablesPlaced` brings the range that was read to them.
 //!
-//! That what is read can be written is said here, where it is needed, and not among the laws on what
-//! is written (`ReadsWritable`): of a cell comes no value that a written cell can't have.
+//! That what is read can be written is said here, where it is needed, and not among the laws on
+//! what is written (`ReadsWritable`): of a cell comes no value that a written cell can't have.
 #![tactic(auto)]
 
 mod book_lists;

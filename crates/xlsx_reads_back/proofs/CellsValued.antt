@@ -9,8 +9,8 @@ use Rattle.xlsx_values.specs.Value.{Grounds}
 use Rattle.xlsx_out.specs.Groups.{Placed, formula_placed}
 use Rattle.xlsx_out.specs.Writable.{is_written, counts_from}
 use Rattle.xlsx_out.specs.WrittenSheet.{PlacedValues}
-use Rattle.xlsx_reads_back.specs.ReadSheet.{value_at}
-use Rattle.xlsx_reads_back.specs.ReadValues.{IsReadBack, written_formats}
+use Rattle.xlsx_reads_back.specs.ReadSheet.{value_in_place}
+use Rattle.xlsx_reads_back.specs.ReadValues.{IsKeptAs, written_formats}
 use Rattle.xlsx_reads_back.proofs.SheetBounds.{on_sheet_parts}
 use Rattle.xlsx_reads_back.proofs.SheetHeld.{CellsHaveValues}
 use Rattle.xlsx_reads_back.proofs.ValuesPlaced.{found_passes}
@@ -18,11 +18,11 @@ use Rattle.xlsx_reads_back.proofs.ValuesRead.{cell_value_read, written_reads_bac
 
 -- the value at a position, or nothing, reads back
 value_reads_back : (is_1904 : Bool) (values : PlacedValues) (p : ℕ × ℕ)
-    → ((v : CellValue) → find position_cmp p values ≡ Some v → IsReadBack is_1904 v)
-    → IsReadBack is_1904 (value_at values p)
+    → ((v : CellValue) → find position_cmp p values ≡ Some v → IsKeptAs is_1904 v)
+    → IsKeptAs is_1904 (value_in_place values p)
 value_reads_back is_1904 values p each = by (find position_cmp p values) each where
-  by : (o : Option CellValue) → ((v : CellValue) → o ≡ Some v → IsReadBack is_1904 v)
-      → IsReadBack is_1904 (unwrap_or o nothing)
+  by : (o : Option CellValue) → ((v : CellValue) → o ≡ Some v → IsKeptAs is_1904 v)
+      → IsKeptAs is_1904 (unwrap_or o nothing)
   by None each = tt
   by (Some v) each = each v refl
 
@@ -30,10 +30,10 @@ value_reads_back is_1904 values p each = by (find position_cmp p values) each wh
 pub cells_have_values : (grounds : Grounds) (values : PlacedValues) (formulas : Placed)
     → grounds.formats ≡ written_formats
     → ((p : ℕ × ℕ) (v : CellValue) → find position_cmp p values ≡ Some v
-    → IsReadBack grounds.is_1904 v)
+    → IsKeptAs grounds.is_1904 v)
     → CellsHaveValues grounds values formulas
 cells_have_values grounds values formulas are each p on =
-    cell_value_read grounds are formulas p (formula_placed formulas p) (value_at values p)
+    cell_value_read grounds are formulas p (formula_placed formulas p) (value_in_place values p)
     (on_sheet_parts p on).0 (value_reads_back grounds.is_1904 values p (each p))
 
 -- values that are written, and count from the first year, are read in their cells

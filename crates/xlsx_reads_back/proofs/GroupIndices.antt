@@ -11,6 +11,16 @@ use Rattle.cell_refs.proofs.PositionOrder.{position_total, position_same, less_f
 use Rattle.xlsx_out.specs.Groups.{Placed, formula_placed, is_master, group_index}
 use Rattle.xlsx_reads_back.proofs.GroupHeads.{same_place}
 
+-- a position stands behind none that is itself
+not_below : (a p : ℕ × ℕ) → a ≡ p → is_lt (position_cmp p a) ≡ false
+not_below a p same =
+    ap (λ (q : ℕ × ℕ). is_lt (position_cmp q a)) (sym same) ∙ by (position_cmp a a) refl where
+      by : (o : Ordering) → position_cmp a a ≡ o → is_lt (position_cmp a a) ≡ false
+      by Less is =
+          absurd (let e = position_total.antisymm a a in let f = ap ordering_reverse is in cc)
+      by Equal is = ap is_lt is
+      by Greater is = ap is_lt is
+
 module _ (passes : ℕ × ℕ → Bool) where
   -- the formulas before a position that pass
   abbrev before : ℕ × ℕ → Placed → Placed
@@ -67,15 +77,6 @@ module _ (passes : ℕ × ℕ → Bool) where
           here false false v t e f fewer = absurd (cc)
           here false true false t e f fewer = absurd (cc)
 
-          not_itself : (p : ℕ × ℕ) → a ≡ p → is_lt (position_cmp p a) ≡ false
-          not_itself p same =
-              ap (λ (q : ℕ × ℕ). is_lt (position_cmp q a)) (sym same) ∙ by (position_cmp a a) refl where
-                by : (o : Ordering) → position_cmp a a ≡ o → is_lt (position_cmp a a) ≡ false
-                by Less is =
-                    absurd (let e = position_total.antisymm a a in let f = ap ordering_reverse is in cc)
-                by Equal is = ap is_lt is
-                by Greater is = ap is_lt is
-
           at : (t : Bool) → eq_by_cmp position_cmp a entry.0 ≡ t →
               cond t (Some entry.1) (find position_cmp a entries) ≡ Some formula →
               length (before a entries) ≤ length (before b entries) →
@@ -84,8 +85,9 @@ module _ (passes : ℕ × ℕ → Bool) where
               length (before a (entry ∷ entries)) < length (before b (entry ∷ entries))
           at true ties found fewer further =
               let place = same_place a entry.0 ties in
-              here (is_lt (position_cmp entry.0 a)) (is_lt (position_cmp entry.0 b)) (passes entry.0)
-              (not_itself entry.0 place)
+              here (is_lt (position_cmp entry.0 a)) (is_lt (position_cmp entry.0 b))
+              (passes entry.0)
+              (not_below a entry.0 place)
               (ap (λ (p : ℕ × ℕ). is_lt (position_cmp p b)) (sym place) ∙ ap is_lt lower)
               (ap passes (sym place) ∙ passed) fewer
           at false ties found fewer further =

@@ -71,7 +71,8 @@ module _ {X : Type 0} (at : ℕ × ℕ → Option X) where
             ∙ sym (place ∙ is)
         by false ties None is u others = others
         by false ties (Some x) is u others =
-            ap (λ (b : Bool). cond b (Some x) (find position_cmp q (placed_among at ps))) ties ∙ others
+            ap (λ (b : Bool). cond b (Some x) (find position_cmp q (placed_among at ps))) ties
+            ∙ others
 
 -- each of these entries has its position among those
 abbrev pub have_all : {X : Type 0} → List (ℕ × ℕ) → List ((ℕ × ℕ) × X) → Type 0

@@ -19,13 +19,13 @@ use Rattle.cell_data.proofs.Placing.{none_placed}
 use Rattle.xlsx_out.specs.Groups.{Placed, is_same, is_master, group_head, group_end}
 use Rattle.xlsx_out.specs.Groups.{group_index, last_row}
 use Rattle.xlsx_out.specs.WrittenSheet.{PlacedValues, written_positions}
-use Rattle.xlsx_reads_back.specs.ReadSheet.{is_on_sheet}
+use Rattle.xlsx_reads_back.specs.ReadSheet.{lies_on_sheet}
 use Rattle.xlsx_reads_back.proofs.GroupHeads.{rows_among}
 
 -- ---- positions on a sheet
 
 -- a position lies on a sheet where its row and its column do
-pub on_sheet_parts : (p : ℕ × ℕ) → is_on_sheet p ≡ true → (p.0 < 1048576) × (p.1 < 16384)
+pub on_sheet_parts : (p : ℕ × ℕ) → lies_on_sheet p ≡ true → (p.0 < 1048576) × (p.1 < 16384)
 on_sheet_parts p on = parts p.0 p.1 (and_both (nat_lt p.0 1048576) (nat_lt p.1 16384) on) where
   parts : (a b : ℕ) → (nat_lt a 1048576 ≡ true) × (nat_lt b 16384 ≡ true) →
       (a < 1048576) × (b < 16384)
@@ -34,7 +34,7 @@ on_sheet_parts p on = parts p.0 p.1 (and_both (nat_lt p.0 1048576) (nat_lt p.1 1
       let column = tests.1 in
       (grind (arith, nat_tests), grind (arith, nat_tests))
 
-on_sheet_from : (p : ℕ × ℕ) → p.0 < 1048576 → p.1 < 16384 → is_on_sheet p ≡ true
+on_sheet_from : (p : ℕ × ℕ) → p.0 < 1048576 → p.1 < 16384 → lies_on_sheet p ≡ true
 on_sheet_from p row column =
     and_from (nat_lt p.0 1048576) (nat_lt p.1 16384) (one p.0 1048576 row) (one p.1 16384 column)
   where
@@ -78,7 +78,7 @@ module _ (passes : ℕ × ℕ → Bool) where
 
 -- cells that lie on a sheet
 pub all_on_sheet : {X : Type 0} (es : List ((ℕ × ℕ) × X)) → AreInSheet es →
-    list_all (λ e. is_on_sheet e.0) es ≡ true
+    list_all (λ e. lies_on_sheet e.0) es ≡ true
 all_on_sheet [] are = refl
 all_on_sheet {X} (e ∷ es) are =
     let here = All-head (IsPlacedInSheet {X = X}) e es are in
@@ -86,26 +86,27 @@ all_on_sheet {X} (e ∷ es) are =
     (all_on_sheet es (All-tail (IsPlacedInSheet {X = X}) e es are))
 
 pub written_on_sheet : (values : PlacedValues) (formulas : Placed) → AreInSheet values →
-    AreInSheet formulas → list_all is_on_sheet (written_positions values formulas) ≡ true
+    AreInSheet formulas → list_all lies_on_sheet (written_positions values formulas) ≡ true
 written_on_sheet values formulas one two =
-    keys_pass is_on_sheet (used values ++ used formulas)
-    (used_pass is_on_sheet values (used formulas) (all_on_sheet values one)
+    keys_pass lies_on_sheet (used values ++ used formulas)
+    (used_pass lies_on_sheet values (used formulas) (all_on_sheet values one)
     (bare formulas (all_on_sheet formulas two))) where
-      bare : (es : Placed) → list_all (λ e. is_on_sheet e.0) es ≡ true →
-          list_all (λ e. is_on_sheet e.0) (used es) ≡ true
+      bare : (es : Placed) → list_all (λ e. lies_on_sheet e.0) es ≡ true →
+          list_all (λ e. lies_on_sheet e.0) (used es) ≡ true
       bare [] all = refl
       bare (e ∷ es) all =
-          let (first, rest) = and_both (is_on_sheet e.0) (list_all (λ d. is_on_sheet d.0) es) all in
+          let (first, rest) =
+          and_both (lies_on_sheet e.0) (list_all (λ d. lies_on_sheet d.0) es) all in
           and_from _ _ first (bare es rest)
 
 -- ---- the last row of a group
 
 last_inside : (formulas : Placed) (head : ℕ × ℕ) (start : ℕ) (es : Placed) → start < 1048576 →
-    list_all (λ e. is_on_sheet e.0) es ≡ true →
+    list_all (λ e. lies_on_sheet e.0) es ≡ true →
     last_row start (rows_among formulas head es) < 1048576
 last_inside formulas head start [] inside all = inside
 last_inside formulas head start (e ∷ es) inside all =
-    let (first, rest) = and_both (is_on_sheet e.0) (list_all (λ d. is_on_sheet d.0) es) all in
+    let (first, rest) = and_both (lies_on_sheet e.0) (list_all (λ d. lies_on_sheet d.0) es) all in
     by (is_same (group_head formulas e.0) head)
     (last_inside formulas head e.0.0 es (on_sheet_parts e.0 first).0 rest)
     (last_inside formulas head start es inside rest) where
@@ -136,10 +137,10 @@ lower_place p q less inside = by p.0 p.1 q.0 q.1 (nat_cmp p.0 q.0) refl less ins
   by a b c d Greater is less inside = absurd (cc)
 
 risen : (e : (ℕ × ℕ) × List ℕ) (es : Placed) → is_rising (e ∷ es) ≡ true →
-    list_all (λ d. is_on_sheet d.0) (e ∷ es) ≡ true →
+    list_all (λ d. lies_on_sheet d.0) (e ∷ es) ≡ true →
     16384 * e.0.0 + e.0.1 + length es < 2 ^ 34
 risen e [] rising all =
-    let (here, rest) = and_both (is_on_sheet e.0) true all in
+    let (here, rest) = and_both (lies_on_sheet e.0) true all in
     let parts = on_sheet_parts e.0 here in
     place e.0.0 e.0.1 parts.0 parts.1 where
       place : (a b : ℕ) → a < 1048576 → b < 16384 → 16384 * a + b + 0 < 2 ^ 34
@@ -147,7 +148,7 @@ risen e [] rising all =
 risen e (next ∷ es) rising all =
     let (below, rise) = and_both (below_all position_cmp e.0 (next ∷ es))
     (is_rising (next ∷ es)) rising in
-    let (here, rest) = and_both (is_on_sheet e.0) (list_all (λ d. is_on_sheet d.0) (next ∷ es))
+    let (here, rest) = and_both (lies_on_sheet e.0) (list_all (λ d. lies_on_sheet d.0) (next ∷ es))
     all in
     let (less, others) = and_both (is_lt (position_cmp e.0 next.0))
     (below_all position_cmp e.0 es) below in
@@ -166,7 +167,7 @@ fewer passes (e ∷ es) = by (passes e) (fewer passes es) where
   by false less = omega arith
 
 count_fits : (es : Placed) → is_rising es ≡ true →
-    list_all (λ e. is_on_sheet e.0) es ≡ true → length es ≤ 2 ^ 34
+    list_all (λ e. lies_on_sheet e.0) es ≡ true → length es ≤ 2 ^ 34
 count_fits [] rising all = omega arith
 count_fits (e ∷ es) rising all =
     let most = risen e es rising all in

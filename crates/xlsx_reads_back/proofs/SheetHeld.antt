@@ -17,7 +17,8 @@ use Rattle.xlsx_out.specs.Writable.{is_written, are_writable_formulas}
 use Rattle.xlsx_out.specs.WrittenSheet.{PlacedValues, written_positions, cell_attributes}
 use Rattle.xlsx_out.specs.WrittenSheet.{sheet_events}
 use Rattle.xlsx_reads_back.specs.ReadFormulas.{formulas_read_along}
-use Rattle.xlsx_reads_back.specs.ReadSheet.{is_on_sheet, value_at, values_read_along, id_read}
+use Rattle.xlsx_reads_back.specs.ReadSheet.{lies_on_sheet, value_in_place, values_read_along}
+use Rattle.xlsx_reads_back.specs.ReadSheet.{id_read}
 use Rattle.xlsx_reads_back.proofs.CellsRead.{cell_inside}
 use Rattle.xlsx_reads_back.proofs.DataRead.{cell_tag}
 use Rattle.xlsx_reads_back.proofs.GroupsRead.{formulas_read_back}
@@ -37,9 +38,9 @@ pub record ArePlaced (values : PlacedValues) (formulas : Placed) : Type 0 where
 -- each cell that is written is read as its value
 abbrev pub CellsHaveValues : Grounds → PlacedValues → Placed → Type 0
 CellsHaveValues grounds values formulas =
-    (p : ℕ × ℕ) → is_on_sheet p ≡ true →
-    cell_value grounds (cell_tag (cell_attributes p (value_at values p)))
-    (cell_inside formulas p (value_at values p)) ≡ Ok (value_at values p)
+    (p : ℕ × ℕ) → lies_on_sheet p ≡ true →
+    cell_value grounds (cell_tag (cell_attributes p (value_in_place values p)))
+    (cell_inside formulas p (value_in_place values p)) ≡ Ok (value_in_place values p)
 
 module _ (grounds : Grounds) (values : PlacedValues) (formulas : Placed)
     (placed : ArePlaced values formulas) (have : CellsHaveValues grounds values formulas) where

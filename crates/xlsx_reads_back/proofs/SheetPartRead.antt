@@ -18,7 +18,7 @@ use Rattle.xlsx_out.specs.Groups.{Placed}
 use Rattle.xlsx_out.specs.WrittenSheet.{PlacedValues, written_positions, in_rows}
 use Rattle.xlsx_out.specs.WrittenSheet.{row_events, cell_events, cell_attributes, data_events}
 use Rattle.xlsx_out.specs.WrittenSheet.{sheet_events}
-use Rattle.xlsx_reads_back.specs.ReadSheet.{value_at}
+use Rattle.xlsx_reads_back.specs.ReadSheet.{value_in_place}
 use Rattle.xlsx_reads_back.proofs.CellsRead.{cell_inside, cell_nested}
 
 module _ (values : PlacedValues) (formulas : Placed) where
@@ -28,9 +28,9 @@ module _ (values : PlacedValues) (formulas : Placed) where
       (λ found. nested_element (codes "row") (attribute (codes "r") (row_reference found.row))
       (flat_map (cell_events values formulas) found.positions)
       (flat_map_nested (cell_events values formulas) found.positions
-      (λ p. nested_element (codes "c") (cell_attributes p (value_at values p))
-      (cell_inside formulas p (value_at values p))
-      (cell_nested formulas p (value_at values p)))))
+      (λ p. nested_element (codes "c") (cell_attributes p (value_in_place values p))
+      (cell_inside formulas p (value_in_place values p))
+      (cell_nested formulas p (value_in_place values p)))))
 
   pub sheet_nested : IsNested (sheet_events values formulas)
   sheet_nested =

@@ -22,7 +22,8 @@ use Rattle.xlsx_out.specs.Groups.{group_head, group_end, group_index, plain, mas
 use Rattle.xlsx_out.specs.WrittenSheet.{PlacedValues, written_positions, cell_attributes}
 use Rattle.xlsx_out.specs.WrittenSheet.{data_events}
 use Rattle.xlsx_reads_back.specs.ReadFormulas.{formulas_read, formulas_read_along}
-use Rattle.xlsx_reads_back.specs.ReadSheet.{is_on_sheet, value_at, values_read_along, id_read}
+use Rattle.xlsx_reads_back.specs.ReadSheet.{lies_on_sheet, value_in_place, values_read_along}
+use Rattle.xlsx_reads_back.specs.ReadSheet.{id_read}
 use Rattle.xlsx_reads_back.proofs.CellsRead.{cell_inside, cell_nested, nested_passed, row_placed}
 use Rattle.xlsx_reads_back.proofs.CellsRead.{FormulaReads, cell_gives_formulas, cell_gives_id}
 use Rattle.xlsx_reads_back.proofs.CellsRead.{cell_placed}
@@ -35,26 +36,26 @@ module _ (values : PlacedValues) (formulas : Placed)
     (one : AreInSheet values) (two : AreInSheet formulas) where
   -- the attributes and the inside of a position's cell
   abbrev attributes : ℕ × ℕ → List ℕ
-  attributes p = cell_attributes p (value_at values p)
+  attributes p = cell_attributes p (value_in_place values p)
 
   abbrev inside : ℕ × ℕ → List Event
-  inside p = cell_inside formulas p (value_at values p)
+  inside p = cell_inside formulas p (value_in_place values p)
 
   -- a row lies on a sheet
   abbrev is_row : ℕ → Bool
   is_row row = nat_lt row 1048576
 
-  row_fits : (p : ℕ × ℕ) → is_on_sheet p ≡ true → is_row p.0 ≡ true
+  row_fits : (p : ℕ × ℕ) → lies_on_sheet p ≡ true → is_row p.0 ≡ true
   row_fits p on = (and_both (nat_lt p.0 1048576) (nat_lt p.1 16384) on).0
 
   -- what each cell gives by itself is what the data give
   pub data_give : {A : Type 0} (answer : List Mark → Element → Result A Refusal)
       (tell : ℕ × ℕ → A) →
-      ((p : ℕ × ℕ) → is_on_sheet p ≡ true → CellGives answer (attributes p) (inside p) (tell p)) →
+      ((p : ℕ × ℕ) → lies_on_sheet p ≡ true → CellGives answer (attributes p) (inside p) (tell p)) →
       Gives answer (data_events values formulas) (map tell (written_positions values formulas))
   data_give answer tell each =
-      gives_data answer is_on_sheet attributes inside tell
-      (λ p. nested_passed (inside p) (cell_nested formulas p (value_at values p))) each is_row
+      gives_data answer lies_on_sheet attributes inside tell
+      (λ p. nested_passed (inside p) (cell_nested formulas p (value_in_place values p))) each is_row
       (λ row. attribute (codes "r") (row_reference row))
       (λ row fits. row_placed row (row_inside row fits)) row_fits
       (written_positions values formulas) (written_on_sheet values formulas one two) where
@@ -66,10 +67,10 @@ module _ (values : PlacedValues) (formulas : Placed)
   ids_of_data =
       data_give placed_id (id_read values)
       (λ p on. let parts = on_sheet_parts p on in
-      cell_gives_id p (value_at values p) (inside p) parts.0 parts.1) []
+      cell_gives_id p (value_in_place values p) (inside p) parts.0 parts.1) []
 
   pub formulas_of_data :
-      ((p : ℕ × ℕ) (formula : List ℕ) → is_on_sheet p ≡ true →
+      ((p : ℕ × ℕ) (formula : List ℕ) → lies_on_sheet p ≡ true →
       formula_placed formulas p ≡ Some formula →
       FormulaReads p (written_formula formulas p formula)) →
       formulas_written (data_events values formulas)
@@ -77,12 +78,12 @@ module _ (values : PlacedValues) (formulas : Placed)
   formulas_of_data reads =
       data_give placed_formulas (λ p. (p, formulas_read formulas p))
       (λ p on. let parts = on_sheet_parts p on in
-      cell_gives_formulas formulas p (value_at values p) parts.0 parts.1
+      cell_gives_formulas formulas p (value_in_place values p) parts.0 parts.1
       (λ formula placed. reads p formula on placed)) []
 
 -- the numbers of each written formula fit
 written_fits : (formulas : Placed) → is_rising formulas ≡ true → AreInSheet formulas →
-    (p : ℕ × ℕ) (formula : List ℕ) → is_on_sheet p ≡ true →
+    (p : ℕ × ℕ) (formula : List ℕ) → lies_on_sheet p ≡ true →
     FormulaFits p (written_formula formulas p formula)
 written_fits formulas rising are p formula on =
     by (is_same (group_head formulas p) p) (is_master formulas p) (on_sheet_parts p on) where
@@ -112,17 +113,17 @@ formulas_of_sheet values formulas one two rising =
 -- the values, where each cell gives its own
 pub values_of_sheet : (grounds : Grounds) (values : PlacedValues) (formulas : Placed) →
     AreInSheet values → AreInSheet formulas →
-    ((p : ℕ × ℕ) → is_on_sheet p ≡ true →
-    cell_value grounds (cell_tag (cell_attributes p (value_at values p)))
-    (cell_inside formulas p (value_at values p)) ≡ Ok (value_at values p)) →
+    ((p : ℕ × ℕ) → lies_on_sheet p ≡ true →
+    cell_value grounds (cell_tag (cell_attributes p (value_in_place values p)))
+    (cell_inside formulas p (value_in_place values p)) ≡ Ok (value_in_place values p)) →
     values_in grounds (data_events values formulas)
     ≡ Ok (values_read_along values (written_positions values formulas))
 values_of_sheet grounds values formulas one two reads =
-    data_give values formulas one two (placed_value grounds) (λ p. (p, value_at values p))
+    data_give values formulas one two (placed_value grounds) (λ p. (p, value_in_place values p))
     (λ p on before behind. let parts = on_sheet_parts p on in
-    ap₂ at_position (cell_placed before p (value_at values p) parts.0 parts.1)
+    ap₂ at_position (cell_placed before p (value_in_place values p) parts.0 parts.1)
     (ap (answer_further (events_behind (record {
-      tag = cell_tag (cell_attributes p (value_at values p));
-      inside = cell_inside formulas p (value_at values p);
+      tag = cell_tag (cell_attributes p (value_in_place values p));
+      inside = cell_inside formulas p (value_in_place values p);
       behind = behind;
     }))) (reads p on))) []

@@ -44,7 +44,7 @@ use Rattle.xlsx_out.specs.Writable.{is_decimal, is_written, counts_from}
 use Rattle.xlsx_out.specs.WrittenSheet.{cell_attributes, style_written, type_written, value_written}
 use Rattle.xlsx_out.specs.WrittenSheet.{value_events, formula_events, optional_formula}
 use Rattle.xlsx_out.specs.WrittenSheet.{master_attributes, derived_attributes}
-use Rattle.xlsx_reads_back.specs.ReadValues.{IsReadBack, written_formats}
+use Rattle.xlsx_reads_back.specs.ReadValues.{IsKeptAs, written_formats}
 use Rattle.xlsx_reads_back.proofs.CellPairs.{cell_pairs, cell_attributes_are, cell_pairs_writable}
 use Rattle.xlsx_reads_back.proofs.WrittenBytes.{printed_has_no_return}
 
@@ -135,7 +135,7 @@ truth_says grounds true = refl
 truth_says grounds false = refl
 
 error_says : (grounds : Grounds) (error : CellErrorType)
-    → IsReadBack grounds.is_1904 (failure error) → Says grounds (failure error)
+    → IsKeptAs grounds.is_1904 (failure error) → Says grounds (failure error)
 error_says grounds Div0 is = refl
 error_says grounds NA is = refl
 error_says grounds Name is = refl
@@ -241,7 +241,7 @@ its_value grounds value says =
 
 -- the value of what is written in a cell
 written_value : (grounds : Grounds) → grounds.formats ≡ written_formats → (value : CellValue)
-    → IsReadBack grounds.is_1904 value
+    → IsKeptAs grounds.is_1904 value
     → value_in grounds (format_of grounds.formats (style_written value))
     (kind_named (type_written value)) (value_events value) ≡ Ok value
 written_value grounds are nothing is = refl
@@ -287,7 +287,7 @@ cell_keys_read position value inside =
 -- the value of a written cell is the value that was written
 pub cell_value_read : (grounds : Grounds) → grounds.formats ≡ written_formats
     → (formulas : Placed) (position : ℕ × ℕ) (o : Option (List ℕ)) (value : CellValue)
-    → position.0 < 1048576 → IsReadBack grounds.is_1904 value
+    → position.0 < 1048576 → IsKeptAs grounds.is_1904 value
     → cell_value grounds (record { name = codes "c"; attributes = cell_attributes position value })
     (optional_formula formulas position o ++ value_events value) ≡ Ok value
 cell_value_read grounds are formulas position o value inside is =
@@ -308,7 +308,7 @@ same_epoch false false days kind counts = refl
 
 -- a value that is written, and counts from the first year, reads back
 pub written_reads_back : (is_1904 : Bool) (value : CellValue) → is_written value ≡ true
-    → counts_from is_1904 value ≡ true → IsReadBack is_1904 value
+    → counts_from is_1904 value ≡ true → IsKeptAs is_1904 value
 written_reads_back is_1904 nothing written counts = tt
 written_reads_back is_1904 (integer n) written counts = absurd (cc)
 written_reads_back is_1904 (number n) written counts = written

@@ -12,17 +12,17 @@ use Rattle.cell_styles.specs.StyleMap.{StyledCell}
 use Rattle.xlsx_out.specs.WrittenSheet.{PlacedValues}
 
 -- a position lies in a worksheet
-abbrev pub is_on_sheet : ℕ × ℕ → Bool
-is_on_sheet position = nat_lt position.0 MAX_ROWS && nat_lt position.1 MAX_COLUMNS
+abbrev pub lies_on_sheet : ℕ × ℕ → Bool
+lies_on_sheet position = nat_lt position.0 MAX_ROWS && nat_lt position.1 MAX_COLUMNS
 
 -- the value at a position; none stands there where only a formula does
-abbrev pub value_at : PlacedValues → ℕ × ℕ → CellValue
-value_at values position = unwrap_or (find position_cmp position values) nothing
+abbrev pub value_in_place : PlacedValues → ℕ × ℕ → CellValue
+value_in_place values position = unwrap_or (find position_cmp position values) nothing
 
 -- each of these positions with the value that is read of it
 abbrev pub values_read_along : PlacedValues → List (ℕ × ℕ) → PlacedValues
 values_read_along values positions =
-    map (λ position. (position, value_at values position)) positions
+    map (λ position. (position, value_in_place values position)) positions
 
 -- the style id of a date, and that of a duration
 abbrev pub time_id : ExcelDateTimeType → ℕ
@@ -43,4 +43,4 @@ id_of (failure error) = 0
 
 -- a position with the style id that is read of it
 abbrev pub id_read : PlacedValues → ℕ × ℕ → StyledCell
-id_read values position = (position.0, position.1, id_of (value_at values position))
+id_read values position = (position.0, position.1, id_of (value_in_place values position))

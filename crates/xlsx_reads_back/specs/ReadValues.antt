@@ -7,16 +7,16 @@ use Rattle.cell_data.specs.declared.format.CellFormat.TheVariants.{Other, DateTi
 use Rattle.xlsx_out.specs.Writable.{is_kept, is_decimal}
 
 -- the value is nothing, or one that is read as it is written, in a workbook with this first year
-abbrev pub IsReadBack : Bool → CellValue → Type 0
-IsReadBack is_1904 nothing = ⊤
-IsReadBack is_1904 (integer n) = ⊥
-IsReadBack is_1904 (number n) = is_decimal n ≡ true
-IsReadBack is_1904 (text bytes) = ⊤
-IsReadBack is_1904 (shared_text place) = ⊥
-IsReadBack is_1904 (truth holds) = ⊤
-IsReadBack is_1904 (time days kind epoch) = (is_decimal days ≡ true) × (epoch ≡ is_1904)
-IsReadBack is_1904 (iso_time bytes) = ⊤
-IsReadBack is_1904 (failure error) = is_kept error ≡ true
+abbrev pub IsKeptAs : Bool → CellValue → Type 0
+IsKeptAs is_1904 nothing = ⊤
+IsKeptAs is_1904 (integer n) = ⊥
+IsKeptAs is_1904 (number n) = is_decimal n ≡ true
+IsKeptAs is_1904 (text bytes) = ⊤
+IsKeptAs is_1904 (shared_text place) = ⊥
+IsKeptAs is_1904 (truth holds) = ⊤
+IsKeptAs is_1904 (time days kind epoch) = (is_decimal days ≡ true) × (epoch ≡ is_1904)
+IsKeptAs is_1904 (iso_time bytes) = ⊤
+IsKeptAs is_1904 (failure error) = is_kept error ≡ true
 
 -- what the three styles that are written make of numbers
 abbrev pub written_formats : List CellFormat
