@@ -12,11 +12,7 @@ use xlsx_out::write_package;
 
 /// The text of the package that is written of what is read of the sheet of this name, in version 2,
 /// and a line feed.
-pub fn resaved_text(
-    alloc: Global,
-    package: MemoryPackage,
-    name: &str,
-) -> Result<Vec<u8>, ToolError>
+pub fn resaved_text(alloc: Global, package: MemoryPackage, name: &str) -> Result<Vec<u8>, ToolError>
     ensures ok { IfOk result (λ output. IsResaved «package».parts name.now output.items) }
     ensures err { IfErr result (CallFails (SheetCause «package».parts name.now)) }
 {
