@@ -16,9 +16,9 @@ from test_samples import WORKBOOKS, package_text
 # Serials, and their texts from 1900 and from 1904, which Python's datetime tells: its day 1 is
 # 1900-01-01 up to the 28 February, and 1900-03-01 is day 61. What has no date is the number.
 # ECMA-376 part 1, 18.17.4.1 has the first and the last day of both calendars, 3687.4207639,
-# 2225.4207639 and 2958465.9999884. openpyxl differs at 60 alone, which it takes as 1900-02-28 again,
-# and LibreOffice at each day below 61: its day 0 is 1899-12-30, so 1 is 1899-12-31, 59 is 1900-02-27
-# and 60 is 1900-02-28.
+# 2225.4207639 and 2958465.9999884. openpyxl differs at 60 alone, which it takes as 1900-02-28
+# again, and LibreOffice at each day below 61: its day 0 is 1899-12-30, so 1 is 1899-12-31, 59 is
+# 1900-02-27 and 60 is 1900-02-28.
 SERIALS = """\
 0 00:00:00 1904-01-01
 0.5 12:00:00 1904-01-01T12:00:00
