@@ -1,29 +1,25 @@
 -- The date of a day is one that the calendar has, and has as many days before it.
-use Rattle.std.proofs.Common.{◌≡◌, ℕ, zero, suc, ◌+◌, ◌-◌, ◌*◌, ◌<◌, ◌≤◌, ◌==◌, ◌&&◌, Bool, true, false}
-use Rattle.std.proofs.Common.{cond, refl, sym, ap, subst, ◌∙◌, arith, inl, inr, ◌⊎◌, pos, ◌≤ℤ◌}
-use Rattle.std.specs.Prelude.{nat_lt}
+use Rattle.std.proofs.Common.{◌≡◌, ℕ, zero, suc, ◌+◌, ◌-◌, ◌<◌, ◌≤◌}
+use Rattle.std.proofs.Common.{refl, sym, ap, subst, arith, inl, inr, pos}
 use Rattle.std.proofs.lemmas.Bool.{cases_lt}
-use Rattle.std.proofs.lemmas.Bool.Decides.{nat_tests}
 use Rattle.jiff_core.specs.Calendar.{days_in_month, days_in_year, day_count, IsCivilDate}
-use Rattle.jiff_core.proofs.CalendarLemmas.{day_count-day, day_count-day_of_year, day_count-end}
+use Rattle.jiff_core.proofs.CalendarLemmas.{day_count-day, day_count-end}
 use Rattle.jiff_core.proofs.CalendarLemmas.{day_count-next_month, day_count-next_year}
-use Rattle.jiff_core.proofs.CalendarLemmas.{day_count-last_of_year, day_count-later_year}
+use Rattle.jiff_core.proofs.CalendarLemmas.{day_count-last_of_year}
 use Rattle.jiff_core.proofs.CalendarLemmas.{day_count-lt_year, day_count-lt_month}
 use Rattle.jiff_core.proofs.MarchLemmas.{day_count-early}
 use Rattle.jiff_core.proofs.SignedLemmas.{signed_arith}
-use Rattle.excel_dates.specs.CalendarDates.{month_from, date_from, date_behind, date_of_day}
-use Rattle.excel_dates.specs.CalendarDates.{days_between, is_leap_day, day_of_date, first_day}
-use Rattle.excel_dates.specs.CalendarDates.{last_day, IsDateOf, IsNoLater}
-use Rattle.excel_dates.proofs.Counting.{behind_is}
+use Rattle.excel_dates.specs.CalendarDates.{month_from, date_from, date_behind}
+use Rattle.excel_dates.specs.CalendarDates.{IsNoLater}
 use Rattle.excel_dates.proofs.SerialSteps.{by_true, by_false, is_less, not_less}
 
 -- a date of the calendar in these years, with so many days before it
-record Found (low high count : ℕ) (date : ℕ × ℕ × ℕ) : Type 0 where
-  from : low ≤ date.0
-  to : date.0 ≤ high
-  month : (1 ≤ date.1) × (date.1 ≤ 12)
-  day : (1 ≤ date.2) × (date.2 ≤ days_in_month (pos date.0) date.1)
-  before : day_count (pos date.0) date.1 date.2 ≡ count
+pub record Found (low high count : ℕ) (date : ℕ × ℕ × ℕ) : Type 0 where
+  pub from : low ≤ date.0
+  pub to : date.0 ≤ high
+  pub month : (1 ≤ date.1) × (date.1 ≤ 12)
+  pub day : (1 ≤ date.2) × (date.2 ≤ days_in_month (pos date.0) date.1)
+  pub before : day_count (pos date.0) date.1 date.2 ≡ count
 
 -- the first days of a month
 day_found : (year month r : ℕ) → 1 ≤ month → month ≤ 12 → r < days_in_month (pos year) month →
@@ -129,10 +125,10 @@ year_found (suc years) year r high last within =
           (omega (arith, total, within)))))
     ]
 
-count_1900 : day_count (pos 1900) 1 1 ≡ 4346386
+pub count_1900 : day_count (pos 1900) 1 1 ≡ 4346386
 count_1900 = day_count-early (pos 1900) 11899 1 1 refl (omega arith) (omega arith) (omega arith)
 
-count_1904 : day_count (pos 1904) 1 1 ≡ 4347846
+pub count_1904 : day_count (pos 1904) 1 1 ≡ 4347846
 count_1904 = day_count-early (pos 1904) 11903 1 1 refl (omega arith) (omega arith) (omega arith)
 
 end_9999 : day_count (pos 9999) 1 1 + days_in_year (pos 9999) ≡ 7304850
@@ -141,26 +137,25 @@ end_9999 =
       arith,
       day_count-end,
       day_count-next_year (pos 9999) (pos 10000) (omega (arith, signed_arith))
-      (omega (arith, signed_arith)),
+          (omega (arith, signed_arith)),
     )
 
-behind_found : (year days : ℕ) → year ≤ 9999 → day_count (pos year) 1 1 + days < 7304850 →
+pub behind_found : (year days : ℕ) → year ≤ 9999 → day_count (pos year) 1 1 + days < 7304850 →
     Found year 9999 (day_count (pos year) 1 1 + days) (date_behind year days)
 unfolding date_behind
 behind_found year days low within =
     year_found (9999 - year) year days 9999 (omega arith) (omega (arith, end_9999, within))
 
-found_civil : (low high count : ℕ) (date : ℕ × ℕ × ℕ) → high ≤ 9999 → Found low high count date →
+pub found_civil : (low high count : ℕ) (date : ℕ × ℕ × ℕ) → high ≤ 9999 → Found low high count date →
     IsCivilDate (pos date.0) date.1 date.2
-found_civil low high count date last found =
-    (
-      (omega (arith, signed_arith), omega (arith, signed_arith, found.to)),
-      found.month,
-      found.day,
-    )
+found_civil low high count date last found = (
+  (omega (arith, signed_arith), omega (arith, signed_arith, found.to)),
+  found.month,
+  found.day,
+)
 
 -- a date with more days before it is later
-ordered : (low high one_count other_count : ℕ) (one other : ℕ × ℕ × ℕ) → high ≤ 9999 →
+pub ordered : (low high one_count other_count : ℕ) (one other : ℕ × ℕ × ℕ) → high ≤ 9999 →
     Found low high one_count one → Found low high other_count other → one_count ≤ other_count →
     IsNoLater one other
 ordered low high one_count other_count one other last found other_found at_most =
@@ -169,45 +164,51 @@ ordered low high one_count other_count one other last found other_found at_most 
     elim (cases_lt one.0 other.0) [
       | inl earlier ↦ inl earlier
       | inr above ↦ elim (cases_lt other.0 one.0) [
-            | inl later ↦
-                absurd (omega (
-                  arith,
-                  found.before,
-                  other_found.before,
-                  at_most,
-                  day_count-lt_year (pos other.0) other.1 other.2 (pos one.0) one.1 one.2
-                      other_civil found.day.0 (omega (arith, signed_arith, later)),
-                ))
-            | inr below ↦
-                let year : one.0 ≡ other.0 = omega (arith, above, below) in
-                let same : day_count (pos one.0) one.1 one.2 ≡ day_count (pos other.0) one.1 one.2 =
-                ap (λ y. day_count (pos y) one.1 one.2) year in
-                inr (year, elim (cases_lt one.1 other.1) [
-                  | inl earlier ↦ inl earlier
-                  | inr month_above ↦ elim (cases_lt other.1 one.1) [
-                        | inl later ↦
-                            absurd (omega (
-                              arith,
-                              same,
-                              found.before,
-                              other_found.before,
-                              at_most,
-                              day_count-lt_month (pos other.0) other.1 other.2 one.1 one.2
-                                  other_civil found.day.0 later,
-                            ))
-                        | inr month_below ↦
-                            let month : one.1 ≡ other.1 = omega (arith, month_above, month_below) in
-                            inr (month, omega (
-                              arith,
-                              same,
-                              ap (λ m. day_count (pos other.0) m one.2) month,
-                              found.before,
-                              other_found.before,
-                              at_most,
-                              day_count-day (pos other.0) other.1 one.2 other.2 found.day.0
-                                  other_found.day.0,
-                            ))
-                      ]
-                ])
-          ]
+        | inl later ↦
+            absurd (omega (
+              arith,
+              found.before,
+              other_found.before,
+              at_most,
+              day_count-lt_year (pos other.0) other.1 other.2 (pos one.0) one.1 one.2
+                  other_civil found.day.0 (omega (arith, signed_arith, later)),
+            ))
+        | inr below ↦
+            let year : one.0 ≡ other.0 = omega (arith, above, below) in
+            let same : day_count (pos one.0) one.1 one.2 ≡ day_count (pos other.0) one.1 one.2 =
+            ap (λ y. day_count (pos y) one.1 one.2) year in
+            inr (
+              year,
+              elim (cases_lt one.1 other.1) [
+                | inl earlier ↦ inl earlier
+                | inr month_above ↦ elim (cases_lt other.1 one.1) [
+                  | inl later ↦
+                      absurd (omega (
+                        arith,
+                        same,
+                        found.before,
+                        other_found.before,
+                        at_most,
+                        day_count-lt_month (pos other.0) other.1 other.2 one.1 one.2
+                            other_civil found.day.0 later,
+                      ))
+                  | inr month_below ↦
+                      let month : one.1 ≡ other.1 = omega (arith, month_above, month_below) in
+                      inr (
+                        month,
+                        omega (
+                          arith,
+                          same,
+                          ap (λ m. day_count (pos other.0) m one.2) month,
+                          found.before,
+                          other_found.before,
+                          at_most,
+                          day_count-day (pos other.0) other.1 one.2 other.2 found.day.0
+                              other_found.day.0,
+                        ),
+                      )
+                ]
+              ],
+            )
+      ]
     ]

@@ -1,7 +1,7 @@
 -- The date of a day, by counting, in both calendars of workbooks (ECMA-376 part 1, 18.17.4.1).
-use Rattle.std.specs.Prelude.{ℕ, zero, suc, ◌+◌, ◌-◌, ◌==◌, nat_lt, Bool, true, false}
-use Rattle.std.specs.Prelude.{if◌then◌else◌, pos}
-use Rattle.jiff_core.specs.Calendar.{days_in_month, days_in_year}
+use Rattle.std.specs.Prelude.{◌≡◌, ℕ, zero, suc, ◌+◌, ◌-◌, ◌<◌, ◌≤◌, ◌==◌, nat_lt, Bool, true}
+use Rattle.std.specs.Prelude.{false, ◌&&◌, ◌⊎◌, if◌then◌else◌, pos}
+use Rattle.jiff_core.specs.Calendar.{days_in_month, days_in_year, day_count, IsCivilDate}
 
 -- the date that comes so many days behind the first of a month, by going on month by month
 unfoldable pub month_from : ℕ → ℕ → ℕ → ℕ → ℕ × ℕ × ℕ
@@ -53,8 +53,8 @@ day_of_date true date = days_between 1904 date
 day_of_date false date =
     if is_leap_day date then 60
     else (
-      if nat_lt (days_between 1900 date) 59 then days_between 1900 date + 1
-      else days_between 1900 date + 2
+    if nat_lt (days_between 1900 date) 59 then days_between 1900 date + 1
+    else days_between 1900 date + 2
     )
 
 -- the calendar has this date, from its first year to 9999; that from 1900 has 1900-02-29 more

@@ -1,5 +1,7 @@
 //! What the dates of days say.
-ghost use Rattle.std.specs.Prelude.{◌≡◌, ◌+◌, ◌≤◌, ℕ, Bool, true, false};
+ghost use Rattle.std.specs.Prelude.{◌≡◌, ◌+◌, ◌≤◌, ◌≤ℤ◌, ℕ, ℤ, pos, Bool, true, false};
+ghost use Rattle.decimals.specs.Rounding.{IsAtMost};
+ghost use Rattle.excel_dates.specs.Serials.{milliseconds_of};
 ghost use Rattle.excel_dates.specs.CalendarDates.{date_of_day, day_of_date, first_day, last_day};
 ghost use Rattle.excel_dates.specs.CalendarDates.{IsDateOf, IsNoLater};
 
@@ -22,4 +24,10 @@ pub fn later_days_have_no_earlier_dates()
     ensures { (is_1904 : Bool) (one other : ℕ) → first_day is_1904 ≤ one → one ≤ other
         → other ≤ last_day is_1904
         → IsNoLater (date_of_day is_1904 one) (date_of_day is_1904 other) }
+{}
+
+/// A later serial from 0 on has no fewer milliseconds.
+pub fn later_serials_have_no_fewer_milliseconds()
+    ensures { (one other : ℤ × ℤ) → pos 0 ≤ℤ one.0 → pos 0 ≤ℤ other.0 → IsAtMost one other
+        → milliseconds_of one ≤ milliseconds_of other }
 {}

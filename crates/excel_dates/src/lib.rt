@@ -21,4 +21,5 @@ mod text;
 pub use dates::ExcelDates;
 pub use laws::{
     calendars_differ_by_1462_days, days_and_dates_agree, later_days_have_no_earlier_dates,
+    later_serials_have_no_fewer_milliseconds,
 };
