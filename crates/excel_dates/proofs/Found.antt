@@ -146,7 +146,8 @@ unfolding date_behind
 behind_found year days low within =
     year_found (9999 - year) year days 9999 (omega arith) (omega (arith, end_9999, within))
 
-pub found_civil : (low high count : ℕ) (date : ℕ × ℕ × ℕ) → high ≤ 9999 → Found low high count date →
+pub found_civil : (low high count : ℕ) (date : ℕ × ℕ × ℕ) → high ≤ 9999 →
+    Found low high count date →
     IsCivilDate (pos date.0) date.1 date.2
 found_civil low high count date last found = (
   (omega (arith, signed_arith), omega (arith, signed_arith, found.to)),

@@ -20,7 +20,8 @@ whole_units n unit positive =
     ∙ (add-mul-div_left (unit / 2) n positive ∙ omega (arith, none))
 
 -- told in smaller units, the nearest number stays
-finer : (size places s : ℕ) → 0 < places → nearest (places + s) (size * 10 ^ s) ≡ nearest places size
+finer : (size places s : ℕ) → 0 < places →
+    nearest (places + s) (size * 10 ^ s) ≡ nearest places size
 finer size places s positive =
     let half = 10 ^ (places - 1) * 5 in
     let unit : half * 2 ≡ 10 ^ places = even_power places positive in
@@ -45,7 +46,8 @@ over_power size s k (pos p) positive is =
     sym (whole_units (size * 10 ^ p) (10 ^ k) (unit_some k))
     ∙ ap (λ n. (n + 10 ^ k / 2) / 10 ^ k)
     (let power : 10 ^ s ≡ 10 ^ p * 10 ^ k = ap (λ j. 10 ^ j) sum ∙ pow-add 10 p k in
-    let product : size * 10 ^ p * 10 ^ k ≡ size * 10 ^ s = omega (arith, ap (λ u. size * u) power) in
+    let product : size * 10 ^ p * 10 ^ k ≡ size * 10 ^ s =
+    omega (arith, ap (λ u. size * u) power) in
     product)
 over_power size s k (negsuc q) positive is =
     let sum : q + 1 + s ≡ k = omega (arith, ints, is) in
