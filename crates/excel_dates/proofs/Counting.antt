@@ -219,14 +219,14 @@ unfolding date_of_day
 of_leap_day true day is day_is = absurd (cc)
 of_leap_day false day is day_is = ap (λ d. Some (date_of_day false d)) (sym day_is)
 
-before_leap : (day : ℕ) → day < 60 → date_behind 1900 (day - 1) ≡ date_of_day false day
+pub before_leap : (day : ℕ) → day < 60 → date_behind 1900 (day - 1) ≡ date_of_day false day
 unfolding date_of_day
 before_leap day before =
     sym (by_false (day == 60) (1900, 2, 29) _ (grind (arith, nat_tests))
     ∙ by_true (nat_lt day 60) (date_behind 1900 (day - 1)) (date_behind 1900 (day - 2))
     (is_less day 60 before))
 
-behind_leap : (day : ℕ) → 60 < day → date_behind 1900 (day - 2) ≡ date_of_day false day
+pub behind_leap : (day : ℕ) → 60 < day → date_behind 1900 (day - 2) ≡ date_of_day false day
 unfolding date_of_day
 behind_leap day behind =
     sym (by_false (day == 60) (1900, 2, 29) _ (grind (arith, nat_tests))

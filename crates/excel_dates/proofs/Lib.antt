@@ -1,2 +1,5 @@
 pub mod Counting
+pub mod DayLaws
+pub mod Found
+pub mod SerialOrder
 pub mod SerialSteps

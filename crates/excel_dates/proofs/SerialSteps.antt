@@ -76,13 +76,13 @@ spared n half spare positive some =
     ∙ (sym (div-div-eq-div-mul (n + spare * half) spare (half * 2))
     ∙ ap (λ k. k / (half * 2)) (add-mul-div_left n half positive))
 
-even_power : (k : ℕ) → 0 < k → 10 ^ (k - 1) * 5 * 2 ≡ 10 ^ k
+pub even_power : (k : ℕ) → 0 < k → 10 ^ (k - 1) * 5 * 2 ≡ 10 ^ k
 even_power k positive =
     let power : 10 ^ (k - 1 + 1) ≡ 10 ^ (k - 1) * 10 = pow_more 10 (k - 1) in
     let same : k - 1 + 1 ≡ k = omega arith in
     omega (arith, power, ap (λ j. 10 ^ j) same)
 
-halved : (k n : ℕ) → n ≡ k * 2 → n / 2 ≡ k
+pub halved : (k n : ℕ) → n ≡ k * 2 → n / 2 ≡ k
 halved k n double = omega arith
 
 pub places_spared : (n places : ℕ) → 20 < places →

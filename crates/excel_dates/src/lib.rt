@@ -2,7 +2,8 @@
 //! section 18.17.4).
 //!
 //! Rooms: `dates` (the calls on an `ExcelDateTime`), `milliseconds` (how many a serial is),
-//! `calendar` (the date of a day), `moment` (what a serial stands for), `text` (how it is printed).
+//! `calendar` (the date of a day), `moment` (what a serial stands for), `text` (how it is printed),
+//! `laws` (what the dates of days say).
 //!
 //! **A serial is so many milliseconds**, the nearest whole number, by its exact decimal and without
 //! a float; of these the whole days give a date and the rest a time of day. The calendar is that of
@@ -12,8 +13,13 @@
 
 mod calendar;
 mod dates;
+mod laws;
 mod milliseconds;
 mod moment;
 mod text;
 
 pub use dates::ExcelDates;
+pub use laws::{
+    calendars_differ_by_1462_days, days_and_dates_agree, later_days_have_no_earlier_dates,
+    later_serials_have_no_fewer_milliseconds,
+};

@@ -1,7 +1,7 @@
 -- The rows of a sheet: those of a range by what its values mean, and when there are none.
 use Rattle.std.proofs.Common.{◌≡◌, ◌∙◌, ℕ, ◌+◌, ◌-◌, ◌<◌, ◌≤◌, List, [], ◌∷◌, ◌++◌, map, cond}
-use Rattle.std.proofs.Common.{Bool, true, false, refl, sym, ap, subst, arith, inl, inr, ◌⊎◌, Option, Some}
-use Rattle.std.proofs.Common.{None}
+use Rattle.std.proofs.Common.{Bool, true, false, refl, sym, ap, subst, arith, inl, inr, ◌⊎◌}
+use Rattle.std.proofs.Common.{Option, Some, None}
 use Rattle.std.proofs.Common.{Result, Ok, Err}
 use mathlib.Core.Path.{fun_ext}
 use Rattle.std.specs.Prelude.{Vec, ◌↔◌}
@@ -71,7 +71,8 @@ fields_meant options range row is =
     let start = start_of (bounds_of range) in
     let width = width_of (bounds_of range) in
     let whole : width - 0 ≡ width = omega arith in
-    ap (λ (n : ℕ). map (data_field options) (map (λ k. filled range (row, k)) (range_with_len 0 n))) whole
+    ap (λ (n : ℕ). map (data_field options)
+    (map (λ k. filled range (row, k)) (range_with_len 0 n))) whole
     ∙ map-map (data_field options) (λ k. filled range (row, k)) (range_with_len 0 width)
     ∙ ap (λ (field : ℕ → List ℕ). map field (range_with_len 0 width))
     (fun_ext (λ k. ap (field_of options)

@@ -1,4 +1,5 @@
--- What words behind a name ask of the rows of a sheet or of a table: each at most once, in any order.
+-- What words behind a name ask of the rows of a sheet or of a table: each at most once, in any
+-- order.
 use Rattle.std.specs.Prelude.{ℕ, ◌+◌, ◌-◌, ◌*◌, ◌==◌, nat_lt, nat_le, Bool, true, false, not, ◌&&◌}
 use Rattle.std.specs.Prelude.{if◌then◌else◌, List, [], ◌∷◌, codes, take, drop, length, is_some}
 use Rattle.std.specs.Prelude.{Option, Some, None, option_map, option_and_then}

@@ -45,7 +45,8 @@ pub record AreTableRows
   pub fits : area_count has.own.table.area ≤ 16777216
   pub listed :
       rows
-      ≡ table_records options has.own.table.area has.own.table.columns (value_pairs (table_data table))
+      ≡ table_records options has.own.table.area has.own.table.columns
+      (value_pairs (table_data table))
 
 -- its data are had, and their area has more cells than are written
 pub record HasLargeTable (parts : List Part) (name : List ℕ) : Type 0 where

@@ -151,21 +151,39 @@ fn option_asked(asked: AskedRows, word: &str) -> Option<AskedRows>
                 dates: true,
                 ..options
             };
-            unless(options.dates, AskedRows { options: dates, ..asked })
+            unless(
+                options.dates,
+                AskedRows {
+                    options: dates,
+                    ..asked
+                },
+            )
         }
         "--crlf" => {
             let crlf = CsvOptions {
                 crlf: true,
                 ..options
             };
-            unless(options.crlf, AskedRows { options: crlf, ..asked })
+            unless(
+                options.crlf,
+                AskedRows {
+                    options: crlf,
+                    ..asked
+                },
+            )
         }
         "--bom" => {
             let bom = CsvOptions {
                 bom: true,
                 ..options
             };
-            unless(options.bom, AskedRows { options: bom, ..asked })
+            unless(
+                options.bom,
+                AskedRows {
+                    options: bom,
+                    ..asked
+                },
+            )
         }
         "--from-a1" => unless(
             asked.from_a1,

@@ -1,7 +1,8 @@
 //! The rows of a range as CSV.
 //!
-//! Rooms: `options` (how rows are written), `field` (the field of a value), `record` (a field, the end of a record and a header, by
-//! the writer of the kit's `csv`), `rows` (a row, all rows, `rows_csv`), `error` (`CsvError`).
+//! Rooms: `options` (how rows are written), `field` (the field of a value), `record` (a field, the
+//! end of a record and a header, by the writer of the kit's `csv`), `rows` (a row, all rows,
+//! `rows_csv`), `error` (`CsvError`).
 //!
 //! **Each row goes along the used cells**, by the range's own iterators. No list of fields is made
 //! and no field is allocated: a text is lent to the writer as it is, and anything else is printed

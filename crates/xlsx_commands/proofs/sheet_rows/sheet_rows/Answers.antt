@@ -54,5 +54,6 @@ returns-clause-ok c =
     c.in_asked_area-values.result (asked_range _ _ _ c.in_asked_area-values.ensures.cells
     c.in_asked_area-values.ensures.bounds c.in_asked_area-values.ensures.blank)
     c.args.asked.options rows.items
-    (fits_by (box_count c.in_asked_area-values.result) c.rows_csv.result rows c.rows_csv.ensures.large
+    (fits_by (box_count c.in_asked_area-values.result) c.rows_csv.result rows
+    c.rows_csv.ensures.large
     c.in_ok-rows_csv.was) c.in_ok-rows_csv.ensures.rows

@@ -46,4 +46,5 @@ returns c =
     subst (λ values. IsBetweenRecords c.args.options.now (before
     ++ row_text (writer_of c.args.options.now) (map (data_field c.args.options.now) values))
     c.end_record.new.writer) all
-    (ends c.args.options.now before _ (c.loop-value.invariant.taken before between))) c.end_record.ensures
+    (ends c.args.options.now before _ (c.loop-value.invariant.taken before between)))
+    c.end_record.ensures

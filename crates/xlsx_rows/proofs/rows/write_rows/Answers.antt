@@ -17,7 +17,8 @@ loop-row-preserved c =
     record {
       taken = λ before between.
           subst (λ rows. IsBetweenRecords c.args.options.now
-          (before ++ flat_map (record_text c.args.options.now) rows) c.write_row.new.writer) (sym more)
+          (before ++ flat_map (record_text c.args.options.now) rows) c.write_row.new.writer)
+          (sym more)
           (record_taken given own c.args.options.now before c.loop-row.writer c.write_row.new.writer
           c.in_ok-write_row.ensures (c.loop-row.invariant.taken before between));
       whole = ap (λ rows. rows ++ rows_left c.next.new.self) more
