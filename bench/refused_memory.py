@@ -1,8 +1,8 @@
 #!/usr/bin/env python3
-"""Runs `cells Sales`, `upgrade` and `resave Sales` over the shipped package, `sample 5`, and each other command
-over a sample workbook, with its first allocation refused, then with its second, and so on, until
-none is left to refuse. Each of these runs must end with the status and the text of want of memory
-and print nothing, and the last one must print the stored lines."""
+"""Runs `cells Sales`, `upgrade` and `resave Sales` over the shipped package, `sample 5`, and each
+other command over a sample workbook, with its first allocation refused, then with its second, and
+so on, until none is left to refuse. Each of these runs must end with the status and the text of
+want of memory and print nothing, and the last one must print the stored lines."""
 
 import argparse
 import os

@@ -17,6 +17,7 @@ OF_TESTS = {
     "worked_precedents",
     "worked_styles",
     "worked_values",
+    "worked_writing",
 }
 
 QUOTED = re.compile(r"`([^`\n]+)`")

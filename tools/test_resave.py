@@ -30,8 +30,8 @@ def column(*formulas, rows=None):
     return "".join(formula(f"B{row}", text) for row, text in zip(rows, formulas))
 
 
-# What a case shows, the cells of the sheet, its values and formulas as `cells` prints them, and each
-# `f` that is written, by its attributes and its text.
+# What a case shows, the cells of the sheet, its values and formulas as `cells` prints them, and
+# each `f` that is written, by its attributes and its text.
 CASES = [
     ("nothing", "", [], []),
     ("a number", cell("A1", "12.50"), ["A1\tn:12.5\t-"], []),
