@@ -9,8 +9,8 @@ use part_events::Package;
 use xlsx_core::{Workbook, Xlsx};
 use xlsx_error::XlsxError;
 
-/// Where the first cell with a value of the first sheet of this name is, a row and a column counted
-/// from 0. The place is tested, and no clause says it.
+/// Where the first cell of the first sheet of this name is, a row and a column counted from 0. The
+/// place is tested, and no clause says it.
 fn first_place<P: Package>(
     package: &mut P,
     workbook: &Workbook,
@@ -23,10 +23,10 @@ fn first_place<P: Package>(
     }
 }
 
-/// Where the first cell with a value of the first sheet of a name is, and then the first table of a
-/// name, whose tables were loaded before. The reader borrows what is known of the workbook, so the
-/// tables are still loaded once it is gone, and nothing is asked for again. The workbook is handed
-/// back, as it was but for how its package was read.
+/// Where the first cell of the first sheet of a name is, and then the first table of a name, whose
+/// tables were loaded before. The reader borrows what is known of the workbook, so the tables are
+/// still loaded once it is gone, and nothing is asked for again. The workbook is handed back, as it
+/// was but for how its package was read.
 pub fn first_place_and_table<P: Package>(
     xlsx: Xlsx<P>,
     sheet_name: &str,

@@ -78,7 +78,7 @@ const WITH_TABLE: [Part<'static>; 6] = [
     ),
     (
         "xl/s.xml",
-        r#"<worksheet><sheetData><row r="1"><c r="A1"></c><c r="B1"><v>7</v></c></row><row r="2"><c r="A2"><v>8</v></c></row></sheetData></worksheet>"#,
+        r#"<worksheet><sheetData><row r="1"><c r="B1"><v>7</v></c></row><row r="2"><c r="A2"><v>8</v></c></row></sheetData></worksheet>"#,
     ),
     (
         "xl/_rels/s.xml.rels",
