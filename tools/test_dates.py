@@ -109,6 +109,9 @@ SERIALS = """\
 2E-8 00:00:00.002 1904-01-01T00:00:00.002
 """
 
+# A CR as a reference, as a line end would be read as LF.
+RETURN = "<!#13>"
+
 # Durations, in days, and their texts.
 DURATIONS = """\
 0 0:00:00
@@ -187,7 +190,7 @@ OPTIONS = [
     (["--delimiter=,"], texts(A1="a,b"), b'"a,b"\n'),
     (["--delimiter= "], texts(A1="a b", B1="c"), b'"a b" c\n'),
     (["--crlf"], texts(A1="a", A2="b"), b"a\r\nb\r\n"),
-    (["--crlf"], texts(A1="a\rb", B1='"'), b'"a\rb",""""\r\n'),
+    (["--crlf"], texts(A1=f"a{RETURN}b", B1='"'), b'"a\rb",""""\r\n'),
     (["--crlf"], numbers("A1", "A3"), b'1\r\n""\r\n1\r\n'),
     (["--bom"], texts(A1="a"), b"\xef\xbb\xbfa\n"),
     (["--bom"], "", b"\xef\xbb\xbf"),
@@ -301,7 +304,7 @@ class Dates(unittest.TestCase):
     def test_rows_of_other_forms_are_read_back(self):
         rows = [["a;b", 'say "x"', " c "], ["", "a\nb", "=A1"], ["it's", "a\rb", "1,2"]]
         data = "".join(
-            texts(**{f"{column}{place}": text})
+            texts(**{f"{column}{place}": text.replace("\r", RETURN)})
             for place, row in enumerate(rows, 1)
             for column, text in zip("ABC", row)
         )

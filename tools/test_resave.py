@@ -218,7 +218,7 @@ class Resave(unittest.TestCase):
         for build in BUILDS:
             text = self.saved(build, package)
             self.assertIn(b"date1904", text)
-            wanted = (0, b"A1\tt:1.5 duration 1904\t-\n", b"")
+            wanted = (0, b"A1\tt:1.5 duration 1904\t-\t-\n", b"")
             self.assertEqual(self.run_on(build, text, "cells", "S"), wanted)
 
     def test_names_are_written(self):
