@@ -10,7 +10,8 @@ use Rattle.std.proofs.lemmas.List.Elements.{All-from_get_or}
 use Rattle.std.proofs.lemmas.List.Splits.{slice_split_none, slice_split_at, length-slice_split}
 use Rattle.part_events.specs.Event.{leaf, entity_ref}
 use Rattle.written_markup.specs.WrittenText.{run_events, events_of_runs, text_events, has_byte}
-use Rattle.written_markup.specs.WrittenText.{underscores_escaped, escaped_byte, encoded, encoded_byte}
+use Rattle.written_markup.specs.WrittenText.{underscores_escaped, escaped_byte}
+use Rattle.written_markup.specs.WrittenText.{encoded, encoded_byte}
 
 -- ---- bytes that a text lacks
 

@@ -198,7 +198,8 @@ module _ (F A : Placed) (H : List ℕ) (t : List ℕ) (place : ℕ) (heads : Are
         known = omega arith;
         head_at = head_at;
         by_text = (λ i. cond (is_placed (found i)
-            && is_moved_from (found_head i) (head, col) (found_own i) (suc row, col)) head (suc row))
+            && is_moved_from (found_head i) (head, col) (found_own i) (suc row, col))
+            head (suc row))
             ∙ ap (λ (q : ℕ × ℕ). cond (bytes_eq t (moved (entry_at A h).1
             (offset_between q (suc row, col)))) head (suc row))
             (sym head_at ∙ ap (λ (e : (ℕ × ℕ) × List ℕ). e.0) kept_head);
@@ -307,7 +308,8 @@ passed_further A (e ∷ B) place p t within rising passed = λ k from before.
     let parts = and_both (below_all position_cmp p (e ∷ B)) (is_rising (e ∷ B)) rising in
     let kept = get_or-append A ((p, t) ∷ []) ((0, 0), []) k (omega arith) in
     let first = less_from _ (passed k from before) in
-    let second : position_cmp p e.0 ≡ Less = below_at p (e ∷ B) 0 ((0, 0), []) parts.0 (omega arith) in
+    let second : position_cmp p e.0 ≡ Less =
+    below_at p (e ∷ B) 0 ((0, 0), []) parts.0 (omega arith) in
     ap (λ (own : (ℕ × ℕ) × List ℕ). is_lt (position_cmp (lowered own.0) e.0)) kept
     ∙ ap is_lt (position_total.trans (lowered (entry_at A k).0) p e.0 first second)
 

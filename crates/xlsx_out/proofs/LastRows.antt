@@ -1,6 +1,7 @@
 -- The last row of each group, found along the formulas.
 use Rattle.std.proofs.Common.{◌≡◌, ◌≢◌, ℕ, suc, ◌+◌, ◌<◌, ◌≤◌, Bool, true, false, cond, List, []}
-use Rattle.std.proofs.Common.{◌∷◌, ◌++◌, length, get_or, set, take, refl, sym, ap, ◌∙◌, arith, inl, inr}
+use Rattle.std.proofs.Common.{◌∷◌, ◌++◌, length, get_or, set, take, refl}
+use Rattle.std.proofs.Common.{sym, ap, ◌∙◌, arith, inl, inr}
 use Rattle.std.proofs.Common.{length-append, get_or-set_other, get_or-set_same}
 use Rattle.std.specs.Prelude.{map, slice_index}
 use Rattle.std.specs.List.{filter}
@@ -151,7 +152,8 @@ module _ (F : Placed) where
                           (λ is. let up_to = (head_at j (omega (arith, count_front))).0 in
                           omega (arith, count_front, is))
                           (ap (λ (e : (ℕ × ℕ) × List ℕ). group_head F e.0)
-                          (sym (get_or-take i F j ((0, 0), []) (omega (arith, count_front)))) ∙ same)) in
+                          (sym (get_or-take i F j ((0, 0), []) (omega (arith, count_front))))
+                          ∙ same)) in
                           kept
                           ∙ ap (λ (j : ℕ). slice_index (rows ++ own ∷ []) j) at
                           ∙ get_or-append_seam rows own [] 0
@@ -177,7 +179,8 @@ module _ (F : Placed) (q : ℕ × ℕ) where
   end_fits [] row fits sheet = fits
   end_fits (y ∷ some) row fits sheet =
       by (is_same (group_head F y.0) q)
-      (end_fits some y.0.0 (sheet 0 y (omega arith)).0 (λ k d inside. sheet (suc k) d (omega arith)))
+      (end_fits some y.0.0 (sheet 0 y (omega arith)).0
+      (λ k d inside. sheet (suc k) d (omega arith)))
       (end_fits some row fits (λ k d inside. sheet (suc k) d (omega arith)))
     where
       by : (test : Bool) → last_row y.0.0 (rows_led F q some) < MAX_ROWS →

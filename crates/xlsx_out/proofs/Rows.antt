@@ -174,7 +174,8 @@ module _ (one two : ℕ × ℕ → List Event) where
   agree_front row [] agree = tt
   agree_front row (q ∷ qs) agree = by_test (q.0 == row) (agree_front row qs agree.1)
     where
-      by_test : (test : Bool) → Agree (row_front row qs) → Agree (cond test (q ∷ row_front row qs) [])
+      by_test : (test : Bool) → Agree (row_front row qs)
+          → Agree (cond test (q ∷ row_front row qs) [])
       by_test true rest = (agree.0, rest)
       by_test false rest = tt
 
@@ -183,7 +184,8 @@ module _ (one two : ℕ × ℕ → List Event) where
   agree_behind row [] agree = tt
   agree_behind row (q ∷ qs) agree = by_test (q.0 == row) (agree_behind row qs agree.1)
     where
-      by_test : (test : Bool) → Agree (row_behind row qs) → Agree (cond test (row_behind row qs) (q ∷ qs))
+      by_test : (test : Bool) → Agree (row_behind row qs)
+          → Agree (cond test (row_behind row qs) (q ∷ qs))
       by_test true rest = rest
       by_test false rest = agree
 

@@ -1,5 +1,6 @@
 -- What is written step by step is the data of the sheet.
-use Rattle.std.proofs.Common.{◌≡◌, ℕ, Bool, true, false, ◌&&◌, cond, List, [], ◌∷◌, ◌++◌, refl, sym, ap, ◌∙◌}
+use Rattle.std.proofs.Common.{◌≡◌, ℕ, Bool, true, false, ◌&&◌, cond, List}
+use Rattle.std.proofs.Common.{[], ◌∷◌, ◌++◌, refl, sym, ap, ◌∙◌}
 use Rattle.std.proofs.Common.{Option, Some, None}
 use Rattle.std.specs.Prelude.{map, codes}
 use Rattle.std.specs.FinMap.{find}
@@ -60,7 +61,8 @@ module _ (F : Placed) where
       (formula ++ value_events value)) (given_of p (formula_placed F p))
 
 -- the rows of values and of formulas as they are written are the data
-pub data_same : (V : PlacedValues) (F : Placed) → data_left None V (placed_forms F) ≡ data_events V F
+pub data_same : (V : PlacedValues) (F : Placed)
+    → data_left None V (placed_forms F) ≡ data_events V F
 data_same V F =
     let places = same_places F F in
     λ i. rows_by (λ p. same_cell F V p i) (positions_of (used V ++ places i))

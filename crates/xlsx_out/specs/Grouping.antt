@@ -53,8 +53,9 @@ abbrev pub stands_above : Placed → ℕ → ℕ × ℕ → Bool
 stands_above formulas place position =
     nat_lt place (length formulas) && is_same (lowered (entry_at formulas place).0) position
 
--- The place of the head of the next formula behind these, whose heads are known: that of the formula
--- at a place, where it stands right above and the text of its head, moved, is this one; else its own.
+-- The place of the head of the next formula behind these, whose heads are known: that of the
+-- formula at a place, where it stands right above and the text of its head, moved, is this one;
+-- else its own.
 abbrev pub head_place : Placed → List ℕ → ℕ → ℕ × ℕ → List ℕ → ℕ
 head_place formulas heads above position text =
     if stands_above formulas above position

@@ -1,5 +1,6 @@
 -- What is written step by step: the formulas with how they are written, and the rows of positions.
-use Rattle.std.specs.Prelude.{◌≡◌, ◌⊎◌, ℕ, ◌<◌, ◌==◌, Bool, true, false, if◌then◌else◌, List, [], ◌∷◌, ◌++◌}
+use Rattle.std.specs.Prelude.{◌≡◌, ◌⊎◌, ℕ, ◌<◌, ◌==◌, Bool, true}
+use Rattle.std.specs.Prelude.{false, if◌then◌else◌, List, [], ◌∷◌, ◌++◌}
 use Rattle.std.specs.Prelude.{codes, map, drop, Option, Some, None}
 use Rattle.std.specs.FinMap.{find}
 use Rattle.std.specs.List.{flat_map}

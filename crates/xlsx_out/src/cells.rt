@@ -125,7 +125,8 @@ fn push_formula(
 
 // ---- cells
 
-/// Puts the attributes of the cell of a position, counted from 0, in place of what the buffer holds.
+/// Puts the attributes of the cell of a position, counted from 0, in place of what the buffer
+/// holds.
 fn put_cell_attributes(
     buffer: &mut String,
     position: (u32, u32),

@@ -5,7 +5,8 @@ ghost use Rattle.cell_data.specs.Splitting.{AreInOrder};
 ghost use Rattle.cell_data.proofs.Stepping.{meant};
 ghost use Rattle.sorted_cells.specs.Placed.{placed_left};
 ghost use Rattle.written_markup.specs.Markup.{with_events};
-ghost use Rattle.xlsx_out.specs.Writing.{left_of, forms_left, IsFormInSheet, IsFirstOfBoth, data_left};
+ghost use Rattle.xlsx_out.specs.Writing.{left_of, forms_left, IsFormInSheet};
+ghost use Rattle.xlsx_out.specs.Writing.{IsFirstOfBoth, data_left};
 
 use crate::cells::{enter_row, leave_row, push_cell};
 use crate::groups::GroupedFormula;
@@ -25,7 +26,8 @@ impl<'a> FormsLeft<'a> {
     ghost use Rattle.std.specs.Prelude.{◌≡◌, IfSome, All};
     ghost use Rattle.std.specs.Option.{option_map};
     ghost use Rattle.sorted_cells.specs.Placed.{first_position, value_first, left_behind};
-    ghost use Rattle.xlsx_out.specs.Writing.{form_entries, left_of, forms_left, written_of, IsFormInSheet};
+    ghost use Rattle.xlsx_out.specs.Writing.{form_entries, left_of, forms_left};
+    ghost use Rattle.xlsx_out.specs.Writing.{written_of, IsFormInSheet};
 
     /// All of these formulas.
     pub fn new(formulas: &'a [GroupedFormula<'a>]) -> FormsLeft<'a>

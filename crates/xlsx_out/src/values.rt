@@ -67,7 +67,8 @@ fn push_value_text(out: &mut String, value: &Data) -> Result<(), AllocError>
 /// Appends the `v` of a value, whose text is made in `buffer`.
 fn push_some_value(draft: &mut Draft, buffer: &mut String, value: &Data) -> Result<(), AllocError>
     ensures { let text = value_written (value_of_data value.now) in
-        OnOk result (draft.new ≡ with_events draft.old (element (codes "v") [] (text_events text))) }
+        let written = element (codes "v") [] (text_events text) in
+        OnOk result (draft.new ≡ with_events draft.old written) }
 {
     buffer.clear();
     push_value_text(buffer, value)?;

@@ -4,7 +4,8 @@ ghost use Rattle.std.specs.List.{list_all, list_any};
 ghost use Rattle.cell_data.specs.CellValue.{value_of_data};
 ghost use Rattle.decimals.specs.Decimal.{number_of};
 ghost use Rattle.cell_data.specs.Pairs.{value_pairs, formula_pairs};
-ghost use Rattle.xlsx_out.specs.Writable.{is_decimal, is_kept, is_written, counts_from, have_one_epoch};
+ghost use Rattle.xlsx_out.specs.Writable.{is_decimal, is_kept, is_written};
+ghost use Rattle.xlsx_out.specs.Writable.{counts_from, have_one_epoch};
 ghost use Rattle.xlsx_out.specs.Writable.{are_writable_values, are_writable_formulas, IsWritable};
 ghost use Rattle.xlsx_out.specs.WrittenSheet.{is_from_1904};
 
@@ -87,8 +88,8 @@ fn are_writable_formulas(formulas: &Range<String>) -> bool
 }
 
 /// Whether values and formulas are written so that they read back: each area is the least that has
-/// the used cells, no value is `Empty`, an `Int` or the error `GettingData`, all dates and durations
-/// count from the same first year, and no formula is empty. It takes no memory.
+/// the used cells, no value is `Empty`, an `Int` or the error `GettingData`, all dates and
+/// durations count from the same first year, and no formula is empty. It takes no memory.
 pub fn is_writable(values: &Range<Data>, formulas: &Range<String>) -> bool
     ensures { IsTrue result ↔ IsWritable values.now formulas.now }
 {

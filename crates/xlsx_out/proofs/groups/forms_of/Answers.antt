@@ -1,4 +1,5 @@
-use Rattle.std.proofs.Common.{◌≡◌, ◌∙◌, ◌+◌, ◌++◌, ◌∷◌, [], ap, sym, subst, arith, length, get_or, ℕ}
+use Rattle.std.proofs.Common.{◌≡◌, ◌∙◌, ◌+◌, ◌++◌, ◌∷◌, [], ap}
+use Rattle.std.proofs.Common.{sym, subst, arith, length, get_or, ℕ}
 use Rattle.std.proofs.Common.{length-append, inl, inr, List, refl, take, ◌<◌, ◌≤◌, rules}
 use Rattle.std.specs.Prelude.{map, slice_index, ◌==◌, All, vec_len}
 use Rattle.std.proofs.lemmas.Bool.{cases_lt}
@@ -110,7 +111,8 @@ loop-member-preserved c =
       );
       forms = ap (map form_entry) c.in_ok-push-2.ensures.items
           ∙ map-append form_entry c.loop-member.formulas.items (own ∷ [])
-          ∙ (λ j. known.forms j ++ (((sym entry_is j).0, written_as (form_is j) (sym entry_is j).1) ∷ []))
+          ∙ (λ j. known.forms j
+          ++ (((sym entry_is j).0, written_as (form_is j) (sym entry_is j).1) ∷ []))
           ∙ ap (λ (f : WrittenFormula). written_first placed i ++ ((entry_at placed i).0, f) ∷ [])
           written
           ∙ sym (written_more placed i inside);

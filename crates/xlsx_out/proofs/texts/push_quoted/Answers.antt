@@ -29,7 +29,8 @@ runs-preserved c =
           (string_bytes c.args.out.now ++ encoded c.args.text.now)
           c.in_ok-push_str.ensures.bytes c.in_ok-push_str-2.ensures.bytes
           (ap encoded parts.0
-          ∙ encoded_at_quote run behind (lacks_in_run 38 34 run behind lacks) (lacks_byte 34 run parts.1))
+          ∙ encoded_at_quote run behind (lacks_in_run 38 34 run behind lacks)
+          (lacks_byte 34 run parts.1))
           c.runs.invariant.1,
       lacks_behind 38 34 run behind lacks,
     )

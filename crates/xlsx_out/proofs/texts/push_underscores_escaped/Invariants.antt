@@ -7,7 +7,8 @@ use Rattle.xlsx_out.proofs.texts.push_underscores_escaped.Given as goal
 abbrev pub invariant-runs : goal.invariant-runs
 invariant-runs l =
     shadow (Utf8 l.rest)
-    × (string_bytes l.out ++ underscores_escaped l.rest ≡ string_bytes l.fn.out ++ underscores_escaped l.text)
+    × (string_bytes l.out ++ underscores_escaped l.rest
+    ≡ string_bytes l.fn.out ++ underscores_escaped l.text)
 
 abbrev pub decreases-runs : goal.decreases-runs
 decreases-runs l = length l.rest

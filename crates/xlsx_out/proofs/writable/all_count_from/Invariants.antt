@@ -9,5 +9,6 @@ use Rattle.xlsx_out.proofs.writable.all_count_from.Given as goal
 
 abbrev pub invariant-loop-value : goal.invariant-loop-value
 invariant-loop-value l =
-    list_all (λ entry. counts_from l.is_1904 entry.1) (meant value_of_data (placed_left l.value-iterator))
+    list_all (λ entry. counts_from l.is_1904 entry.1)
+    (meant value_of_data (placed_left l.value-iterator))
     ≡ list_all (λ entry. counts_from l.is_1904 entry.1) (value_pairs l.values)
