@@ -5,6 +5,7 @@ pub mod Fillings
 pub mod Grouping
 pub mod Lookups
 pub mod Meaning
+pub mod NamedStyles
 pub mod RunLists
 pub mod RunSearch
 pub mod RunSteps

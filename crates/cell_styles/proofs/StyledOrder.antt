@@ -37,7 +37,7 @@ columns_up p q width less same =
     let rows : width * (p / width) ≡ width * (q / width) = ap (λ n. width * n) same in
     omega (arith, one, two, rows)
 
-places_rise : (area : Dimensions) (p q : ℕ) → 0 < width_in area → p < q
+pub places_rise : (area : Dimensions) (p q : ℕ) → 0 < width_in area → p < q
     → position_cmp (position_in area p) (position_in area q) ≡ Less
 places_rise area p q some less =
     let width = width_in area in
@@ -56,7 +56,7 @@ places_rise area p q some less =
           ap (λ o. ordering_then o columns) (less_of _ _ lower)
     ]
 
-below_styled : (area : Dimensions) (p place : ℕ) (ids : List ℕ) → 0 < width_in area → p < place
+pub below_styled : (area : Dimensions) (p place : ℕ) (ids : List ℕ) → 0 < width_in area → p < place
     → below_all position_cmp (position_in area p) (map styled_entry (styled_along area place ids))
     ≡ true
 below_styled area p place [] some less = refl

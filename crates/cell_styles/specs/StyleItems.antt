@@ -1,10 +1,12 @@
 -- The positions of an area with their styles or ids, row by row.
 use Rattle.std.specs.Prelude.{◌≡◌, ◌≢◌, ℕ, ◌+◌, ◌≤◌, ◌==◌, if◌then◌else◌, List, [], ◌∷◌, map}
 use Rattle.std.specs.Prelude.{filter, nat_lt, Option, Some, None, true, slice_get, slice_index, All}
+use Rattle.std.specs.FinMap.{find}
 use Rattle.std.specs.List.{list_all}
+use Rattle.std.specs.Option.{unwrap_or}
 use Rattle.cell_refs.specs.Dimensions.{cell_count}
 use Rattle.cell_refs.specs.declared.dimensions.Dimensions.{Dimensions}
-use Rattle.cell_refs.specs.Positions.{is_rising}
+use Rattle.cell_refs.specs.Positions.{is_in_area, is_rising, position_cmp}
 use Rattle.cell_styles.specs.declared.style.Style.{Style}
 use Rattle.cell_styles.specs.declared.style_runs.StyleRun.{StyleRun}
 use Rattle.cell_styles.specs.StyleMap.{StyledCell, StyleMap, IsArea, position_in, places, style_at}
@@ -71,6 +73,20 @@ styled_of styles = styled_in styles.bounds styles.ids
 -- a styled cell as an entry of a map from positions to ids
 abbrev pub styled_entry : StyledCell → (ℕ × ℕ) × ℕ
 styled_entry cell = ((cell.0, cell.1), cell.2)
+
+-- the id that a position has among these cells, or 0
+abbrev pub id_among : List StyledCell → ℕ × ℕ → ℕ
+id_among cells position = unwrap_or (find position_cmp position (map styled_entry cells)) 0
+
+-- the style that a position has by an id: none outside an area
+abbrev pub style_by : Option Dimensions → List Style → ℕ × ℕ → ℕ → Option Style
+style_by None palette position id = None
+style_by (Some area) palette position id =
+    if is_in_area area position then slice_get palette id else None
+
+-- the style that a position of these styles has by an id
+abbrev pub style_named : StyleMap → ℕ × ℕ → ℕ → Option Style
+style_named styles position id = style_by styles.bounds styles.palette position id
 
 -- cells of a worksheet, each behind the one before it, row by row
 pub record RiseOnSheet (cells : List StyledCell) : Type 0 where

@@ -1,8 +1,9 @@
 ghost use Rattle.std.specs.Prelude.{◌≡◌, ◌+◌, ◌-◌, ◌*◌, ◌^◌, ◌<◌, ◌≤◌, ◌↔◌, None, IfOk, IsTrue};
-ghost use Rattle.std.specs.Prelude.{IsSome, All, nat_lt, count_by};
+ghost use Rattle.std.specs.Prelude.{ℕ, IsSome, All, nat_lt, count_by};
 ghost use Rattle.std.specs.Option.{option_map, option_map_or, option_copied};
 ghost use Rattle.cell_styles.specs.Groups.{group_count};
 ghost use Rattle.cell_styles.specs.StyleItems.{position_styles, styled_of, RiseOnSheet};
+ghost use Rattle.cell_styles.specs.StyleItems.{id_among, style_named};
 ghost use Rattle.cell_styles.specs.StyleMap.{IsOnSheet, IsInBounds, no_styles, place_in, styles_of};
 ghost use Rattle.cell_styles.specs.StyleMap.{style_at, width_in, height_in};
 
@@ -165,6 +166,18 @@ impl StyleRange {
         Some(&self.palette[id])
     }
 
+    /// The style of a position whose id is known, without a search: that of the id inside the area,
+    /// and none outside.
+    pub fn style_with_id(&self, pos: (u32, u32), id: usize) -> Option<&Style>
+        ensures { option_copied result ≡ style_named self.now pos id }
+    {
+        let bounds = self.bounds?;
+        if !bounds.contains(pos.0, pos.1) {
+            return None;
+        }
+        self.palette.get(id)
+    }
+
     /// The positions of the area with their styles, row by row.
     pub fn cells(&self) -> StyleRangeCells<'_>
         ensures { result ≡ position_styles self.now }
@@ -179,6 +192,8 @@ impl StyleRange {
     pub fn styled(&self) -> StyledCells<'_>
         ensures cells { result ≡ styled_of self.now }
         ensures order { RiseOnSheet result }
+        ensures ids { (position : ℕ × ℕ) →
+            style_named self.now position (id_among result position) ≡ style_at self.now position }
     {
         match self.bounds {
             Some(area) => StyledCells::new(area, self.ids.as_slice()),

@@ -2,6 +2,7 @@
 use Rattle.std.proofs.Common.{◌≡◌, ℕ, ◌+◌, ◌<◌, true, ◌||◌}
 use Rattle.std.proofs.Common.{List, [], ◌∷◌, ◌++◌, length, Some, None, Option, refl, sym, ap, ◌∙◌}
 use Rattle.std.proofs.Common.{subst, arith, append_assoc, string_bytes}
+use mathlib.Core.Path.{fun_ext}
 use Rattle.std.specs.Prelude.{map, is_some, String, MatchOption, ◌⊎◌}
 use Rattle.std.proofs.Common.{inl, inr}
 use Rattle.std.specs.declared.alloc.Global.{Global}
@@ -30,13 +31,13 @@ use Rattle.cell_data.specs.Stepping.{used, StandsUpTo, IsEarlier}
 use Rattle.cell_data.specs.CellValue.{CellValue, nothing, value_of_data}
 use Rattle.cell_refs.specs.Positions.{position_cmp, is_rising}
 use Rattle.cell_data.specs.declared.value.Data.{Data}
-use Rattle.cell_styles.specs.StyleItems.{styled_entry, RiseOnSheet}
-use Rattle.cell_styles.specs.StyleMap.{StyledCell}
+use Rattle.cell_styles.specs.StyleItems.{styled_entry, style_named, RiseOnSheet}
+use Rattle.cell_styles.specs.StyleMap.{StyledCell, StyleMap, style_at}
 use Rattle.cell_styles.specs.declared.style.Style.{Style}
 use Rattle.sheet_listing.specs.SheetListing.{line_of, value_placed, formula_placed, id_placed}
 use Rattle.sheet_listing.specs.SheetListing.{lines_with, fill_field, cell_values, cell_formulas}
 use Rattle.sheet_listing.specs.SheetListing.{value_given, formula_given, id_given}
-use Rattle.sheet_listing.specs.SheetListing.{IsFirstOf}
+use Rattle.sheet_listing.specs.SheetListing.{IsFirstOf, used_positions}
 
 module _ {X Y Z : Type 0} where
   -- the positions of three lists
@@ -65,12 +66,12 @@ module _ {X Y Z : Type 0} where
       (used_both p (is_some f) (is_some d) (used (given p f ++ fs)) (used fs)
       (used (given p d ++ ds)) (used ds) (used_given p f fs) (used_given p d ds))
 
-module _ (style : ℕ × ℕ → Option Style) where
+module _ (style : ℕ × ℕ → ℕ → Option Style) where
   line_at : List ((ℕ × ℕ) × CellValue) → List ((ℕ × ℕ) × List ℕ) → List ((ℕ × ℕ) × ℕ) →
       ℕ × ℕ → List ℕ
   line_at values formulas ids q =
       line_of q (value_placed q values) (formula_placed q formulas) (id_placed q ids)
-      (fill_field (style q))
+      (fill_field (style q (id_placed q ids)))
 
   lines_past : (p : ℕ × ℕ) (v : Option CellValue) (f : Option (List ℕ)) (d : Option ℕ)
       (vs : List ((ℕ × ℕ) × CellValue)) (fs : List ((ℕ × ℕ) × List ℕ))
@@ -88,7 +89,7 @@ module _ (style : ℕ × ℕ → Option Style) where
       let id = past p d e.0 ds own in
       let rest = lines_past p v f d vs fs ds es others in
       λ i. line_of e.0 (unwrap_or (value i) nothing) (unwrap_or (formula i) [])
-      (unwrap_or (id i) 0) (fill_field (style e.0)) ++ rest i
+      (unwrap_or (id i) 0) (fill_field (style e.0 (unwrap_or (id i) 0))) ++ rest i
 
   some_step : (p : ℕ × ℕ) (v : Option CellValue) (f : Option (List ℕ)) (d : Option ℕ)
       (vs : List ((ℕ × ℕ) × CellValue)) (fs : List ((ℕ × ℕ) × List ℕ))
@@ -97,7 +98,8 @@ module _ (style : ℕ × ℕ → Option Style) where
       below_all position_cmp p vs ≡ true → below_all position_cmp p fs ≡ true →
       below_all position_cmp p ds ≡ true →
       lines_with style (given p v ++ vs) (given p f ++ fs) (given p d ++ ds)
-      ≡ line_of p (unwrap_or v nothing) (unwrap_or f []) (unwrap_or d 0) (fill_field (style p))
+      ≡ line_of p (unwrap_or v nothing) (unwrap_or f []) (unwrap_or d 0)
+      (fill_field (style p (unwrap_or d 0)))
       ++ lines_with style vs fs ds
   unfolding lines_with line_at
   some_step p v f d vs fs ds some in_values in_formulas in_ids =
@@ -115,7 +117,7 @@ module _ (style : ℕ × ℕ → Option Style) where
       (places (given p v ++ vs) (given p f ++ fs) (given p d ++ ds)) (places vs fs ds)
       (adds_places p v f d vs fs ds) some below)
       ∙ (λ i. line_of p (unwrap_or (value i) nothing) (unwrap_or (formula i) [])
-      (unwrap_or (id i) 0) (fill_field (style p)) ++ further i)
+      (unwrap_or (id i) 0) (fill_field (style p (unwrap_or (id i) 0))) ++ further i)
 
   listing_step : (p : ℕ × ℕ) (v : Option CellValue) (f : Option (List ℕ)) (d : Option ℕ)
       (vs : List ((ℕ × ℕ) × CellValue)) (fs : List ((ℕ × ℕ) × List ℕ))
@@ -123,7 +125,8 @@ module _ (style : ℕ × ℕ → Option Style) where
       below_all position_cmp p vs ≡ true → below_all position_cmp p fs ≡ true →
       below_all position_cmp p ds ≡ true →
       lines_with style (given p v ++ vs) (given p f ++ fs) (given p d ++ ds)
-      ≡ line_of p (unwrap_or v nothing) (unwrap_or f []) (unwrap_or d 0) (fill_field (style p))
+      ≡ line_of p (unwrap_or v nothing) (unwrap_or f []) (unwrap_or d 0)
+      (fill_field (style p (unwrap_or d 0)))
       ++ lines_with style vs fs ds
   listing_step p None None None vs fs ds in_values in_formulas in_ids = refl
   listing_step p None None (Some d) vs fs ds in_values in_formulas in_ids =
@@ -142,18 +145,19 @@ formula_found p formulas found same =
 
 -- the lines of cells that are left
 abbrev pub lines_left :
-    (ℕ × ℕ → Option Style) → List ((ℕ × ℕ) × Data) → List ((ℕ × ℕ) × String Global) →
+    (ℕ × ℕ → ℕ → Option Style) → List ((ℕ × ℕ) × Data) → List ((ℕ × ℕ) × String Global) →
     List ((ℕ × ℕ) × ℕ) → List ℕ
 lines_left style values formulas ids =
     lines_with style (cell_values values) (cell_formulas formulas) ids
 
-cells_step : (style : ℕ × ℕ → Option Style) (p : ℕ × ℕ)
+cells_step : (style : ℕ × ℕ → ℕ → Option Style) (p : ℕ × ℕ)
     (v : Option Data) (f : Option (String Global)) (d : Option ℕ)
     (values vs : List ((ℕ × ℕ) × Data)) (formulas fs : List ((ℕ × ℕ) × String Global))
     (ids ds : List ((ℕ × ℕ) × ℕ)) →
     Splits p values v vs → Splits p formulas f fs → Splits p ids d ds →
     lines_left style values formulas ids
-    ≡ line_of p (value_given v) (formula_given f) (id_given d) (fill_field (style p))
+    ≡ line_of p (value_given v) (formula_given f) (id_given d)
+    (fill_field (style p (id_given d)))
     ++ lines_left style vs fs ds
 cells_step style p v f d values vs formulas fs ids ds splits_v splits_f splits_d =
     let seen_v = ap cell_values splits_v.whole ∙ meant_given value_of_data p v vs in
@@ -171,11 +175,11 @@ goes_on old new line rest left whole printed taken same =
     rw (printed, append_assoc, ← taken) same
 
 -- the same with the line of a position
-pub lines_on : (style : ℕ × ℕ → Option Style) (p : ℕ × ℕ)
+pub lines_on : (style : ℕ × ℕ → ℕ → Option Style) (p : ℕ × ℕ)
     (v : Option Data) (f : Option (String Global)) (d : Option ℕ) (found : Option Style)
     (values vs : List ((ℕ × ℕ) × Data)) (formulas fs : List ((ℕ × ℕ) × String Global))
     (ids ds : List ((ℕ × ℕ) × ℕ)) (old new whole : List ℕ) →
-    Splits p values v vs → Splits p formulas f fs → Splits p ids d ds → found ≡ style p →
+    Splits p values v vs → Splits p formulas f fs → Splits p ids d ds → found ≡ style p (id_given d) →
     new ≡ old ++ line_of p (value_given v) (formula_given f) (id_given d) (fill_field found) →
     old ++ lines_left style values formulas ids ≡ whole →
     new ++ lines_left style vs fs ds ≡ whole
@@ -183,15 +187,15 @@ lines_on style p v f d found values vs formulas fs ids ds old new whole splits_v
     is printed same =
     let line : Option Style → List ℕ =
     λ found. line_of p (value_given v) (formula_given f) (id_given d) (fill_field found) in
-    goes_on old new (line (style p)) (lines_left style vs fs ds)
+    goes_on old new (line (style p (id_given d))) (lines_left style vs fs ds)
     (lines_left style values formulas ids) whole (printed ∙ ap (λ found. old ++ line found) is)
     (cells_step style p v f d values vs formulas fs ids ds splits_v splits_f splits_d) same
 
-nothing_listed : (style : ℕ × ℕ → Option Style) → lines_with style [] [] [] ≡ []
+nothing_listed : (style : ℕ × ℕ → ℕ → Option Style) → lines_with style [] [] [] ≡ []
 unfolding lines_with line_at
 nothing_listed style = ap (flat_map (line_at style [] [] [])) no_positions
 
-pub lines_end : (style : ℕ × ℕ → Option Style) (out whole : List ℕ)
+pub lines_end : (style : ℕ × ℕ → ℕ → Option Style) (out whole : List ℕ)
     (values : List ((ℕ × ℕ) × Data)) (formulas : List ((ℕ × ℕ) × String Global))
     (ids : List ((ℕ × ℕ) × ℕ)) →
     (values ≡ []) × (formulas ≡ []) × (ids ≡ []) →
@@ -334,3 +338,17 @@ styled_order cells styled is rise = subst AreInOrder (sym is) (record {
   rising = rise.rising;
   sheet = All-map IsPlacedInSheet styled_entry styled rise.sheet;
 })
+
+-- each position has the style that its id names
+pub by_ids : (styles : StyleMap) (values : List ((ℕ × ℕ) × CellValue))
+    (formulas : List ((ℕ × ℕ) × List ℕ)) (ids : List ((ℕ × ℕ) × ℕ))
+    → ((position : ℕ × ℕ) → style_named styles position (id_placed position ids)
+    ≡ style_at styles position)
+    → lines_with (style_named styles) values formulas ids
+    ≡ lines_with (λ position id. style_at styles position) values formulas ids
+unfolding lines_with
+by_ids styles values formulas ids named =
+    ap (λ (style : ℕ × ℕ → Option Style). flat_map
+    (λ position. line_of position (value_placed position values) (formula_placed position formulas)
+    (id_placed position ids) (fill_field (style position)))
+    (used_positions values formulas ids)) (fun_ext named)

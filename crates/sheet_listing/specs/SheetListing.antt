@@ -23,12 +23,13 @@ use Rattle.cell_data.specs.declared.value.ExcelDateTimeType.TheVariants.{DateTim
 use Rattle.cell_styles.specs.Color.{color_text}
 use Rattle.cell_styles.specs.Fill.{fill_color}
 use Rattle.cell_styles.specs.StyleItems.{styled_entry, styled_of}
-use Rattle.cell_styles.specs.StyleMap.{StyleMap, style_at}
+use Rattle.cell_styles.specs.StyleMap.{StyledCell, StyleMap, style_at}
 use Rattle.cell_styles.specs.declared.color.Color.{Color}
 use Rattle.cell_styles.specs.declared.fill.FillPattern.{FillPattern}
 use Rattle.cell_styles.specs.declared.fill.FillPattern.TheVariants as pattern
 use Rattle.cell_styles.specs.declared.style.Style.{Style}
 use Rattle.escaped_text.specs.Escaped.{escaped}
+use Rattle.sheet_listing.specs.declared.styled_left.StyledLeft.{StyledLeft}
 
 -- the field of a truth value
 abbrev pub truth_text : Bool → List ℕ
@@ -134,14 +135,14 @@ abbrev pub used_positions :
     → List (ℕ × ℕ)
 used_positions values formulas ids = positions_of (used values ++ (used formulas ++ used ids))
 
--- the lines of values, formulas and style ids, where this is the style of each position
+-- the lines of values, formulas and style ids, where this is the style of each position with its id
 unfoldable pub lines_with :
-    (ℕ × ℕ → Option Style) → List ((ℕ × ℕ) × CellValue) → List ((ℕ × ℕ) × List ℕ)
+    (ℕ × ℕ → ℕ → Option Style) → List ((ℕ × ℕ) × CellValue) → List ((ℕ × ℕ) × List ℕ)
     → List ((ℕ × ℕ) × ℕ) → List ℕ
 lines_with style values formulas ids =
     flat_map
     (λ position. line_of position (value_placed position values) (formula_placed position formulas)
-    (id_placed position ids) (fill_field (style position)))
+    (id_placed position ids) (fill_field (style position (id_placed position ids))))
     (used_positions values formulas ids)
 
 -- the positions that have a style id above 0, with that id
@@ -152,7 +153,7 @@ placed_ids styles = map styled_entry (styled_of styles)
 abbrev pub listing :
     List ((ℕ × ℕ) × CellValue) → List ((ℕ × ℕ) × List ℕ) → StyleMap → List ℕ
 listing values formulas styles =
-    lines_with (style_at styles) values formulas (placed_ids styles)
+    lines_with (λ position id. style_at styles position) values formulas (placed_ids styles)
 
 -- ---- the cells of ranges
 
@@ -177,6 +178,15 @@ abbrev pub id_given : Option ℕ → ℕ
 id_given id = unwrap_or id 0
 
 -- ---- the steps through the lists
+
+-- the first styled position, where there is one, and those behind it
+abbrev pub ids_from : Option StyledCell → List StyledCell → List ((ℕ × ℕ) × ℕ)
+ids_from None behind = []
+ids_from (Some first) behind = styled_entry first ∷ map styled_entry behind
+
+-- the styled positions that are left, each with its id
+abbrev pub ids_left : StyledLeft → List ((ℕ × ℕ) × ℕ)
+ids_left left = ids_from left.first left.behind
 
 -- a position among those that the lists begin with
 abbrev pub IsOfSome :

@@ -8,9 +8,8 @@ ghost use Rattle.cell_data.specs.Range.{cells_of};
 ghost use Rattle.cell_data.specs.Splitting.{AreInOrder};
 ghost use Rattle.cell_refs.specs.Reference.{reference};
 ghost use Rattle.cell_styles.specs.Fill.{fill_color};
-ghost use Rattle.cell_styles.specs.StyleMap.{style_at};
+ghost use Rattle.cell_styles.specs.StyleItems.{style_named};
 ghost use Rattle.escaped_text.specs.Escaped.{escaped};
-ghost use Rattle.sorted_cells.specs.Kept.{kept_cells};
 ghost use Rattle.sorted_cells.specs.Placed.{placed_left};
 ghost use Rattle.sheet_listing.specs.SheetListing.{kind_text, calendar_text, value_field};
 ghost use Rattle.sheet_listing.specs.SheetListing.{formula_field};
@@ -19,16 +18,17 @@ ghost use Rattle.sheet_listing.specs.SheetListing.{cell_values, cell_formulas};
 ghost use Rattle.sheet_listing.specs.SheetListing.{value_given, formula_given};
 ghost use Rattle.sheet_listing.specs.SheetListing.{IsFirstOf};
 ghost use Rattle.sheet_listing.specs.SheetListing.{shown_color, fill_shown, fill_field, id_given};
-ghost use Rattle.sheet_listing.specs.SheetListing.{lines_with, placed_ids};
+ghost use Rattle.sheet_listing.specs.SheetListing.{lines_with, ids_left};
 ghost use Rattle.sheet_listing.specs.SheetListing.{value_line, value_lines, row_line};
 ghost use Rattle.sheet_listing.specs.SheetListing.{further_fields};
 
+use crate::styled_left::StyledLeft;
 use cell_data::{Data, ExcelDateTime, ExcelDateTimeType, Range, earlier};
 use cell_refs::{MAX_COLUMNS, MAX_ROWS, push_reference};
 use cell_styles::{Color, Fill, Style, StyleRange};
 use escaped_text::push_escaped;
 use itoa::Buffer;
-use sorted_cells::{PlacedCells, SortedCells};
+use sorted_cells::PlacedCells;
 use std::alloc::{AllocError, Global};
 
 fn kind_text(kind: ExcelDateTimeType) -> &'static str
@@ -145,11 +145,11 @@ fn has_formula(formula: Option<&String>) -> bool
     }
 }
 
-fn has_id(id: Option<&usize>) -> bool
-    ensures { result ≡ nat_lt 0 (id_given (option_copied id.entry)) }
+fn has_id(id: Option<usize>) -> bool
+    ensures { result ≡ nat_lt 0 (id_given id) }
 {
     match id {
-        Some(id) => *id > 0,
+        Some(id) => id > 0,
         None => false,
     }
 }
@@ -181,10 +181,10 @@ fn push_fill(out: &mut String, style: Option<&Style>) -> Result<(), AllocError>
     }
 }
 
-fn has_line(value: Option<&Data>, formula: Option<&String>, id: Option<&usize>) -> bool
+fn has_line(value: Option<&Data>, formula: Option<&String>, id: Option<usize>) -> bool
     ensures { let has_value = is_some (value_field (value_given (option_copied value.entry))) in
         let has_formula = is_some (formula_field (formula_given (option_copied formula.entry))) in
-        let has_id = nat_lt 0 (id_given (option_copied id.entry)) in
+        let has_id = nat_lt 0 (id_given id) in
         result ≡ (has_value || (has_formula || has_id)) }
 {
     has_value(value) || has_formula(formula) || has_id(id)
@@ -300,13 +300,13 @@ fn push_line(
     position: (u32, u32),
     value: Option<&Data>,
     formula: Option<&String>,
-    id: Option<&usize>,
+    id: Option<usize>,
     style: Option<&Style>,
 ) -> Result<(), AllocError>
     requires in_rows { position.0 < MAX_ROWS }
     requires in_columns { position.1 < MAX_COLUMNS }
     ensures { let printed = line_of position (value_given (option_copied value.entry))
-        (formula_given (option_copied formula.entry)) (id_given (option_copied id.entry))
+        (formula_given (option_copied formula.entry)) (id_given id)
         (fill_field (option_copied style.entry)) in
         OnOk result (string_bytes out.new ≡ string_bytes out.old ++ printed) }
 {
@@ -320,14 +320,14 @@ fn push_line(
 fn first_position(
     values: &PlacedCells<'_, Data>,
     formulas: &PlacedCells<'_, String>,
-    ids: &PlacedCells<'_, usize>,
+    ids: &StyledLeft<'_>,
 ) -> Option<(u32, u32)>
     requires values { AreInOrder (placed_left values.now) }
     requires formulas { AreInOrder (placed_left formulas.now) }
-    requires ids { AreInOrder (placed_left ids.now) }
+    requires ids { AreInOrder (ids_left ids.now) }
     ensures { MatchOption result ((placed_left values.now ≡ [])
-        × (placed_left formulas.now ≡ []) × (placed_left ids.now ≡ []))
-        (IsFirstOf (placed_left values.now) (placed_left formulas.now) (placed_left ids.now)) }
+        × (placed_left formulas.now ≡ []) × (ids_left ids.now ≡ []))
+        (IsFirstOf (placed_left values.now) (placed_left formulas.now) (ids_left ids.now)) }
 {
     let behind_values = earlier(formulas.next_position(), ids.next_position());
     earlier(values.next_position(), behind_values)
@@ -338,15 +338,15 @@ fn push_lines(
     out: &mut String,
     values: PlacedCells<'_, Data>,
     formulas: PlacedCells<'_, String>,
-    ids: PlacedCells<'_, usize>,
+    ids: StyledLeft<'_>,
     styles: &StyleRange,
 ) -> Result<(), AllocError>
     requires values { AreInOrder (placed_left values) }
     requires formulas { AreInOrder (placed_left formulas) }
-    requires ids { AreInOrder (placed_left ids) }
-    ensures { let printed = lines_with (style_at styles.now)
+    requires ids { AreInOrder (ids_left ids) }
+    ensures { let printed = lines_with (style_named styles.now)
         (cell_values (placed_left values.entry)) (cell_formulas (placed_left formulas.entry))
-        (placed_left ids.entry) in
+        (ids_left ids.entry) in
         OnOk result (string_bytes out.new ≡ string_bytes out.old ++ printed) }
 {
     let mut values_left = values;
@@ -356,26 +356,15 @@ fn push_lines(
         let value = values_left.next_at(position);
         let formula = formulas_left.next_at(position);
         let id = ids_left.next_at(position);
-        push_line(out, position, value, formula, id, styles.get(position))?;
+        let style = styles.style_with_id(position, id.unwrap_or(0));
+        push_line(out, position, value, formula, id, style)?;
     }
     Ok(())
 }
 
-/// The positions that have a style id above 0, with that id, row by row.
-pub fn styled_cells(alloc: Global, styles: &StyleRange) -> Result<SortedCells<usize>, AllocError>
-    ensures cells { IfOk result (λ cells. kept_cells cells ≡ placed_ids styles.now) }
-    ensures order { IfOk result (λ cells. AreInOrder (kept_cells cells)) }
-{
-    let mut cells = SortedCells::new(alloc);
-    for (row, column, id) in styles.styled() {
-        cells.push((row, column), id)?;
-    }
-    Ok(cells)
-}
-
 /// The lines of a sheet's values, formulas and styles: one for each position that has a value, a
-/// formula or a style id above 0, row by row (docs/FORMAT.md). It goes over what is used of the
-/// ranges once, and looks up the style of each line.
+/// formula or a style id above 0, row by row (docs/FORMAT.md). It goes once over what is used of
+/// the ranges and over the runs of styles.
 pub fn listing_of(
     alloc: Global,
     values: &Range<Data>,
@@ -386,9 +375,9 @@ pub fn listing_of(
         (cell_formulas (cells_of formulas.now)) styles.now in
         IfOk result (λ out. string_bytes out ≡ printed) }
 {
-    let ids = styled_cells(alloc, styles)?;
+    let ids = StyledLeft::new(styles.styled());
     let mut out = String::new(alloc);
-    push_lines(&mut out, values.used(), formulas.used(), ids.iter(), styles)?;
+    push_lines(&mut out, values.used(), formulas.used(), ids, styles)?;
     Ok(out)
 }
 

@@ -1,12 +1,14 @@
 ghost use Rattle.std.specs.Prelude.{◌≡◌, ◌++◌, IfOk, OnOk, string_bytes};
 ghost use Rattle.cell_data.specs.Range.{cells_of};
+ghost use Rattle.sorted_cells.specs.Kept.{kept_cells};
 ghost use Rattle.sheet_listing.specs.SampleLines.{count_line, last_line, sample_lines};
 ghost use Rattle.sheet_listing.specs.SheetListing.{cell_values, cell_formulas, formula_placed};
+ghost use Rattle.sheet_listing.specs.SheetListing.{placed_ids};
 
-use crate::lines::styled_cells;
 use cell_data::{Data, Range};
 use cell_styles::StyleRange;
 use escaped_text::push_escaped;
+use sorted_cells::SortedCells;
 use std::alloc::{AllocError, Global};
 
 /// Appends a word, a blank and a count.
@@ -35,6 +37,17 @@ fn formula_there(formulas: &Range<String>, position: (u32, u32)) -> &str
         Some(formula) => formula.as_str(),
         None => "",
     }
+}
+
+/// The positions that have a style id above 0, with that id, row by row.
+fn styled_cells(alloc: Global, styles: &StyleRange) -> Result<SortedCells<usize>, AllocError>
+    ensures { IfOk result (λ cells. kept_cells cells ≡ placed_ids styles.now) }
+{
+    let mut cells = SortedCells::new(alloc);
+    for (row, column, id) in styles.styled() {
+        cells.push((row, column), id)?;
+    }
+    Ok(cells)
 }
 
 /// The lines of a sheet with so many rows: how many values, formulas, positions with a style id

@@ -75,7 +75,8 @@ fill_alike one two same position =
 lines_by_fill : (values : List ((ℕ × ℕ) × CellValue)) (formulas : List ((ℕ × ℕ) × List ℕ))
     (ids : List ((ℕ × ℕ) × ℕ)) (one two : ℕ × ℕ → Option Style)
     → ((position : ℕ × ℕ) → fill_field (one position) ≡ fill_field (two position))
-    → lines_with one values formulas ids ≡ lines_with two values formulas ids
+    → lines_with (λ position id. one position) values formulas ids
+    ≡ lines_with (λ position id. two position) values formulas ids
 unfolding lines_with
 lines_by_fill values formulas ids one two same =
     ap (λ (fill : ℕ × ℕ → Option (List ℕ)). flat_map
@@ -89,9 +90,9 @@ listing_alike : (values : List ((ℕ × ℕ) × CellValue)) (formulas : List ((�
 listing_alike values formulas one two same =
     lines_by_fill values formulas (placed_ids one) (style_at one) (style_at two)
     (fill_alike one two same)
-    ∙ ap (λ (area : Option Dimensions). lines_with (style_at two) values formulas
-    (map styled_entry (styled_in area one.ids))) same.bounds
-    ∙ ap (λ (ids : List ℕ). lines_with (style_at two) values formulas
+    ∙ ap (λ (area : Option Dimensions). lines_with (λ position id. style_at two position) values
+    formulas (map styled_entry (styled_in area one.ids))) same.bounds
+    ∙ ap (λ (ids : List ℕ). lines_with (λ position id. style_at two position) values formulas
     (map styled_entry (styled_in two.bounds ids))) same.ids
 
 -- the sheets of this name of two packages are read in one way

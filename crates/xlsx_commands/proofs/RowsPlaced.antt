@@ -27,10 +27,9 @@ use Rattle.cell_refs.specs.declared.dimensions.Dimensions.{Dimensions}
 use Rattle.csv.specs.Writing.{row_text}
 use Rattle.part_events.specs.Package.{Part}
 use Rattle.sheet_listing.specs.SheetListing.{value_placed}
-use Rattle.xlsx_core.specs.SheetReading.{ReadsAs, IsReadable}
-use Rattle.cell_data.specs.Pairs.{with_meaning, value_pairs, formula_pairs}
-use Rattle.xlsx_core.specs.Worksheets.{HasLeastRanges}
-use Rattle.xlsx_core.specs.declared.sheet_reading.SheetReading.{SheetReading}
+use Rattle.xlsx_core.specs.SheetReading.{ReadsValuesAs, IsReadable}
+use Rattle.cell_data.specs.Pairs.{with_meaning, value_pairs}
+use Rattle.xlsx_core.specs.Worksheets.{HasLeastRange}
 use Rattle.xlsx_error.specs.declared.error.XlsxError.{XlsxError}
 use Rattle.xlsx_error.specs.declared.error.XlsxError.TheVariants as workbook
 use Rattle.xlsx_rows.specs.RowsText.{field_of, data_field, header_text, record_text, rows_text}
@@ -121,42 +120,41 @@ all_kept area (cell ∷ cells) inside =
 
 -- ---- a sheet that is read
 
-module _ (parts : List Part) (name : List ℕ) (found : SheetReading)
-    (reads : ReadsAs parts name (value_pairs found.values) (formula_pairs found.formulas)
-    found.styles)
-    (least : HasLeastRanges found) (from_a1 : Bool) (range : Range Data)
-    (same : IsAskedRange from_a1 found.values range) where
+module _ (parts : List Part) (name : List ℕ) (values : Range Data)
+    (reads : ReadsValuesAs parts name (value_pairs values))
+    (least : HasLeastRange values) (from_a1 : Bool) (range : Range Data)
+    (same : IsAskedRange from_a1 values range) where
   -- the range has the area that is asked for
-  area_asked : bounds_of range ≡ asked_area from_a1 (least_area (value_pairs found.values))
-  area_asked = same.bounds ∙ ap (asked_area from_a1) least.0.bounds
+  area_asked : bounds_of range ≡ asked_area from_a1 (least_area (value_pairs values))
+  area_asked = same.bounds ∙ ap (asked_area from_a1) least.bounds
 
   pub rows_of_sheet : (options : CsvOptions) (rows : List ℕ) → box_count range ≤ 16777216
       → rows ≡ rows_text options None range
       → AreRowsOf parts name (record { options = options; from_a1 = from_a1 }) rows
   rows_of_sheet options rows fits is = record {
-    values = value_pairs found.values;
-    formulas = formula_pairs found.formulas;
-    styles = found.styles;
-    reads = reads;
+    values = value_pairs values;
+    formulas = reads.0;
+    styles = reads.1;
+    reads = reads.2;
     fits = subst (λ (area : Option Dimensions). area_count area ≤ 16777216) area_asked fits;
     listed = is
-        ∙ rows_meant options None range (ap value_of_data same.blank ∙ least.0.blank)
+        ∙ rows_meant options None range (ap value_of_data same.blank ∙ least.blank)
         ∙ ap (λ (front : List ℕ). front
         ++ rows_placed options (value_pairs range) (bounds_of range))
         (append-nil (bom_text options.bom))
-        ∙ ap (λ (values : List ((ℕ × ℕ) × CellValue)). bom_text options.bom
-        ++ rows_placed options values (bounds_of range))
+        ∙ ap (λ (own : List ((ℕ × ℕ) × CellValue)). bom_text options.bom
+        ++ rows_placed options own (bounds_of range))
         (ap (map (with_meaning value_of_data)) same.cells)
         ∙ ap (λ (area : Option Dimensions). bom_text options.bom
-        ++ rows_placed options (value_pairs found.values) area) area_asked;
+        ++ rows_placed options (value_pairs values) area) area_asked;
   }
 
   pub large_of_sheet : 16777216 < box_count range → HasLargeArea parts name from_a1
   large_of_sheet large = record {
-    values = value_pairs found.values;
-    formulas = formula_pairs found.formulas;
-    styles = found.styles;
-    reads = reads;
+    values = value_pairs values;
+    formulas = reads.0;
+    styles = reads.1;
+    reads = reads.2;
     large = subst (λ (area : Option Dimensions). 16777216 < area_count area) area_asked large;
   }
 

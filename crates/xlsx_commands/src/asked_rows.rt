@@ -144,56 +144,24 @@ fn setting_asked(asked: AskedRows, word: &[u8]) -> Option<AskedRows>
 fn option_asked(asked: AskedRows, word: &str) -> Option<AskedRows>
     ensures { result ≡ option_asked asked word.now }
 {
-    let options = asked.options;
-    match word {
+    let AskedRows { options, from_a1 } = asked;
+    let (given, options, from_a1) = match word {
         "--dates" => {
-            let dates = CsvOptions {
-                dates: true,
-                ..options
-            };
-            unless(
-                options.dates,
-                AskedRows {
-                    options: dates,
-                    ..asked
-                },
-            )
+            let dates = true;
+            (options.dates, CsvOptions { dates, ..options }, from_a1)
         }
         "--crlf" => {
-            let crlf = CsvOptions {
-                crlf: true,
-                ..options
-            };
-            unless(
-                options.crlf,
-                AskedRows {
-                    options: crlf,
-                    ..asked
-                },
-            )
+            let crlf = true;
+            (options.crlf, CsvOptions { crlf, ..options }, from_a1)
         }
         "--bom" => {
-            let bom = CsvOptions {
-                bom: true,
-                ..options
-            };
-            unless(
-                options.bom,
-                AskedRows {
-                    options: bom,
-                    ..asked
-                },
-            )
+            let bom = true;
+            (options.bom, CsvOptions { bom, ..options }, from_a1)
         }
-        "--from-a1" => unless(
-            asked.from_a1,
-            AskedRows {
-                options,
-                from_a1: true,
-            },
-        ),
-        _ => setting_asked(asked, word.as_bytes()),
-    }
+        "--from-a1" => (from_a1, options, true),
+        _ => return setting_asked(asked, word.as_bytes()),
+    };
+    unless(given, AskedRows { options, from_a1 })
 }
 
 /// What words ask of the rows of a sheet, each at most once, in any order. None where a word asks

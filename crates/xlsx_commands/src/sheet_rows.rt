@@ -10,7 +10,7 @@ use crate::error::ToolError;
 use cell_data::{Data, Range};
 use part_events::MemoryPackage;
 use std::alloc::Global;
-use xlsx_core::{SheetAnswer, read_sheet};
+use xlsx_core::{SheetAnswer, read_sheet_values};
 use xlsx_rows::rows_csv;
 
 /// The same values in the area from A1 to their last row and column.
@@ -49,10 +49,10 @@ pub fn sheet_rows(
     ensures err { IfErr result (RowsFail (SheetCause «package».parts name.now)
         (HasLargeArea «package».parts name.now asked.from_a1)) }
 {
-    let SheetAnswer { result, package } = read_sheet(alloc, package, name);
+    let SheetAnswer { result, package } = read_sheet_values(alloc, package, name);
     // What is read needs the package no more.
     drop(package);
-    let reading = result?;
-    let values = in_asked_area(reading.values, asked.from_a1);
+    let read = result?;
+    let values = in_asked_area(read, asked.from_a1);
     Ok(rows_csv(alloc, None, &values, &asked.options)?)
 }

@@ -4,9 +4,12 @@ use Rattle.cell_refs.specs.Positions.{last_of_each, least_area}
 use Rattle.cell_data.proofs.LeastAreas.{least_last}
 use Rattle.cell_data.proofs.Placing.{last_rising, rising_last}
 use Rattle.cell_data.specs.CellValue.{CellValue}
+use Rattle.cell_data.specs.declared.range.Range.{Range}
+use Rattle.cell_data.specs.declared.value.Data.{Data}
 use Rattle.cell_data.specs.declared.value.HeaderRow.TheVariants.{FirstNonEmptyRow}
 use Rattle.cell_data.specs.Pairs.{value_pairs, formula_pairs}
-use Rattle.xlsx_core.specs.Worksheets.{IsValueRange, IsFormulaRange, HasLeastRanges}
+use Rattle.xlsx_core.specs.Worksheets.{IsValueRange, IsFormulaRange, HasLeastRange}
+use Rattle.xlsx_core.specs.Worksheets.{HasLeastRanges}
 use Rattle.xlsx_core.specs.declared.sheet_reading.SheetReading.{SheetReading}
 
 module _ {X : Type 0} where
@@ -20,15 +23,19 @@ module _ {X : Type 0} where
 
 -- ---- the ranges of a sheet
 
+pub least_values : (values : List ((ℕ × ℕ) × CellValue)) (range : Range Data)
+    → IsValueRange FirstNonEmptyRow values range → HasLeastRange range
+least_values values range valued = record {
+  cells = last_again values (value_pairs range) valued.cells;
+  bounds = valued.bounds ∙ least_kept values (value_pairs range) valued.cells;
+  blank = valued.blank;
+}
+
 pub least_ranges : (values : List ((ℕ × ℕ) × CellValue)) (formulas : List ((ℕ × ℕ) × List ℕ))
     (found : SheetReading) → IsValueRange FirstNonEmptyRow values found.values
     → IsFormulaRange formulas found.formulas → HasLeastRanges found
 least_ranges values formulas found valued written = (
-  record {
-    cells = last_again values (value_pairs found.values) valued.cells;
-    bounds = valued.bounds ∙ least_kept values (value_pairs found.values) valued.cells;
-    blank = valued.blank;
-  },
+  least_values values found.values valued,
   record {
     cells = last_again formulas (formula_pairs found.formulas) written.cells;
     bounds = written.bounds ∙ least_kept formulas (formula_pairs found.formulas) written.cells;

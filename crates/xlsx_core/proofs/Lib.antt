@@ -1,4 +1,5 @@
 pub mod Agreeing
+pub mod BookRead
 pub mod DataTaken
 pub mod LastOfEach
 pub mod LeastAreas

@@ -14,12 +14,13 @@ use Rattle.cell_styles.specs.StyleMap.{StyleMap, StyledCell, is_explicit, styles
 use Rattle.cell_styles.specs.declared.style.Style.{Style}
 use Rattle.xlsx_values.specs.Value.{Grounds}
 use Rattle.xlsx_cells.specs.Sheet.{with_texts}
-use Rattle.xlsx_cells.specs.SheetPart.{SheetPartCause}
+use Rattle.xlsx_cells.specs.SheetPart.{SheetPartCause, value_entries, formula_entries}
 use Rattle.xlsx_workbook.specs.Sheets.{PlacedSheet}
 use Rattle.xlsx_workbook.specs.declared.sheet.Metadata.{Metadata}
 use Rattle.xlsx_workbook.specs.KeptContents.{path_kept}
 use Rattle.xlsx_workbook.specs.declared.paths.KeptPath.{KeptPath}
 use Rattle.xlsx_workbook.specs.declared.sheet.Sheet.{Sheet}
+use Rattle.xlsx_formats.specs.Formattings.{style_said}
 use Rattle.xlsx_open.specs.Opening.{Opening, ListedSheet, listed_sheet, without_path}
 use Rattle.xlsx_open.specs.Opening.{HoldsOpening, OpensAs, OpeningCause, OpeningFails}
 use Rattle.xlsx_open.specs.Opening.{IsOpeningError}
@@ -29,9 +30,14 @@ use Rattle.xlsx_core.specs.Opened.{path_listed}
 use Rattle.xlsx_core.specs.SheetReading.{SheetCause, PlacedCause}
 use Rattle.xlsx_core.specs.SheetReading.{path_named, events_at, events_named, grounds_with}
 use Rattle.xlsx_core.specs.SheetReading.{opened_grounds, all_wanted, HoldsSheet, IsPaletteOf}
+use Rattle.cell_data.specs.Gathered.{cells_gathered}
 use Rattle.cell_data.specs.Pairs.{value_pairs, formula_pairs}
-use Rattle.xlsx_core.specs.SheetReading.{ReadsAs}
+use Rattle.cell_data.specs.declared.range.Range.{Range}
+use Rattle.cell_data.specs.declared.value.Data.{Data}
+use Rattle.xlsx_core.specs.ReadCells.{HoldsCells, ReadsCells, strings_beside, palette_beside}
+use Rattle.xlsx_core.specs.SheetReading.{ReadsAs, ReadsValuesAs}
 use Rattle.xlsx_core.specs.Worksheets.{HoldsWanted, IsValueRange, IsFormulaRange}
+use Rattle.xlsx_core.specs.declared.read_cells.ReadCells.{ReadCells}
 use Rattle.xlsx_core.specs.declared.sheet_reading.SheetReading.{SheetReading}
 use Rattle.xlsx_core.specs.SheetReading.{SheetFails, PlacedSheetFails}
 use Rattle.xlsx_sections.proofs.Failing.{fails_by_weaker, same_parts}
@@ -105,48 +111,49 @@ of_opening name path grounds palette parts opens fact has =
       subst (λ (own : Grounds). fact own there.0) opens.rests there.2,
     )
 
-pub reads_as : (name : List ℕ) (path : Option (List ℕ)) (grounds : Grounds)
-    (palette : List Style) (old mid : PackageState) (values : List ((ℕ × ℕ) × CellValue))
-    (formulas : List ((ℕ × ℕ) × List ℕ)) (styles : StyleMap) → SameParts old mid
+-- a workbook that opened holds the cells that were read of its sheet
+pub holds_cells : (name : List ℕ) (path : Option (List ℕ)) (grounds : Grounds)
+    (palette : List Style) (old mid : PackageState) (read : ReadCells) → SameParts old mid
     → OpensPlaced name path grounds palette old.parts
-    → IsSomeAnd (events_at path mid.parts)
-    (λ events. HoldsSheet grounds palette events values formulas styles)
-    → ReadsAs old.parts name values formulas styles
-reads_as name path grounds palette old mid values formulas styles same opens has =
+    → strings_beside read ≡ grounds.strings → palette_beside read ≡ palette
+    → ReadsCells grounds palette path mid.parts read → HoldsCells old.parts name read
+holds_cells name path grounds palette old mid read same opens strings styles has =
     let holds : Grounds → List Event → Type 0 = λ own events.
-    HoldsSheet own palette events values formulas styles in
+    HoldsWanted all_wanted own (length palette) events
+    (value_entries (cells_gathered read.cells.values))
+    (formula_entries (cells_gathered read.cells.formulas)) read.cells.style_ids.items in
     let there = of_opening name path grounds palette old.parts opens holds
     (subst (λ (parts : List Part). IsSomeAnd (events_at path parts) (holds grounds)) same.parts
     has) in
     record {
       opening = opens.opening;
-      palette = palette;
       events = there.0;
       opens = opens.opens;
-      named = opens.styled;
+      named = ap (map style_said) styles ∙ opens.styled;
+      strings = strings ∙ ap (λ (own : Grounds). own.strings) opens.rests;
       found = there.1;
-      holds = there.2;
+      holds = subst (λ (own : List Style). HoldsWanted all_wanted (opened_grounds opens.opening)
+          (length own) there.0 (value_entries (cells_gathered read.cells.values))
+          (formula_entries (cells_gathered read.cells.formulas)) read.cells.style_ids.items)
+          (sym styles) there.2;
     }
 
--- the part of a sheet holds what was read of it, if its ranges are those of what it holds
+-- the part of a sheet holds what was read of it, if this is what its cells come to
 held : (grounds : Grounds) (palette : List Style) (events : List Event)
     (values : List ((ℕ × ℕ) × CellValue)) (formulas : List ((ℕ × ℕ) × List ℕ))
-    (ids : List StyledCell) (found : SheetReading)
-    → HoldsWanted all_wanted grounds (length palette) events values formulas ids
-    → IsValueRange FirstNonEmptyRow (with_texts grounds.strings values) found.values
-    → IsFormulaRange formulas found.formulas
-    → ((all : List StyledCell) → ids ≡ filter (is_explicit (length palette)) all
-    → found.styles ≡ styles_of palette all)
-    → HoldsSheet grounds palette events (value_pairs found.values) (formula_pairs found.formulas)
-    found.styles
-held grounds palette events values formulas ids found holds valued written styled =
+    (ids : List StyledCell) (kept : List ((ℕ × ℕ) × CellValue))
+    (written : List ((ℕ × ℕ) × List ℕ)) (styles : StyleMap)
+    (holds : HoldsWanted all_wanted grounds (length palette) events values formulas ids)
+    → kept ≡ last_of_each (with_texts grounds.strings values) → written ≡ last_of_each formulas
+    → styles ≡ styles_of palette (holds.styled refl).0
+    → HoldsSheet grounds palette events kept written styles
+held grounds palette events values formulas ids kept written styles holds last listed styled =
     let (all, are, used) = holds.valued refl in
-    let (listed, is, counted) = holds.written refl in
-    let (named, has, explicit) = holds.styled refl in
+    let (each, is, counted) = holds.written refl in
     record {
       all = all;
-      written = listed;
-      ids = named;
+      written = each;
+      ids = (holds.styled refl).0;
       sheet = record {
         section = holds.section;
         area = holds.sheet.area;
@@ -155,29 +162,66 @@ held grounds palette events values formulas ids found holds valued written style
         closed = holds.sheet.closed;
         valued = are;
         written = is;
-        styled = has;
+        styled = (holds.styled refl).1;
       };
-      valued = valued.cells
+      valued = last
           ∙ ap (λ (own : List ((ℕ × ℕ) × CellValue)). last_of_each (with_texts grounds.strings own))
           used;
-      listed = written.cells ∙ ap last_of_each counted;
-      styled = styled named explicit;
+      listed = listed ∙ ap last_of_each counted;
+      styled = styled;
     }
 
-pub held_at : (grounds : Grounds) (palette : List Style) (part : Option (List Event))
-    (values : List ((ℕ × ℕ) × CellValue)) (formulas : List ((ℕ × ℕ) × List ℕ))
-    (ids : List StyledCell) (found : SheetReading)
-    → IsSomeAnd part
-    (λ events. HoldsWanted all_wanted grounds (length palette) events values formulas ids)
-    → IsValueRange FirstNonEmptyRow (with_texts grounds.strings values) found.values
-    → IsFormulaRange formulas found.formulas
-    → ((all : List StyledCell) → ids ≡ filter (is_explicit (length palette)) all
-    → found.styles ≡ styles_of palette all)
-    → IsSomeAnd part (λ events. HoldsSheet grounds palette events (value_pairs found.values)
-    (formula_pairs found.formulas) found.styles)
-held_at grounds palette None values formulas ids found holds valued written styled = holds
-held_at grounds palette (Some events) values formulas ids found holds valued written styled =
-    held grounds palette events values formulas ids found holds valued written styled
+module _ (parts : List Part) (name : List ℕ) (read : ReadCells)
+    (cells : HoldsCells parts name read) where
+  values : List ((ℕ × ℕ) × CellValue)
+  values = value_entries (cells_gathered read.cells.values)
+
+  formulas : List ((ℕ × ℕ) × List ℕ)
+  formulas = formula_entries (cells_gathered read.cells.formulas)
+
+  ids : List StyledCell
+  ids = (cells.holds.styled refl).0
+
+  -- a sheet is read as what its cells come to
+  cells_read : (kept : List ((ℕ × ℕ) × CellValue)) (written : List ((ℕ × ℕ) × List ℕ))
+      (styles : StyleMap)
+      → kept ≡ last_of_each (with_texts (strings_beside read) values)
+      → written ≡ last_of_each formulas → styles ≡ styles_of (palette_beside read) ids
+      → ReadsAs parts name kept written styles
+  unfolding values formulas ids
+  cells_read kept written styles last listed styled = record {
+    opening = cells.opening;
+    palette = palette_beside read;
+    events = cells.events;
+    opens = cells.opens;
+    named = cells.named;
+    found = cells.found;
+    holds = held (opened_grounds cells.opening) (palette_beside read) cells.events values formulas
+        read.cells.style_ids.items kept written styles cells.holds
+        (last ∙ ap (λ (own : List (List ℕ)). last_of_each (with_texts own values)) cells.strings)
+        listed styled;
+  }
+
+  pub ranges_read : (found : SheetReading)
+      → IsValueRange FirstNonEmptyRow (with_texts (strings_beside read) values) found.values
+      → IsFormulaRange formulas found.formulas
+      → ((all : List StyledCell)
+      → read.cells.style_ids.items ≡ filter (is_explicit (length (palette_beside read))) all
+      → found.styles ≡ styles_of (palette_beside read) all)
+      → ReadsAs parts name (value_pairs found.values) (formula_pairs found.formulas) found.styles
+  unfolding values formulas ids
+  ranges_read found valued written styled =
+      cells_read (value_pairs found.values) (formula_pairs found.formulas) found.styles
+      valued.cells written.cells (styled ids (cells.holds.styled refl).2)
+
+  pub values_read : (range : Range Data)
+      → IsValueRange FirstNonEmptyRow (with_texts (strings_beside read) values) range
+      → ReadsValuesAs parts name (value_pairs range)
+  unfolding values formulas ids
+  values_read range valued =
+      let listed = last_of_each formulas in
+      let styles = styles_of (palette_beside read) ids in
+      (listed, styles, cells_read (value_pairs range) listed styles valued.cells refl refl)
 
 -- a workbook that opens, and whose sheet isn't read
 placed_cause : (name : List ℕ) (path : Option (List ℕ)) (grounds : Grounds) (palette : List Style)

@@ -1,5 +1,5 @@
 -- What stands at each position, and the range of it.
-use Rattle.std.proofs.Common.{◌≡◌, ℕ, suc, ◌<◌, List, [], ◌∷◌, ◌++◌, Bool, true, cond}
+use Rattle.std.proofs.Common.{◌≡◌, ℕ, suc, ◌<◌, List, [], ◌∷◌, ◌++◌, Bool, true, false, cond}
 use Rattle.std.proofs.Common.{map, Option, Some, None, refl, sym, ◌∙◌, ap, subst, arith}
 use Rattle.std.specs.Prelude.{nat_le, nat_lt, ◌&&◌}
 use Rattle.std.specs.List.{filter}
@@ -185,6 +185,32 @@ module _ {X Y : Type 0} (meaning : X → Y) where
   last_meant header es =
       sym (last_mapped meaning (below_header header es))
       ∙ ap last_of_each (sym (below_mapped meaning header es))
+
+  filter_mapped : (p : ℕ × ℕ → Bool) (cells : List ((ℕ × ℕ) × X)) →
+      map (with_meaning meaning) (filter (λ cell. p cell.0) cells)
+      ≡ filter (λ cell. p cell.0) (map (with_meaning meaning) cells)
+  filter_mapped p [] = refl
+  filter_mapped p (own ∷ cells) = filtered_if (p own.0) (filter_mapped p cells)
+    where
+      filtered_if : (test : Bool) → map (with_meaning meaning) (filter (λ cell. p cell.0) cells)
+          ≡ filter (λ cell. p cell.0) (map (with_meaning meaning) cells)
+          → map (with_meaning meaning)
+          (cond test (own ∷ filter (λ cell. p cell.0) cells) (filter (λ cell. p cell.0) cells))
+          ≡ cond test (with_meaning meaning own
+          ∷ filter (λ cell. p cell.0) (map (with_meaning meaning) cells))
+          (filter (λ cell. p cell.0) (map (with_meaning meaning) cells))
+      filtered_if true rest = ap (λ others. with_meaning meaning own ∷ others) rest
+      filtered_if false rest = rest
+
+  -- what stands at last in an area is that of all
+  pub area_meant : (header : HeaderRow) (area : Dimensions) (es : List ((ℕ × ℕ) × X))
+      → map (with_meaning meaning)
+      (filter (λ cell. is_in_area area cell.0) (last_of_each (below_header header es)))
+      ≡ filter (λ cell. is_in_area area cell.0)
+      (last_of_each (below_header header (map (with_meaning meaning) es)))
+  area_meant header area es =
+      filter_mapped (is_in_area area) (last_of_each (below_header header es))
+      ∙ ap (filter (λ cell. is_in_area area cell.0)) (last_meant header es)
 
   -- the range of what stands at last is that of all
   pub standing_range : (header : HeaderRow) (all : List ((ℕ × ℕ) × Y)) (kept : List ((ℕ × ℕ) × X))

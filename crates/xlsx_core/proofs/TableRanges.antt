@@ -1,65 +1,27 @@
--- The data of tables: what of a range lies in an area.
-use Rattle.std.proofs.Common.{◌≡◌, ℕ, List, [], ◌∷◌, map, refl, ◌∙◌, ap, Bool, true, false}
-use Rattle.std.proofs.Common.{Option, Some, None, cond, inl, inr, String, Global}
-use Rattle.std.specs.Prelude.{IsSomeAnd, filter}
-use Rattle.part_events.specs.Event.{Event}
-use Rattle.part_events.specs.Package.{Part, PackageState}
+-- The data of tables: what there is without an area, and why they are refused.
+use Rattle.std.proofs.Common.{◌≡◌, ℕ, List, [], refl, ◌∙◌, ap}
+use Rattle.std.proofs.Common.{Some, inl, inr, String, Global}
+use Rattle.part_events.specs.Package.{PackageState}
 use Rattle.cell_data.proofs.Placing.{nothing_last}
-use Rattle.cell_data.specs.CellValue.{CellValue, nothing, value_of_data, value_of_data_ref}
 use Rattle.cell_data.specs.Range.{cells_of, bounds_of, blank_of}
 use Rattle.cell_data.specs.declared.range.Range.{Range}
-use Rattle.cell_data.specs.declared.value.Data.{Data}
-use Rattle.cell_data.specs.declared.value.DataRef.{DataRef}
-use Rattle.cell_data.specs.declared.value.HeaderRow.{HeaderRow}
-use Rattle.cell_refs.specs.Positions.{is_in_area, last_of_each, least_area}
+use Rattle.cell_refs.specs.Positions.{last_of_each, least_area}
 use Rattle.cell_refs.specs.declared.dimensions.Dimensions.{Dimensions}
 use Rattle.xlsx_error.specs.declared.error.XlsxError.{XlsxError}
 use Rattle.xlsx_error.specs.declared.error.XlsxError.TheVariants.{OutOfMemory, TableNotFound}
-use Rattle.xlsx_values.specs.Value.{Grounds}
 use Rattle.xlsx_cells.specs.CellsReader.{values_alone}
-use Rattle.xlsx_cells.specs.Sheet.{with_texts}
 use Rattle.xlsx_tables.specs.Tables.{SheetTable}
-use Rattle.cell_data.specs.Pairs.{with_meaning}
-use Rattle.xlsx_core.specs.SheetReading.{events_at}
-use Rattle.xlsx_core.specs.TableData.{IsCut, IsRangeIn, IsNoRange, ReadsValuesIn, ReadsPlacesIn}
+use Rattle.xlsx_core.specs.TableData.{IsNoRange}
 use Rattle.xlsx_core.specs.TableData.{AreaFails, TableDataFails, IsTableDataError, LacksTable}
 use Rattle.xlsx_core.specs.TableData.{table_of_book}
 use Rattle.xlsx_core.specs.TableList.{loaded_tables}
-use Rattle.xlsx_core.specs.Worksheets.{AnswersValues, ReadsValues, ReadsPlaces, IsRangeOf}
-use Rattle.xlsx_core.specs.Worksheets.{IsValueRange, IsPlaceRange, RangeFails, IsRangeError}
+use Rattle.xlsx_core.specs.Worksheets.{RangeFails, IsRangeError}
 use Rattle.xlsx_core.specs.Worksheets.{grounds_of_book, path_of}
 use Rattle.xlsx_core.specs.declared.xlsx.Xlsx.{Xlsx}
 
--- ---- the part of a range
+-- ---- the range without an area
 
 module _ {X Y : Type 0} (meaning : X → Y) where
-  filter_mapped : (p : ℕ × ℕ → Bool) (cells : List ((ℕ × ℕ) × X)) →
-      map (with_meaning meaning) (filter (λ cell. p cell.0) cells)
-      ≡ filter (λ cell. p cell.0) (map (with_meaning meaning) cells)
-  filter_mapped p [] = refl
-  filter_mapped p (own ∷ cells) = filtered_if (p own.0) (filter_mapped p cells)
-    where
-      filtered_if : (test : Bool) → map (with_meaning meaning) (filter (λ cell. p cell.0) cells)
-          ≡ filter (λ cell. p cell.0) (map (with_meaning meaning) cells)
-          → map (with_meaning meaning)
-          (cond test (own ∷ filter (λ cell. p cell.0) cells) (filter (λ cell. p cell.0) cells))
-          ≡ cond test (with_meaning meaning own
-          ∷ filter (λ cell. p cell.0) (map (with_meaning meaning) cells))
-          (filter (λ cell. p cell.0) (map (with_meaning meaning) cells))
-      filtered_if true rest = ap (λ others. with_meaning meaning own ∷ others) rest
-      filtered_if false rest = rest
-
-  pub range_in : (header : HeaderRow) (area : Dimensions) (meant : List ((ℕ × ℕ) × Y)) (other : Y)
-      (whole cut : Range X) → IsRangeOf meaning header meant other whole → IsCut area whole cut
-      → IsRangeIn meaning header area meant other cut
-  range_in header area meant other whole cut is own = record {
-    cells = ap (map (with_meaning meaning)) own.cells
-        ∙ filter_mapped (is_in_area area) (cells_of whole)
-        ∙ ap (filter (λ cell. is_in_area area cell.0)) is.cells;
-    bounds = own.bounds;
-    blank = ap meaning own.blank ∙ is.blank;
-  }
-
   pub no_range : (range : Range X) (cells : List ((ℕ × ℕ) × X)) (other : Y) → cells ≡ []
       → cells_of range ≡ last_of_each cells → bounds_of range ≡ least_area cells
       → meaning (blank_of range) ≡ other → IsNoRange meaning other range
@@ -68,40 +30,6 @@ module _ {X Y : Type 0} (meaning : X → Y) where
     bounds = bounds ∙ ap least_area none;
     blank = same;
   }
-
--- ---- what is read of a sheet
-
-used_further : (grounds : Grounds) (part : Option (List Event))
-    (one two : List ((ℕ × ℕ) × CellValue) → Type 0)
-    → ((values : List ((ℕ × ℕ) × CellValue)) → one values → two values)
-    → IsSomeAnd part (λ events. (values : List ((ℕ × ℕ) × CellValue))
-    × AnswersValues grounds events values × one values)
-    → IsSomeAnd part (λ events. (values : List ((ℕ × ℕ) × CellValue))
-    × AnswersValues grounds events values × two values)
-used_further grounds None one two further reads = absurd reads
-used_further grounds (Some events) one two further reads =
-    (reads.0, reads.1, further reads.0 reads.2)
-
-pub values_cut : (grounds : Grounds) (header : HeaderRow) (area : Dimensions)
-    (path : Option (List ℕ)) (parts : List Part) (whole cut : Range Data)
-    → IsCut area whole cut → ReadsValues grounds header path parts whole
-    → ReadsValuesIn grounds header (Some area) path parts cut
-values_cut grounds header area path parts whole cut own reads =
-    used_further grounds (events_at path parts)
-    (λ values. IsValueRange header (with_texts grounds.strings values) whole)
-    (λ values. IsRangeIn value_of_data header area (with_texts grounds.strings values) nothing cut)
-    (λ values is. range_in value_of_data header area (with_texts grounds.strings values) nothing
-    whole cut is own) reads
-
-pub places_cut : (grounds : Grounds) (header : HeaderRow) (area : Dimensions)
-    (path : Option (List ℕ)) (parts : List Part) (whole cut : Range DataRef)
-    → IsCut area whole cut → ReadsPlaces grounds header path parts whole
-    → ReadsPlacesIn grounds header (Some area) path parts cut
-places_cut grounds header area path parts whole cut own reads =
-    used_further grounds (events_at path parts)
-    (λ values. IsPlaceRange header values whole)
-    (λ values. IsRangeIn value_of_data_ref header area values nothing cut)
-    (λ values is. range_in value_of_data_ref header area values nothing whole cut is own) reads
 
 -- ---- why data aren't read
 

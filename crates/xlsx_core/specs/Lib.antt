@@ -5,6 +5,7 @@ pub mod Listing
 pub mod Merges
 pub mod Opened
 pub mod PivotList
+pub mod ReadCells
 pub mod SheetReading
 pub mod TableData
 pub mod TableList

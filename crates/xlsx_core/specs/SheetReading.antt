@@ -8,7 +8,6 @@ use Rattle.part_events.specs.Event.{Event}
 use Rattle.part_events.specs.Nesting.{whole}
 use Rattle.part_events.specs.Package.{Part, PackageState, CountsUp, part_of}
 use Rattle.cell_data.specs.CellValue.{CellValue}
-use Rattle.cell_data.specs.Pairs.{value_pairs, formula_pairs}
 use Rattle.cell_refs.specs.Positions.{last_of_each}
 use Rattle.xlsx_error.specs.declared.error.XlsxError.{XlsxError}
 use Rattle.cell_data.specs.declared.format.CellFormat.{CellFormat}
@@ -26,7 +25,6 @@ use Rattle.xlsx_cells.specs.declared.children.Wants.{Wants}
 use Rattle.xlsx_workbook.specs.Sheets.{PlacedSheet}
 use Rattle.xlsx_open.specs.Opening.{Opening, OpensAs, IsOpeningError, OpeningCause, TakesOpening}
 use Rattle.xlsx_open.specs.Opening.{TakesSections}
-use Rattle.xlsx_core.specs.declared.sheet_reading.SheetReading.{SheetReading}
 use Rattle.xlsx_sections.specs.Failing.{FailsBy}
 use Rattle.xlsx_sections.specs.SectionEvents.{section_events}
 
@@ -111,6 +109,12 @@ pub record ReadsAs
   pub found : events_named name opening.sheets parts ≡ Some events
   pub holds : HoldsSheet (opened_grounds opening) palette events values formulas styles
 
+-- the workbook opens, and its sheet of this name is read and has these values
+abbrev pub ReadsValuesAs : List Part → List ℕ → List ((ℕ × ℕ) × CellValue) → Type 0
+ReadsValuesAs parts name values =
+    (formulas : List ((ℕ × ℕ) × List ℕ)) × (styles : StyleMap)
+    × ReadsAs parts name values formulas styles
+
 -- the package has a sheet of this name that is read
 abbrev pub IsReadable : List Part → List ℕ → Type 0
 IsReadable parts name =
@@ -181,14 +185,6 @@ IsPlacedHeadError name error = IsHeadError error
 abbrev pub IsPlacedError : List ℕ → XlsxError → Type 0
 IsPlacedError name (WorksheetNotFound asked) = string_bytes asked ≡ name
 IsPlacedError name error = IsPartError error
-
--- what was read of it, where the package is told
-abbrev pub ReadsPlaced :
-    Grounds → List Style → Option (List ℕ) → List Part → SheetReading → Type 0
-ReadsPlaced grounds palette path parts found =
-    IsSomeAnd (events_at path parts)
-    (λ events. HoldsSheet grounds palette events (value_pairs found.values)
-    (formula_pairs found.formulas) found.styles)
 
 -- The workbook opens, and no more events were taken than its opening takes, and then those of the
 -- part of its sheet of this name.

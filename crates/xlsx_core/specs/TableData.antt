@@ -82,12 +82,6 @@ pub record IsOfTable {X : Type 0} (said : SheetTable) (table : Table X) : Type 0
   pub columns : table_columns table ≡ said.table.columns
   pub area : bounds_of (table_data table) ≡ said.table.area
 
--- the cells of a range that lie in an area, which is its own now
-pub record IsCut {X : Type 0} (area : Dimensions) (whole cut : Range X) : Type 0 where
-  pub cells : cells_of cut ≡ filter (λ cell. is_in_area area cell.0) (cells_of whole)
-  pub bounds : bounds_of cut ≡ Some area
-  pub blank : blank_of cut ≡ blank_of whole
-
 -- the range of what is meant by the cells that lie in an area: of what counts under a header row
 -- the last of each position
 pub record IsRangeIn

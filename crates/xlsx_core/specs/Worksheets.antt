@@ -203,10 +203,14 @@ IsPlaceRange header values range = IsRangeOf value_of_data_ref header values not
 abbrev pub IsFormulaRange : List ((ℕ × ℕ) × List ℕ) → Range (String Global) → Type 0
 IsFormulaRange formulas range = IsRangeOf string_bytes FirstNonEmptyRow formulas [] range
 
+-- a range of values has the least area that has its own cells, and nothing elsewhere
+abbrev pub HasLeastRange : Range Data → Type 0
+HasLeastRange range = IsValueRange FirstNonEmptyRow (value_pairs range) range
+
 -- the ranges of a sheet have the least areas that have their own cells, and nothing elsewhere
 abbrev pub HasLeastRanges : SheetReading → Type 0
 HasLeastRanges found =
-    IsValueRange FirstNonEmptyRow (value_pairs found.values) found.values
+    HasLeastRange found.values
     × IsFormulaRange (formula_pairs found.formulas) found.formulas
 
 -- the values of the sheet whose part is at a path, of which a fact holds

@@ -4,7 +4,8 @@
 //! package), `worksheets` (the calls of `Xlsx` that read a worksheet),
 //! `worksheet_list` (the one that reads all), `placed_sheet` (the sheet of a name, and its part),
 //! `standing` (the last cell of each position, from the header row on), `ranges` (cells as ranges),
-//! `sheet_reading` (`read_sheet`, `SheetReading`, `SheetAnswer`), `merges` (the calls on merged
+//! `read_cells` (the cells of a sheet as they came, and the ranges of them), `sheet_reading`
+//! (`read_sheet`, `read_sheet_values`, `SheetReading`, `SheetAnswer`), `merges` (the calls on merged
 //! cells), `links` (those on hyperlinks), `properties` (the one on properties), `table_list`
 //! (tables that are loaded and listed), `table_data` (their data by their names), `pivots` (the
 //! call on pivot tables), `lists` (what was loaded), `laws`.
@@ -12,9 +13,10 @@
 //! A cause is one of opening or one of the sheet's part (`SheetPartCause`), so that each layer
 //! below says its own half.
 //!
-//! `read_sheet` takes the package and hands it back, whatever it answers. The logic is a call of
-//! `Xlsx` on its open workbook; what it says, it says of the paths and strings that are kept, and
-//! `HoldsOpening` makes them those of the parts. Cells that were gathered become a range by
+//! `read_sheet` takes the package and hands it back, whatever it answers. It is one reading,
+//! `read_cells`, and then ranges of the cells; `read_sheet_values` makes that of the values alone.
+//! The logic of the reading is a call of `Xlsx` on its open workbook; what it says, it says of the
+//! paths and strings that are kept, and `HoldsOpening` makes them those of the parts. Cells that were gathered become a range by
 //! `last_below` and so by `last_of_each`, which goes with what the values mean.
 //!
 //! All calls that read a sheet are one, `read_placed`, with another `Wants`. It answers values,
@@ -56,6 +58,7 @@ mod pivots;
 mod placed_sheet;
 mod properties;
 mod ranges;
+mod read_cells;
 mod sheet_reading;
 mod standing;
 mod table_data;
@@ -70,7 +73,7 @@ pub use laws::{
     sheets_are_read_alike, sheets_go_by_their_parts, table_data_that_are_read_are_not_refused,
     worksheets_are_listed_or_left_out, worksheets_that_are_read_are_not_refused,
 };
-pub use sheet_reading::{SheetAnswer, SheetReading, read_sheet};
+pub use sheet_reading::{SheetAnswer, SheetReading, read_sheet, read_sheet_values};
 pub use table_list::TableNames;
 pub use workbook::Workbook;
 pub use xlsx::{OpenFailure, Xlsx};

@@ -1,27 +1,25 @@
 ghost use Rattle.std.specs.Prelude.{◌≡◌, List, length, filter, map, string_bytes, IfOk, All};
 ghost use Rattle.std.specs.Prelude.{true, Some};
-ghost use Rattle.cell_refs.specs.Positions.{lie_inside};
-ghost use Rattle.cell_data.specs.CellValue.{value_of_data};
+ghost use Rattle.cell_refs.specs.Positions.{lie_inside, is_sheet_area};
+ghost use Rattle.cell_data.specs.CellValue.{nothing, value_of_data, value_of_data_ref};
 ghost use Rattle.cell_data.specs.Cells.{AreInSheet};
 ghost use Rattle.cell_data.specs.Gathered.{cells_gathered};
-ghost use Rattle.cell_data.specs.declared.value.HeaderRow.TheVariants.{FirstNonEmptyRow};
 ghost use Rattle.sorted_cells.specs.Kept.{kept_cells};
 ghost use Rattle.cell_styles.specs.StyleMap.{StyledCell, IsOnSheet, is_explicit, styles_of};
 ghost use Rattle.xlsx_cells.specs.Sheet.{with_texts};
-ghost use Rattle.xlsx_cells.specs.SheetPart.{value_entries, formula_entries, LieInSheet};
+ghost use Rattle.xlsx_cells.specs.SheetPart.{value_entries, formula_entries};
+ghost use Rattle.xlsx_core.specs.TableData.{IsRangeIn};
 ghost use Rattle.xlsx_core.specs.Worksheets.{IsRangeFrom, IsValueRange, IsPlaceRange};
 ghost use Rattle.xlsx_core.specs.Worksheets.{IsFormulaRange, header_area, area_below};
 ghost use Rattle.xlsx_core.specs.Worksheets.{HaveSamePlaces};
 ghost use Rattle.cell_data.specs.Pairs.{with_meaning};
 
-use crate::sheet_reading::SheetReading;
-use crate::standing::last_below;
+use crate::standing::{last_below, last_in_area};
 use cell_data::{Data, DataRef, GatheredCells, HeaderRow, Range, least_area};
 use cell_refs::Dimensions;
 use cell_styles::{Style, StyleRange, copied_palette};
 use sorted_cells::SortedCells;
 use std::alloc::{AllocError, Global};
-use xlsx_cells::SheetCells;
 use xlsx_formulas::CellFormula;
 use xlsx_values::to_data;
 
@@ -95,6 +93,43 @@ pub fn place_range(
     Ok(range_of(kept, header_row, DataRef::Empty))
 }
 
+/// The values in an area, of which the header row cuts off what stands above it, with the texts of
+/// shared strings. The text of a value that stands elsewhere, or in whose place a later one stands,
+/// isn't copied.
+pub fn values_in_area(
+    alloc: Global,
+    cells: GatheredCells<DataRef>,
+    strings: &[String],
+    header_row: HeaderRow,
+    area: Dimensions,
+) -> Result<Range<Data>, AllocError>
+    requires sheet { AreInSheet (cells_gathered cells) }
+    requires area { is_sheet_area area ≡ true }
+    ensures { IfOk result (IsRangeIn value_of_data header_row area
+        (with_texts (map string_bytes strings.now) (value_entries (cells_gathered cells)))
+        nothing) }
+{
+    let kept = last_in_area(alloc, cells, header_row, area)?;
+    let own = with_texts(alloc, kept, strings)?;
+    Ok(Range::in_area(own, Some(area), Data::Empty))
+}
+
+/// The same, with shared strings by their places.
+pub fn places_in_area(
+    alloc: Global,
+    cells: GatheredCells<DataRef>,
+    header_row: HeaderRow,
+    area: Dimensions,
+) -> Result<Range<DataRef>, AllocError>
+    requires sheet { AreInSheet (cells_gathered cells) }
+    requires area { is_sheet_area area ≡ true }
+    ensures { IfOk result (IsRangeIn value_of_data_ref header_row area
+        (value_entries (cells_gathered cells)) nothing) }
+{
+    let kept = last_in_area(alloc, cells, header_row, area)?;
+    Ok(Range::in_area(kept, Some(area), DataRef::Empty))
+}
+
 /// The cells with the texts of their formulas.
 fn written_out(
     alloc: Global,
@@ -154,30 +189,4 @@ pub fn copied_style_range(
     }
     let palette = copied_palette(alloc, styles)?;
     style_range(alloc, ids, palette)
-}
-
-/// The cells of a sheet as ranges: the last value and the last formula of each position, and its
-/// first style id.
-pub fn ranges_of(
-    alloc: Global,
-    cells: SheetCells,
-    strings: &[String],
-    styles: Vec<Style>,
-) -> Result<SheetReading, AllocError>
-    requires { LieInSheet (cells_gathered cells.values) (cells_gathered cells.formulas)
-        cells.style_ids.items }
-    ensures values { IfOk result (λ found. let all = value_entries (cells_gathered cells.values) in
-        IsValueRange FirstNonEmptyRow (with_texts (map string_bytes strings.now) all)
-        found.values) }
-    ensures formulas { IfOk result (λ found.
-        IsFormulaRange (formula_entries (cells_gathered cells.formulas)) found.formulas) }
-    ensures styles { (all : List StyledCell) →
-        cells.style_ids.items ≡ filter (is_explicit (length styles.items)) all →
-        IfOk result (λ found. found.styles ≡ styles_of styles.items all) }
-{
-    Ok(SheetReading {
-        values: value_range(alloc, cells.values, strings, HeaderRow::FirstNonEmptyRow)?,
-        formulas: formula_range(alloc, cells.formulas)?,
-        styles: style_range(alloc, cells.style_ids, styles)?,
-    })
 }

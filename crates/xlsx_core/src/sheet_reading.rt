@@ -2,11 +2,11 @@ ghost use Rattle.std.specs.Prelude.{◌≡◌, true, IfOk, OnOk, IfErr};
 ghost use Rattle.cell_data.specs.Pairs.{value_pairs, formula_pairs};
 ghost use Rattle.part_events.specs.Package.{SameParts, KeepsFaults};
 ghost use Rattle.xlsx_error.specs.declared.error.XlsxError.TheVariants.{Io};
-ghost use Rattle.xlsx_core.specs.SheetReading.{ReadsAs, SheetFails, IsSheetError};
+ghost use Rattle.xlsx_core.specs.SheetReading.{ReadsAs, ReadsValuesAs, SheetFails, IsSheetError};
 ghost use Rattle.xlsx_core.specs.SheetReading.{TakesSheet, ReadsToData};
-ghost use Rattle.xlsx_core.specs.Worksheets.{HasLeastRanges};
+ghost use Rattle.xlsx_core.specs.Worksheets.{HasLeastRange, HasLeastRanges};
 
-use crate::xlsx::{OpenFailure, Xlsx};
+use crate::read_cells::read_cells;
 use cell_data::{Data, Range};
 use cell_styles::StyleRange;
 use part_events::Package;
@@ -25,11 +25,10 @@ pub struct SheetReading {
     pub styles: StyleRange,
 }
 
-/// The values, the formulas and the styles of a sheet, or why they were not read, with the package
-/// that was handed in.
+/// What was read of a sheet, or why it was not read, with the package that was handed in.
 #[derive(Drop)]
-pub struct SheetAnswer<P: Package> {
-    pub result: Result<SheetReading, XlsxError>,
+pub struct SheetAnswer<P: Package, T: Drop = SheetReading> {
+    pub result: Result<T, XlsxError>,
     pub package: P,
 }
 
@@ -61,10 +60,67 @@ pub fn read_sheet<P: Package>(alloc: Global, package: P, name: &str) -> SheetAns
         OnOk result.result (ReadsToData old.parts name.now old.taken new.taken) }
     ensures kind { IfErr result.result (IsSheetError name.now) }
 {
-    match Xlsx::new(alloc, package) {
-        Ok(xlsx) => xlsx.into_sheet(name),
-        Err(OpenFailure { error, package }) => SheetAnswer {
+    let SheetAnswer { result, package } = read_cells(alloc, package, name);
+    let read = match result {
+        Ok(read) => read,
+        Err(error) => return SheetAnswer {
             result: Err(error),
+            package,
+        },
+    };
+    match read.into_ranges(alloc) {
+        Ok(found) => SheetAnswer {
+            result: Ok(found),
+            package,
+        },
+        Err(error) => SheetAnswer {
+            result: Err(XlsxError::from(error)),
+            package,
+        },
+    }
+}
+
+/// The values that `read_sheet` reads, which is refused where it is: formulas and styles are read
+/// with them in the same pass, and nothing is made of these.
+pub fn read_sheet_values<P: Package>(
+    alloc: Global,
+    package: P,
+    name: &str,
+) -> SheetAnswer<P, Range<Data>>
+    ensures keeps { SameParts (P.state «package») (P.state result.package) }
+    ensures faults { OnOk result.result
+        ((P.state result.package).faults ≡ (P.state «package»).faults) }
+    ensures range { IfOk result.result HasLeastRange }
+    ensures reading { (P.state «package»).is_told ≡ true → IfOk result.result (λ values.
+        ReadsValuesAs (P.state «package»).parts name.now (value_pairs values)) }
+    ensures err { IfErr result.result
+        (SheetFails name.now (P.state «package») (P.state result.package)) }
+    ensures counts { IfErr result.result
+        (KeepsFaults Io (P.state «package») (P.state result.package)) }
+    ensures taken { let old = P.state «package» in
+        let new = P.state result.package in
+        old.is_told ≡ true → TakesSheet old.parts name.now old.taken new.taken }
+    ensures to_end { let old = P.state «package» in
+        let new = P.state result.package in
+        old.is_told ≡ true →
+        OnOk result.result (ReadsToData old.parts name.now old.taken new.taken) }
+    ensures kind { IfErr result.result (IsSheetError name.now) }
+{
+    let SheetAnswer { result, package } = read_cells(alloc, package, name);
+    let read = match result {
+        Ok(read) => read,
+        Err(error) => return SheetAnswer {
+            result: Err(error),
+            package,
+        },
+    };
+    match read.into_values(alloc) {
+        Ok(values) => SheetAnswer {
+            result: Ok(values),
+            package,
+        },
+        Err(error) => SheetAnswer {
+            result: Err(XlsxError::from(error)),
             package,
         },
     }

@@ -3,11 +3,11 @@ ghost use Rattle.std.specs.Prelude.{IfOk, IfErr, IsSome, IsSomeAnd};
 ghost use Rattle.std.specs.Option.{option_copied};
 ghost use Rattle.cell_data.specs.Range.{bounds_of};
 ghost use Rattle.cell_data.specs.Table.{table_data};
-ghost use Rattle.cell_refs.specs.Positions.{is_sheet_area, are_sheet_bounds};
+ghost use Rattle.cell_refs.specs.Positions.{are_sheet_bounds};
 ghost use Rattle.part_events.specs.Package.{Uses};
 ghost use Rattle.xlsx_error.specs.declared.error.XlsxError.TheVariants.{Io};
 ghost use Rattle.xlsx_core.specs.TableData.{first_named, table_of_book, area_of_book, head_said};
-ghost use Rattle.xlsx_core.specs.TableData.{IsCut, IsOfTable, ReadsValuesIn, ReadsPlacesIn};
+ghost use Rattle.xlsx_core.specs.TableData.{IsOfTable, ReadsValuesIn, ReadsPlacesIn};
 ghost use Rattle.xlsx_core.specs.TableData.{AreaFails, TableDataFails, IsTableDataError};
 ghost use Rattle.xlsx_core.specs.TableData.{LacksTable, area_events, table_data_events};
 ghost use Rattle.xlsx_core.specs.TableData.{area_data_events, table_ends};
@@ -16,12 +16,14 @@ ghost use Rattle.xlsx_core.specs.TableList.{table_held, tables_held, loaded_tabl
 ghost use Rattle.xlsx_core.specs.Worksheets.{path_of, grounds_of_book, KeepsWorkbook, IsRangeError};
 ghost use Rattle.xlsx_workbook.specs.declared.sheet.Sheet.{Sheet};
 
+use crate::ranges::{places_in_area, values_in_area};
 use crate::table_list::sheet_name;
 use crate::xlsx::Xlsx;
 use cell_data::{Data, DataRef, Range, Table};
 use cell_refs::Dimensions;
 use part_events::Package;
 use std::alloc::{AllocError, Global};
+use xlsx_cells::Wants;
 use xlsx_error::XlsxError;
 use xlsx_open::Sheet;
 use xlsx_tables::LoadedTable;
@@ -59,14 +61,6 @@ fn copied_texts(alloc: Global, texts: &[String]) -> Result<Vec<String>, AllocErr
     Ok(copy)
 }
 
-/// What of a range lies in this area.
-fn cut<T: Drop>(range: Range<T>, area: Dimensions) -> Range<T>
-    requires { is_sheet_area area ≡ true }
-    ensures { IsCut area range result }
-{
-    range.range(area.start, area.end)
-}
-
 /// The data of tables.
 impl<P: Package> Xlsx<P> {
     /// What the first loaded table of this name says beside its data.
@@ -92,8 +86,8 @@ impl<P: Package> Xlsx<P> {
         })
     }
 
-    /// The values in this area of the first sheet of this name, as `worksheet_range` has them. None
-    /// are read without an area.
+    /// The values in this area of the first sheet of this name, as `worksheet_range` has them. No
+    /// text is copied of those that stand elsewhere, and without an area none are read.
     fn values_in(&mut self, sheet: &str, area: Option<Dimensions>) -> Result<Range<Data>, XlsxError>
         requires { are_sheet_bounds area ≡ true }
         ensures uses { let old = P.state self.old.package in
@@ -117,8 +111,10 @@ impl<P: Package> Xlsx<P> {
         let Some(area) = area else {
             return Ok(Range::from_sparse(self.alloc, Vec::new(self.alloc), Data::Empty)?);
         };
-        let range = self.worksheet_range(sheet)?;
-        Ok(cut(range, area))
+        let cells = self.worksheet_cells(sheet, Wants::VALUES)?;
+        let strings = &self.shared.strings;
+        let header_row = self.header_row;
+        Ok(values_in_area(self.alloc, cells.values, strings, header_row, area)?)
     }
 
     /// The same, with shared strings by their places.
@@ -149,8 +145,8 @@ impl<P: Package> Xlsx<P> {
         let Some(area) = area else {
             return Ok(Range::from_sparse(self.alloc, Vec::new(self.alloc), DataRef::Empty)?);
         };
-        let range = self.worksheet_range_ref(sheet)?;
-        Ok(cut(range, area))
+        let cells = self.worksheet_cells(sheet, Wants::VALUES)?;
+        Ok(places_in_area(self.alloc, cells.values, self.header_row, area)?)
     }
 
     /// The first loaded table of this name, with its data (ECMA-376 part 1, section 18.5.1.2):

@@ -9,20 +9,22 @@ ghost use Rattle.xlsx_cells.specs.Ends.{reads_children};
 ghost use Rattle.cell_data.specs.Gathered.{cells_gathered};
 ghost use Rattle.xlsx_cells.specs.SheetPart.{value_entries, formula_entries, LieInSheet};
 ghost use Rattle.xlsx_cells.specs.Stream.{stream, IsStreaming};
+ghost use Rattle.xlsx_core.specs.ReadCells.{LieOnSheet, ReadsCells};
 ghost use Rattle.xlsx_core.specs.SheetReading.{all_wanted, events_at, placed_events};
 ghost use Rattle.xlsx_core.specs.SheetReading.{data_events, TakesExactly};
 ghost use Rattle.xlsx_core.specs.SheetReading.{PlacedSheetFails, PlacedHeadFails};
-ghost use Rattle.xlsx_core.specs.SheetReading.{IsPlacedHeadError, IsPlacedError, ReadsPlaced};
+ghost use Rattle.xlsx_core.specs.SheetReading.{IsPlacedHeadError, IsPlacedError};
 ghost use Rattle.xlsx_core.specs.Worksheets.{path_of, grounds_of_book, KeepsWorkbook, HoldsWanted};
 ghost use Rattle.xlsx_core.specs.Worksheets.{AnswersCells, ReadsValues, ReadsPlaces, LacksPath};
 ghost use Rattle.xlsx_core.specs.Worksheets.{ReadsFormulas, RangeFails};
 ghost use Rattle.xlsx_core.specs.Worksheets.{IsRangeError, EntersSheet, ReaderFails, ReadsStyles};
-ghost use Rattle.xlsx_core.specs.Worksheets.{IsStyleRangeError, palette_of_book, HasLeastRanges};
+ghost use Rattle.xlsx_core.specs.Worksheets.{IsStyleRangeError, palette_of_book};
 
 use crate::placed_sheet::{
     asked_of, open_placed, path_named, read_placed, read_range, read_values,
 };
-use crate::ranges::{copied_style_range, formula_range, place_range, ranges_of};
+use crate::ranges::{copied_style_range, formula_range, place_range};
+use crate::read_cells::ReadCells;
 use crate::sheet_reading::SheetAnswer;
 use crate::xlsx::Xlsx;
 use cell_data::{Data, DataRef, Range};
@@ -31,7 +33,6 @@ use cell_styles::StyleRange;
 use part_events::Package;
 use xlsx_cells::{SheetCells, SheetCursor, Wants, XlsxCellReader};
 use xlsx_error::XlsxError;
-use xlsx_open::SharedParts;
 
 /// Reading the worksheets of an open workbook.
 impl<P: Package> Xlsx<P> {
@@ -65,20 +66,20 @@ impl<P: Package> Xlsx<P> {
         read_placed(self.alloc, &mut self.package, path, name, asked)
     }
 
-    /// The values, the formulas and the styles of the first sheet of this name, and the package.
-    /// The workbook is given up, and its styles go with the sheet.
-    #[tactic(auto, using(crate::proofs::LeastAreas::least_ranges))]
-    pub(crate) fn into_sheet(self, name: &str) -> SheetAnswer<P>
+    /// What was read of the first sheet of this name, beside what the sheets of the workbook share,
+    /// and the package. The workbook is given up.
+    pub(crate) fn into_cells(self, name: &str) -> SheetAnswer<P, ReadCells>
         ensures uses { let old = P.state self.package in
             let new = P.state result.package in
             Uses (placed_events (path_of self name.now) old.parts) Io result.result old new }
         ensures to_end { let old = P.state self.package in
             let count = data_events (path_of self name.now) old.parts in
             TakesExactly count result.result old (P.state result.package) }
-        ensures ranges { IfOk result.result HasLeastRanges }
+        ensures inside { IfOk result.result LieOnSheet }
+        ensures shared { IfOk result.result (λ read. read.shared ≡ self.shared) }
         ensures reads { let old = P.state self.package in
             old.is_told ≡ true → IfOk result.result
-            (ReadsPlaced (grounds_of_book self) (palette_of_book self) (path_of self name.now)
+            (ReadsCells (grounds_of_book self) (palette_of_book self) (path_of self name.now)
             old.parts) }
         ensures err { IfErr result.result (PlacedSheetFails name.now all_wanted
             (grounds_of_book self) (path_of self name.now) (P.state self.package)
@@ -88,37 +89,21 @@ impl<P: Package> Xlsx<P> {
         let mut xlsx = self;
         let found = xlsx.placed_cells(name, Wants::ALL);
         let Xlsx {
-            package,
-            shared,
-            alloc,
-            ..
+            package, shared, ..
         } = xlsx;
-        let SharedParts {
-            strings,
-            style_sheet,
-            ..
-        } = shared;
-        let cells = match found {
-            Ok(cells) => cells,
-            Err(error) => return SheetAnswer {
-                result: Err(error),
-                package,
-            },
+        let result = match found {
+            Ok(cells) => Ok(ReadCells { cells, shared }),
+            Err(error) => Err(error),
         };
-        match ranges_of(alloc, cells, &strings, style_sheet.styles) {
-            Ok(ranges) => SheetAnswer {
-                result: Ok(ranges),
-                package,
-            },
-            Err(error) => SheetAnswer {
-                result: Err(XlsxError::from(error)),
-                package,
-            },
-        }
+        SheetAnswer { result, package }
     }
 
     /// What is wanted of the first sheet of this name, and nothing where its part is no worksheet.
-    fn worksheet_cells(&mut self, name: &str, wants: Wants) -> Result<SheetCells, XlsxError>
+    pub(crate) fn worksheet_cells(
+        &mut self,
+        name: &str,
+        wants: Wants,
+    ) -> Result<SheetCells, XlsxError>
         ensures uses { let old = P.state self.old.package in
             let new = P.state self.new.package in
             Uses (placed_events (path_of self.old name.now) old.parts) Io result old new }

@@ -10,29 +10,29 @@ use Rattle.xlsx_commands.proofs.RowsPlaced.{rows_of_sheet, large_of_sheet, fits_
 use Rattle.xlsx_commands.proofs.RowsPlaced.{call_fails, asked_range}
 use Rattle.xlsx_commands.proofs.sheet_rows.sheet_rows.Goals as goal
 
-pub returns-in_err-reading-clause-err : goal.returns-in_err-reading-clause-err
-returns-in_err-reading-clause-err c =
+pub returns-in_err-read-clause-err : goal.returns-in_err-read-clause-err
+returns-in_err-read-clause-err c =
     let handed = err_from_is_err_and c.from_residual.result c.from_residual.ensures.1 in
-    let answered = c.branch-reading.ensures ∙ ap result_from_control_flow c.in_err-reading.is in
-    let result = c.read_sheet-result.result.result in
-    let fails = err_at result _ _ answered c.read_sheet-result.ensures.err in
+    let answered = c.branch-read.ensures ∙ ap result_from_control_flow c.in_err-read.is in
+    let result = c.read_sheet_values-result.result.result in
+    let fails = err_at result _ _ answered c.read_sheet_values-result.ensures.err in
     let parts = c.args.package.parts in
     let cause = SheetCause parts c.args.name.now in
     rw (handed.1, handed.2)
     (call_fails cause (HasLargeArea parts c.args.name.now c.args.asked.from_a1) _
-    (memory_fails cause cause c.args.package c.read_sheet-result.result.package _ (λ own. own)
+    (memory_fails cause cause c.args.package c.read_sheet_values-result.result.package _ (λ own. own)
     fails))
 
 pub returns-in_err-rows_csv-clause-err : goal.returns-in_err-rows_csv-clause-err
 returns-in_err-rows_csv-clause-err c =
     let handed = err_from_is_err_and c.from_residual-in_err-rows_csv.result
     c.from_residual-in_err-rows_csv.ensures.1 in
-    let answered = c.branch-reading.ensures ∙ ap result_from_control_flow c.in_ok-reading.is in
-    let result = c.read_sheet-result.result.result in
-    let reads = ok_at result _ _ answered (c.read_sheet-result.ensures.reading refl) in
-    let least = ok_at result _ _ answered c.read_sheet-result.ensures.ranges in
+    let answered = c.branch-read.ensures ∙ ap result_from_control_flow c.in_ok-read.is in
+    let result = c.read_sheet_values-result.result.result in
+    let reads = ok_at result _ _ answered (c.read_sheet_values-result.ensures.reading refl) in
+    let least = ok_at result _ _ answered c.read_sheet_values-result.ensures.range in
     let parts = c.args.package.parts in
-    let found = c.in_ok-reading.reading in
+    let found = c.in_ok-read.read in
     rw (handed.1, handed.2)
     (rows_fail (SheetCause parts c.args.name.now)
     (HasLargeArea parts c.args.name.now c.args.asked.from_a1)
@@ -44,11 +44,11 @@ returns-in_err-rows_csv-clause-err c =
 
 pub returns-clause-ok : goal.returns-clause-ok
 returns-clause-ok c =
-    let answered = c.branch-reading.ensures ∙ ap result_from_control_flow c.in_ok-reading.is in
-    let result = c.read_sheet-result.result.result in
-    let reads = ok_at result _ _ answered (c.read_sheet-result.ensures.reading refl) in
-    let least = ok_at result _ _ answered c.read_sheet-result.ensures.ranges in
-    let found = c.in_ok-reading.reading in
+    let answered = c.branch-read.ensures ∙ ap result_from_control_flow c.in_ok-read.is in
+    let result = c.read_sheet_values-result.result.result in
+    let reads = ok_at result _ _ answered (c.read_sheet_values-result.ensures.reading refl) in
+    let least = ok_at result _ _ answered c.read_sheet_values-result.ensures.range in
+    let found = c.in_ok-read.read in
     let rows = c.in_ok-rows_csv.field-0 in
     rows_of_sheet c.args.package.parts c.args.name.now found reads least c.args.asked.from_a1
     c.in_asked_area-values.result (asked_range _ _ _ c.in_asked_area-values.ensures.cells

@@ -2,7 +2,7 @@ use Rattle.std.proofs.Common.{◌≡◌, ◌++◌, map}
 use Rattle.cell_styles.specs.StyleItems.{styled_entry}
 use Rattle.sorted_cells.specs.Kept.{kept_cells}
 use Rattle.sheet_listing.specs.SheetListing.{placed_ids}
-use Rattle.sheet_listing.proofs.lines.styled_cells.Given as goal
+use Rattle.sheet_listing.proofs.sample_lines.styled_cells.Given as goal
 
 abbrev pub invariant-loop-row : goal.invariant-loop-row
 invariant-loop-row l =
