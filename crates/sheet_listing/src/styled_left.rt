@@ -16,7 +16,7 @@ pub struct StyledLeft<'a> {
 impl<'a> StyledLeft<'a> {
     /// All of these positions.
     pub fn new(cells: StyledCells<'a>) -> StyledLeft<'a>
-        ensures { ids_left result ≡ map styled_entry cells }
+        ensures { ids_left result ≡ map styled_entry cells.entry }
     {
         let mut behind = cells;
         let first = behind.next();
