@@ -113,8 +113,11 @@ class Proving:
         self.proved, self.at_work = set(), {}
         self.began = self.told = time.monotonic()
 
-    def begin(self, name):
-        words = ["rt", "run", "--", "--version"] if name == self.program else ["rt", "lib"]
+    def begin(self, name, jobs):
+        """Begins the proof of a crate, with so many processors where that is told."""
+        words = ["rt", "run" if name == self.program else "lib"]
+        words += [] if jobs is None else ["--jobs", str(jobs)]
+        words += ["--", "--version"] if name == self.program else []
         self.at_work[name] = Work(name, words)
 
     def ready(self):
@@ -165,8 +168,11 @@ class Proving:
     def run(self, most):
         """Whether all is proved, with at most so many proofs at work."""
         while len(self.proved) < len(self.needs):
-            for name in self.ready()[: most - len(self.at_work)]:
-                self.begin(name)
+            ready = self.ready()
+            # The last crates stand one above the other: each has all processors then.
+            jobs = most if len(ready) == 1 and not self.at_work else None
+            for name in ready[: most - len(self.at_work)]:
+                self.begin(name, jobs)
             if not self.take_ended():
                 return False
         return True

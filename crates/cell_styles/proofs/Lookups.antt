@@ -27,8 +27,8 @@ pub id_below : (area : Dimensions) (count : ℕ) (ids : List ℕ) (place id : �
 id_below area count ids place id sound within is =
     subst (λ n. n < count) (sym is) (sound.2 place 0 within)
 
-pub inside_test : (area : Dimensions) (pos : ℕ × ℕ) → IsInArea area pos.0 pos.1 → is_in_area area pos
-    ≡ true
+pub inside_test : (area : Dimensions) (pos : ℕ × ℕ) → IsInArea area pos.0 pos.1
+    → is_in_area area pos ≡ true
 inside_test area pos inside = grind (arith, nat_tests)
 
 pub style_found : (styles : StyleMap) (area : Dimensions) (pos : ℕ × ℕ) (id : ℕ) → styles.bounds

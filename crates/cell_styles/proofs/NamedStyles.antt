@@ -1,6 +1,7 @@
 -- The style of a position is that of the id that it is listed with.
 use Rattle.std.proofs.Common.{◌≡◌, ℕ, zero, suc, ◌+◌, ◌<◌, Bool, true, false, cond, if◌then◌else◌}
-use Rattle.std.proofs.Common.{List, [], ◌∷◌, map, get_or, slice_get, slice_index, Option, Some, None}
+use Rattle.std.proofs.Common.{List, [], ◌∷◌, map, get_or, slice_get, slice_index, Option, Some}
+use Rattle.std.proofs.Common.{None}
 use Rattle.std.proofs.Common.{refl, sym, ◌∙◌, ap, subst, inl, inr, arith}
 use Rattle.std.specs.Cmp.{tied_itself}
 use Rattle.std.specs.FinMap.{find}

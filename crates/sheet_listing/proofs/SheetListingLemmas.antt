@@ -179,7 +179,8 @@ pub lines_on : (style : ℕ × ℕ → ℕ → Option Style) (p : ℕ × ℕ)
     (v : Option Data) (f : Option (String Global)) (d : Option ℕ) (found : Option Style)
     (values vs : List ((ℕ × ℕ) × Data)) (formulas fs : List ((ℕ × ℕ) × String Global))
     (ids ds : List ((ℕ × ℕ) × ℕ)) (old new whole : List ℕ) →
-    Splits p values v vs → Splits p formulas f fs → Splits p ids d ds → found ≡ style p (id_given d) →
+    Splits p values v vs → Splits p formulas f fs → Splits p ids d ds →
+    found ≡ style p (id_given d) →
     new ≡ old ++ line_of p (value_given v) (formula_given f) (id_given d) (fill_field found) →
     old ++ lines_left style values formulas ids ≡ whole →
     new ++ lines_left style vs fs ds ≡ whole

@@ -49,8 +49,8 @@ fn push_verdict(out: &mut String, verdict: Verdict) -> Result<(), AllocError>
     }
 }
 
-/// Appends the line of a verdict on the formula at a position, counted from 0. A refusal may leave a
-/// front of it behind.
+/// Appends the line of a verdict on the formula at a position, counted from 0. A refusal may leave
+/// a front of it behind.
 fn push_verdict_line(
     out: &mut String,
     position: (u32, u32),

@@ -42,8 +42,8 @@ pub enum Command<'a> {
     Pivot(&'a str, &'a str),
     /// The formulas of the worksheet of this name, with the areas that each names.
     Precedents(&'a str),
-    /// The cells of the worksheet of this name whose formulas name the cell at a position, a row and
-    /// a column counted from 0.
+    /// The cells of the worksheet of this name whose formulas name the cell at a position, a row
+    /// and a column counted from 0.
     Dependents(&'a str, (u32, u32)),
     /// The formulas of the worksheet of this name, with what each comes to beside its cell's value.
     Check(&'a str),

@@ -1,6 +1,7 @@
 -- The part of a sheet is read up to the end of the sheet's data.
 use Rattle.std.proofs.Common.{◌≡◌, ◌+◌, ℕ, suc, List, length, Option, Some, None}
-use Rattle.std.proofs.Common.{Result, Ok, Err, true, String, Global, ◌∙◌, ap, inl, inr, arith, codes}
+use Rattle.std.proofs.Common.{Result, Ok, Err, true, String, Global, ◌∙◌, ap, inl, inr, arith}
+use Rattle.std.proofs.Common.{codes}
 use Rattle.std.proofs.Common.{string_bytes}
 use Rattle.std.specs.Prelude.{IsSomeAnd, OnOk, option_map, MatchOption, IfSome}
 use Rattle.std.specs.Option.{option_map_or}

@@ -5,8 +5,8 @@
 //! `worksheet_list` (the one that reads all), `placed_sheet` (the sheet of a name, and its part),
 //! `standing` (the last cell of each position, from the header row on), `ranges` (cells as ranges),
 //! `read_cells` (the cells of a sheet as they came, and the ranges of them), `sheet_reading`
-//! (`read_sheet`, `read_sheet_values`, `SheetReading`, `SheetAnswer`), `merges` (the calls on merged
-//! cells), `links` (those on hyperlinks), `properties` (the one on properties), `table_list`
+//! (`read_sheet`, `read_sheet_values`, `SheetReading`, `SheetAnswer`), `merges` (the calls on
+//! merged cells), `links` (those on hyperlinks), `properties` (the one on properties), `table_list`
 //! (tables that are loaded and listed), `table_data` (their data by their names), `pivots` (the
 //! call on pivot tables), `lists` (what was loaded), `laws`.
 //!
@@ -16,8 +16,9 @@
 //! `read_sheet` takes the package and hands it back, whatever it answers. It is one reading,
 //! `read_cells`, and then ranges of the cells; `read_sheet_values` makes that of the values alone.
 //! The logic of the reading is a call of `Xlsx` on its open workbook; what it says, it says of the
-//! paths and strings that are kept, and `HoldsOpening` makes them those of the parts. Cells that were gathered become a range by
-//! `last_below` and so by `last_of_each`, which goes with what the values mean.
+//! paths and strings that are kept, and `HoldsOpening` makes them those of the parts. Cells that
+//! were gathered become a range by `last_below` and so by `last_of_each`, which goes with what the
+//! values mean.
 //!
 //! All calls that read a sheet are one, `read_placed`, with another `Wants`. It answers values,
 //! formulas and style ids as they came, and `HoldsWanted` says of each what it is where it was

@@ -134,7 +134,7 @@ CacheAtCause parts path error =
     ⊎ MatchOption (definitions_at parts path) ⊥
     (λ definitions. TargetCause parts records_type single.Records definitions error)
 
--- why the pivot table of the part at a path can't be taken: its name can't, or behind that, it can't
+-- why the pivot table of the part at a path can't be taken: its name can't, or behind it, it can't
 -- be said where its cache lies
 abbrev pub PivotCause : List Part → List ℕ → XlsxError → Type 0
 PivotCause parts path error =

@@ -24,7 +24,8 @@ use Rattle.xlsx_ways.proofs.OpeningsAlike.{opening_over, soundly_over, opens_at_
 use Rattle.xlsx_ways.proofs.OpeningsAlike.{opening_cause_over, opening_of_sheet, opening_back}
 use Rattle.xlsx_ways.proofs.PivotsAlike.{cache_over}
 use Rattle.xlsx_ways.proofs.SheetsAlike.{named_over, sheet_cause_over, merges_over}
-use Rattle.xlsx_ways.proofs.SheetsAlike.{merges_cause_over, links_over, links_cause_over, links_back}
+use Rattle.xlsx_ways.proofs.SheetsAlike.{merges_cause_over, links_over, links_cause_over}
+use Rattle.xlsx_ways.proofs.SheetsAlike.{links_back}
 
 -- a package that has the same way back
 pub way_back : (command : Command) (one two : List Part) → HaveSameWay command one two
@@ -204,7 +205,8 @@ cause_over (links name) one two error same cause =
     links_cause_over one two name error same.0 same.1 cause
 cause_over props one two error same cause =
     listed_properties_over one two error same.0 same.1 cause
-cause_over (csv name asked) one two error same cause = sheet_cause_over one two name error same cause
+cause_over (csv name asked) one two error same cause =
+    sheet_cause_over one two name error same cause
 cause_over (csv_table name options) one two error same cause =
     table_cause_over one two name error same cause
 cause_over tables one two error same cause = tables_listed_over one two error same.0 same.1 cause

@@ -131,7 +131,8 @@ properties_back one two same = record {
 -- ---- tables
 
 -- the tables are had by the same opening
-abbrev pub tables_had_over : (one two : List Part) (tables : List SheetTable) → HaveSameOpening one two
+abbrev pub tables_had_over : (one two : List Part) (tables : List SheetTable)
+    → HaveSameOpening one two
     → OfEachSheet (HaveSameTables one two) one → HasTables one tables → HasTables two tables
 tables_had_over one two tables same each has = record {
   opening = has.opening;
@@ -253,7 +254,8 @@ table_data_back one two name same =
 -- ---- pivot tables
 
 -- the pivot tables are had by the same opening
-abbrev pub pivots_had_over : (one two : List Part) (pivots : List PivotSaid) → HaveSameOpening one two
+abbrev pub pivots_had_over : (one two : List Part) (pivots : List PivotSaid)
+    → HaveSameOpening one two
     → OfEachSheet (HaveSamePivots one two) one → HasPivots one pivots → HasPivots two pivots
 pivots_had_over one two pivots same each has = record {
   opening = has.opening;

@@ -158,8 +158,9 @@ pub all_pivots_over : (one two : List Part) (folder : List ℕ) (sheets : List S
     → Each (SamePivots one two) sheets → pivots_of one folder sheets ≡ pivots_of two folder sheets
 all_pivots_over one two folder sheets same =
     said_over (pivots_on one folder) (pivots_on two folder) sheets
-    (each_over (SamePivots one two) (λ sheet. pivots_on one folder sheet ≡ pivots_on two folder sheet)
-    sheets (sheet_pivots_over one two folder) same)
+    (each_over (SamePivots one two)
+    (λ sheet. pivots_on one folder sheet ≡ pivots_on two folder sheet) sheets
+    (sheet_pivots_over one two folder) same)
 
 pivots_cause_over : (one two : List Part) (path : List ℕ) (error : XlsxError)
     → HaveSamePivots one two path → PivotsAtCause one path error → PivotsAtCause two path error

@@ -10,7 +10,8 @@ use Rattle.xlsx_error.specs.declared.error.XlsxError.TheVariants.{WorksheetNotFo
 use Rattle.xlsx_sections.specs.Elements.{IsInsideRefused}
 use Rattle.xlsx_sections.specs.PartSection.{OptionalPartCause, always}
 use Rattle.xlsx_parts.specs.PartSaid.{section_said, unless_absent}
-use Rattle.xlsx_relationships.specs.LinkTargets.{LinkTarget, link_targets, link_targets_in, target_in}
+use Rattle.xlsx_relationships.specs.LinkTargets.{LinkTarget, link_targets, link_targets_in}
+use Rattle.xlsx_relationships.specs.LinkTargets.{target_in}
 use Rattle.xlsx_relationships.specs.Paths.{relationships_beside}
 use Rattle.xlsx_areas.specs.Hyperlinks.{Link, links_of, links_at}
 use Rattle.xlsx_areas.specs.LinkErrors.{LinksCause, SheetLinksCause}

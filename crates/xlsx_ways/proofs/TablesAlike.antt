@@ -11,7 +11,8 @@ use Rattle.xlsx_parts.specs.WholePart.{IfThere}
 use Rattle.xlsx_relationships.specs.RelatedParts.{related_parts}
 use Rattle.xlsx_tables.specs.TableErrors.{TableCause}
 use Rattle.xlsx_tables.specs.TableParts.{TableSaid, table_of}
-use Rattle.xlsx_tables.specs.Tables.{table_type, table_at, tables_by, tables_at, tables_on, tables_of}
+use Rattle.xlsx_tables.specs.Tables.{table_type, table_at, tables_by, tables_at, tables_on}
+use Rattle.xlsx_tables.specs.Tables.{tables_of}
 use Rattle.xlsx_tables.specs.Tables.{table_of_sheet, TablesByCause, TablesAtCause, TablesCause}
 use Rattle.xlsx_core.specs.Agreement.{HaveSamePart}
 use Rattle.xlsx_ways.specs.Ways.{Each, HaveSameTables}

@@ -1,4 +1,4 @@
-//! Where each command looks in a package: laws over the definitions of the commands. It has no code.
+//! Where each command looks in a package: laws over the definitions of the commands, and no code.
 //!
 //! Room: `laws`. Two packages have the same way (`HaveSameWay`) where they have the same parts at
 //! which a command looks; other parts, and the order of all, may differ. So whoever feeds the

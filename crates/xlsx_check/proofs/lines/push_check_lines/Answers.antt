@@ -15,7 +15,8 @@ loop-position-preserved c =
     record {
       printed = goes_on values (c.in-Some.position, string_bytes c.in-Some.formula.now)
           (map (λ cell. (cell.0, string_bytes cell.1)) (placed_left c.next.new.self))
-          (map (λ cell. (cell.0, string_bytes cell.1)) (placed_left c.loop-position.position-iterator))
+          (map (λ cell. (cell.0, string_bytes cell.1))
+          (placed_left c.loop-position.position-iterator))
           (formulas_of c.args.formulas.now) (string_bytes c.args.out.now)
           (string_bytes c.loop-position.out) (string_bytes c.push_verdict_line.new.out)
           c.as_str.result.now c.verdict-said.result
