@@ -2,11 +2,12 @@ ghost use Rattle.std.specs.Prelude.{◌≡◌, ◌≤◌, ℕ, List, length, map
 ghost use Rattle.std.specs.Prelude.{Option, IfOk, OnOk, IfErr, option_map};
 ghost use Rattle.part_events.specs.Event.{tag_of};
 ghost use Rattle.part_events.specs.Reading.{reading, open_elements, IsReading, ReadsPart};
-ghost use Rattle.part_events.specs.Section.{PlacedTag, is_named};
+ghost use Rattle.part_events.specs.Reading.{IsReadingElement, ReadsElement, ahead};
+ghost use Rattle.part_events.specs.Section.{PlacedTag, is_named, content};
 ghost use Rattle.part_events.specs.Walk.{section_ahead};
 ghost use Rattle.xlsx_error.specs.declared.error.XlsxError.{XlsxError};
 ghost use Rattle.xlsx_error.specs.declared.error.XlsxError.TheVariants.{Io};
-ghost use Rattle.xlsx_sections.specs.Elements.{IsInsideRefused, ReachesEnd};
+ghost use Rattle.xlsx_sections.specs.Elements.{IsInsideRefused, ReachesEnd, ElementReadFails};
 ghost use Rattle.xlsx_sections.specs.Keeping.{changed_in};
 ghost use Rattle.xlsx_sections.specs.PartSection.{always, IsStepError, SectionFails};
 ghost use Rattle.xlsx_sections.specs.Refusal.{Refusal, ElementFails, placed_at};
@@ -86,4 +87,36 @@ pub fn keep_starts<P: Package, K: Keeps>(
         keeper.take(start_tag(package), at)?;
     }
     Ok(())
+}
+
+/// Keeps what the starts of these local names give in the element at whose start the package
+/// stands. Reads to the element's end, and is refused as `keep_starts`.
+pub fn keep_in_element<P: Package, K: Keeps>(
+    package: &mut P,
+    cursor: &mut Cursor,
+    names: &[&str],
+    section: &'static str,
+    keeper: &mut K,
+) -> Result<(), XlsxError>
+    requires element { IsReadingElement (reading (P.state «package».old) cursor.old) }
+    requires section { section.now ≡ K.section }
+    ensures reads { let old = reading (P.state «package».old) cursor.old in
+        let new = reading (P.state «package».new) cursor.new in
+        ReadsElement Io result old new }
+    ensures kept { let old = reading (P.state «package».old) cursor.old in
+        let wanted = is_named (map (λ name. name.now) names.now) in
+        old.source.is_told ≡ true → OnOk result ((i : K.Index) →
+        changed_in wanted (K.change keeper.old i) (K.held keeper.old i) (content 0 (ahead old))
+        ≡ Ok (K.held keeper.new i)) }
+    ensures err { let old = reading (P.state «package».old) cursor.old in
+        let new = reading (P.state «package».new) cursor.new in
+        let wanted = is_named (map (λ name. name.now) names.now) in
+        let meaning = λ (i : K.Index). changed_in wanted (K.change keeper.old i)
+        (K.held keeper.old i) in
+        IfErr result (λ error. (i : K.Index) →
+        ElementReadFails (always section.now) (meaning i) old new error) }
+    ensures kind { IfErr result K.Kind }
+{
+    let base = cursor.depth();
+    keep_starts(package, cursor, base, names, section, keeper)
 }

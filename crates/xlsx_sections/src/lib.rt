@@ -37,6 +37,7 @@
 #![tactic(auto)]
 
 mod decode;
+mod element_lists;
 mod elements;
 mod keeping;
 mod keeping_lists;
@@ -44,10 +45,11 @@ mod numbers;
 mod section;
 
 pub use decode::{decode_at, name_by, push_text_at};
+pub use element_lists::{ReadsEach, keep_elements};
 pub use elements::{
     next_child_in, next_element_in, read_element_text, read_to_end, skip_element_in,
 };
-pub use keeping::{Keeps, keep_starts};
+pub use keeping::{Keeps, keep_in_element, keep_starts};
 pub use keeping_lists::{Reads, keep_all, keep_last};
 pub use numbers::number_text;
 pub use section::{enter, enter_part, next_event_in, next_start_among, next_start_in, start_tag};
