@@ -1,4 +1,5 @@
 -- What is kept of the starts of a section is what they give.
+use Rattle.std.proofs.Common.{map, map-id, option_map}
 use Rattle.std.proofs.Common.{◌≡◌, ℕ, List, [], ◌∷◌, ◌++◌, Bool, Option, Some, None, Result, Ok, Err}
 use Rattle.std.proofs.Common.{refl, sym, ◌∙◌, ap, append-nil, subst, arith}
 use Rattle.std.specs.Prelude.{IsSomeAnd}
@@ -126,3 +127,11 @@ refused_each ending refused base old new Io i all = all i
 refused_each ending refused base old new OutOfMemory i all = tt
 refused_each ending refused base old new error i all = λ told.
     each_cause ending refused (section_left base old) error i (λ j. all j told)
+
+-- items that say themselves
+pub own_items : {A : Type 0} (items : List A) → map (λ item. item) items ≡ items
+own_items items = map-id items
+
+pub own_item : {A : Type 0} (item : Option A) → option_map (λ own. own) item ≡ item
+own_item None = refl
+own_item (Some own) = refl
