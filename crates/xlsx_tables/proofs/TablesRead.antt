@@ -6,19 +6,11 @@ use Rattle.xlsx_error.specs.declared.error.XlsxError.{XlsxError}
 use Rattle.xlsx_error.specs.declared.error.XlsxError.TheVariants.{OutOfMemory, Io, Xml, XmlEof}
 use Rattle.xlsx_error.specs.declared.error.XlsxError.TheVariants.{XmlAttr}
 use Rattle.xlsx_sections.specs.Names.{IsNameError}
-use Rattle.xlsx_sections.specs.PartSection.{IsStepError}
 use Rattle.xlsx_sections.specs.Refusal.{Refusal, ElementFails, IsDecodeError}
 use Rattle.xlsx_sections.proofs.Refused.{refused_at_weaker}
 use Rattle.xlsx_parts.specs.WholePart.{IsBreakError}
 use Rattle.xlsx_tables.specs.TableErrors.{IsTableStartError, IsTableError}
 use Rattle.xlsx_tables.specs.TableParts.{with_table_name, with_headers, with_totals}
-
-pub table_step : (error : XlsxError) → IsStepError (codes "Table") error → IsTableError error
-table_step OutOfMemory is = tt
-table_step Io is = tt
-table_step (Xml (EndMismatch at)) is = tt
-table_step (XmlEof element) is = is
-table_step _ is = absurd is
 
 pub name_error : (error : XlsxError) → IsNameError error → IsTableError error
 name_error OutOfMemory is = tt
