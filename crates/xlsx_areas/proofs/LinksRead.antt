@@ -1,12 +1,10 @@
 -- Which refusals of the layers below are refusals of links, and how those of a text are handed on.
-use Rattle.std.proofs.Common.{◌≡◌, ℕ, Result, Ok, Err, codes, ap, ◌∙◌}
+use Rattle.std.proofs.Common.{Result, Ok, Err}
 use Rattle.std.specs.Prelude.{IfOk, OnOk}
 use Rattle.part_events.specs.declared.fault.XmlFault.TheVariants.{EndMismatch, Entity}
 use Rattle.xlsx_error.specs.declared.error.XlsxError.{XlsxError}
-use Rattle.xlsx_error.specs.declared.error.XlsxError.TheVariants.{OutOfMemory, Io, Xml, XmlEof}
-use Rattle.xlsx_sections.specs.PartSection.{IsStepError}
-use Rattle.xlsx_sections.specs.Refusal.{Refusal, ElementFails, IsDecodeError}
-use Rattle.xlsx_sections.proofs.Refused.{refused_at_weaker}
+use Rattle.xlsx_error.specs.declared.error.XlsxError.TheVariants.{OutOfMemory, Io, Xml}
+use Rattle.xlsx_sections.specs.Refusal.{IsDecodeError}
 use Rattle.xlsx_parts.specs.WholePart.{IsBreakError}
 use Rattle.xlsx_areas.specs.LinkErrors.{IsLinksError}
 

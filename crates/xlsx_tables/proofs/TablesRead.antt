@@ -1,5 +1,5 @@
 -- Which refusals of the layers below are refusals of tables.
-use Rattle.std.proofs.Common.{◌≡◌, ℕ, List, codes, Result, Err, ap}
+use Rattle.std.proofs.Common.{◌≡◌, ℕ, List, Result, Err, ap}
 use Rattle.cell_refs.specs.declared.dimensions.Dimensions.{Dimensions}
 use Rattle.part_events.specs.declared.fault.XmlFault.TheVariants.{EndMismatch, Entity}
 use Rattle.xlsx_error.specs.declared.error.XlsxError.{XlsxError}
