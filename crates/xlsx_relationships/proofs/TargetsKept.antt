@@ -72,7 +72,8 @@ all_held : (led : List ℕ → Option (List ℕ)) (answer : Result (List LinkTar
     → (targets : List LinkTarget) × (answer ≡ Ok targets)
     × ((id : List ℕ) → led id ≡ target_in targets id)
 all_held led (Err refusal) is = absurd (let never = is [] in cc)
-all_held led (Ok targets) is = (targets, refl, λ id. held_one (led id) (target_in targets id) (is id))
+all_held led (Ok targets) is =
+    (targets, refl, λ id. held_one (led id) (target_in targets id) (is id))
 
 -- the targets by their Ids are those in the section
 pub targets_held : (inside : List Event) (first kept : BTreeMap (String Global) (String Global))

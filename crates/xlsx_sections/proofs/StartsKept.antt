@@ -1,6 +1,6 @@
 -- What is kept of the starts of a section is what they give.
-use Rattle.std.proofs.Common.{map, map-id, option_map}
-use Rattle.std.proofs.Common.{◌≡◌, ℕ, List, [], ◌∷◌, ◌++◌, Bool, Option, Some, None, Result, Ok, Err}
+use Rattle.std.proofs.Common.{◌≡◌, ℕ, List, [], ◌∷◌, ◌++◌, Bool, Option, Some, None, Result, Ok}
+use Rattle.std.proofs.Common.{Err, map, map-id, option_map}
 use Rattle.std.proofs.Common.{refl, sym, ◌∙◌, ap, append-nil, subst, arith}
 use Rattle.std.specs.Prelude.{IsSomeAnd}
 use Rattle.part_events.specs.Event.{Tag, Event}

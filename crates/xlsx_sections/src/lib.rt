@@ -11,12 +11,12 @@
 //! and `plain_told` which error tells of it: these two are what a new section adds to. When a call
 //! on a package is refused is one relation for all of them (`FailsBy`), over its cause.
 //!
-//! **A list has no loop of its own.** A keeper (`Keeps`) says by a ghost function what a start makes
-//! of what is held, and `keep_starts` is the one loop over starts. `Reads` says what one start
-//! gives: of these `keep_all` keeps all, and `keep_last` the last. `ReadsEach` says what one element
-//! says, and `keep_elements` is the loop over these. A loop that keeps more than that asks for the
-//! next start, event or element, hands it on, and has one invariant: what is kept, with what the
-//! rest says, is what the whole says.
+//! **A list has no loop of its own.** A keeper (`Keeps`) says by a ghost function what a start
+//! makes of what is held, and `keep_starts` is the one loop over starts. `Reads` says what one
+//! start gives: of these `keep_all` keeps all, and `keep_last` the last. `ReadsEach` says what one
+//! element says, and `keep_elements` is the loop over these. A loop that keeps more than that asks
+//! for the next start, event or element, hands it on, and has one invariant: what is kept, with
+//! what the rest says, is what the whole says.
 //!
 //! **Where a part ends is told by what stands in the section.** The text of `XmlEof` is a function
 //! of that (`Ending`): the name of the section, or, inside an element that is read, the text that
@@ -35,12 +35,11 @@
 //! the part.
 //!
 //! Its lemma files: `SectionsRead` (how a section is read on), `ElementsRead` (how its elements are
-//! read, each to its end), `StartsSaid` (what starts say is kept start by start), `StartsKept` (what
-//! is kept of starts is what they give), `ElementsSaid` (what elements say, element by element),
-//! `ListsRead` (how a list of elements is kept), `Refused`
-//! (how a refusal passes from an element to its section), `Failing` (how a cause is handed on),
-//! `Kept` (what is kept of many elements) and `Sound` (a closed section without a refused element
-//! has no cause).
+//! read, each to its end), `StartsSaid` (what starts say is kept start by start), `StartsKept`
+//! (what is kept of starts is what they give), `ElementsSaid` (what elements say, element by
+//! element), `ListsRead` (how a list of elements is kept), `Refused` (how a refusal passes from an
+//! element to its section), `Failing` (how a cause is handed on), `Kept` (what is kept of many
+//! elements) and `Sound` (a closed section without a refused element has no cause).
 #![tactic(auto)]
 
 mod decode;

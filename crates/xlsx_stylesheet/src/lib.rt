@@ -11,8 +11,8 @@
 //! loop (`keep_elements` of xlsx_sections). The loop over cell formats has the same invariant
 //! (`KeepsList`) for each list of codes that their numbers may name: what is kept, with what the
 //! rest of the element says, is what was kept before with what the whole says. The section is a
-//! chain of changes (`list_change`) of five lists, so that a second element of a name makes its list
-//! longer, and a cell format sees what stands before it.
+//! chain of changes (`list_change`) of five lists, so that a second element of a name makes its
+//! list longer, and a cell format sees what stands before it.
 //!
 //! The lemma file is `Sound`.
 #![tactic(auto)]
