@@ -9,7 +9,7 @@ use Rattle.xlsx_error.specs.declared.error.XlsxError.{XlsxError}
 use Rattle.xlsx_error.specs.declared.error.XlsxError.TheVariants.{OutOfMemory, Io, Xml, XmlEof}
 use Rattle.xlsx_sections.specs.Elements.{IsInsideRefused}
 use Rattle.xlsx_sections.specs.Failing.{FailsBy}
-use Rattle.xlsx_sections.specs.PartSection.{PartSection, SectionCause, IsStepError, always}
+use Rattle.xlsx_sections.specs.PartSection.{PartSection, SectionCause, always}
 use Rattle.xlsx_sections.specs.PartSection.{section_in}
 use Rattle.xlsx_parts.specs.WholePart.{IsBreakError}
 use Rattle.xlsx_parts.proofs.SoundParts.{no_lacking_cause}
@@ -25,13 +25,6 @@ regions_step _ is = absurd is
 pub own_error : (error : XlsxError) → IsRegionsError error → IsMergesError error
 own_error (XmlEof element) is = absurd is
 own_error error is = is
-
-pub merges_step : (error : XlsxError) → IsStepError [] error → IsMergesError error
-merges_step OutOfMemory is = tt
-merges_step Io is = tt
-merges_step (Xml (EndMismatch at)) is = tt
-merges_step (XmlEof element) is = is
-merges_step _ is = absurd is
 
 pub break_merges : (error : XlsxError) → IsBreakError error → IsMergesError error
 break_merges OutOfMemory is = tt

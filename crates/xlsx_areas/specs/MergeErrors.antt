@@ -1,7 +1,7 @@
 -- Which refusals merged cells have, and when.
-use Rattle.std.specs.Prelude.{◌≡◌, ⊤, [], codes, List, ℕ, None}
+use Rattle.std.specs.Prelude.{◌≡◌, ⊤, [], codes, List, ℕ, None, Result, OnOk, IfErr}
 use Rattle.part_events.specs.Event.{Event}
-use Rattle.part_events.specs.Package.{PackageState, part_of}
+use Rattle.part_events.specs.Package.{PackageState, KeepsFaults, part_of}
 use Rattle.part_events.specs.declared.fault.XmlFault.TheVariants.{EndMismatch}
 use Rattle.xlsx_error.specs.declared.error.XlsxError.{XlsxError}
 use Rattle.xlsx_error.specs.declared.error.XlsxError.TheVariants.{OutOfMemory, Io, Xml}
@@ -65,3 +65,8 @@ IsRegionsError _ = ⊥
 abbrev pub IsMergesError : XlsxError → Type 0
 IsMergesError (XmlEof element) = element.now ≡ []
 IsMergesError error = IsRegionsError error
+
+-- a call adds no fault of the package, but by its own refusal
+abbrev pub LeavesFaults : {A : Type 0} → Result A XlsxError → PackageState → PackageState → Type 0
+LeavesFaults result old new =
+    OnOk result (new.faults ≡ old.faults) × IfErr result (KeepsFaults Io old new)

@@ -1,6 +1,7 @@
-ghost use Rattle.std.specs.Prelude.{◌≡◌, ◌≤◌, ◌++◌, ℕ, List, map, suc, length, true, Ok, Some};
-ghost use Rattle.std.specs.Prelude.{option_map, option_and_then, Result, IfOk, OnOk, IfErr};
-ghost use Rattle.std.specs.Prelude.{codes, option_to_list, string_bytes};
+ghost use Rattle.std.proofs.Common.{rules};
+ghost use Rattle.std.specs.Prelude.{◌≡◌, ◌≤◌, ℕ, map, suc, length, true, Ok, Some};
+ghost use Rattle.std.specs.Prelude.{option_map, option_and_then, IfOk, OnOk, IfErr, codes};
+ghost use Rattle.std.specs.Prelude.{string_bytes};
 ghost use Rattle.std.specs.Option.{option_copied};
 ghost use Rattle.std.specs.Result.{is_err};
 ghost use Rattle.cell_refs.specs.A1.{area};
@@ -11,11 +12,10 @@ ghost use Rattle.part_events.specs.Reading.{IsReadingElement, ReadsElement, ahea
 ghost use Rattle.part_events.specs.Section.{content};
 ghost use Rattle.part_events.specs.Walk.{section_ahead};
 ghost use Rattle.xlsx_error.specs.declared.error.XlsxError.TheVariants.{Io};
-ghost use Rattle.xlsx_sections.specs.Answers.{prepended, and_others_if};
 ghost use Rattle.xlsx_sections.specs.Elements.{ElementReadFails, IsInsideRefused, ReachesEnd};
 ghost use Rattle.xlsx_sections.specs.PartSection.{always, SectionFails};
 ghost use Rattle.xlsx_sections.specs.Placed.{placed};
-ghost use Rattle.xlsx_sections.specs.Refusal.{Refusal, ElementFails, IsDecodeError, placed_at};
+ghost use Rattle.xlsx_sections.specs.Refusal.{ElementFails, IsDecodeError, placed_at};
 ghost use Rattle.xlsx_relationships.specs.LinkTargets.{target_held};
 ghost use Rattle.xlsx_areas.specs.Hyperlinks.{Link, optional_text, linked, link_of};
 ghost use Rattle.xlsx_areas.specs.Hyperlinks.{links_in, link_said};
@@ -29,7 +29,7 @@ use std::alloc::{AllocError, Global};
 use std::collections::BTreeMap;
 use xlsx_error::XlsxError;
 use xlsx_relationships::link_text;
-use xlsx_sections::{next_start_in, start_tag};
+use xlsx_sections::{Reads, keep_all};
 
 /// A text of a start that may have none.
 fn optional_text(alloc: Global, text: Option<&str>, at: u64) -> Result<Option<String>, XlsxError>
@@ -133,42 +133,34 @@ fn link_of(
     Ok(Some(link))
 }
 
-/// Appends a link, where there is one.
-fn push_if(links: &mut Vec<Hyperlink>, link: Option<Hyperlink>) -> Result<(), AllocError>
-    ensures { OnOk result (map link_said links.new.items
-        ≡ map link_said links.old.items ++ option_to_list (option_map link_said link)) }
-{
-    if let Some(link) = link {
-        links.push(link)?;
-    }
-    Ok(())
+/// Reads the links of starts, where these are the targets by their Ids.
+#[derive(Drop)]
+struct LinkReader<'a> {
+    alloc: Global,
+    targets: &'a BTreeMap<String, String>,
 }
 
-/// Appends the link of a start that gives one.
-fn push_link(
-    alloc: Global,
-    links: &mut Vec<Hyperlink>,
-    targets: &BTreeMap<String, String>,
-    tag: StartTag<'_>,
-    at: u64,
-) -> Result<(), XlsxError>
-    ensures ok { let by = target_held targets.now in
-        OnOk result ((behind : ℕ) (others : Result (List Link) Refusal) →
-        prepended (map link_said links.new.items) others
-        ≡ prepended (map link_said links.old.items)
-        (and_others_if (link_of by (placed_at (tag_of tag.entry) behind)) others)) }
-    ensures err { let by = target_held targets.now in
-        IfErr result (λ error. (behind : ℕ) →
-        ElementFails (link_of by (placed_at (tag_of tag.entry) behind)) at behind error) }
-    ensures kind { IfErr result IsLinksError }
-{
-    let link = link_of(alloc, targets, tag, at)?;
-    push_if(links, link)?;
-    Ok(())
+impl Reads for LinkReader<'_> {
+    type Item = Hyperlink;
+
+    ghost Kept = { Link };
+
+    ghost said = { link_said };
+
+    ghost meaning = { λ r. link_of (target_held r.targets.now) };
+
+    ghost section = { codes "hyperlinks" };
+
+    ghost Kind = { IsLinksError };
+
+    ghost kinds = { Prim.search rules };
+
+    fn read(&self, tag: StartTag<'_>, at: u64) -> Result<Option<Hyperlink>, XlsxError> {
+        link_of(self.alloc, self.targets, tag, at)
+    }
 }
 
 /// The links in a section of hyperlinks whose element is number `base` of the open ones.
-#[tactic(auto, using(crate::proofs::LinksRead::links_step))]
 pub fn links_in<P: Package>(
     alloc: Global,
     package: &mut P,
@@ -195,11 +187,16 @@ pub fn links_in<P: Package>(
         IfErr result (SectionFails (always (codes "hyperlinks")) refused base old new) }
     ensures kind { IfErr result IsLinksError }
 {
-    let mut links = Vec::new(alloc);
-    'starts: while let Some(at) = next_start_in(package, cursor, base, "hyperlink", "hyperlinks")? {
-        push_link(alloc, &mut links, targets, start_tag(package), at)?;
-    }
-    Ok(links)
+    let by = LinkReader { alloc, targets };
+    keep_all(
+        alloc,
+        package,
+        cursor,
+        base,
+        &["hyperlink"],
+        "hyperlinks",
+        by,
+    )
 }
 
 /// Reads the hyperlinks at whose start the reader stands, to its end (ECMA-376 part 1, section

@@ -1,3 +1,4 @@
+ghost use Rattle.std.proofs.Common.{rules};
 ghost use Rattle.std.specs.Prelude.{◌≡◌, ◌≤◌, ◌++◌, ℕ, List, [], suc, length, true, Some, Ok};
 ghost use Rattle.std.specs.Prelude.{Result};
 ghost use Rattle.std.specs.Prelude.{IfOk, OnOk, IfErr, option_to_list};
@@ -25,7 +26,7 @@ use part_events::{Cursor, Package, StartTag, XlReader};
 use std::alloc::{AllocError, Global};
 use xlsx_error::XlsxError;
 use xlsx_parts::next_start_of_part;
-use xlsx_sections::{next_start_in, start_tag};
+use xlsx_sections::{Reads, keep_all, start_tag};
 
 /// The area that the start of merged cells names.
 fn merge_of(tag: StartTag<'_>) -> Result<Option<Dimensions>, XlsxError>
@@ -66,8 +67,33 @@ fn push_merge(areas: &mut Vec<Dimensions>, tag: StartTag<'_>) -> Result<(), Xlsx
     Ok(())
 }
 
+/// Reads the areas of merged cells.
+#[derive(Drop)]
+struct MergeReader;
+
+impl Reads for MergeReader {
+    type Item = Dimensions;
+
+    ghost Kept = { Dimensions };
+
+    ghost said = { λ area. area };
+
+    ghost meaning = { λ r. merge_of };
+
+    ghost section = { [] };
+
+    ghost Kind = { IsMergesError };
+
+    ghost kinds = { Prim.search rules };
+
+    #[tactic(auto, using(crate::proofs::MergesRead::own_error))]
+    fn read(&self, tag: StartTag<'_>, _at: u64) -> Result<Option<Dimensions>, XlsxError> {
+        merge_of(tag)
+    }
+}
+
 /// The areas in a section of merged cells whose element is number `base` of the open ones.
-#[tactic(auto, using(crate::proofs::MergesRead::merges_step, crate::proofs::MergesRead::own_error))]
+#[tactic(auto, using(xlsx_sections::proofs::StartsKept::own_items))]
 pub fn merges_in<P: Package>(
     alloc: Global,
     package: &mut P,
@@ -91,11 +117,15 @@ pub fn merges_in<P: Package>(
         IfErr result (SectionFails (always []) (IsInsideRefused merges_in) base old new) }
     ensures kind { IfErr result IsMergesError }
 {
-    let mut areas = Vec::new(alloc);
-    'starts: while let Some(_at) = next_start_in(package, cursor, base, "mergeCell", "")? {
-        push_merge(&mut areas, start_tag(package))?;
-    }
-    Ok(areas)
+    keep_all(
+        alloc,
+        package,
+        cursor,
+        base,
+        &["mergeCell"],
+        "",
+        MergeReader,
+    )
 }
 
 /// Reads the merged cells at whose start the reader stands, to its end (ECMA-376 part 1, section

@@ -1,6 +1,6 @@
 ghost use Rattle.std.specs.Prelude.{◌≡◌, codes, length, true, None, Some, IfOk, OnOk, IfErr};
 ghost use Rattle.std.specs.Prelude.{IsSome, MatchOption};
-ghost use Rattle.part_events.specs.Package.{Uses, CountsUp, KeepsFaults, part_of, event_count};
+ghost use Rattle.part_events.specs.Package.{Uses, CountsUp, part_of, event_count};
 ghost use Rattle.part_events.specs.Reading.{reading, IsReading, ReadsPart, MovesForward, events_of};
 ghost use Rattle.xlsx_error.specs.declared.error.XlsxError.TheVariants.{Io};
 ghost use Rattle.xlsx_sections.specs.Failing.{FailsBy};
@@ -8,7 +8,7 @@ ghost use Rattle.xlsx_sections.specs.SectionEvents.{ReadsToEnd, section_events};
 ghost use Rattle.xlsx_parts.specs.WholePart.{IsBreakError};
 ghost use Rattle.xlsx_areas.specs.MergeErrors.{IsRegionsError, IsMergesError, MergesCause};
 ghost use Rattle.xlsx_areas.specs.MergeErrors.{MergesFail, RegionsFail, BreaksBefore};
-ghost use Rattle.xlsx_areas.specs.MergeErrors.{BreaksBeforeMerges};
+ghost use Rattle.xlsx_areas.specs.MergeErrors.{BreaksBeforeMerges, LeavesFaults};
 ghost use Rattle.xlsx_areas.specs.MergedCells.{merges_of, merges_at, regions_at};
 ghost use Rattle.xlsx_areas.specs.MergedCells.{merges_or_none_of, merges_or_none_at};
 
@@ -129,12 +129,7 @@ fn merges_or_none<P: Package>(
         let count = section_events (codes "mergeCells") (events_of old) in
         old.source.is_told ≡ true → IsSome (merges_of (events_of old)) →
         OnOk result (new.at ≡ count) }
-    ensures faults { let old = reading (P.state «package».old) cursor.old in
-        let new = reading (P.state «package».new) cursor.new in
-        OnOk result (new.source.faults ≡ old.source.faults) }
-    ensures counts { let old = reading (P.state «package».old) cursor.old in
-        let new = reading (P.state «package».new) cursor.new in
-        IfErr result (KeepsFaults Io old.source new.source) }
+    ensures faults { LeavesFaults result (P.state «package».old) (P.state «package».new) }
     ensures err { let old = reading (P.state «package».old) cursor.old in
         let new = reading (P.state «package».new) cursor.new in
         IfErr result (FailsBy (BreaksBefore (events_of old)) old.source new.source) }

@@ -5,9 +5,8 @@ use Rattle.std.proofs.Common.{◌⊎◌}
 use Rattle.std.specs.Prelude.{◌||◌}
 use Rattle.std.specs.List.{last_or}
 use Rattle.part_events.specs.Event.{Tag, Event}
-use Rattle.part_events.specs.Reading.{Reading, ReadsOn, LeavesPart}
+use Rattle.part_events.specs.Reading.{Reading}
 use Rattle.part_events.specs.Section.{Element}
-use Rattle.part_events.proofs.Onward.{moves_further}
 use Rattle.xlsx_error.specs.declared.error.XlsxError.{XlsxError}
 use Rattle.cell_data.specs.declared.format.CellFormat.{CellFormat}
 use Rattle.xlsx_sections.specs.Answers.{or_earlier, some_answers, prepended}
@@ -68,14 +67,6 @@ stray_refused wants grounds format kind tag s named some =
     (said_value grounds format kind tag (inside_of s) ≡ Err (plain stray_child))
     (said_formula tag (inside_of s) ≡ Err (plain stray_child)) some
     (rw (named.0, named.1, named.2) refl) (rw (named.0, named.1, named.2) refl)
-
--- a refused call behind others that weren't
-pub leaves_further : {E : Type 0} {fault : E} {first mid new : Reading} {error : E}
-    → ReadsOn first mid → LeavesPart fault mid new error → LeavesPart fault first new error
-leaves_further reads leaves = record {
-  moves = moves_further reads.moves leaves.moves;
-  faults = λ other. leaves.faults other ∙ reads.stays.faults;
-}
 
 pub or_earlier_in_element : {A : Type 0} (element : Element) (kept next : Option A)
     (said : Result (Option A) Refusal) → or_earlier kept said ≡ Ok next

@@ -1,4 +1,5 @@
-ghost use Rattle.std.specs.Prelude.{◌≡◌, ℕ, codes, true, Ok, IfOk, IfErr, MatchResult, Err};
+ghost use Rattle.std.proofs.Common.{rules};
+ghost use Rattle.std.specs.Prelude.{◌≡◌, ⊤, ℕ, codes, true, Ok, IfOk, IfErr, MatchResult, Err};
 ghost use Rattle.part_events.specs.Event.{tag_of};
 ghost use Rattle.part_events.specs.Reading.{reading, IsReadingElement, ReadsElement, ahead};
 ghost use Rattle.part_events.specs.Section.{content};
@@ -8,12 +9,13 @@ ghost use Rattle.xlsx_sections.specs.PartSection.{always};
 ghost use Rattle.xlsx_sections.specs.Refusal.{plain, lookup_fault, placed_at};
 ghost use Rattle.xlsx_styles.specs.Errors.{IsPlainError};
 ghost use Rattle.xlsx_formats.specs.Formattings.{setting_change, settings_of};
+ghost use Rattle.xlsx_formats.specs.declared.settings.Settings.{Settings};
 
 use attr_text::{AttrFault, RawAttributes};
 use cell_styles::{Alignment, Protection};
 use part_events::{Cursor, Package, StartTag};
 use xlsx_error::XlsxError;
-use xlsx_sections::{next_start_among, start_tag};
+use xlsx_sections::{Keeps, keep_in_element};
 use xlsx_styles::{parse_alignment, parse_protection};
 
 /// What the elements in a cell format set.
@@ -39,8 +41,28 @@ fn change_setting(settings: &mut Settings, tag: StartTag<'_>) -> Result<(), Attr
     Ok(())
 }
 
+impl Keeps for Settings {
+    ghost Index = { ⊤ };
+
+    ghost Held = { Settings };
+
+    ghost held = { λ k i. k };
+
+    ghost change = { λ k i. setting_change };
+
+    ghost section = { codes "xf" };
+
+    ghost Kind = { IsPlainError (codes "xf") };
+
+    ghost kinds = { Prim.search rules };
+
+    fn take(&mut self, tag: StartTag<'_>, _at: u64) -> Result<(), XlsxError> {
+        change_setting(self, tag)?;
+        Ok(())
+    }
+}
+
 /// Reads the cell format at whose start the package stands, to its end, for what is set in it.
-#[tactic(auto, using(xlsx_styles::proofs::StepErrors::plain_step))]
 pub fn read_settings<P: Package>(
     package: &mut P,
     cursor: &mut Cursor,
@@ -57,19 +79,16 @@ pub fn read_settings<P: Package>(
         IfErr result (ElementReadFails (always (codes "xf")) settings_of old new) }
     ensures kind { IfErr result (IsPlainError (codes "xf")) }
 {
-    let base = cursor.depth();
     let mut settings = Settings {
         alignment: None,
         protection: None,
     };
-    'starts: while let Some(_at) = next_start_among(
+    keep_in_element(
         package,
         cursor,
-        base,
         &["alignment", "protection"],
         "xf",
-    )? {
-        change_setting(&mut settings, start_tag(package))?;
-    }
+        &mut settings,
+    )?;
     Ok(settings)
 }

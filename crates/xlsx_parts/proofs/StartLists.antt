@@ -2,18 +2,19 @@
 use Rattle.std.proofs.Common.{◌≡◌, ℕ, List, [], ◌++◌, Bool, Option, Some, None, Result, Ok}
 use Rattle.std.proofs.Common.{Err}
 use Rattle.std.proofs.Common.{length, refl, ap, sym, ◌∙◌, true, append-nil, option_to_list}
-use Rattle.part_events.specs.Event.{Tag, Event}
+use Rattle.part_events.specs.Event.{Tag}
 use Rattle.part_events.specs.Package.{PackageState}
 use Rattle.part_events.specs.Reading.{Reading}
 use Rattle.part_events.specs.Section.{PlacedTag, starts_by}
 use Rattle.part_events.specs.Walk.{section_ahead}
 use Rattle.xlsx_error.specs.declared.error.XlsxError.{XlsxError}
 use Rattle.xlsx_sections.specs.Answers.{some_answers, and_others_if, prepended}
-use Rattle.xlsx_sections.specs.Elements.{IsInsideRefused, KeepsStarts}
+use Rattle.xlsx_sections.specs.Elements.{IsInsideRefused}
+use Rattle.xlsx_sections.specs.Keeping.{some_in}
 use Rattle.xlsx_sections.specs.PartSection.{Ending}
 use Rattle.xlsx_sections.specs.Refusal.{Refusal, ElementFails, placed_at}
 use Rattle.xlsx_sections.specs.Steps.{IsStartFound}
-use Rattle.xlsx_sections.proofs.Kept.{prepended-nil, prepended-and_others}
+use Rattle.xlsx_sections.proofs.Kept.{prepended-and_others}
 use Rattle.xlsx_sections.proofs.StartsSaid.{KeepsSaid, said_further, said_refused, FailsFrom}
 
 -- what some starts give, behind what those before them gave
@@ -21,23 +22,10 @@ abbrev pub some_behind : {A : Type 0} → (PlacedTag → Result (Option A) Refus
     → List PlacedTag → Result (List A) Refusal
 some_behind answer kept starts = prepended kept (some_answers answer starts)
 
--- what a list of events gives by its starts of one kind
-abbrev pub some_in : {A : Type 0} → (Tag → Bool) → (PlacedTag → Result (Option A) Refusal)
-    → List Event → Result (List A) Refusal
-some_in wanted answer events = some_answers answer (starts_by wanted events)
-
 abbrev pub KeepsSome : {A : Type 0} → (Tag → Bool) → (PlacedTag → Result (Option A) Refusal)
     → ℕ → List A → Reading → Reading → Type 0
 KeepsSome wanted answer base kept first now =
     KeepsSaid wanted (some_behind answer) (some_in wanted answer) base kept first now
-
-pub some_begin : {A : Type 0} {wanted : Tag → Bool} {base : ℕ} {first : Reading}
-    (answer : PlacedTag → Result (Option A) Refusal) → KeepsStarts base first first
-    → KeepsSome wanted answer base [] first first
-some_begin {wanted = wanted} {base = base} {first = first} answer keeps = record {
-  keeps = keeps;
-  same = λ told. prepended-nil (some_in wanted answer (section_ahead base first));
-}
 
 -- one more start is kept
 pub some_further : {A : Type 0} {wanted : Tag → Bool} {base place : ℕ} {kept next : List A}

@@ -1,5 +1,5 @@
 -- How a part is read whole.
-use Rattle.std.proofs.Common.{◌≡◌, ℕ, zero, suc, ◌+◌, ◌-◌, List, [], ◌∷◌, ◌++◌, length, reverse}
+use Rattle.std.proofs.Common.{◌≡◌, ℕ, zero, suc, List, [], ◌∷◌, ◌++◌, length, reverse}
 use Rattle.std.proofs.Common.{true, false, Option, Some, None, refl, ◌∙◌, ap, arith}
 use Rattle.std.proofs.Common.{subst, append-nil, Result, Err}
 use Rattle.std.specs.Prelude.{slice_get, if◌then◌else◌}
@@ -9,7 +9,7 @@ use Rattle.std.proofs.lemmas.List.{length-reverse}
 use Rattle.part_events.specs.Event.{Tag, Event, start, end, leaf}
 use Rattle.part_events.specs.Nesting.{open_name, closes, whole_rest, whole}
 use Rattle.part_events.specs.Package.{PackageState}
-use Rattle.part_events.specs.Reading.{Reading, IsReading, ReadsOn, IsAtEnd, ahead, events_of}
+use Rattle.part_events.specs.Reading.{Reading, IsReading, ReadsOn, IsAtEnd, events_of}
 use Rattle.part_events.specs.Section.{content, is_closed}
 use Rattle.part_events.specs.Walk.{section_ahead, is_closed_ahead, inside}
 use Rattle.part_events.specs.declared.fault.XmlFault.TheVariants.{EndMismatch, Unclosed}

@@ -37,14 +37,6 @@ relationships_step (Xml (EndMismatch at)) is = tt
 relationships_step (XmlEof element) is = inl is
 relationships_step _ is = absurd is
 
-pub pivot_step : (error : XlsxError) → IsStepError (codes "pivotTableDefinition") error
-    → IsPivotsError error
-pivot_step OutOfMemory is = tt
-pivot_step Io is = tt
-pivot_step (Xml (EndMismatch at)) is = tt
-pivot_step (XmlEof element) is = inr is
-pivot_step _ is = absurd is
-
 pub name_error : (error : XlsxError) → IsNameError error → IsPivotsError error
 name_error OutOfMemory is = tt
 name_error (Xml (Entity at)) is = tt

@@ -1,18 +1,15 @@
-ghost use Rattle.std.specs.Prelude.{◌≡◌, ◌≤◌, ℕ, Ok, Some, codes, length, true, option_map};
-ghost use Rattle.std.specs.Prelude.{string_bytes, IfOk, OnOk, IfErr};
+ghost use Rattle.std.proofs.Common.{rules};
+ghost use Rattle.std.specs.Prelude.{◌≡◌, ⊤, ℕ, List, Option, Ok, Some, codes, length, true};
+ghost use Rattle.std.specs.Prelude.{option_map, string_bytes, IfOk, OnOk, IfErr};
 ghost use Rattle.part_events.specs.Event.{tag_of};
 ghost use Rattle.part_events.specs.Package.{Uses, event_count};
-ghost use Rattle.part_events.specs.Reading.{reading, open_elements, IsReading, ReadsPart};
-ghost use Rattle.part_events.specs.Reading.{events_of};
-ghost use Rattle.part_events.specs.Walk.{section_ahead};
+ghost use Rattle.part_events.specs.Reading.{reading, IsReading, ReadsPart, events_of};
 ghost use Rattle.xlsx_error.specs.declared.error.XlsxError.TheVariants.{Io};
-ghost use Rattle.xlsx_sections.specs.Elements.{IsInsideRefused, ReachesEnd};
 ghost use Rattle.xlsx_sections.specs.Failing.{FailsBy};
-ghost use Rattle.xlsx_sections.specs.PartSection.{always, SectionFails};
 ghost use Rattle.xlsx_sections.specs.Refusal.{ElementFails, placed_at};
 ghost use Rattle.xlsx_sections.specs.SectionEvents.{ReadsToEnd, section_events};
 ghost use Rattle.xlsx_pivots.specs.PivotErrors.{IsPivotsError};
-ghost use Rattle.xlsx_pivots.specs.PivotParts.{name_kept, name_behind, name_in_part, NameCause};
+ghost use Rattle.xlsx_pivots.specs.PivotParts.{name_kept, name_in_part, NameCause};
 ghost use Rattle.xlsx_pivots.specs.Pivots.{pivot_name_at, NameAtCause};
 
 use crate::single::Single;
@@ -20,7 +17,7 @@ use part_events::{Cursor, Package, StartTag};
 use std::alloc::Global;
 use xlsx_error::XlsxError;
 use xlsx_parts::{find_element, open_part};
-use xlsx_sections::{name_by, next_start_in, start_tag};
+use xlsx_sections::{Keeps, keep_starts, name_by, start_tag};
 
 /// Keeps the name of a start, where it has one. The start is event number `at` of its part.
 #[tactic(auto, using(crate::proofs::PivotsRead::name_error))]
@@ -42,44 +39,31 @@ fn keep_name(
     Single::Name.keep(kept, name)
 }
 
-/// Keeps the name in a pivot table whose element is number `base` of the open ones, behind what
-/// its own start says.
-#[tactic(auto, using(crate::proofs::PivotsRead::pivot_step))]
-fn keep_names<P: Package>(
+/// Keeps the name of a pivot table.
+#[derive(Drop)]
+struct NameKeeper {
     alloc: Global,
-    package: &mut P,
-    cursor: &mut Cursor,
-    base: usize,
-    kept: &mut Option<String>,
-) -> Result<(), XlsxError>
-    requires reading { IsReading (reading (P.state «package».old) cursor.old) }
-    requires within { base ≤ length (open_elements cursor.old) }
-    ensures reads { let old = reading (P.state «package».old) cursor.old in
-        let new = reading (P.state «package».new) cursor.new in
-        ReadsPart Io result old new }
-    ensures reaches { let old = reading (P.state «package».old) cursor.old in
-        let new = reading (P.state «package».new) cursor.new in
-        old.source.is_told ≡ true → OnOk result (ReachesEnd base old new) }
-    ensures name { let old = reading (P.state «package».old) cursor.old in
-        old.source.is_told ≡ true → OnOk result
-        (name_behind (option_map string_bytes kept.old) (section_ahead base old)
-        ≡ Ok (option_map string_bytes kept.new)) }
-    ensures err { let old = reading (P.state «package».old) cursor.old in
-        let new = reading (P.state «package».new) cursor.new in
-        IfErr result (SectionFails (always (codes "pivotTableDefinition"))
-        (IsInsideRefused (name_behind (option_map string_bytes kept.old))) base old new) }
-    ensures kind { IfErr result IsPivotsError }
-{
-    'starts: while let Some(at) = next_start_in(
-        package,
-        cursor,
-        base,
-        "pivotTableDefinition",
-        "pivotTableDefinition",
-    )? {
-        keep_name(alloc, kept, start_tag(package), at)?;
+    kept: Option<String>,
+}
+
+impl Keeps for NameKeeper {
+    ghost Index = { ⊤ };
+
+    ghost Held = { Option (List ℕ) };
+
+    ghost held = { λ k i. option_map string_bytes k.kept };
+
+    ghost change = { λ k i. name_kept };
+
+    ghost section = { codes "pivotTableDefinition" };
+
+    ghost Kind = { IsPivotsError };
+
+    ghost kinds = { Prim.search rules };
+
+    fn take(&mut self, tag: StartTag<'_>, at: u64) -> Result<(), XlsxError> {
+        keep_name(self.alloc, &mut self.kept, tag, at)
     }
-    Ok(())
 }
 
 /// The name of the first pivot table of a part of which nothing was taken.
@@ -109,11 +93,18 @@ fn name_in_part<P: Package>(
     let Some(at) = find_element(package, cursor, "pivotTableDefinition")? else {
         return Err(XlsxError::XmlEof("pivotTableDefinition"));
     };
-    let mut kept = None;
-    keep_name(alloc, &mut kept, start_tag(package), at)?;
+    let mut keeper = NameKeeper { alloc, kept: None };
+    keep_name(alloc, &mut keeper.kept, start_tag(package), at)?;
     let base = cursor.depth();
-    keep_names(alloc, package, cursor, base, &mut kept)?;
-    match kept {
+    keep_starts(
+        package,
+        cursor,
+        base,
+        &["pivotTableDefinition"],
+        "pivotTableDefinition",
+        &mut keeper,
+    )?;
+    match keeper.kept {
         Some(name) => Ok(name),
         None => Err(Single::Name.lacking()),
     }

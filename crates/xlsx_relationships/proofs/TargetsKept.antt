@@ -1,88 +1,108 @@
 -- Where hyperlinks lead is kept start by start, of an Id the last.
-use Rattle.std.proofs.Common.{◌≡◌, ℕ, List, [], ◌∷◌, ◌++◌, Bool, true, false, Option, Some, None}
-use Rattle.std.proofs.Common.{Result, Ok, Err, refl, ap, sym, ◌∙◌, append-nil, option_to_list}
-use Rattle.std.proofs.Common.{codes}
+use Rattle.std.proofs.Common.{◌≡◌, ℕ, List, [], ◌∷◌, Bool, true, false, Option, Some, None}
+use Rattle.std.proofs.Common.{Result, Ok, Err, refl, ap, sym, ◌∙◌, codes}
 use Rattle.std.specs.BTreeMap.{BTreeMap}
 use Rattle.std.specs.Option.{option_or}
 use Rattle.std.specs.Prelude.{if◌then◌else◌, String}
 use Rattle.std.specs.Str.{bytes_eq}
 use Rattle.std.specs.declared.alloc.Global.{Global}
-use Rattle.part_events.specs.Event.{Tag}
-use Rattle.part_events.specs.Reading.{Reading}
-use Rattle.part_events.specs.Section.{is_named}
+use Rattle.part_events.specs.Event.{Tag, Event}
+use Rattle.part_events.specs.Section.{PlacedTag, is_named}
 use Rattle.xlsx_error.specs.declared.error.XlsxError.{XlsxError}
-use Rattle.xlsx_sections.specs.Elements.{KeepsStarts}
+use Rattle.xlsx_sections.specs.Answers.{some_answers, and_others_if}
+use Rattle.xlsx_sections.specs.Changes.{all_changes, changed_by}
+use Rattle.xlsx_sections.specs.Keeping.{changed_in}
 use Rattle.xlsx_sections.specs.Refusal.{Refusal, ElementFails}
-use Rattle.xlsx_sections.specs.Steps.{IsStartFound}
-use Rattle.xlsx_sections.specs.Refusal.{placed_at}
 use Rattle.xlsx_sections.proofs.Refused.{refused_at_weaker}
-use Rattle.xlsx_parts.proofs.StartLists.{KeepsSome, some_begin, some_further, some_kept}
 use Rattle.xlsx_relationships.specs.LinkTargets.{LinkTarget, link_target_of, later_target}
 use Rattle.xlsx_relationships.specs.LinkTargets.{target_in, target_held, HoldsTargets}
+use Rattle.xlsx_relationships.specs.LinkTargets.{later_of, put_later, link_targets_in}
 use Rattle.xlsx_relationships.specs.LinkTargets.{without_escapes, leading_to}
+use Rattle.xlsx_relationships.specs.Relationships.{relationship_starts}
 
-abbrev Kept : Type 0
-Kept = BTreeMap (String Global) (String Global)
+-- where an Id leads by some targets, and else as it did before
+abbrev led_by : List ℕ → Option (List ℕ) → Result (List LinkTarget) Refusal
+    → Result (Option (List ℕ)) Refusal
+led_by id earlier (Ok targets) = Ok (option_or (target_in targets id) earlier)
+led_by id earlier (Err refusal) = Err refusal
 
-later_or : (own : LinkTarget) (id : List ℕ) (found other : Option (List ℕ))
-    → option_or (later_target id (Some own) found) other
-    ≡ later_target id (Some own) (option_or found other)
-later_or own id found other =
-    elim (bytes_eq id own.id) as (λ b. option_or (if b then Some own.target else found) other
-    ≡ (if b then Some own.target else option_or found other)) [
+later_or : (own : LinkTarget) (id : List ℕ) (found earlier : Option (List ℕ))
+    → option_or found (later_target id (Some own) earlier)
+    ≡ option_or (option_or found (later_target id (Some own) None)) earlier
+later_or own id (Some target) earlier = refl
+later_or own id None earlier =
+    elim (bytes_eq id own.id) as (λ b. (if b then Some own.target else earlier)
+    ≡ option_or (if b then Some own.target else None) earlier) [
       | true ↦ refl
       | false ↦ refl
     ]
 
-last_stands : (targets : List LinkTarget) (own : LinkTarget) (id : List ℕ)
-    → target_in (targets ++ own ∷ []) id ≡ later_target id (Some own) (target_in targets id)
-last_stands [] own id = refl
-last_stands (first ∷ targets) own id =
-    ap (λ (later : Option (List ℕ)). option_or later (later_target id (Some first) None))
-    (last_stands targets own id)
-    ∙ later_or own id (target_in targets id) (later_target id (Some first) None)
+later_first : (id : List ℕ) (change : Option (List ℕ) → Result (Option (List ℕ)) Refusal)
+    (earlier : Option (List ℕ)) (own : Result (Option LinkTarget) Refusal)
+    (others : Result (List LinkTarget) Refusal)
+    → ((before : Option (List ℕ)) → change before ≡ led_by id before others)
+    → changed_by change (later_of id earlier own) ≡ led_by id earlier (and_others_if own others)
+later_first id change earlier (Err refusal) others same = refl
+later_first id change earlier (Ok None) others same = same earlier
+later_first id change earlier (Ok (Some own)) (Err refusal) same =
+    same (later_target id (Some own) earlier)
+later_first id change earlier (Ok (Some own)) (Ok targets) same =
+    same (later_target id (Some own) earlier)
+    ∙ ap (λ (found : Option (List ℕ)). let led : Result (Option (List ℕ)) Refusal = Ok found in led)
+    (later_or own id (target_in targets id) earlier)
 
--- one more is kept, if there is one
-holds_further : (targets : List LinkTarget) (found : Option LinkTarget) (old new : Kept)
-    → HoldsTargets targets old
-    → ((id : List ℕ) → target_held new id ≡ later_target id found (target_held old id))
-    → HoldsTargets (targets ++ option_to_list found) new
-holds_further targets None old new holds is id =
-    is id ∙ holds id
-    ∙ ap (λ (all : List LinkTarget). target_in all id) (sym (append-nil targets))
-holds_further targets (Some own) old new holds is id =
-    is id ∙ ap (later_target id (Some own)) (holds id) ∙ sym (last_stands targets own id)
+later_all : (id : List ℕ) (starts : List PlacedTag) (earlier : Option (List ℕ))
+    → all_changes (put_later id) starts earlier
+    ≡ led_by id earlier (some_answers link_target_of starts)
+later_all id [] earlier = refl
+later_all id (start ∷ starts) earlier =
+    later_first id (all_changes (put_later id) starts) earlier (link_target_of start)
+    (some_answers link_target_of starts) (λ before. later_all id starts before)
 
 abbrev pub is_relationship : Tag → Bool
 is_relationship tag = is_named (codes "Relationship" ∷ []) tag
 
--- the starts of a section of relationships were read up to here
-pub record KeepsTargets (base : ℕ) (kept : Kept) (first now : Reading) : Type 0 where
-  pub targets : List LinkTarget
-  pub list : KeepsSome is_relationship link_target_of base targets first now
-  pub holds : HoldsTargets targets kept
+held_one : (led found : Option (List ℕ)) → (let own : Result (Option (List ℕ)) Refusal =
+    Ok (option_or found None) in own) ≡ Ok led → led ≡ found
+held_one led (Some target) is = cc
+held_one led None is = cc
 
-pub targets_begin : {base : ℕ} {kept : Kept} {first : Reading} → KeepsStarts base first first
-    → HoldsTargets [] kept → KeepsTargets base kept first first
-targets_begin keeps holds = record {
-  targets = [];
-  list = some_begin link_target_of keeps;
-  holds = holds;
-}
+all_held : (led : List ℕ → Option (List ℕ)) (answer : Result (List LinkTarget) Refusal)
+    → ((id : List ℕ) → led_by id None answer ≡ Ok (led id))
+    → (targets : List LinkTarget) × (answer ≡ Ok targets)
+    × ((id : List ℕ) → led id ≡ target_in targets id)
+all_held led (Err refusal) is = absurd (let never = is [] in cc)
+all_held led (Ok targets) is =
+    (targets, refl, λ id. held_one (led id) (target_in targets id) (is id))
 
-pub targets_further : {base place : ℕ} {kept next : Kept} {tag : Tag} {first old new : Reading}
-    → KeepsTargets base kept first old → IsStartFound is_relationship base tag place first old new
-    → (found : Option LinkTarget)
-    × ((behind : ℕ) → link_target_of (placed_at tag behind) ≡ Ok found)
-    × ((id : List ℕ) → target_held next id ≡ later_target id found (target_held kept id))
-    → KeepsTargets base next first new
-targets_further {kept = kept} {next = next} {tag = tag} before there step = record {
-  targets = before.targets ++ option_to_list step.0;
-  list = some_further link_target_of before.list there
-      (λ behind others. some_kept before.targets step.0 (link_target_of (placed_at tag behind))
-      others (step.1 behind));
-  holds = holds_further before.targets step.0 kept next before.holds step.2;
-}
+-- the targets by their Ids are those in the section
+pub targets_held : (inside : List Event) (first kept : BTreeMap (String Global) (String Global))
+    → ((id : List ℕ) → target_held first id ≡ None)
+    → ((id : List ℕ) → changed_in is_relationship (put_later id) (target_held first id) inside
+    ≡ Ok (target_held kept id)) → (targets : List LinkTarget)
+    × (link_targets_in inside ≡ Ok targets) × HoldsTargets targets kept
+targets_held inside first kept none is =
+    all_held (target_held kept) (link_targets_in inside)
+    (λ id. sym (later_all id (relationship_starts inside) None)
+    ∙ ap (λ (earlier : Option (List ℕ)).
+    changed_in is_relationship (put_later id) earlier inside) (sym (none id))
+    ∙ is id)
+
+by_answer : (id : List ℕ) (answer : Result (List LinkTarget) Refusal) (refusal : Refusal)
+    → led_by id None answer ≡ Err refusal → answer ≡ Err refusal
+by_answer id (Ok targets) refusal is = absurd (cc)
+by_answer id (Err own) refusal is = cc
+
+pub targets_refused : (id : List ℕ) (earlier : Option (List ℕ)) (inside : List Event)
+    (refusal : Refusal) → earlier ≡ None
+    → changed_in is_relationship (put_later id) earlier inside ≡ Err refusal
+    → link_targets_in inside ≡ Err refusal
+targets_refused id earlier inside refusal none is =
+    by_answer id (link_targets_in inside) refusal
+    (sym (later_all id (relationship_starts inside) None)
+    ∙ ap (λ (before : Option (List ℕ)).
+    changed_in is_relationship (put_later id) before inside) (sym none)
+    ∙ is)
 
 -- a text that doesn't decode is refused also where its escapes are replaced
 pub link_text_fails : (at behind : ℕ) (decoded : Result (List ℕ) Refusal) (error : XlsxError)

@@ -76,6 +76,16 @@ abbrev pub later_target : List ℕ → Option LinkTarget → Option (List ℕ) �
 later_target id None earlier = earlier
 later_target id (Some own) earlier = if bytes_eq id own.id then Some own.target else earlier
 
+-- where an Id leads by what a relationship says, and else as it did before
+abbrev pub later_of : List ℕ → Option (List ℕ) → Result (Option LinkTarget) Refusal
+    → Result (Option (List ℕ)) Refusal
+later_of id earlier (Ok own) = Ok (later_target id own earlier)
+later_of id earlier (Err refusal) = Err refusal
+
+-- the same of a start
+abbrev pub put_later : List ℕ → PlacedTag → Option (List ℕ) → Result (Option (List ℕ)) Refusal
+put_later id start earlier = later_of id earlier (link_target_of start)
+
 -- where an Id leads, of which the last stands
 abbrev pub target_in : List LinkTarget → List ℕ → Option (List ℕ)
 target_in [] id = None

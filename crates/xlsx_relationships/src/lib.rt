@@ -5,6 +5,10 @@
 //! The folder of the workbook loses a slash at its front (`folder_of`), that of any other part
 //! keeps it (`part_folder`).
 //!
+//! **Each list of relationships is a keeper** of the one loop over starts (`Keeps`, `Reads` of
+//! xlsx_sections): the path of the workbook is the last that is read, where those of one type lead
+//! is all that is read, and the two maps are seen by their Ids.
+//!
 //! **Targets are said as a list of pairs and kept in a map.** `link_targets_in` gives an Id and a
 //! target for each relationship that counts, in order, and `target_in` finds the last of an Id. So
 //! a refusal is one whatever Id is asked for. The lemma file is `TargetsKept`. `targets` has where

@@ -1,21 +1,18 @@
-ghost use Rattle.std.specs.Prelude.{◌≡◌, ◌≤◌, ℕ, List, Bool, Ok, Some, codes, suc, length, true};
+ghost use Rattle.std.proofs.Common.{rules};
+ghost use Rattle.std.specs.Prelude.{◌≡◌, ℕ, List, Bool, Ok, Some, codes, true};
 ghost use Rattle.std.specs.Prelude.{if◌then◌else◌, option_map, string_bytes, Option};
 ghost use Rattle.std.specs.Prelude.{IfOk, OnOk, IfErr, IsSomeAnd};
 ghost use Rattle.std.specs.Str.{bytes_eq};
 ghost use Rattle.part_events.specs.Event.{tag_of};
 ghost use Rattle.part_events.specs.Package.{Uses, event_count};
-ghost use Rattle.part_events.specs.Reading.{reading, open_elements, IsReading, ReadsPart};
-ghost use Rattle.part_events.specs.Walk.{section_ahead, is_closed_ahead, section_end};
 ghost use Rattle.xlsx_error.specs.declared.error.XlsxError.TheVariants.{OutOfMemory, Io};
-ghost use Rattle.xlsx_sections.specs.Elements.{IsInsideRefused};
 ghost use Rattle.xlsx_sections.specs.Failing.{FailsBy};
-ghost use Rattle.xlsx_sections.specs.PartSection.{always, SectionFails};
 ghost use Rattle.xlsx_sections.specs.Refusal.{ElementFails, IsDecodeError, placed_at};
 ghost use Rattle.xlsx_sections.specs.SectionEvents.{ReadsToEnd};
-ghost use Rattle.xlsx_relationships.specs.LinkTargets.{LinkTarget, link_text, is_hyperlink_type};
-ghost use Rattle.xlsx_relationships.specs.LinkTargets.{link_target_of, link_targets_in};
+ghost use Rattle.xlsx_relationships.specs.LinkTargets.{link_text, is_hyperlink_type};
+ghost use Rattle.xlsx_relationships.specs.LinkTargets.{link_target_of, put_later};
 ghost use Rattle.xlsx_relationships.specs.LinkTargets.{link_targets, LinkTargetsCause};
-ghost use Rattle.xlsx_relationships.specs.LinkTargets.{later_target, target_held, HoldsTargets};
+ghost use Rattle.xlsx_relationships.specs.LinkTargets.{target_held, HoldsTargets};
 ghost use Rattle.xlsx_relationships.specs.LinkTargets.{link_target_said};
 ghost use Rattle.xlsx_relationships.specs.Paths.{relationships_beside};
 ghost use Rattle.xlsx_relationships.specs.RelationshipErrors.{IsRelatedError};
@@ -23,11 +20,11 @@ ghost use Rattle.xlsx_relationships.specs.RelationshipErrors.{IsRelatedError};
 use crate::paths::relationships_beside;
 use crate::relationships::text_or;
 use attr_text::{RawAttributes, get_attrs, unescape_hex};
-use part_events::{Cursor, Package, StartTag};
+use part_events::{Package, StartTag};
 use std::alloc::Global;
 use std::collections::BTreeMap;
 use xlsx_error::XlsxError;
-use xlsx_sections::{decode_at, enter_part, next_start_in, start_tag};
+use xlsx_sections::{Keeps, decode_at, enter_part, keep_starts};
 
 /// A text of a hyperlink, decoded, and then with each `_xHHHH_` replaced by its character. Its
 /// start is event number `at` of its part, counted from 0. A reference without a character is
@@ -95,10 +92,9 @@ fn keep_link_target(
     tag: StartTag<'_>,
     at: u64,
 ) -> Result<(), XlsxError>
-    ensures ok { OnOk result ((found : Option LinkTarget)
-        × ((behind : ℕ) → link_target_of (placed_at (tag_of tag.entry) behind) ≡ Ok found)
-        × ((id : List ℕ) →
-        target_held targets.new id ≡ later_target id found (target_held targets.old id))) }
+    ensures ok { OnOk result ((id : List ℕ) (behind : ℕ) →
+        put_later id (placed_at (tag_of tag.entry) behind) (target_held targets.old id)
+        ≡ Ok (target_held targets.new id)) }
     ensures err { IfErr result (λ error. (behind : ℕ) →
         ElementFails (link_target_of (placed_at (tag_of tag.entry) behind)) at behind error) }
     ensures kind { IfErr result IsRelatedError }
@@ -109,45 +105,31 @@ fn keep_link_target(
     }
 }
 
-/// The targets of hyperlinks in a section of relationships whose element is number `base` of the
-/// open ones, by their Ids.
-#[tactic(auto, using(crate::proofs::RelationshipErrors::related_step))]
-fn link_targets_in<P: Package>(
+/// Keeps the targets of hyperlinks by their Ids.
+#[derive(Drop)]
+struct KeepsTargets {
     alloc: Global,
-    package: &mut P,
-    cursor: &mut Cursor,
-    base: usize,
-) -> Result<BTreeMap<String, String>, XlsxError>
-    requires reading { IsReading (reading (P.state «package».old) cursor.old) }
-    requires within { base ≤ length (open_elements cursor.old) }
-    ensures reads { let old = reading (P.state «package».old) cursor.old in
-        let new = reading (P.state «package».new) cursor.new in
-        ReadsPart Io result old new }
-    ensures closed { let old = reading (P.state «package».old) cursor.old in
-        old.source.is_told ≡ true → OnOk result (is_closed_ahead base old ≡ true) }
-    ensures ends { let old = reading (P.state «package».old) cursor.old in
-        let new = reading (P.state «package».new) cursor.new in
-        old.source.is_told ≡ true → OnOk result (new.at ≡ suc (section_end base old)) }
-    ensures targets { let old = reading (P.state «package».old) cursor.old in
-        old.source.is_told ≡ true → IfOk result (λ kept. (targets : List LinkTarget)
-        × (link_targets_in (section_ahead base old) ≡ Ok targets) × HoldsTargets targets kept) }
-    ensures err { let old = reading (P.state «package».old) cursor.old in
-        let new = reading (P.state «package».new) cursor.new in
-        let ending = always (codes "Relationships") in
-        IfErr result (SectionFails ending (IsInsideRefused link_targets_in) base old new) }
-    ensures kind { IfErr result IsRelatedError }
-{
-    let mut targets = BTreeMap::new(alloc);
-    'starts: while let Some(at) = next_start_in(
-        package,
-        cursor,
-        base,
-        "Relationship",
-        "Relationships",
-    )? {
-        keep_link_target(alloc, &mut targets, start_tag(package), at)?;
+    targets: BTreeMap<String, String>,
+}
+
+impl Keeps for KeepsTargets {
+    ghost Index = { List ℕ };
+
+    ghost Held = { Option (List ℕ) };
+
+    ghost held = { λ k. target_held k.targets };
+
+    ghost change = { λ k. put_later };
+
+    ghost section = { codes "Relationships" };
+
+    ghost Kind = { IsRelatedError };
+
+    ghost kinds = { Prim.search rules };
+
+    fn take(&mut self, tag: StartTag<'_>, at: u64) -> Result<(), XlsxError> {
+        keep_link_target(self.alloc, &mut self.targets, tag, at)
     }
-    Ok(targets)
 }
 
 /// The targets of the hyperlinks of the sheet whose part is at this path, by the Ids of the
@@ -186,5 +168,15 @@ pub fn read_sheet_hyperlink_rels<P: Package>(
         return Ok(BTreeMap::new(alloc));
     };
     let base = cursor.depth();
-    link_targets_in(alloc, package, &mut cursor, base)
+    let targets = BTreeMap::new(alloc);
+    let mut keeper = KeepsTargets { alloc, targets };
+    keep_starts(
+        package,
+        &mut cursor,
+        base,
+        &["Relationship"],
+        "Relationships",
+        &mut keeper,
+    )?;
+    Ok(keeper.targets)
 }

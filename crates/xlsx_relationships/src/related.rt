@@ -1,19 +1,14 @@
-ghost use Rattle.std.specs.Prelude.{◌≡◌, ◌≤◌, ◌++◌, ℕ, List, Ok, Some, codes, suc, length, map};
-ghost use Rattle.std.specs.Prelude.{Result, option_map, option_to_list, string_bytes, true};
-ghost use Rattle.std.specs.Prelude.{IfOk, OnOk, IfErr};
+ghost use Rattle.std.proofs.Common.{rules};
+ghost use Rattle.std.specs.Prelude.{◌≡◌, ℕ, List, Ok, Some, codes, map, option_map, string_bytes};
+ghost use Rattle.std.specs.Prelude.{true, IfOk, IfErr};
 ghost use Rattle.part_events.specs.Event.{tag_of};
 ghost use Rattle.part_events.specs.Package.{Uses, event_count};
-ghost use Rattle.part_events.specs.Reading.{reading, open_elements, IsReading, ReadsPart};
-ghost use Rattle.part_events.specs.Walk.{section_ahead, is_closed_ahead, section_end};
 ghost use Rattle.xlsx_error.specs.declared.error.XlsxError.TheVariants.{Io};
-ghost use Rattle.xlsx_sections.specs.Answers.{prepended, and_others_if};
-ghost use Rattle.xlsx_sections.specs.Elements.{IsInsideRefused};
 ghost use Rattle.xlsx_sections.specs.Failing.{FailsBy};
-ghost use Rattle.xlsx_sections.specs.PartSection.{always, SectionFails};
-ghost use Rattle.xlsx_sections.specs.Refusal.{Refusal, ElementFails, placed_at};
+ghost use Rattle.xlsx_sections.specs.Refusal.{ElementFails, placed_at};
 ghost use Rattle.xlsx_sections.specs.SectionEvents.{ReadsToEnd};
 ghost use Rattle.xlsx_relationships.specs.Paths.{relationships_beside};
-ghost use Rattle.xlsx_relationships.specs.RelatedParts.{typed_target, leads_to, all_lead_to};
+ghost use Rattle.xlsx_relationships.specs.RelatedParts.{typed_target, leads_to};
 ghost use Rattle.xlsx_relationships.specs.RelatedParts.{related_parts, RelatedCause};
 ghost use Rattle.xlsx_relationships.specs.RelationshipErrors.{IsRelatedError};
 
@@ -21,10 +16,10 @@ use crate::paths::relationships_beside;
 use crate::relationships::text_or;
 use crate::targets::target_path;
 use attr_text::{RawAttributes, get_attrs};
-use part_events::{Cursor, Package, StartTag};
-use std::alloc::{AllocError, Global};
+use part_events::{Package, StartTag};
+use std::alloc::Global;
 use xlsx_error::XlsxError;
-use xlsx_sections::{decode_at, enter_part, next_start_in, start_tag};
+use xlsx_sections::{Reads, decode_at, enter_part, keep_all};
 
 /// The target, decoded, of the relationship of a start, if it is of exactly this type. The start is
 /// event number `at` of its part, counted from 0. One without a target has the empty one.
@@ -74,81 +69,32 @@ fn leads_to(
     }
 }
 
-/// Appends a path, where there is one.
-fn push_path(paths: &mut Vec<String>, path: Option<String>) -> Result<(), AllocError>
-    ensures { OnOk result (map string_bytes paths.new.items
-        ≡ map string_bytes paths.old.items ++ option_to_list (option_map string_bytes path)) }
-{
-    if let Some(path) = path {
-        paths.push(path)?;
-    }
-    Ok(())
+/// Reads where the relationships of the part at `path` lead that are of this type.
+#[derive(Drop)]
+struct Leads<'a> {
+    alloc: Global,
+    path: &'a str,
+    wanted: &'a str,
 }
 
-/// Appends where the relationship of a start leads, if it is of this type.
-fn push_lead(
-    alloc: Global,
-    paths: &mut Vec<String>,
-    tag: StartTag<'_>,
-    at: u64,
-    path: &str,
-    wanted: &str,
-) -> Result<(), XlsxError>
-    ensures ok { OnOk result ((behind : ℕ) (others : Result (List (List ℕ)) Refusal) →
-        prepended (map string_bytes paths.new.items) others
-        ≡ prepended (map string_bytes paths.old.items) (and_others_if
-        (leads_to path.now wanted.now (placed_at (tag_of tag.entry) behind)) others)) }
-    ensures err { IfErr result (λ error. (behind : ℕ) → ElementFails
-        (leads_to path.now wanted.now (placed_at (tag_of tag.entry) behind)) at behind error) }
-    ensures kind { IfErr result IsRelatedError }
-{
-    let there = leads_to(alloc, tag, at, path, wanted)?;
-    push_path(paths, there)?;
-    Ok(())
-}
+impl Reads for Leads<'_> {
+    type Item = String;
 
-/// Where the relationships of this type lead, in a section of relationships whose element is number
-/// `base` of the open ones.
-#[tactic(auto, using(crate::proofs::RelationshipErrors::related_step))]
-fn all_lead_to<P: Package>(
-    alloc: Global,
-    package: &mut P,
-    cursor: &mut Cursor,
-    base: usize,
-    path: &str,
-    wanted: &str,
-) -> Result<Vec<String>, XlsxError>
-    requires reading { IsReading (reading (P.state «package».old) cursor.old) }
-    requires within { base ≤ length (open_elements cursor.old) }
-    ensures reads { let old = reading (P.state «package».old) cursor.old in
-        let new = reading (P.state «package».new) cursor.new in
-        ReadsPart Io result old new }
-    ensures closed { let old = reading (P.state «package».old) cursor.old in
-        old.source.is_told ≡ true → OnOk result (is_closed_ahead base old ≡ true) }
-    ensures ends { let old = reading (P.state «package».old) cursor.old in
-        let new = reading (P.state «package».new) cursor.new in
-        old.source.is_told ≡ true → OnOk result (new.at ≡ suc (section_end base old)) }
-    ensures paths { let old = reading (P.state «package».old) cursor.old in
-        old.source.is_told ≡ true → IfOk result (λ paths.
-        all_lead_to path.now wanted.now (section_ahead base old)
-        ≡ Ok (map string_bytes paths.items)) }
-    ensures err { let old = reading (P.state «package».old) cursor.old in
-        let new = reading (P.state «package».new) cursor.new in
-        IfErr result (SectionFails (always (codes "Relationships"))
-        (IsInsideRefused (all_lead_to path.now wanted.now)) base old new) }
-    ensures kind { IfErr result IsRelatedError }
-{
-    let mut paths = Vec::new(alloc);
-    'starts: while let Some(at) = next_start_in(
-        package,
-        cursor,
-        base,
-        "Relationship",
-        "Relationships",
-    )? {
-        push_lead(alloc, &mut paths, start_tag(package), at, path, wanted)?;
+    ghost Kept = { List ℕ };
+
+    ghost said = { λ there. string_bytes there };
+
+    ghost meaning = { λ r. leads_to r.path.now r.wanted.now };
+
+    ghost section = { codes "Relationships" };
+
+    ghost Kind = { IsRelatedError };
+
+    ghost kinds = { Prim.search rules };
+
+    fn read(&self, tag: StartTag<'_>, at: u64) -> Result<Option<String>, XlsxError> {
+        leads_to(self.alloc, tag, at, self.path, self.wanted)
     }
-    Ok(paths)
 }
 
 /// The paths of the parts that the relationships of exactly this type lead to, which the part at
@@ -185,5 +131,18 @@ pub fn related_parts<P: Package>(
         return Ok(Vec::new(alloc));
     };
     let base = cursor.depth();
-    all_lead_to(alloc, package, &mut cursor, base, path, typ)
+    let by = Leads {
+        alloc,
+        path,
+        wanted: typ,
+    };
+    keep_all(
+        alloc,
+        package,
+        &mut cursor,
+        base,
+        &["Relationship"],
+        "Relationships",
+        by,
+    )
 }

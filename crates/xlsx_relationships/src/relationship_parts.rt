@@ -1,104 +1,20 @@
-ghost use Rattle.std.specs.Prelude.{◌≡◌, ◌≤◌, ℕ, List, Ok, Some, codes, suc, length, true};
-ghost use Rattle.std.specs.Prelude.{option_map};
-ghost use Rattle.std.specs.Prelude.{string_bytes, IfOk, OnOk, IfErr, IsSomeAnd};
+ghost use Rattle.std.specs.Prelude.{◌≡◌, ℕ, List, Ok, Some, codes, true, string_bytes};
+ghost use Rattle.std.specs.Prelude.{IfOk, IfErr, IsSomeAnd};
 ghost use Rattle.part_events.specs.Package.{Uses, event_count};
-ghost use Rattle.part_events.specs.Reading.{reading, open_elements, IsReading, ReadsPart};
-ghost use Rattle.part_events.specs.Walk.{section_ahead, is_closed_ahead, section_end};
 ghost use Rattle.xlsx_error.specs.declared.error.XlsxError.TheVariants.{Io};
-ghost use Rattle.xlsx_sections.specs.PartSection.{always, SectionFails, PartFails};
-ghost use Rattle.xlsx_sections.specs.PartSection.{closed_section_of};
+ghost use Rattle.xlsx_sections.specs.PartSection.{always, PartFails, closed_section_of};
 ghost use Rattle.xlsx_sections.specs.SectionEvents.{ReadsToEnd};
 ghost use Rattle.xlsx_relationships.specs.KeptRelationships.{related_by_id};
-ghost use Rattle.xlsx_relationships.specs.Relationships.{path_in, related_in, IsTargetRefused};
+ghost use Rattle.xlsx_relationships.specs.Relationships.{path_in, related_in};
 ghost use Rattle.xlsx_relationships.specs.Relationships.{IsPathRefused, AreRelationshipsRefused};
 ghost use Rattle.xlsx_relationships.specs.RelationshipErrors.{IsRelationshipsError};
 
-use crate::relationships::{Relationship, keep_relationship, keep_target};
-use part_events::{Cursor, Package};
+use crate::relationships::{KeepsRelated, OfficeTargets, Relationship};
+use part_events::Package;
 use std::alloc::Global;
 use std::collections::BTreeMap;
 use xlsx_error::XlsxError;
-use xlsx_sections::{enter_part, next_start_in, start_tag};
-
-/// The path of the workbook, in a section of relationships whose element is number `base` of the
-/// open ones.
-#[tactic(auto, using(crate::proofs::RelationshipErrors::relationships_step))]
-fn path_in<P: Package>(
-    alloc: Global,
-    package: &mut P,
-    cursor: &mut Cursor,
-    base: usize,
-) -> Result<Option<String>, XlsxError>
-    requires reading { IsReading (reading (P.state «package».old) cursor.old) }
-    requires within { base ≤ length (open_elements cursor.old) }
-    ensures reads { let old = reading (P.state «package».old) cursor.old in
-        let new = reading (P.state «package».new) cursor.new in
-        ReadsPart Io result old new }
-    ensures closed { let old = reading (P.state «package».old) cursor.old in
-        old.source.is_told ≡ true → OnOk result (is_closed_ahead base old ≡ true) }
-    ensures ends { let old = reading (P.state «package».old) cursor.old in
-        let new = reading (P.state «package».new) cursor.new in
-        old.source.is_told ≡ true → OnOk result (new.at ≡ suc (section_end base old)) }
-    ensures path { let old = reading (P.state «package».old) cursor.old in
-        old.source.is_told ≡ true →
-        IfOk result (λ path. path_in (section_ahead base old) ≡ Ok (option_map string_bytes path)) }
-    ensures err { let old = reading (P.state «package».old) cursor.old in
-        let new = reading (P.state «package».new) cursor.new in
-        IfErr result (SectionFails (always (codes "Relationships")) IsTargetRefused base old new) }
-    ensures kind { IfErr result IsRelationshipsError }
-{
-    let mut path = None;
-    'starts: while let Some(at) = next_start_in(
-        package,
-        cursor,
-        base,
-        "Relationship",
-        "Relationships",
-    )? {
-        keep_target(alloc, &mut path, start_tag(package), at)?;
-    }
-    Ok(path)
-}
-
-/// The relationships of such a section, by their Ids.
-#[tactic(auto, using(crate::proofs::RelationshipErrors::relationships_step))]
-fn relationships_in<P: Package>(
-    alloc: Global,
-    package: &mut P,
-    cursor: &mut Cursor,
-    base: usize,
-) -> Result<BTreeMap<String, Relationship>, XlsxError>
-    requires reading { IsReading (reading (P.state «package».old) cursor.old) }
-    requires within { base ≤ length (open_elements cursor.old) }
-    ensures reads { let old = reading (P.state «package».old) cursor.old in
-        let new = reading (P.state «package».new) cursor.new in
-        ReadsPart Io result old new }
-    ensures closed { let old = reading (P.state «package».old) cursor.old in
-        old.source.is_told ≡ true → OnOk result (is_closed_ahead base old ≡ true) }
-    ensures ends { let old = reading (P.state «package».old) cursor.old in
-        let new = reading (P.state «package».new) cursor.new in
-        old.source.is_told ≡ true → OnOk result (new.at ≡ suc (section_end base old)) }
-    ensures related { let old = reading (P.state «package».old) cursor.old in
-        old.source.is_told ≡ true → IfOk result (λ map. (id : List ℕ) →
-        related_in (section_ahead base old) id ≡ Ok (related_by_id map id)) }
-    ensures err { let old = reading (P.state «package».old) cursor.old in
-        let new = reading (P.state «package».new) cursor.new in
-        let ending = always (codes "Relationships") in
-        IfErr result (SectionFails ending AreRelationshipsRefused base old new) }
-    ensures kind { IfErr result IsRelationshipsError }
-{
-    let mut map = BTreeMap::new(alloc);
-    'starts: while let Some(_at) = next_start_in(
-        package,
-        cursor,
-        base,
-        "Relationship",
-        "Relationships",
-    )? {
-        keep_relationship(alloc, &mut map, start_tag(package))?;
-    }
-    Ok(map)
-}
+use xlsx_sections::{enter_part, keep_last, keep_starts};
 
 /// The path of the workbook, by the relationships in the part at this path.
 ///
@@ -131,7 +47,15 @@ pub fn read_path<P: Package>(
         return Err(XlsxError::FileNotFound(String::from_str(alloc, part)?));
     };
     let base = cursor.depth();
-    match path_in(alloc, package, &mut cursor, base)? {
+    let by = OfficeTargets { alloc };
+    match keep_last(
+        package,
+        &mut cursor,
+        base,
+        &["Relationship"],
+        "Relationships",
+        by,
+    )? {
         Some(path) => Ok(path),
         None => Err(XlsxError::RelationshipNotFound),
     }
@@ -166,5 +90,15 @@ pub fn read_relationships<P: Package>(
         return Err(XlsxError::FileNotFound(String::from_str(alloc, part)?));
     };
     let base = cursor.depth();
-    relationships_in(alloc, package, &mut cursor, base)
+    let map = BTreeMap::new(alloc);
+    let mut keeper = KeepsRelated { alloc, map };
+    keep_starts(
+        package,
+        &mut cursor,
+        base,
+        &["Relationship"],
+        "Relationships",
+        &mut keeper,
+    )?;
+    Ok(keeper.map)
 }

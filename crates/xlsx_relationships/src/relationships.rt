@@ -1,13 +1,17 @@
-ghost use Rattle.std.specs.Prelude.{◌≡◌, ℕ, List, Ok, Some, option_map, unwrap_or, string_bytes};
+ghost use Rattle.std.proofs.Common.{rules};
+ghost use Rattle.std.specs.Prelude.{◌≡◌, ℕ, List, Ok, Some, Option, codes, option_map, unwrap_or};
+ghost use Rattle.std.specs.Prelude.{string_bytes};
 ghost use Rattle.std.specs.Prelude.{if◌then◌else◌, IfOk, OnOk, IfErr};
 ghost use Rattle.std.specs.Option.{option_copied};
 ghost use Rattle.std.specs.Str.{bytes_eq};
 ghost use Rattle.part_events.specs.Event.{tag_of};
 ghost use Rattle.xlsx_error.specs.declared.error.XlsxError.TheVariants.{OutOfMemory};
 ghost use Rattle.xlsx_sections.specs.Answers.{or_earlier};
+ghost use Rattle.xlsx_sections.specs.Keeping.{or_before};
 ghost use Rattle.xlsx_sections.specs.Refusal.{ElementFails, placed_at};
 ghost use Rattle.xlsx_relationships.specs.KeptRelationships.{relationship_of, related_by_id};
 ghost use Rattle.xlsx_relationships.specs.Relationships.{is_office_document, target_of, related_of};
+ghost use Rattle.xlsx_relationships.specs.Relationships.{Related};
 ghost use Rattle.xlsx_relationships.specs.RelationshipErrors.{IsRelationshipsError};
 
 use attr_text::{RawAttributes, get_attrs};
@@ -16,7 +20,7 @@ use std::alloc::Global;
 use std::collections::BTreeMap;
 use std::sync::ArcStr;
 use xlsx_error::XlsxError;
-use xlsx_sections::decode_at;
+use xlsx_sections::{Keeps, Reads, decode_at};
 
 /// What a relationship leads to, and its type, both as written. The text of the target is shared by
 /// all that keep it.
@@ -49,26 +53,30 @@ fn office_target(alloc: Global, tag: StartTag<'_>, at: u64) -> Result<Option<Str
     }
 }
 
-/// Keeps the target, decoded, of a relationship to an office document, in place of an earlier one.
-/// The start is event number `at` of its part.
-pub fn keep_target(
-    alloc: Global,
-    kept: &mut Option<String>,
-    tag: StartTag<'_>,
-    at: u64,
-) -> Result<(), XlsxError>
-    ensures ok { OnOk result ((behind : ℕ) →
-        or_earlier (option_map string_bytes kept.old)
-        (target_of (placed_at (tag_of tag.entry) behind))
-        ≡ Ok (option_map string_bytes kept.new)) }
-    ensures err { IfErr result (λ error. (behind : ℕ) →
-        ElementFails (target_of (placed_at (tag_of tag.entry) behind)) at behind error) }
-    ensures kind { IfErr result IsRelationshipsError }
-{
-    if let Some(target) = office_target(alloc, tag, at)? {
-        *kept = Some(target);
+/// Reads the targets of relationships to an office document.
+#[derive(Drop)]
+pub struct OfficeTargets {
+    pub alloc: Global,
+}
+
+impl Reads for OfficeTargets {
+    type Item = String;
+
+    ghost Kept = { List ℕ };
+
+    ghost said = { λ target. string_bytes target };
+
+    ghost meaning = { λ r. target_of };
+
+    ghost section = { codes "Relationships" };
+
+    ghost Kind = { IsRelationshipsError };
+
+    ghost kinds = { Prim.search rules };
+
+    fn read(&self, tag: StartTag<'_>, at: u64) -> Result<Option<String>, XlsxError> {
+        office_target(self.alloc, tag, at)
     }
-    Ok(())
 }
 
 /// The value of a lookup, or another text where there is none.
@@ -109,7 +117,7 @@ pub fn find_relationship<'m>(
 
 /// Keeps the relationship of a start by its Id, in place of an earlier one. One without Id is
 /// passed over.
-pub fn keep_relationship(
+fn keep_relationship(
     alloc: Global,
     map: &mut BTreeMap<String, Relationship>,
     tag: StartTag<'_>,
@@ -131,4 +139,31 @@ pub fn keep_relationship(
         typ: String::from_str(alloc, text_or(typ, ""))?,
     };
     put(map, String::from_str(alloc, id)?, relationship)
+}
+
+/// Keeps relationships by their Ids.
+#[derive(Drop)]
+pub struct KeepsRelated {
+    pub alloc: Global,
+    pub map: BTreeMap<String, Relationship>,
+}
+
+impl Keeps for KeepsRelated {
+    ghost Index = { List ℕ };
+
+    ghost Held = { Option Related };
+
+    ghost held = { λ k. related_by_id k.map };
+
+    ghost change = { λ k id. or_before (related_of id) };
+
+    ghost section = { codes "Relationships" };
+
+    ghost Kind = { IsRelationshipsError };
+
+    ghost kinds = { Prim.search rules };
+
+    fn take(&mut self, tag: StartTag<'_>, _at: u64) -> Result<(), XlsxError> {
+        keep_relationship(self.alloc, &mut self.map, tag)
+    }
 }

@@ -8,6 +8,7 @@ pub mod NumbersRead
 pub mod Refused
 pub mod SectionsRead
 pub mod Sound
+pub mod StartsKept
 pub mod StartsRead
 pub mod StartsSaid
 pub mod TextsRead

@@ -1,5 +1,6 @@
 -- How a refusal passes from an event or an element to the section in which it lies.
 use Rattle.std.proofs.Common.{◌≡◌, ℕ, suc, ◌+◌, true, false, Option, Some, None, refl}
+use Rattle.std.proofs.Common.{Result, Err}
 use Rattle.std.proofs.Common.{◌∙◌, sym, subst, arith, ap}
 use Rattle.std.specs.Prelude.{IsSomeAnd}
 use Rattle.part_events.specs.Package.{PackageState, SameParts}
@@ -12,6 +13,7 @@ use Rattle.xlsx_sections.specs.PartSection.{PartSection, KeepsSection, inside_of
 use Rattle.xlsx_sections.specs.PartSection.{Ending, Refusing, section_left, SectionCause}
 use Rattle.xlsx_sections.specs.PartSection.{SectionFails}
 use Rattle.xlsx_sections.specs.Refusal.{Refusal, PlainRefusal, RefusedAs, RefusedAt, further}
+use Rattle.xlsx_sections.specs.Refusal.{ElementFails}
 use Rattle.xlsx_sections.specs.Refusal.{no_character, plain, plain_told}
 use Rattle.xlsx_sections.proofs.Failing.{fails_by_weaker, same_parts}
 
@@ -56,6 +58,16 @@ pub refused_at_weaker : (at behind : ℕ) (before after : Refusal → Type 0) (e
 refused_at_weaker at behind before after OutOfMemory weaker refuses = tt
 refused_at_weaker at behind before after error weaker refuses =
     refused_weaker (at + suc behind) (at + suc behind) before after error weaker refl refuses
+
+-- what is refused is refused also in what hands its refusals on
+pub handed_on : {A B : Type 0} (at behind : ℕ) (more : Result A Refusal → Result B Refusal)
+    (own : Result A Refusal) (error : XlsxError)
+    → ((refusal : Refusal) → more (Err refusal) ≡ Err refusal) → ElementFails own at behind error
+    → ElementFails (more own) at behind error
+handed_on at behind more own error passes fails =
+    refused_at_weaker at behind (λ (refusal : Refusal). more own ≡ Err refusal)
+    (λ (refusal : Refusal). own ≡ Err refusal) error
+    (λ refusal is. ap more is ∙ passes refusal) fails
 
 plain_refusal : {refused : PlainRefusal → Type 0} (told : Option PlainRefusal)
     → IsSomeAnd told refused → (own : PlainRefusal) × refused own

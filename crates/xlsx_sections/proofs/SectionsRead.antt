@@ -9,13 +9,14 @@ use Rattle.part_events.specs.Nesting.{whole, whole_rest}
 use Rattle.part_events.specs.Package.{PackageState, SameParts, OpenCounts, Opens, part_of}
 use Rattle.part_events.specs.Package.{event_count}
 use Rattle.part_events.specs.Reading.{Reading, IsReading, ReadsOn, IsTracked, IsAtElement}
+use Rattle.part_events.specs.Reading.{LeavesPart}
 use Rattle.part_events.specs.Reading.{TakesEvent, StepsAhead, ahead, events_of}
 use Rattle.part_events.specs.Section.{behind}
 use Rattle.part_events.specs.Section.{behind_start, is_named}
 use Rattle.part_events.specs.Walk.{inside, section_ahead, is_closed_ahead}
 use Rattle.part_events.specs.Walk.{TakesInside}
 use Rattle.part_events.proofs.Nested.{whole_split}
-use Rattle.part_events.proofs.Onward.{reads_further}
+use Rattle.part_events.proofs.Onward.{reads_further, moves_further}
 use Rattle.part_events.proofs.Walking.{takes_inside}
 use Rattle.xlsx_sections.specs.PartSection.{PartSection, KeepsSection, EntersSection, section_left}
 use Rattle.xlsx_sections.specs.PartSection.{section_from, section_in, last_of}
@@ -32,6 +33,14 @@ pub start_there : (event : Event) (P : Tag → Type 0) → IsStartAnd event P
 start_there (start tag) P is = (tag, refl, is)
 start_there (end name) P is = absurd is
 start_there (leaf kind) P is = absurd is
+
+-- a refused call behind others that weren't
+pub leaves_further : {E : Type 0} {fault : E} {first mid new : Reading} {error : E}
+    → ReadsOn first mid → LeavesPart fault mid new error → LeavesPart fault first new error
+leaves_further reads leaves = record {
+  moves = moves_further reads.moves leaves.moves;
+  faults = λ other. leaves.faults other ∙ reads.stays.faults;
+}
 
 pub section_further : {base : ℕ} {first old new : Reading} → KeepsSection base first old
     → ReadsOn old new → base ≤ length new.names

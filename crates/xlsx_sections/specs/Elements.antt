@@ -1,9 +1,10 @@
 -- How the elements of a section are read one by one, and where its part ends.
 use Rattle.std.specs.Prelude.{◌≡◌, ⊤, ℕ, suc, List, length, Bool, true, Option, Some, None}
-use Rattle.std.specs.Prelude.{Result, Err}
+use Rattle.std.specs.Prelude.{Result, Err, map}
+use Rattle.std.specs.Borrow.{Bor}
 use Rattle.part_events.specs.Event.{Tag, Event, IsStartAnd}
 use Rattle.part_events.specs.Reading.{Reading, ahead}
-use Rattle.part_events.specs.Section.{Element, unclosed}
+use Rattle.part_events.specs.Section.{Element, unclosed, is_named}
 use Rattle.part_events.specs.Walk.{IsNextElement, ClosesSection, section_ahead, is_closed_ahead}
 use Rattle.part_events.specs.Walk.{behind_section, section_end}
 use Rattle.part_events.specs.declared.fault.XmlFault.TheVariants.{EndMismatch, Unclosed, Entity}
@@ -11,6 +12,10 @@ use Rattle.xlsx_error.specs.declared.error.XlsxError.{XlsxError}
 use Rattle.xlsx_error.specs.declared.error.XlsxError.TheVariants.{OutOfMemory, Io, Xml, XmlEof}
 use Rattle.xlsx_sections.specs.PartSection.{PartSection, KeepsSection, SectionFails, inside_of}
 use Rattle.xlsx_sections.specs.Refusal.{Refusal}
+
+-- a start has one of these local names, as they lie in memory
+abbrev pub named_among : List (Bor (List ℕ)) → Tag → Bool
+named_among names = is_named (map (λ name. name.now) names)
 
 -- the end of the part in this element is told by `inner`, and outside all of them by this name
 abbrev pub end_outside : List ℕ → (Element → Option (List ℕ)) → Option Element → Option (List ℕ)

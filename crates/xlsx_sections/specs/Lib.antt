@@ -4,6 +4,7 @@ pub mod ElementLists
 pub mod ElementText
 pub mod Elements
 pub mod Failing
+pub mod Keeping
 pub mod Names
 pub mod NumberText
 pub mod PartSection

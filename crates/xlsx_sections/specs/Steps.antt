@@ -1,12 +1,14 @@
 -- What a step in a section comes to, for every place from which the section was kept up to here.
-use Rattle.std.specs.Prelude.{◌≡◌, ℕ, suc, ◌+◌, ◌<◌, ◌≤◌, [], ◌∷◌, length, Bool, true}
+use Rattle.std.specs.Prelude.{◌≡◌, ℕ, suc, ◌+◌, ◌<◌, ◌≤◌, List, [], ◌∷◌, length, Bool, true}
 use Rattle.std.specs.Prelude.{Option, Some, None}
 use Rattle.part_events.specs.Event.{Tag, Event, IsStartAnd}
 use Rattle.part_events.specs.Reading.{Reading, TakesEvent, StepsAhead}
-use Rattle.part_events.specs.Section.{outermost, starts_by}
+use Rattle.part_events.specs.Section.{Element, outermost, starts_by}
 use Rattle.part_events.specs.Walk.{IsNextElement, section_ahead, behind_section, section_end}
-use Rattle.xlsx_sections.specs.Elements.{KeepsElements, KeepsStarts, ReachesEnd}
-use Rattle.xlsx_sections.specs.PartSection.{KeepsSection, section_left, last_of}
+use Rattle.xlsx_error.specs.declared.error.XlsxError.{XlsxError}
+use Rattle.xlsx_sections.specs.Elements.{KeepsElements, KeepsStarts, ReachesEnd, end_among}
+use Rattle.xlsx_sections.specs.PartSection.{KeepsSection, SectionFails, Never, section_left}
+use Rattle.xlsx_sections.specs.PartSection.{last_of}
 
 -- a wanted start of a section was found, which is event number `place` of its part
 pub record IsStartFound (wanted : Tag → Bool) (base : ℕ) (tag : Tag) (place : ℕ)
@@ -47,6 +49,25 @@ StepsToElement wanted base None first old new =
     ReachesEnd base first new × (outermost wanted (section_ahead base old) ≡ [])
 StepsToElement wanted base (Some place) first old new =
     IsStartAnd new.source.current (λ tag. IsElementFound wanted base tag place first old new)
+
+-- the same for every place from which the elements of the section were read up to here
+abbrev pub StepsFromAny : (Tag → Bool) → ℕ → Option ℕ → Reading → Reading → Type 0
+StepsFromAny wanted base found old new =
+    (first : Reading) → KeepsElements wanted base first old
+    → StepsToElement wanted base found first old new
+
+-- that step is refused, however the end of the part is told in an element
+abbrev pub ElementStepFails : (Tag → Bool) → List ℕ → ℕ → Reading → Reading → XlsxError → Type 0
+ElementStepFails wanted name base old new error =
+    (inner : Element → Option (List ℕ))
+    → SectionFails (end_among wanted name inner) Never base old new error
+
+-- and so is the section, from every place from which its elements were read up to here
+abbrev pub ElementStepRefused :
+    (Tag → Bool) → List ℕ → ℕ → Reading → Reading → XlsxError → Type 0
+ElementStepRefused wanted name base old new error =
+    (first : Reading) (inner : Element → Option (List ℕ)) → KeepsElements wanted base first old
+    → SectionFails (end_among wanted name inner) Never base first new error
 
 -- an event of a section was taken, which is number `place` of its part
 pub record IsEventInside (base : ℕ) (event : Event) (place : ℕ) (first old new : Reading) : Type 0

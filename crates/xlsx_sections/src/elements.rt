@@ -1,18 +1,19 @@
-ghost use Rattle.std.specs.Prelude.{◌≡◌, ◌≤◌, ◌++◌, List, [], ℕ, suc, length, map, true, Ok};
+ghost use Rattle.std.specs.Prelude.{◌≡◌, ◌≤◌, ◌++◌, List, [], ℕ, suc, length, true, Ok};
 ghost use Rattle.std.specs.Prelude.{Option, option_map, string_bytes, IfOk, OnOk, IfErr, OnErr};
 ghost use Rattle.part_events.specs.JoinedText.{joined_text, IsFrontOf, PutsFront};
 ghost use Rattle.part_events.specs.Reading.{Reading, reading, open_elements, IsReading};
 ghost use Rattle.part_events.specs.Reading.{IsReadingElement, ReadsElement, ReadsPart, ahead};
-ghost use Rattle.part_events.specs.Section.{Element, content, outermost, is_any, is_named};
+ghost use Rattle.part_events.specs.Section.{Element, content, outermost, is_any};
 ghost use Rattle.part_events.specs.Walk.{section_ahead};
 ghost use Rattle.xlsx_error.specs.declared.error.XlsxError.TheVariants.{Io};
-ghost use Rattle.xlsx_sections.specs.Elements.{end_among, named_end, ElementReadFails};
+ghost use Rattle.xlsx_sections.specs.Elements.{end_among, named_end, ElementReadFails, named_among};
 ghost use Rattle.xlsx_sections.specs.Elements.{FindsElementIn, IsTextError, IsEndError, ReachesEnd};
 ghost use Rattle.xlsx_sections.specs.ElementText.{element_text};
 ghost use Rattle.xlsx_sections.specs.PartSection.{always, Never, IsStepError, SectionFails};
 ghost use Rattle.xlsx_sections.specs.PartSection.{StandsAtStart};
 ghost use Rattle.xlsx_sections.specs.Elements.{KeepsElements, IfCutOff};
-ghost use Rattle.xlsx_sections.specs.Steps.{StepsToElement};
+ghost use Rattle.xlsx_sections.specs.Steps.{StepsToElement, StepsFromAny, ElementStepFails};
+ghost use Rattle.xlsx_sections.specs.Steps.{ElementStepRefused};
 
 use part_events::{Cursor, Package, Step, XmlFault};
 use xlsx_error::XlsxError;
@@ -40,33 +41,23 @@ pub fn next_element_in<P: Package>(
         ReadsPart Io result old new }
     ensures stands { let old = reading (P.state «package».old) cursor.old in
         let new = reading (P.state «package».new) cursor.new in
-        let wanted = is_named (map (λ name. name.now) names.now) in
-        IfOk result (λ found. StandsAtStart wanted base found old new) }
+        IfOk result (λ found. StandsAtStart (named_among names.now) base found old new) }
     ensures found { let old = reading (P.state «package».old) cursor.old in
         let new = reading (P.state «package».new) cursor.new in
-        let wanted = is_named (map (λ name. name.now) names.now) in
         old.source.is_told ≡ true → IfOk result
-        (λ found. FindsElementIn wanted base found old new) }
+        (λ found. FindsElementIn (named_among names.now) base found old new) }
     ensures err { let old = reading (P.state «package».old) cursor.old in
         let new = reading (P.state «package».new) cursor.new in
-        let wanted = is_named (map (λ name. name.now) names.now) in
-        IfErr result (λ error. (inner : Element → Option (List ℕ)) →
-        SectionFails (end_among wanted section.now inner) Never base old new error) }
+        IfErr result (ElementStepFails (named_among names.now) section.now base old new) }
     ensures step { let old = reading (P.state «package».old) cursor.old in
         let new = reading (P.state «package».new) cursor.new in
-        let wanted = is_named (map (λ name. name.now) names.now) in
-        IfOk result (λ found. (first : Reading) → KeepsElements wanted base first old →
-        StepsToElement wanted base found first old new) }
+        IfOk result (λ found. StepsFromAny (named_among names.now) base found old new) }
     ensures refused { let old = reading (P.state «package».old) cursor.old in
         let new = reading (P.state «package».new) cursor.new in
-        let wanted = is_named (map (λ name. name.now) names.now) in
-        IfErr result (λ error. (first : Reading) (inner : Element → Option (List ℕ)) →
-        KeepsElements wanted base first old →
-        SectionFails (end_among wanted section.now inner) Never base first new error) }
+        IfErr result (ElementStepRefused (named_among names.now) section.now base old new) }
     ensures cut { let old = reading (P.state «package».old) cursor.old in
-        let wanted = is_named (map (λ name. name.now) names.now) in
-        IfErr result (IfCutOff
-        (old.source.is_told ≡ true → outermost wanted (section_ahead base old) ≡ [])) }
+        let left = outermost (named_among names.now) (section_ahead base old) in
+        IfErr result (IfCutOff (old.source.is_told ≡ true → left ≡ [])) }
     ensures kind { IfErr result (IsStepError section.now) }
 {
     match cursor.next_element(package, base, names)? {

@@ -1,20 +1,12 @@
 -- Which refusals are those of a font.
-use Rattle.std.proofs.Common.{◌≡◌, ℕ, List, codes, Result, Err, ap}
-use Rattle.part_events.specs.declared.fault.XmlFault.TheVariants.{EndMismatch, Entity}
+use Rattle.std.proofs.Common.{◌≡◌, ℕ, List, Result, Err, ap}
+use Rattle.part_events.specs.declared.fault.XmlFault.TheVariants.{Entity}
 use Rattle.xlsx_error.specs.declared.error.XlsxError.{XlsxError}
-use Rattle.xlsx_error.specs.declared.error.XlsxError.TheVariants.{OutOfMemory, Io, Xml, XmlEof}
-use Rattle.xlsx_sections.specs.PartSection.{IsStepError}
+use Rattle.xlsx_error.specs.declared.error.XlsxError.TheVariants.{OutOfMemory, Xml}
 use Rattle.xlsx_sections.specs.Refusal.{Refusal, ElementFails, IsDecodeError}
 use Rattle.xlsx_sections.proofs.Refused.{refused_at_weaker}
 use Rattle.xlsx_styles.specs.Errors.{IsFontError}
 use Rattle.xlsx_styles.specs.Fonts.{FontSaid, with_decoded}
-
-pub font_step : (error : XlsxError) → IsStepError (codes "font") error → IsFontError error
-font_step OutOfMemory is = tt
-font_step Io is = tt
-font_step (Xml (EndMismatch at)) is = tt
-font_step (XmlEof element) is = is
-font_step _ is = absurd is
 
 pub decode_step : (error : XlsxError) → IsDecodeError error → IsFontError error
 decode_step OutOfMemory is = tt

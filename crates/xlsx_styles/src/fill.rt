@@ -1,4 +1,5 @@
-ghost use Rattle.std.specs.Prelude.{◌≡◌, codes, true, Ok, Err, IfOk, IfErr, MatchResult};
+ghost use Rattle.std.proofs.Common.{rules};
+ghost use Rattle.std.specs.Prelude.{◌≡◌, ⊤, codes, true, Ok, Err, IfOk, IfErr, MatchResult};
 ghost use Rattle.std.specs.Option.{option_copied};
 ghost use Rattle.attr_text.specs.Attributes.{value_of};
 ghost use Rattle.part_events.specs.Event.{tag_of};
@@ -10,14 +11,15 @@ ghost use Rattle.xlsx_sections.specs.PartSection.{always};
 ghost use Rattle.xlsx_sections.specs.Changes.{changed_with};
 ghost use Rattle.xlsx_styles.specs.Errors.{IsPlainError};
 ghost use Rattle.xlsx_styles.specs.Fills.{pattern_named, with_pattern, with_foreground};
-ghost use Rattle.xlsx_styles.specs.Fills.{with_background, fill_changed, fill_of};
+ghost use Rattle.xlsx_styles.specs.Fills.{with_background, fill_changed, fill_change, fill_of};
+ghost use Rattle.cell_styles.specs.declared.fill.Fill.{Fill};
 
 use crate::color_text::parse_color;
 use attr_text::{AttrFault, RawAttributes};
 use cell_styles::{Color, Fill, FillPattern};
 use part_events::{Cursor, Package, StartTag};
 use xlsx_error::XlsxError;
-use xlsx_sections::{next_start_among, start_tag};
+use xlsx_sections::{Keeps, keep_in_element};
 
 #[tactic(auto, unfolding(crate::specs::Fills::pattern_named))]
 fn pattern_named(text: &str) -> FillPattern
@@ -94,11 +96,38 @@ fn change_fill(fill: &mut Fill, tag: StartTag<'_>, theme_colors: &[Color]) -> Re
     Ok(())
 }
 
+/// Makes a fill of the starts in its element.
+#[derive(Drop)]
+struct FillKeeper<'a> {
+    theme_colors: &'a [Color],
+    fill: Fill,
+}
+
+impl Keeps for FillKeeper<'_> {
+    ghost Index = { ⊤ };
+
+    ghost Held = { Fill };
+
+    ghost held = { λ k i. k.fill };
+
+    ghost change = { λ k i. fill_change k.theme_colors.now };
+
+    ghost section = { codes "fill" };
+
+    ghost Kind = { IsPlainError (codes "fill") };
+
+    ghost kinds = { Prim.search rules };
+
+    fn take(&mut self, tag: StartTag<'_>, _at: u64) -> Result<(), XlsxError> {
+        change_fill(&mut self.fill, tag, self.theme_colors)?;
+        Ok(())
+    }
+}
+
 /// Reads the fill at whose start the package stands, to its end (ECMA-376 part 1, section
 /// 18.8.20). Colors are named by the colors of the theme.
 ///
 /// A part that ends before is `XmlEof("fill")`.
-#[tactic(auto, using(crate::proofs::StepErrors::plain_step))]
 pub fn read_fill<P: Package>(
     package: &mut P,
     cursor: &mut Cursor,
@@ -117,16 +146,14 @@ pub fn read_fill<P: Package>(
         old new) }
     ensures kind { IfErr result (IsPlainError (codes "fill")) }
 {
-    let base = cursor.depth();
-    let mut fill = Fill::default();
-    'starts: while let Some(_at) = next_start_among(
+    let fill = Fill::default();
+    let mut keeper = FillKeeper { theme_colors, fill };
+    keep_in_element(
         package,
         cursor,
-        base,
         &["patternFill", "fgColor", "bgColor"],
         "fill",
-    )? {
-        change_fill(&mut fill, start_tag(package), theme_colors)?;
-    }
-    Ok(fill)
+        &mut keeper,
+    )?;
+    Ok(keeper.fill)
 }

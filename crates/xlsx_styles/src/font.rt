@@ -1,4 +1,5 @@
-ghost use Rattle.std.specs.Prelude.{◌≡◌, ℕ, codes, true, Ok, IfOk, OnOk, IfErr};
+ghost use Rattle.std.proofs.Common.{rules};
+ghost use Rattle.std.specs.Prelude.{◌≡◌, ⊤, ℕ, codes, true, Ok, IfOk, OnOk, IfErr};
 ghost use Rattle.attr_text.specs.Attributes.{value_of};
 ghost use Rattle.part_events.specs.Event.{tag_of};
 ghost use Rattle.part_events.specs.Reading.{reading, IsReadingElement, ReadsElement, ahead};
@@ -8,7 +9,7 @@ ghost use Rattle.xlsx_sections.specs.Elements.{ElementReadFails};
 ghost use Rattle.xlsx_sections.specs.PartSection.{always};
 ghost use Rattle.xlsx_sections.specs.Refusal.{ElementFails, placed_at};
 ghost use Rattle.xlsx_styles.specs.Errors.{IsFontError};
-ghost use Rattle.xlsx_styles.specs.Fonts.{said_of, name_changed, font_change, font_of};
+ghost use Rattle.xlsx_styles.specs.Fonts.{FontSaid, said_of, name_changed, font_change, font_of};
 
 use crate::font_parts::{change_color, change_value};
 use attr_text::RawAttributes;
@@ -16,7 +17,7 @@ use cell_styles::{Color, Font};
 use part_events::{Cursor, Package, StartTag};
 use std::alloc::Global;
 use xlsx_error::XlsxError;
-use xlsx_sections::{decode_at, next_start_among, start_tag};
+use xlsx_sections::{Keeps, decode_at, keep_in_element};
 
 /// Names the font by a start, which is event number `at` of its part.
 #[tactic(auto, using(crate::proofs::FontErrors::decode_step))]
@@ -59,12 +60,39 @@ fn change_font(
     Ok(())
 }
 
+/// Makes a font of the starts in its element.
+#[derive(Drop)]
+struct FontKeeper<'a> {
+    alloc: Global,
+    theme_colors: &'a [Color],
+    font: Font,
+}
+
+impl Keeps for FontKeeper<'_> {
+    ghost Index = { ⊤ };
+
+    ghost Held = { FontSaid };
+
+    ghost held = { λ k i. said_of k.font };
+
+    ghost change = { λ k i. font_change k.theme_colors.now };
+
+    ghost section = { codes "font" };
+
+    ghost Kind = { IsFontError };
+
+    ghost kinds = { Prim.search rules };
+
+    fn take(&mut self, tag: StartTag<'_>, at: u64) -> Result<(), XlsxError> {
+        change_font(self.alloc, &mut self.font, tag, at, self.theme_colors)
+    }
+}
+
 /// Reads the font at whose start the package stands, to its end (ECMA-376 part 1, section
 /// 18.8.22). Colors are named by the colors of the theme.
 ///
 /// A part that ends before is `XmlEof("font")`, and a name with a reference without a character is
 /// `Xml(Entity)` with the number of its start, counted from 0.
-#[tactic(auto, using(crate::proofs::FontErrors::font_step))]
 pub fn read_font<P: Package>(
     alloc: Global,
     package: &mut P,
@@ -84,16 +112,17 @@ pub fn read_font<P: Package>(
         old new) }
     ensures kind { IfErr result IsFontError }
 {
-    let base = cursor.depth();
-    let mut font = Font::default();
-    'starts: while let Some(at) = next_start_among(
+    let mut keeper = FontKeeper {
+        alloc,
+        theme_colors,
+        font: Font::default(),
+    };
+    keep_in_element(
         package,
         cursor,
-        base,
         &["name", "sz", "family", "b", "i", "u", "strike", "color"],
         "font",
-    )? {
-        change_font(alloc, &mut font, start_tag(package), at, theme_colors)?;
-    }
-    Ok(font)
+        &mut keeper,
+    )?;
+    Ok(keeper.font)
 }

@@ -3,16 +3,18 @@ use Rattle.std.specs.Prelude.{◌≡◌, ℕ, List, [], ◌∷◌, map, Bool, if
 use Rattle.std.specs.Prelude.{Result, Ok, Err, IsSomeAnd, IsOkAnd, MatchOption}
 use Rattle.std.specs.Str.{bytes_eq}
 use Rattle.attr_text.specs.Attributes.{local_name_of}
-use Rattle.part_events.specs.Event.{Tag, Event}
+use Rattle.part_events.specs.Event.{Tag, Event, start}
 use Rattle.part_events.specs.Package.{Part, part_of}
-use Rattle.part_events.specs.Section.{Element, outermost, is_named}
+use Rattle.part_events.specs.Reading.{Reading, ahead}
+use Rattle.part_events.specs.Section.{Element, content, outermost, is_named}
+use Rattle.xlsx_error.specs.declared.error.XlsxError.{XlsxError}
 use Rattle.cell_data.specs.declared.format.CellFormat.{CellFormat}
 use Rattle.cell_styles.specs.declared.border.Borders.{Borders}
 use Rattle.cell_styles.specs.declared.color.Color.{Color}
 use Rattle.cell_styles.specs.declared.fill.Fill.{Fill}
 use Rattle.xlsx_sections.specs.Answers.{prepended}
 use Rattle.xlsx_sections.specs.Changes.{all_changes}
-use Rattle.xlsx_sections.specs.Elements.{end_among}
+use Rattle.xlsx_sections.specs.Elements.{end_among, ElementReadFails}
 use Rattle.xlsx_sections.specs.PartSection.{closed_section_of}
 use Rattle.xlsx_sections.specs.Refusal.{Refusal, in_element}
 use Rattle.xlsx_styles.specs.Fonts.{FontSaid, said_of}
@@ -181,6 +183,20 @@ pub record IsListRead (theme : List Color) (tag : Tag) (old new : StyleLists) (i
   pub codes : AreCodes later new.codes
   pub said :
       list_read theme (list_of tag) (lists_said formats old) inside ≡ Ok (lists_said later new)
+
+-- the element at whose start a reader stands was read into the lists
+abbrev pub ReadsList : List Color → StyleLists → StyleLists → Reading → Type 0
+ReadsList theme old new r =
+    (tag : Tag) (formats : List WrittenFormat) → start tag ≡ r.source.current
+    → AreCodes formats old.codes → IsListRead theme tag old new (content 0 (ahead r)) formats
+
+-- why it can't be
+abbrev pub ListFails : List Color → StyleLists → Reading → Reading → XlsxError → Type 0
+ListFails theme lists old new error =
+    (tag : Tag) (formats : List WrittenFormat) → start tag ≡ old.source.current
+    → AreCodes formats lists.codes
+    → ElementReadFails (list_end (list_of tag))
+    (list_read theme (list_of tag) (lists_said formats lists)) old new error
 
 -- what the cell formats make of numbers, and their styles, in order
 abbrev pub AreStyles : List CellFormat → List StyleSaid → List FormattingSaid → Type 0

@@ -7,11 +7,12 @@
 //! what it names. A cell format is kept with its style, and the two are parted at the end.
 //!
 //! **A list is what its elements say, one behind the other** (`list_said`): an item for each
-//! outermost element of its name, or the first refusal. One record (`KeepsList` in the lemmas of
-//! xlsx_sections) says for all four loops, and for those of strings and of a theme's slots, that
-//! what is kept, with what the rest of the element says, is what was kept before with what the
-//! whole says. The section is a chain of changes (`list_change`) of five lists, so that a second
-//! element of a name makes its list longer, and a cell format sees what stands before it.
+//! outermost element of its name, or the first refusal. Fonts, fills and borders are read by one
+//! loop (`keep_elements` of xlsx_sections). The loop over cell formats has the same invariant
+//! (`KeepsList`) for each list of codes that their numbers may name: what is kept, with what the
+//! rest of the element says, is what was kept before with what the whole says. The section is a
+//! chain of changes (`list_change`) of five lists, so that a second element of a name makes its
+//! list longer, and a cell format sees what stands before it.
 //!
 //! The lemma file is `Sound`.
 #![tactic(auto)]

@@ -1,3 +1,4 @@
+ghost use Rattle.std.proofs.Common.{rules};
 ghost use Rattle.std.specs.Prelude.{◌≡◌, List, [], ◌∷◌, codes, map, true, Ok};
 ghost use Rattle.std.specs.Prelude.{Err, IfOk, OnOk, IfErr, MatchResult};
 ghost use Rattle.std.specs.Option.{option_copied};
@@ -10,13 +11,16 @@ ghost use Rattle.xlsx_sections.specs.Answers.{prepended};
 ghost use Rattle.xlsx_sections.specs.Elements.{ElementReadFails};
 ghost use Rattle.xlsx_styles.specs.Borders.{end_in_border};
 ghost use Rattle.xlsx_styles.specs.Errors.{IsBorderError};
-ghost use Rattle.xlsx_styles.specs.Fonts.{said_of};
+ghost use Rattle.xlsx_styles.specs.Fonts.{FontSaid, said_of};
+ghost use Rattle.cell_styles.specs.declared.fill.Fill.{Fill};
+ghost use Rattle.cell_styles.specs.declared.border.Borders.{Borders};
+ghost use Rattle.xlsx_sections.specs.PartSection.{always};
 ghost use Rattle.xlsx_formats.specs.FormatCodes.{WrittenFormat, AreCodes};
 ghost use Rattle.xlsx_formats.specs.Formattings.{formatting_said, named_said};
 ghost use Rattle.xlsx_stylesheet.specs.Lists.{formattings_in, end_in_formats, fonts_in};
 ghost use Rattle.xlsx_stylesheet.specs.Lists.{end_in_fonts, fills_in, end_in_fills, diagonal_keys};
 ghost use Rattle.xlsx_stylesheet.specs.Lists.{diagonals_of, border_said, borders_in};
-ghost use Rattle.xlsx_stylesheet.specs.Lists.{end_in_borders};
+ghost use Rattle.xlsx_stylesheet.specs.Lists.{end_in_borders, font_said, fill_said};
 ghost use Rattle.xlsx_stylesheet.specs.StylesErrors.{AreStylesError};
 
 use attr_text::{AttrFault, AttrValue, RawAttributes, two_values};
@@ -25,8 +29,37 @@ use part_events::{Cursor, Package, StartTag};
 use std::alloc::Global;
 use xlsx_error::XlsxError;
 use xlsx_formats::{Formatting, NamedLists, read_format};
-use xlsx_sections::{next_element_in, start_tag};
+use xlsx_sections::{ReadsEach, keep_elements, next_element_in, start_tag};
 use xlsx_styles::{read_border, read_fill, read_font, truth_or};
+
+/// Reads fonts.
+#[derive(Drop)]
+struct FontReader<'a> {
+    alloc: Global,
+    theme_colors: &'a [Color],
+}
+
+impl ReadsEach for FontReader<'_> {
+    type Item = Font;
+
+    ghost Kept = { FontSaid };
+
+    ghost said = { λ font. said_of font };
+
+    ghost meaning = { λ r. font_said r.theme_colors.now };
+
+    ghost ending = { always (codes "font") };
+
+    ghost section = { codes "fonts" };
+
+    ghost Kind = { AreStylesError };
+
+    ghost kinds = { Prim.search rules };
+
+    fn read<P: Package>(&self, package: &mut P, cursor: &mut Cursor) -> Result<Font, XlsxError> {
+        read_font(self.alloc, package, cursor, self.theme_colors)
+    }
+}
 
 /// Appends the fonts of the element at whose start the package stands, which is read to its end
 /// (ECMA-376 part 1, section 18.8.23).
@@ -51,15 +84,44 @@ pub fn read_fonts<P: Package>(
         IfErr result (ElementReadFails end_in_fonts (fonts_in theme_colors.now) old new) }
     ensures kind { IfErr result AreStylesError }
 {
-    let base = cursor.depth();
-    'fonts: while let Some(_at) = next_element_in(package, cursor, base, &["font"], "fonts")? {
-        fonts.push(read_font(alloc, package, cursor, theme_colors)?)?;
+    let by = FontReader {
+        alloc,
+        theme_colors,
+    };
+    keep_elements(package, cursor, &["font"], "fonts", &by, fonts)
+}
+
+/// Reads fills.
+#[derive(Drop)]
+struct FillReader<'a> {
+    theme_colors: &'a [Color],
+}
+
+impl ReadsEach for FillReader<'_> {
+    type Item = Fill;
+
+    ghost Kept = { Fill };
+
+    ghost said = { λ fill. fill };
+
+    ghost meaning = { λ r. fill_said r.theme_colors.now };
+
+    ghost ending = { always (codes "fill") };
+
+    ghost section = { codes "fills" };
+
+    ghost Kind = { AreStylesError };
+
+    ghost kinds = { Prim.search rules };
+
+    fn read<P: Package>(&self, package: &mut P, cursor: &mut Cursor) -> Result<Fill, XlsxError> {
+        read_fill(package, cursor, self.theme_colors)
     }
-    Ok(())
 }
 
 /// Appends the fills of the element at whose start the package stands, which is read to its end
 /// (ECMA-376 part 1, section 18.8.21).
+#[tactic(auto, using(xlsx_sections::proofs::StartsKept::own_items))]
 pub fn read_fills<P: Package>(
     package: &mut P,
     cursor: &mut Cursor,
@@ -79,11 +141,8 @@ pub fn read_fills<P: Package>(
         IfErr result (ElementReadFails end_in_fills (fills_in theme_colors.now) old new) }
     ensures kind { IfErr result AreStylesError }
 {
-    let base = cursor.depth();
-    'fills: while let Some(_at) = next_element_in(package, cursor, base, &["fill"], "fills")? {
-        fills.push(read_fill(package, cursor, theme_colors)?)?;
-    }
-    Ok(())
+    let by = FillReader { theme_colors };
+    keep_elements(package, cursor, &["fill"], "fills", &by, fills)
 }
 
 /// The texts of a start's attributes: which ways the diagonal goes.
@@ -129,8 +188,37 @@ fn read_one_border<P: Package>(
     read_border(package, cursor, down, up, theme_colors)
 }
 
+/// Reads borders.
+#[derive(Drop)]
+struct BorderReader<'a> {
+    theme_colors: &'a [Color],
+}
+
+impl ReadsEach for BorderReader<'_> {
+    type Item = Borders;
+
+    ghost Kept = { Borders };
+
+    ghost said = { λ borders. borders };
+
+    ghost meaning = { λ r. border_said r.theme_colors.now };
+
+    ghost ending = { end_in_border };
+
+    ghost section = { codes "borders" };
+
+    ghost Kind = { AreStylesError };
+
+    ghost kinds = { Prim.search rules };
+
+    fn read<P: Package>(&self, package: &mut P, cursor: &mut Cursor) -> Result<Borders, XlsxError> {
+        read_one_border(package, cursor, self.theme_colors)
+    }
+}
+
 /// Appends the borders of the element at whose start the package stands, which is read to its end
 /// (ECMA-376 part 1, section 18.8.5).
+#[tactic(auto, using(xlsx_sections::proofs::StartsKept::own_items))]
 pub fn read_borders<P: Package>(
     package: &mut P,
     cursor: &mut Cursor,
@@ -151,17 +239,8 @@ pub fn read_borders<P: Package>(
         IfErr result (ElementReadFails end_in_borders (borders_in theme_colors.now) old new) }
     ensures kind { IfErr result AreStylesError }
 {
-    let base = cursor.depth();
-    'borders: while let Some(_at) = next_element_in(
-        package,
-        cursor,
-        base,
-        &["border"],
-        "borders",
-    )? {
-        borders.push(read_one_border(package, cursor, theme_colors)?)?;
-    }
-    Ok(())
+    let by = BorderReader { theme_colors };
+    keep_elements(package, cursor, &["border"], "borders", &by, borders)
 }
 
 /// Appends the cell formats of the element at whose start the package stands, which is read to its

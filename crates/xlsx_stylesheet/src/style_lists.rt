@@ -1,16 +1,14 @@
-ghost use Rattle.std.specs.Prelude.{◌≡◌, ◌≤◌, List, suc, codes, length, true, Ok, IfOk, OnOk};
-ghost use Rattle.std.specs.Prelude.{IfErr};
-ghost use Rattle.part_events.specs.Event.{Tag, start, tag_of};
+ghost use Rattle.std.specs.Prelude.{◌≡◌, ◌≤◌, List, [], codes, length, true, Ok, IfOk, OnOk, IfErr};
+ghost use Rattle.part_events.specs.Event.{tag_of};
 ghost use Rattle.part_events.specs.Reading.{reading, open_elements, IsReading, IsReadingElement};
-ghost use Rattle.part_events.specs.Reading.{ReadsElement, ReadsPart, ahead};
-ghost use Rattle.part_events.specs.Section.{content};
-ghost use Rattle.part_events.specs.Walk.{section_ahead, is_closed_ahead, section_end};
+ghost use Rattle.part_events.specs.Reading.{ReadsElement, ReadsPart};
+ghost use Rattle.part_events.specs.Walk.{section_ahead};
 ghost use Rattle.xlsx_error.specs.declared.error.XlsxError.TheVariants.{Io};
-ghost use Rattle.xlsx_sections.specs.Elements.{ElementReadFails, IsInsideRefused};
+ghost use Rattle.xlsx_sections.specs.Elements.{IsInsideRefused, ReachesEnd};
 ghost use Rattle.xlsx_sections.specs.PartSection.{SectionFails};
 ghost use Rattle.xlsx_formats.specs.FormatCodes.{WrittenFormat, AreCodes};
-ghost use Rattle.xlsx_stylesheet.specs.StyleSheet.{list_named, list_of, list_read, list_end};
-ghost use Rattle.xlsx_stylesheet.specs.StyleSheet.{lists_in, lists_said, IsListRead, end_in_styles};
+ghost use Rattle.xlsx_stylesheet.specs.StyleSheet.{list_named, list_of, no_lists, lists_in};
+ghost use Rattle.xlsx_stylesheet.specs.StyleSheet.{lists_said, end_in_styles, ReadsList, ListFails};
 ghost use Rattle.xlsx_stylesheet.specs.StylesErrors.{AreStylesError};
 
 use crate::lists::{read_borders, read_fills, read_fonts, read_formats};
@@ -40,6 +38,21 @@ pub struct StyleLists {
     pub fills: Vec<Fill>,
     pub borders: Vec<Borders>,
     pub formattings: Vec<Formatting>,
+}
+
+impl StyleLists {
+    fn new(alloc: Global) -> StyleLists
+        ensures codes { AreCodes [] result.codes }
+        ensures none { lists_said [] result ≡ no_lists }
+    {
+        StyleLists {
+            codes: FormatCodes::new(alloc),
+            fonts: Vec::new(alloc),
+            fills: Vec::new(alloc),
+            borders: Vec::new(alloc),
+            formattings: Vec::new(alloc),
+        }
+    }
 }
 
 fn list_named(name: &str) -> StyleList
@@ -74,17 +87,11 @@ fn read_list<P: Package>(
         let new = reading (P.state «package».new) cursor.new in
         ReadsElement Io result old new }
     ensures lists { let old = reading (P.state «package».old) cursor.old in
-        let inside = content 0 (ahead old) in
-        old.source.is_told ≡ true → OnOk result ((tag : Tag) (formats : List WrittenFormat) →
-        start tag ≡ old.source.current → AreCodes formats lists.old.codes →
-        IsListRead theme_colors.now tag lists.old lists.new inside formats) }
+        old.source.is_told ≡ true →
+        OnOk result (ReadsList theme_colors.now lists.old lists.new old) }
     ensures err { let old = reading (P.state «package».old) cursor.old in
         let new = reading (P.state «package».new) cursor.new in
-        IfErr result (λ error. (tag : Tag) (formats : List WrittenFormat) →
-        start tag ≡ old.source.current → AreCodes formats lists.old.codes →
-        ElementReadFails (list_end (list_of tag))
-        (list_read theme_colors.now (list_of tag) (lists_said formats lists.old))
-        old new error) }
+        IfErr result (ListFails theme_colors.now lists.old old new) }
     ensures kind { IfErr result AreStylesError }
 {
     match list_of(start_tag(package)) {
@@ -119,11 +126,9 @@ pub fn lists_in<P: Package>(
     ensures reads { let old = reading (P.state «package».old) cursor.old in
         let new = reading (P.state «package».new) cursor.new in
         ReadsPart Io result old new }
-    ensures closed { let old = reading (P.state «package».old) cursor.old in
-        old.source.is_told ≡ true → OnOk result (is_closed_ahead base old ≡ true) }
-    ensures ends { let old = reading (P.state «package».old) cursor.old in
+    ensures reaches { let old = reading (P.state «package».old) cursor.old in
         let new = reading (P.state «package».new) cursor.new in
-        old.source.is_told ≡ true → OnOk result (new.at ≡ suc (section_end base old)) }
+        old.source.is_told ≡ true → OnOk result (ReachesEnd base old new) }
     ensures lists { let old = reading (P.state «package».old) cursor.old in
         old.source.is_told ≡ true → IfOk result (λ lists. (formats : List WrittenFormat)
         × AreCodes formats lists.codes
@@ -134,13 +139,7 @@ pub fn lists_in<P: Package>(
         IfErr result (SectionFails end_in_styles refused base old new) }
     ensures kind { IfErr result AreStylesError }
 {
-    let mut lists = StyleLists {
-        codes: FormatCodes::new(alloc),
-        fonts: Vec::new(alloc),
-        fills: Vec::new(alloc),
-        borders: Vec::new(alloc),
-        formattings: Vec::new(alloc),
-    };
+    let mut lists = StyleLists::new(alloc);
     'lists: while let Some(_at) = next_element_in(
         package,
         cursor,

@@ -1,24 +1,16 @@
 -- Which refusals of the layers below are refusals of tables.
-use Rattle.std.proofs.Common.{◌≡◌, ℕ, List, codes, Result, Err, ap}
+use Rattle.std.proofs.Common.{◌≡◌, ℕ, List, Result, Err, ap}
 use Rattle.cell_refs.specs.declared.dimensions.Dimensions.{Dimensions}
 use Rattle.part_events.specs.declared.fault.XmlFault.TheVariants.{EndMismatch, Entity}
 use Rattle.xlsx_error.specs.declared.error.XlsxError.{XlsxError}
 use Rattle.xlsx_error.specs.declared.error.XlsxError.TheVariants.{OutOfMemory, Io, Xml, XmlEof}
 use Rattle.xlsx_error.specs.declared.error.XlsxError.TheVariants.{XmlAttr}
 use Rattle.xlsx_sections.specs.Names.{IsNameError}
-use Rattle.xlsx_sections.specs.PartSection.{IsStepError}
 use Rattle.xlsx_sections.specs.Refusal.{Refusal, ElementFails, IsDecodeError}
 use Rattle.xlsx_sections.proofs.Refused.{refused_at_weaker}
 use Rattle.xlsx_parts.specs.WholePart.{IsBreakError}
 use Rattle.xlsx_tables.specs.TableErrors.{IsTableStartError, IsTableError}
 use Rattle.xlsx_tables.specs.TableParts.{with_table_name, with_headers, with_totals}
-
-pub table_step : (error : XlsxError) → IsStepError (codes "Table") error → IsTableError error
-table_step OutOfMemory is = tt
-table_step Io is = tt
-table_step (Xml (EndMismatch at)) is = tt
-table_step (XmlEof element) is = is
-table_step _ is = absurd is
 
 pub name_error : (error : XlsxError) → IsNameError error → IsTableError error
 name_error OutOfMemory is = tt

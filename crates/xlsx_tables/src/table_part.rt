@@ -1,21 +1,19 @@
-ghost use Rattle.std.specs.Prelude.{◌≡◌, ◌≤◌, ◌++◌, ℕ, List, Ok, Some, None, suc, length, map};
-ghost use Rattle.std.specs.Prelude.{true, codes, Result, option_map, option_to_list, string_bytes};
+ghost use Rattle.std.proofs.Common.{rules};
+ghost use Rattle.std.specs.Prelude.{◌≡◌, ◌≤◌, ℕ, List, Ok, Some, None, suc, length, map};
+ghost use Rattle.std.specs.Prelude.{true, codes, string_bytes};
 ghost use Rattle.std.specs.Prelude.{IfOk, OnOk, IfErr, IfSome, MatchOption, option_and_then};
 ghost use Rattle.std.specs.Result.{is_err};
 ghost use Rattle.cell_refs.specs.Positions.{are_sheet_bounds};
-ghost use Rattle.part_events.specs.Event.{tag_of};
 ghost use Rattle.part_events.specs.Package.{Uses, event_count, part_of};
 ghost use Rattle.part_events.specs.Reader.{reading_by, SamePackage};
 ghost use Rattle.part_events.specs.Reading.{reading, open_elements, IsReading, ReadsPart};
 ghost use Rattle.part_events.specs.Reading.{events_of};
 ghost use Rattle.part_events.specs.Walk.{section_ahead};
 ghost use Rattle.xlsx_error.specs.declared.error.XlsxError.TheVariants.{Io};
-ghost use Rattle.xlsx_sections.specs.Answers.{prepended, and_others_if};
 ghost use Rattle.xlsx_sections.specs.Elements.{IsInsideRefused, ReachesEnd};
 ghost use Rattle.xlsx_sections.specs.Failing.{FailsBy};
 ghost use Rattle.xlsx_sections.specs.Names.{name_by};
 ghost use Rattle.xlsx_sections.specs.PartSection.{always, SectionFails};
-ghost use Rattle.xlsx_sections.specs.Refusal.{Refusal, ElementFails, placed_at};
 ghost use Rattle.xlsx_sections.specs.SectionEvents.{ReadsToEnd, section_events};
 ghost use Rattle.xlsx_parts.specs.WholePart.{IfThere};
 ghost use Rattle.xlsx_tables.specs.TableErrors.{TableCause, IsTableError};
@@ -24,10 +22,10 @@ ghost use Rattle.xlsx_tables.specs.TableParts.{columns_in, table_of, table_kept}
 use crate::table_start::start_said;
 use cell_refs::Dimensions;
 use part_events::{Cursor, Package, StartTag, XlReader};
-use std::alloc::{AllocError, Global};
+use std::alloc::Global;
 use xlsx_error::XlsxError;
 use xlsx_parts::{find_element, open_part};
-use xlsx_sections::{name_by, next_start_in, start_tag};
+use xlsx_sections::{Reads, keep_all, name_by, start_tag};
 
 /// The part of a table (ECMA-376 part 1, section 18.5.1.2).
 #[derive(Debug, Drop)]
@@ -41,40 +39,34 @@ pub struct TablePart {
     pub area: Option<Dimensions>,
 }
 
-/// Appends a name, where there is one.
-fn push_name(names: &mut Vec<String>, name: Option<String>) -> Result<(), AllocError>
-    ensures { OnOk result (map string_bytes names.new.items
-        ≡ map string_bytes names.old.items ++ option_to_list (option_map string_bytes name)) }
-{
-    if let Some(name) = name {
-        names.push(name)?;
-    }
-    Ok(())
+/// Reads the names of columns.
+#[derive(Drop)]
+struct Columns {
+    alloc: Global,
 }
 
-/// Appends the name of the column of a start, which is event number `at` of its part.
-#[tactic(auto, using(crate::proofs::TablesRead::name_error))]
-fn push_column(
-    alloc: Global,
-    columns: &mut Vec<String>,
-    tag: StartTag<'_>,
-    at: u64,
-) -> Result<(), XlsxError>
-    ensures ok { OnOk result ((behind : ℕ) (others : Result (List (List ℕ)) Refusal) →
-        prepended (map string_bytes columns.new.items) others
-        ≡ prepended (map string_bytes columns.old.items)
-        (and_others_if (name_by (placed_at (tag_of tag.entry) behind)) others)) }
-    ensures err { IfErr result (λ error. (behind : ℕ) →
-        ElementFails (name_by (placed_at (tag_of tag.entry) behind)) at behind error) }
-    ensures kind { IfErr result IsTableError }
-{
-    let name = name_by(alloc, tag, at)?;
-    push_name(columns, name)?;
-    Ok(())
+impl Reads for Columns {
+    type Item = String;
+
+    ghost Kept = { List ℕ };
+
+    ghost said = { λ name. string_bytes name };
+
+    ghost meaning = { λ r. name_by };
+
+    ghost section = { codes "Table" };
+
+    ghost Kind = { IsTableError };
+
+    ghost kinds = { Prim.search rules };
+
+    #[tactic(auto, using(crate::proofs::TablesRead::name_error))]
+    fn read(&self, tag: StartTag<'_>, at: u64) -> Result<Option<String>, XlsxError> {
+        name_by(self.alloc, tag, at)
+    }
 }
 
 /// The names of the columns in a table whose element is number `base` of the open ones.
-#[tactic(auto, using(crate::proofs::TablesRead::table_step))]
 fn columns_in<P: Package>(
     alloc: Global,
     package: &mut P,
@@ -99,11 +91,15 @@ fn columns_in<P: Package>(
         old new) }
     ensures kind { IfErr result IsTableError }
 {
-    let mut columns = Vec::new(alloc);
-    'starts: while let Some(at) = next_start_in(package, cursor, base, "tableColumn", "Table")? {
-        push_column(alloc, &mut columns, start_tag(package), at)?;
-    }
-    Ok(columns)
+    keep_all(
+        alloc,
+        package,
+        cursor,
+        base,
+        &["tableColumn"],
+        "Table",
+        Columns { alloc },
+    )
 }
 
 /// The first table of a part of which nothing was taken.

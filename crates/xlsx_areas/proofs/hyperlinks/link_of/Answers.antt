@@ -7,7 +7,7 @@ use Rattle.xlsx_sections.specs.Placed.{placed}
 use Rattle.xlsx_sections.specs.Refusal.{placed_at}
 use Rattle.xlsx_relationships.specs.LinkTargets.{target_held}
 use Rattle.xlsx_areas.specs.Hyperlinks.{optional_text, linked, some_link, link_of}
-use Rattle.xlsx_areas.proofs.LinksRead.{handed_on}
+use Rattle.xlsx_sections.proofs.Refused.{handed_on}
 use Rattle.xlsx_areas.proofs.hyperlinks.link_of.Goals as goal
 
 pub returns-in_err-link-clause-err : goal.returns-in_err-link-clause-err

@@ -5,7 +5,7 @@ use Rattle.cell_refs.specs.A1.{area}
 use Rattle.xlsx_sections.specs.Placed.{placed}
 use Rattle.xlsx_sections.specs.Refusal.{Refusal}
 use Rattle.xlsx_areas.specs.Hyperlinks.{Link, optional_text, linked}
-use Rattle.xlsx_areas.proofs.LinksRead.{handed_on}
+use Rattle.xlsx_sections.proofs.Refused.{handed_on}
 use Rattle.xlsx_areas.proofs.hyperlinks.linked.Goals as goal
 
 abbrev Said : Type 0

@@ -23,7 +23,6 @@ returns-in-Err g c =
           absurd (never_refused (events_of old) section mid.source new refusal found there other
           more (rw c.depth-base.ensures at c.in-Err.ensures.err) (search rules));
       faults = search rules;
-      counts = search rules;
       err = search rules;
       kind = search rules;
     }

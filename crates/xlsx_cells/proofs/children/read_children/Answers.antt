@@ -18,7 +18,8 @@ use Rattle.xlsx_cells.specs.Children.{StandsAtElement, LastStep, ReadsCellFormul
 use Rattle.xlsx_cells.specs.Children.{value_kept}
 use Rattle.xlsx_cells.specs.Children.{IsChildRefused, AreChildrenRefused}
 use Rattle.xlsx_cells.specs.Ends.{end_in_child, end_in_child_element, end_in_children}
-use Rattle.xlsx_cells.proofs.ChildrenRead.{leaves_further, or_earlier_in_element}
+use Rattle.xlsx_sections.proofs.SectionsRead.{leaves_further}
+use Rattle.xlsx_cells.proofs.ChildrenRead.{or_earlier_in_element}
 use Rattle.xlsx_cells.proofs.ChildrenRead.{written_further, formulas_refused, formulas_whole}
 use Rattle.xlsx_cells.proofs.children.read_children.Goals as goal
 

@@ -1,5 +1,6 @@
 use Rattle.std.proofs.Common.{◌≡◌, ℕ, suc, Some, None, Err, codes, length, ap, sym, ◌∙◌}
-use Rattle.part_events.specs.Walk.{section_end}
+use Rattle.part_events.specs.Walk.{section_ahead, section_end}
+use Rattle.std.proofs.Common.{Ok, true, rules}
 use Rattle.std.proofs.Common.{subst, arith, option_map, string_bytes}
 use Rattle.part_events.specs.Event.{Tag, tag_of}
 use Rattle.part_events.specs.Reading.{reading, events_of}
@@ -55,22 +56,22 @@ returns-in_err-keep_name-clause-err g c =
     (λ told refusal is. ap (changed_by (λ kept. name_behind kept (inside_of s))) is)
     (c.in_err-keep_name.ensures.err (length (inside_of s))))))
 
-pub returns-in_err-keep_names-clause-err : goal.returns-in_err-keep_names-clause-err
-returns-in_err-keep_names-clause-err g c =
+pub returns-in_err-keep_starts-clause-err : goal.returns-in_err-keep_starts-clause-err
+returns-in_err-keep_starts-clause-err g c =
     let name = codes "pivotTableDefinition" in
     let old = reading (g.P.Package.state c.args.package.now) c.args.cursor.now in
     let mid = reading (g.P.Package.state c.find_element.new.package) c.find_element.new.cursor in
-    let new = reading (g.P.Package.state c.keep_names.new.package) c.keep_names.new.cursor in
+    let new = reading (g.P.Package.state c.keep_starts.new.package) c.keep_starts.new.cursor in
     let tag = tag_of c.start_tag.result in
     let s = section_left (length mid.names) mid in
-    let error = c.in_err-keep_names.field-0.0 in
+    let error = c.in_err-keep_starts.field-0.0 in
     let kept = option_map string_bytes c.keep_name.new.kept in
     let here : SectionFails (always name) (IsInsideRefused (name_behind kept)) (length mid.names)
     mid new error =
     subst (λ (n : ℕ). SectionFails (always name) (IsInsideRefused (name_behind kept)) n mid new
-    error) c.depth-base.ensures c.in_err-keep_names.ensures.err in
-    given_back _ c.from_residual-in_err-keep_names.result
-    c.from_residual-in_err-keep_names.ensures.1
+    error) c.depth-base.ensures (c.in_err-keep_starts.ensures.err tt) in
+    given_back _ c.from_residual-in_err-keep_starts.result
+    c.from_residual-in_err-keep_starts.ensures.1
     (first_refused (FirstElementCause name name name_said (events_of old))
     (Lacks single.Name (name_in_part (events_of old))) old.source new.source error
     (element_refused {tag = tag} {s = s} name name name_said old mid.source new.source error
@@ -88,14 +89,34 @@ returns-in-Some-kept-clause-ends g c = λ told.
     let name = codes "pivotTableDefinition" in
     let old = reading (g.P.Package.state c.args.package.now) c.args.cursor.now in
     let mid = reading (g.P.Package.state c.find_element.new.package) c.find_element.new.cursor in
-    let new = reading (g.P.Package.state c.keep_names.new.package) c.keep_names.new.cursor in
+    let new = reading (g.P.Package.state c.keep_starts.new.package) c.keep_starts.new.cursor in
     let tag = tag_of c.start_tag.result in
     let s = section_left (length mid.names) mid in
     let still = c.in_ok-at.ensures.reads.moves.parts.is_told ∙ told in
     let ends : new.at ≡ suc (section_end (length mid.names) mid) =
     subst (λ (n : ℕ). new.at ≡ suc (section_end n mid)) c.depth-base.ensures
-    (c.in_ok-keep_names.ensures.reaches still).ends in
+    (c.in_ok-keep_starts.ensures.reaches still).ends in
     let there = at_start (λ (own : Tag). element_in name (events_of old)
     ≡ Some (element_with own s)) c.start_tag.ensures
     (rw c.in-Some.is at (c.in_ok-at.ensures.found told)) in
     ends ∙ sym (element_events name (events_of old) (element_with tag s) there)
+
+pub returns-in-Some-kept-clause-name : goal.returns-in-Some-kept-clause-name
+returns-in-Some-kept-clause-name g c =
+    let mid = reading (g.P.Package.state c.find_element.new.package) c.find_element.new.cursor in
+    let held : mid.source.is_told ≡ true
+    → name_behind (option_map string_bytes c.keep_name.new.kept)
+    (section_ahead c.depth-base.result mid)
+    ≡ Ok (option_map string_bytes c.keep_starts.new.keeper.kept) =
+    λ told. c.in_ok-keep_starts.ensures.kept told tt in
+    search rules
+
+pub returns-in-None-clause-err : goal.returns-in-None-clause-err
+returns-in-None-clause-err g c =
+    let mid = reading (g.P.Package.state c.find_element.new.package) c.find_element.new.cursor in
+    let held : mid.source.is_told ≡ true
+    → name_behind (option_map string_bytes c.keep_name.new.kept)
+    (section_ahead c.depth-base.result mid)
+    ≡ Ok (option_map string_bytes c.keep_starts.new.keeper.kept) =
+    λ told. c.in_ok-keep_starts.ensures.kept told tt in
+    search rules

@@ -10,12 +10,12 @@ use Rattle.xlsx_relationships.specs.Relationships.{path_in, IsTargetRefused, IsP
 use Rattle.xlsx_relationships.proofs.relationship_parts.read_path.Goals as goal
 
 pub returns-in_err-path-clause-err : goal.returns-in_err-path-clause-err
-unfolding IsPathRefused
+unfolding IsPathRefused IsTargetRefused
 returns-in_err-path-clause-err g c =
     let name = codes "Relationships" in
     let old = g.P.Package.state c.args.package.now in
     let mid = reading (g.P.Package.state c.enter_part.new.package) c.in-Some.cursor in
-    let new = reading (g.P.Package.state c.path_in.new.package) c.path_in.new.cursor in
+    let new = reading (g.P.Package.state c.keep_last.new.package) c.keep_last.new.cursor in
     let e = c.in_err-path.field-0.0 in
     let enters = rw c.in-Some.is at c.in_ok-cursor.ensures.enters in
     let here : SectionFails (always name) IsTargetRefused (length mid.names) mid new e =
@@ -35,16 +35,16 @@ returns-clause-err g c =
     let name = codes "Relationships" in
     let old = g.P.Package.state c.args.package.now in
     let mid = reading (g.P.Package.state c.enter_part.new.package) c.in-Some.cursor in
-    let new = reading (g.P.Package.state c.path_in.new.package) c.path_in.new.cursor in
+    let new = reading (g.P.Package.state c.keep_last.new.package) c.keep_last.new.cursor in
     let enters = rw c.in-Some.is at c.in_ok-cursor.ensures.enters in
     let here : SectionFails (always name) IsPathRefused (length mid.names) mid new
     RelationshipNotFound = λ told.
     inr (
       refl,
       subst (λ (n : ℕ). is_closed_ahead n mid
-          ≡ true) c.depth-base.ensures (c.in_ok-path.ensures.closed told),
+          ≡ true) c.depth-base.ensures ((c.in_ok-path.ensures.reaches told).closed),
       subst (λ (n : ℕ). path_in (section_ahead n mid)
-          ≡ Ok None) c.depth-base.ensures (rw c.in-None.is at (c.in_ok-path.ensures.path told)),
+          ≡ Ok None) c.depth-base.ensures (rw c.in-None.is at (c.in_ok-path.ensures.kept told)),
     )
     in
     required_part_refused name c.args.part.now old new.source (always name) IsPathRefused

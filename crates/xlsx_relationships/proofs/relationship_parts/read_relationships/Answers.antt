@@ -1,25 +1,59 @@
-use Rattle.std.proofs.Common.{ℕ, codes, subst}
-use Rattle.std.proofs.lemmas.Result.{IfErr-weaker}
+use Rattle.std.proofs.Common.{◌≡◌, ◌∷◌, [], None, Ok, List, ℕ, codes, subst, sym, ◌∙◌, rules}
+use Rattle.part_events.specs.Event.{Event}
 use Rattle.part_events.specs.Reading.{reading}
-use Rattle.xlsx_sections.specs.PartSection.{always, SectionFails, PartFails}
-use Rattle.xlsx_sections.proofs.Failing.{part_refused, required_part_refused}
-use Rattle.xlsx_relationships.specs.Relationships.{AreRelationshipsRefused}
+use Rattle.part_events.specs.Section.{is_named}
+use Rattle.part_events.specs.Walk.{section_ahead}
+use Rattle.xlsx_sections.specs.Elements.{IsInsideRefused}
+use Rattle.xlsx_sections.specs.Keeping.{changed_in, or_before}
+use Rattle.xlsx_sections.specs.PartSection.{always, SectionFails, inside_of, section_left}
+use Rattle.xlsx_sections.proofs.Failing.{given_back, part_refused, required_part_refused}
+use Rattle.xlsx_sections.proofs.Refused.{refused_as}
+use Rattle.xlsx_sections.proofs.StartsKept.{or_in, refused_each}
+use Rattle.xlsx_relationships.specs.KeptRelationships.{related_by_id}
+use Rattle.xlsx_relationships.specs.Relationships.{related_of, related_in, AreRelationshipsRefused}
 use Rattle.xlsx_relationships.proofs.relationship_parts.read_relationships.Goals as goal
 
-pub returns-clause-err : goal.returns-clause-err
-returns-clause-err g c =
+pub returns-in_err-keep_starts-clause-err : goal.returns-in_err-keep_starts-clause-err
+unfolding AreRelationshipsRefused
+returns-in_err-keep_starts-clause-err g c =
     let name = codes "Relationships" in
+    let ending = always name in
+    let wanted = is_named (codes "Relationship" ∷ []) in
     let old = g.P.Package.state c.args.package.now in
     let mid = reading (g.P.Package.state c.enter_part.new.package) c.in-Some.cursor in
-    let new = reading (g.P.Package.state c.relationships_in.new.package)
-    c.relationships_in.new.cursor in
-    let refused = AreRelationshipsRefused in
+    let new = reading (g.P.Package.state c.keep_starts.new.package) c.keep_starts.new.cursor in
     let part = c.args.part.now in
+    let base = c.depth-base.result in
     let enters = rw c.in-Some.is at c.in_ok-cursor.ensures.enters in
-    IfErr-weaker c.relationships_in.result
-    (SectionFails (always name) refused c.depth-base.result mid new)
-    (PartFails name (always name) refused part old new.source)
-    (λ e fails. required_part_refused name part old new.source (always name) refused e
-    (part_refused (always name) refused new e enters
-    (subst (λ (n : ℕ). SectionFails (always name) refused n mid new e) c.depth-base.ensures fails)))
-    c.relationships_in.ensures.err
+    let e = c.in_err-keep_starts.field-0.0 in
+    let meaning = λ (id : List ℕ) (events : List Event).
+    changed_in wanted (or_before (related_of id)) (related_by_id c.new-map.result id) events in
+    let here : SectionFails ending AreRelationshipsRefused base mid new e =
+    refused_as base mid ending
+    (λ s refusal. (id : List ℕ) → IsInsideRefused (meaning id) s refusal)
+    AreRelationshipsRefused new e
+    (λ refusal all id.
+    let none : related_by_id c.new-map.result id ≡ None = search rules in
+    sym (or_in wanted (related_of id) (related_by_id c.new-map.result id)
+    (inside_of (section_left base mid)) none) ∙ all id)
+    (refused_each ending (λ id. IsInsideRefused (meaning id)) base mid new e []
+    c.in_err-keep_starts.ensures.err) in
+    given_back _ c.from_residual-in_err-keep_starts.result
+    c.from_residual-in_err-keep_starts.ensures.1
+    (required_part_refused name part old new.source ending AreRelationshipsRefused e
+    (part_refused ending AreRelationshipsRefused new e enters
+    (subst (λ (n : ℕ). SectionFails ending AreRelationshipsRefused n mid new e)
+    c.depth-base.ensures here)))
+
+pub returns-clause-related : goal.returns-clause-related
+returns-clause-related g c = λ told.
+    let wanted = is_named (codes "Relationship" ∷ []) in
+    let mid = reading (g.P.Package.state c.enter_part.new.package) c.in-Some.cursor in
+    let enters = rw c.in-Some.is at c.in_ok-cursor.ensures.enters in
+    let inside = section_ahead c.depth-base.result mid in
+    let held : (id : List ℕ) → related_in inside id
+    ≡ Ok (related_by_id c.keep_starts.new.keeper.map id) = λ id.
+    let none : related_by_id c.new-map.result id ≡ None = search rules in
+    sym (or_in wanted (related_of id) (related_by_id c.new-map.result id) inside none)
+    ∙ c.in_ok-keep_starts.ensures.kept (enters.parts.is_told ∙ told) id in
+    search rules

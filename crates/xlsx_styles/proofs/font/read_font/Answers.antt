@@ -1,24 +1,15 @@
-use Rattle.std.proofs.Common.{codes}
-use Rattle.std.proofs.lemmas.Result.{err_from_is_err_and}
-use Rattle.part_events.specs.Reading.{reading}
-use Rattle.xlsx_sections.specs.Elements.{IsInsideRefused}
-use Rattle.xlsx_sections.specs.PartSection.{always}
-use Rattle.xlsx_sections.proofs.StartsSaid.{at_start, own_refused}
-use Rattle.xlsx_sections.proofs.StartsSaid.{changed_refused}
-use Rattle.xlsx_styles.specs.Fonts.{font_change, font_of}
+use Rattle.std.proofs.Common.{◌≡◌, rules}
+use Rattle.cell_styles.specs.Default.{default_font}
+use Rattle.xlsx_sections.proofs.Failing.{given_back}
 use Rattle.xlsx_styles.proofs.font.read_font.Goals as goal
 
-pub returns-in_err-change_font-clause-err : goal.returns-in_err-change_font-clause-err
-returns-in_err-change_font-clause-err g c =
-    let old = reading (g.P.Package.state c.args.package.now) c.args.cursor.now in
-    let new = g.P.Package.state c.next_start_among.new.package in
-    let found = at_start _ c.start_tag.ensures
-    (rw c.in-Some.is at (c.in_ok-at.ensures.step old c.starts.invariant.said.keeps)) in
-    let error = c.in_err-change_font.field-0.0 in
-    let p = err_from_is_err_and c.from_residual-in_err-change_font.result
-    c.from_residual-in_err-change_font.ensures.1 in
-    rw (p.1, p.2)
-    (own_refused old (always (codes "font")) (IsInsideRefused (font_of c.args.theme_colors.now)) new
-    error c.starts.invariant.own
-    (changed_refused (always (codes "font")) (font_change c.args.theme_colors.now) new error
-    c.starts.invariant.said found c.in_err-change_font.ensures.err))
+pub returns-in_err-keep_in_element-clause-err : goal.returns-in_err-keep_in_element-clause-err
+returns-in_err-keep_in_element-clause-err g c =
+    let fresh : c.default.result ≡ default_font = search rules in
+    given_back _ c.from_residual.result c.from_residual.ensures.1
+    (rw fresh at (c.in_err-keep_in_element.ensures.err tt))
+
+pub returns-clause-font : goal.returns-clause-font
+returns-clause-font g c = λ told.
+    let fresh : c.default.result ≡ default_font = search rules in
+    rw fresh at (c.in_ok-keep_in_element.ensures.kept told tt)

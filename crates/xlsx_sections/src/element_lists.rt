@@ -1,0 +1,91 @@
+ghost use Rattle.std.specs.Prelude.{◌≡◌, ℕ, List, map, true, Ok, Result, Option, IfOk, OnOk};
+ghost use Rattle.std.specs.Prelude.{IfErr};
+ghost use Rattle.part_events.specs.Event.{Tag, Event, start};
+ghost use Rattle.part_events.specs.Reading.{reading, IsReadingElement, ReadsElement, ahead};
+ghost use Rattle.part_events.specs.Section.{content};
+ghost use Rattle.xlsx_error.specs.declared.error.XlsxError.{XlsxError};
+ghost use Rattle.xlsx_error.specs.declared.error.XlsxError.TheVariants.{Io};
+ghost use Rattle.xlsx_sections.specs.Answers.{prepended};
+ghost use Rattle.xlsx_sections.specs.ElementLists.{list_said, end_in_list};
+ghost use Rattle.xlsx_sections.specs.Elements.{ElementReadFails, named_among};
+ghost use Rattle.xlsx_sections.specs.PartSection.{IsStepError};
+ghost use Rattle.xlsx_sections.specs.Refusal.{Refusal};
+
+use crate::elements::next_element_in;
+use part_events::{Cursor, Package};
+use xlsx_error::XlsxError;
+
+/// Reads one element of a list.
+pub trait ReadsEach {
+    type Item: Drop;
+
+    ghost Kept: { Type 0 };
+
+    ghost said: { Self.Item → Kept };
+
+    ghost meaning: { Self → Tag → List Event → Result Kept Refusal };
+
+    ghost ending: { List Event → Option (List ℕ) };
+
+    ghost section: { List ℕ };
+
+    ghost Kind: { XlsxError → Type 0 };
+
+    /// The element at whose start the package stands, which is read to its end.
+    fn read<P: Package>(
+        &self,
+        package: &mut P,
+        cursor: &mut Cursor,
+    ) -> Result<Self::Item, XlsxError>
+        requires element { IsReadingElement (reading (P.state «package».old) cursor.old) }
+        ensures reads { let old = reading (P.state «package».old) cursor.old in
+            let new = reading (P.state «package».new) cursor.new in
+            ReadsElement Io result old new }
+        ensures said { let old = reading (P.state «package».old) cursor.old in
+            old.source.is_told ≡ true → IfOk result (λ item. (tag : Tag) →
+            start tag ≡ old.source.current →
+            meaning self.now tag (content 0 (ahead old)) ≡ Ok (said item)) }
+        ensures err { let old = reading (P.state «package».old) cursor.old in
+            let new = reading (P.state «package».new) cursor.new in
+            IfErr result (λ error. (tag : Tag) → start tag ≡ old.source.current →
+            ElementReadFails ending (meaning self.now tag) old new error) }
+        ensures kind { IfErr result Kind };
+
+    ghost kinds: { (error : XlsxError) → IsStepError section error → Kind error };
+}
+
+/// Appends what the outermost elements of these local names say in the element at whose start the
+/// package stands, which is read to its end.
+///
+/// A part that ends between them is `XmlEof(section)`, and an end that breaks the nesting is
+/// `Xml(EndMismatch)` with its number in the part, counted from 0.
+pub fn keep_elements<P: Package, R: ReadsEach>(
+    package: &mut P,
+    cursor: &mut Cursor,
+    names: &[&str],
+    section: &'static str,
+    by: &R,
+    items: &mut Vec<R::Item>,
+) -> Result<(), XlsxError>
+    requires element { IsReadingElement (reading (P.state «package».old) cursor.old) }
+    requires section { section.now ≡ R.section }
+    ensures reads { let old = reading (P.state «package».old) cursor.old in
+        let new = reading (P.state «package».new) cursor.new in
+        ReadsElement Io result old new }
+    ensures kept { let old = reading (P.state «package».old) cursor.old in
+        let list = list_said (named_among names.now) (R.meaning by.now) (content 0 (ahead old)) in
+        old.source.is_told ≡ true → OnOk result
+        (prepended (map R.said items.old.items) list ≡ Ok (map R.said items.new.items)) }
+    ensures err { let old = reading (P.state «package».old) cursor.old in
+        let new = reading (P.state «package».new) cursor.new in
+        let wanted = named_among names.now in
+        IfErr result (ElementReadFails (end_in_list wanted section.now R.ending)
+        (list_said wanted (R.meaning by.now)) old new) }
+    ensures kind { IfErr result R.Kind }
+{
+    let base = cursor.depth();
+    'elements: while let Some(_at) = next_element_in(package, cursor, base, names, section)? {
+        items.push(by.read(package, cursor)?)?;
+    }
+    Ok(())
+}

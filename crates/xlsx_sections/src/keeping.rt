@@ -1,0 +1,122 @@
+ghost use Rattle.std.specs.Prelude.{◌≡◌, ◌≤◌, ℕ, List, length, map, suc, true, Ok, Result};
+ghost use Rattle.std.specs.Prelude.{Option, IfOk, OnOk, IfErr, option_map};
+ghost use Rattle.part_events.specs.Event.{tag_of};
+ghost use Rattle.part_events.specs.Reading.{reading, open_elements, IsReading, ReadsPart};
+ghost use Rattle.part_events.specs.Reading.{IsReadingElement, ReadsElement, ahead};
+ghost use Rattle.part_events.specs.Section.{PlacedTag, is_named, content};
+ghost use Rattle.part_events.specs.Walk.{section_ahead};
+ghost use Rattle.xlsx_error.specs.declared.error.XlsxError.{XlsxError};
+ghost use Rattle.xlsx_error.specs.declared.error.XlsxError.TheVariants.{Io};
+ghost use Rattle.xlsx_sections.specs.Elements.{IsInsideRefused, ReachesEnd, ElementReadFails};
+ghost use Rattle.xlsx_sections.specs.Keeping.{changed_in};
+ghost use Rattle.xlsx_sections.specs.PartSection.{always, IsStepError, SectionFails};
+ghost use Rattle.xlsx_sections.specs.Refusal.{Refusal, ElementFails, placed_at};
+
+use crate::section::{next_start_among, start_tag};
+use part_events::{Cursor, Package, StartTag};
+use xlsx_error::XlsxError;
+
+/// Keeps what the starts of a section give.
+///
+/// What is held is seen by an index, as a map by its keys; where it is one value, the index is `⊤`.
+pub trait Keeps {
+    ghost Index: { Type 0 };
+
+    ghost Held: { Type 0 };
+
+    ghost held: { Self → Index → Held };
+
+    ghost change: { Self → Index → PlacedTag → Held → Result Held Refusal };
+
+    ghost section: { List ℕ };
+
+    ghost Kind: { XlsxError → Type 0 };
+
+    /// Keeps what a start gives, which is event number `at` of its part.
+    fn take(&mut self, tag: StartTag<'_>, at: u64) -> Result<(), XlsxError>
+        ensures same { change self.new ≡ change self.old }
+        ensures ok { OnOk result ((i : Index) (behind : ℕ) →
+            change self.old i (placed_at (tag_of tag.entry) behind) (held self.old i)
+            ≡ Ok (held self.new i)) }
+        ensures err { IfErr result (λ error. (i : Index) (behind : ℕ) → ElementFails
+            (change self.old i (placed_at (tag_of tag.entry) behind) (held self.old i))
+            at behind error) }
+        ensures kind { IfErr result Kind };
+
+    ghost kinds: { (error : XlsxError) → IsStepError section error → Kind error };
+}
+
+/// Keeps what the starts of these local names give in a section, whose element is number `base` of
+/// the open ones, counted from 1. Reads to the section's end.
+///
+/// A part that ends in the section is `XmlEof(section)`, and an end that breaks the nesting is
+/// `Xml(EndMismatch)` with its number in the part, counted from 0.
+pub fn keep_starts<P: Package, K: Keeps>(
+    package: &mut P,
+    cursor: &mut Cursor,
+    base: usize,
+    names: &[&str],
+    section: &'static str,
+    keeper: &mut K,
+) -> Result<(), XlsxError>
+    requires reading { IsReading (reading (P.state «package».old) cursor.old) }
+    requires within { base ≤ length (open_elements cursor.old) }
+    requires section { section.now ≡ K.section }
+    ensures reads { let old = reading (P.state «package».old) cursor.old in
+        let new = reading (P.state «package».new) cursor.new in
+        ReadsPart Io result old new }
+    ensures depth { OnOk result (suc (length (open_elements cursor.new)) ≡ base) }
+    ensures reaches { let old = reading (P.state «package».old) cursor.old in
+        let new = reading (P.state «package».new) cursor.new in
+        old.source.is_told ≡ true → OnOk result (ReachesEnd base old new) }
+    ensures kept { let old = reading (P.state «package».old) cursor.old in
+        let wanted = is_named (map (λ name. name.now) names.now) in
+        old.source.is_told ≡ true → OnOk result ((i : K.Index) →
+        changed_in wanted (K.change keeper.old i) (K.held keeper.old i) (section_ahead base old)
+        ≡ Ok (K.held keeper.new i)) }
+    ensures err { let old = reading (P.state «package».old) cursor.old in
+        let new = reading (P.state «package».new) cursor.new in
+        let wanted = is_named (map (λ name. name.now) names.now) in
+        let meaning = λ (i : K.Index). changed_in wanted (K.change keeper.old i)
+        (K.held keeper.old i) in
+        IfErr result (λ error. (i : K.Index) → SectionFails (always section.now)
+        (IsInsideRefused (meaning i)) base old new error) }
+    ensures kind { IfErr result K.Kind }
+{
+    'starts: while let Some(at) = next_start_among(package, cursor, base, names, section)? {
+        keeper.take(start_tag(package), at)?;
+    }
+    Ok(())
+}
+
+/// Keeps what the starts of these local names give in the element at whose start the package
+/// stands. Reads to the element's end, and is refused as `keep_starts`.
+pub fn keep_in_element<P: Package, K: Keeps>(
+    package: &mut P,
+    cursor: &mut Cursor,
+    names: &[&str],
+    section: &'static str,
+    keeper: &mut K,
+) -> Result<(), XlsxError>
+    requires element { IsReadingElement (reading (P.state «package».old) cursor.old) }
+    requires section { section.now ≡ K.section }
+    ensures reads { let old = reading (P.state «package».old) cursor.old in
+        let new = reading (P.state «package».new) cursor.new in
+        ReadsElement Io result old new }
+    ensures kept { let old = reading (P.state «package».old) cursor.old in
+        let wanted = is_named (map (λ name. name.now) names.now) in
+        old.source.is_told ≡ true → OnOk result ((i : K.Index) →
+        changed_in wanted (K.change keeper.old i) (K.held keeper.old i) (content 0 (ahead old))
+        ≡ Ok (K.held keeper.new i)) }
+    ensures err { let old = reading (P.state «package».old) cursor.old in
+        let new = reading (P.state «package».new) cursor.new in
+        let wanted = is_named (map (λ name. name.now) names.now) in
+        let meaning = λ (i : K.Index). changed_in wanted (K.change keeper.old i)
+        (K.held keeper.old i) in
+        IfErr result (λ error. (i : K.Index) →
+        ElementReadFails (always section.now) (meaning i) old new error) }
+    ensures kind { IfErr result K.Kind }
+{
+    let base = cursor.depth();
+    keep_starts(package, cursor, base, names, section, keeper)
+}
