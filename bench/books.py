@@ -23,7 +23,8 @@ CONTENT_TYPES = f"""\
 # The formats of cells: general, a date, and a date with a time of day.
 DATE, MOMENT = 1, 2
 STYLES = f"""\
-<styleSheet xmlns="{MAIN}"><fonts><font/></fonts><fills><fill><patternFill/></fill></fills><borders><border/></borders>\
+<styleSheet xmlns="{MAIN}"><fonts><font/></fonts><fills><fill><patternFill/></fill></fills>\
+<borders><border/></borders>\
 <cellStyleXfs><xf/></cellStyleXfs><cellXfs><xf/><xf numFmtId="14"/><xf numFmtId="22"/></cellXfs>\
 <cellStyles><cellStyle name="Normal" xfId="0" builtinId="0"/></cellStyles></styleSheet>"""
 

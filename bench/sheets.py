@@ -24,7 +24,7 @@ SHEET = 7
 COMMANDS = (("cells", f"S{SHEET}"), ("csv", f"S{SHEET}"), ("sheets",), ("props",))
 
 # The sheets of the large workbook, and the rows of each: some 10 MB of text.
-LARGE_SHEETS, LARGE_ROWS = 17, 26_000
+LARGE_SHEETS, LARGE_ROWS = 15, 28_000
 TOO_LARGE = 4
 
 

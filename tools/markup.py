@@ -1,7 +1,8 @@
 """Cuts the markup of a part into the events of a package text (docs/FORMAT.md), each as JSON.
 
 Nothing is normalised: names, attribute texts and texts are as written. Nesting is the reader's. A
-tag that ends in `/` is one event, as in version 2; two tags are two.
+tag that ends in `/` is one event, as in version 2. Two tags are two, but in a run of tags and texts
+that is cut at once: there a start and the end of its name behind it are one, too.
 """
 
 import codecs
@@ -21,12 +22,30 @@ DOCTYPE_STEP = re.compile(
 # No other markup begins in more characters.
 LONGEST_OPENING = 9
 
-# Up to so many characters are split at a time, and at first so many.
-MOST, FEWEST = 4096, 32
+# Up to so many characters are cut at a time, but for the last text in them, and at first so many.
+MOST, FEWEST = 16_384, 32
+# A run has at least so many characters, at most so many, and fewer beginnings of tags than these.
+RUN, LONGEST_RUN, DIFFERENT = 256, 4 * MOST, 64
 # The events of so many tags are kept, where these are shorter than this.
 KEPT, LONG = 1000, 100
 
 OTHER = '["o"]'
+
+# How events begin, and what stands between two of them. A quote in a text stands behind a
+# backslash, so that no text has these.
+START, END, EMPTY, BETWEEN = '["s",', '["e",', '["b",', '"],["'
+
+# All bytes but those by which a run is told.
+BESIDE = bytes(set(range(256)) - set(b"<>\"'"))
+# A text of a run with references in it.
+REFERRING = re.compile("(?<=>)[^<>&]*&[^<>]*")
+# What stands in a run that is being cut: where a text ends, if there is one, and where one begins,
+# behind a start and behind all else; and the brackets of an element with nothing in it. What is
+# spelled has no such characters.
+TEXT_END, TEXT, TEXT_IN, OPEN, CLOSE = "\1\2\3\4\5"
+# How a tag begins, as far as it tells of its events, by a name that is spelled as it is.
+PLAIN = r"""[^\0-\x20<>"'/!?&\\]+"""
+BEGINNING = re.compile(f"<{PLAIN}[ >]|</{PLAIN}>|{OPEN}{PLAIN}[ {CLOSE}]")
 
 DECLARED = re.compile(r"""<\?xml\s[^>]*?\bencoding\s*=\s*["']([^"']*)["']""")
 READ = re.compile("utf-?(8|16)|us-ascii", re.IGNORECASE)
@@ -139,6 +158,97 @@ class Tags:
         return found
 
 
+def events_begun(beginning):
+    """What stands for a tag's beginning."""
+    bracket, name, end = beginning[0], beginning[1:-1], beginning[-1]
+    if name.startswith("/"):
+        return f'{TEXT_END}{END}"{name[1:]}"]{TEXT}'
+    event = f'{TEXT_END}{START if bracket == "<" else EMPTY}"{name}","'
+    return event + {" ": " ", ">": f'"]{TEXT_IN}', CLOSE: f'"]{TEXT}'}[end]
+
+
+def referred(found):
+    """A text with the events of its references; a bracket where one has no end."""
+    text, *parts = found[0].split("&")
+    for part in parts:
+        name, closed, rest = part.partition(";")
+        if not closed:
+            return "<"
+        text += f'{TEXT_END}["r","{name}"]{TEXT}{rest}'
+    return text
+
+
+def paired(text):
+    """The text of a run with one event for each start and the end of its name behind it."""
+    ending = f'{TEXT_IN}{TEXT_END}{END}"'
+    if ending not in text:
+        return text
+    front, *parts = text.split(ending)
+    out = [front]
+    for part in parts:
+        name, behind = part.split('"', 1)
+        front, _, start = out[-1].rpartition(f'{TEXT_END}{START}"')
+        if start.startswith(f'{name}"'):
+            out[-1:] = [f'{front}{TEXT_END}{EMPTY}"{start}', behind[1:]]
+        else:
+            out.append(ending + part)
+    return "".join(out)
+
+
+def closed(text):
+    """The events of a run."""
+    text = text.replace(TEXT_IN, TEXT)
+    is_last = text.endswith(TEXT)
+    text = text[1:-1] if is_last else text[1:] + TEXT_END
+    text = text.replace(TEXT + TEXT_END, ",").replace(TEXT, ',["t","').replace(TEXT_END, '"],')
+    return text if is_last else text[:-1]
+
+
+class Run:
+    """Cuts tags and texts at once, with no step for each of them, by what they begin with."""
+
+    def __init__(self):
+        # What stands for the beginnings of tags, of those that the last run had.
+        self.begun = {}
+
+    def get(self, markup):
+        """The events of tags and the texts behind them, with commas between them. None where there
+        is other markup in it, or what this way can't tell."""
+        bones = markup.encode().translate(None, BESIDE).replace(b'""', b"")
+        # Each bracket has its other one, with quotes in pairs between them, and no text has any.
+        if not bones.count(b"<>") == bones.count(b"<") == bones.count(b">"):
+            return None
+        text = spelled(markup)[1:-1]
+        if "&" in text:
+            text = REFERRING.sub(referred, text)
+        if "/>" in text:
+            *empty, text = text.split("/>")
+            parts = (part.rpartition("<") for part in empty)
+            text = "".join(f"{front}{OPEN}{tag}{CLOSE}" for front, _, tag in parts) + text
+        text = self.with_events(text)
+        # A bracket that stays is of no tag that is told so.
+        if "<" in text or OPEN in text:
+            return None
+        text = text.replace(">", f'"]{TEXT_IN}').replace(CLOSE, f'"]{TEXT}')
+        return closed(paired(text))
+
+    def with_events(self, text):
+        """The text with events in place of the beginnings of its tags. What is none stays, and all
+        that are too many."""
+        last, self.begun = self.begun, {}
+        for beginning, begun in last.items():
+            changed = text.replace(beginning, begun)
+            # Where there is none the text itself comes back.
+            if changed is not text:
+                self.begun[beginning], text = begun, changed
+        if "<" in text or OPEN in text:
+            more = set(BEGINNING.findall(text))
+            for beginning in more if len(more) < DIFFERENT else ():
+                self.begun[beginning] = begun = events_begun(beginning)
+                text = text.replace(beginning, begun)
+        return text
+
+
 def tag_end(buffer, at):
     """Where the bracket stands that ends a tag or breaks it; None where it isn't there."""
     if buffer.startswith("</", at):
@@ -195,11 +305,28 @@ def markup_at(buffer, at):
     return tag_at(buffer, at)
 
 
+def add_run(text, out):
+    """Adds the events of a run: as one text, but for an end in front and a start at its end, which
+    may be one with what stands beside them."""
+    if text.startswith(END):
+        first, _, text = text.partition(BETWEEN)
+        if not text:
+            out.append(first)
+            return
+        out.append(f'{first}"]')
+        text = f'["{text}'
+    front, _, last = text.rpartition(BETWEEN)
+    if front and last.startswith(START[2:]):
+        out += (f'{front}"]', f'["{last}')
+    else:
+        out.append(text)
+
+
 class Cutter:
     """Cuts a text that comes in pieces: each event once its end is there."""
 
     def __init__(self, limit=sys.maxsize):
-        self.limit, self.tags = limit, Tags()
+        self.limit, self.tags, self.run = limit, Tags(), Run()
         # What isn't cut yet: a front that was looked at, and the pieces behind it with their size.
         self.front, self.pieces, self.size = "", [], 0
         # How many characters were cut.
@@ -240,25 +367,40 @@ class Cutter:
     def plain(self, buffer, at, safe, out):
         """Cuts texts, references and most tags. Answers where other markup begins, or the safe
         place."""
-        add, tag_event, size = out.append, self.tags.get, FEWEST
+        size = FEWEST
         while at < safe:
             stop = buffer.find("<", at + size, safe)
             size = min(2 * size, MOST)
-            text, *parts = buffer[at : safe if stop < 0 else stop].split("<")
+            text, bracket, markup = buffer[at : safe if stop < 0 else stop].partition("<")
             self.add_text(text, at, out)
             at += len(text)
-            for part in parts:
-                tag, closed, text = part.partition(">")
-                found = tag_event(tag) if closed else None
-                if found is None:
-                    return at
-                add(found)
-                if "&" in text:
-                    self.add_text(text, at + len(tag) + 2, out)
-                elif text:
-                    add(f'["t",{spelled(text)}]')
-                at += len(part) + 1
+            is_run = RUN <= len(markup) <= LONGEST_RUN
+            found = self.run.get(bracket + markup) if is_run else None
+            if found is not None:
+                add_run(found, out)
+                at += 1 + len(markup)
+            elif bracket:
+                at, is_whole = self.tagged(markup, at, out)
+                if not is_whole:
+                    break
         return at
+
+    def tagged(self, markup, at, out):
+        """Cuts tags and texts, from behind the first bracket on. Answers where other markup begins,
+        or the end, and whether it is that."""
+        add, tag_event = out.append, self.tags.get
+        for part in markup.split("<"):
+            tag, closed, text = part.partition(">")
+            found = tag_event(tag) if closed else None
+            if found is None:
+                return at, False
+            add(found)
+            if "&" in text:
+                self.add_text(text, at + len(tag) + 2, out)
+            elif text:
+                add(f'["t",{spelled(text)}]')
+            at += len(part) + 1
+        return at, True
 
     def add_text(self, text, at, out):
         """Cuts a text at a place, and the references in it."""

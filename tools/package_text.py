@@ -17,7 +17,7 @@ import tempfile
 import zipfile
 import zlib
 
-from markup import MarkupFault, TooLong, events, spelled
+from markup import BETWEEN, EMPTY, END, START, MarkupFault, TooLong, events, spelled
 from words import one_line
 
 try:
@@ -89,9 +89,8 @@ CONTENTLESS = re.compile(rb"<[!?]")
 UTF_16 = (b"\xff\xfe", b"\xfe\xff")
 DECLARATION = re.compile(rb"(?:\xef\xbb\xbf)?(?:<\?xml [^>]*\?>)?")
 
-# How events begin, and one of an element with nothing in it. A quote in a text stands behind a
-# backslash, so that no event begins in a text.
-START, END, EMPTY = '["s",', '["e",', '["b",'
+# The event of an element with nothing in it. A quote in a text stands behind a backslash, so that
+# no event begins in a text.
 TEXT = r'"[^"\\]*(?:\\.[^"\\]*)*"'
 EMPTY_EVENT = re.compile(rf'\["b",({TEXT}),({TEXT})\]')
 
@@ -134,7 +133,7 @@ def joined(lists):
         ends = [at for at, (one, two) in enumerate(pairs, 1) if two[2] == "e" and one[2] == "s"]
         for at in ends:
             start, name = some[at - 1], some[at][len(END) : -1]
-            if start.startswith(f"{START}{name},"):
+            if start.startswith(f"{START}{name},") and BETWEEN not in start:
                 some[at - 1], some[at] = EMPTY + start[len(START) :], ""
         # A start waits for what stands behind it.
         held = [some.pop()] if some and some[-1].startswith(START) else []

@@ -33,7 +33,8 @@ def sheet_part(number):
     """A sheet with each kind of value, a formula, merged cells and a link."""
     return (
         '<worksheet><sheetData><row r="1"><c r="A1" t="s"><v>0</v></c>'
-        f'<c r="B1" s="1"><v>4529{number}</v></c></row><row r="2"><c r="A2" t="s" s="2"><v>1</v></c>'
+        f'<c r="B1" s="1"><v>4529{number}</v></c></row>'
+        '<row r="2"><c r="A2" t="s" s="2"><v>1</v></c>'
         f'<c r="B2"><f>1+{number}</f><v>{number + 1}</v></c>'
         f'<c r="C2"><f>SUM(B2:B{number + 1})</f><v>9</v></c></row></sheetData>'
         f'<mergeCells><mergeCell ref="A5:B{5 + number}"/></mergeCells>'
