@@ -1,11 +1,9 @@
 #!/usr/bin/env python3
 """Writes the package text of a workbook file to standard output (docs/FORMAT.md)."""
 
-import argparse
 import contextlib
 import enum
 import errno
-import html
 import json
 import os
 import re
@@ -255,6 +253,16 @@ def archive_of(file):
         raise Refusal(14, NO_ARCHIVE)
 
 
+def unescaped(text):
+    """A text with its references resolved."""
+    if "&" not in text:
+        return text
+    # Few texts have any, and this takes a while to come in.
+    import html
+
+    return html.unescape(text)
+
+
 def targets_of(event):
     """The file names that a relationship leads to, each with its type, where that is wanted."""
     if event[0] not in ("s", "b") or event[1].split(":")[-1] != "Relationship":
@@ -263,7 +271,7 @@ def targets_of(event):
     pairs = [
         (key, value)
         for key, double, single in PAIR.findall(event[2])
-        for value in (double or single, html.unescape(double or single))
+        for value in (double or single, unescaped(double or single))
     ]
     types = {kind.split("/")[-1] for key, kind in pairs if key == "Type"} & TYPES
     return {(file_name(target), kind) for key, target in pairs if key == "Target" for kind in types}
@@ -471,17 +479,30 @@ def write(path, is_all, limit, descriptor, sheets=Sheets.ALL, version=2):
                 send(piece, descriptor)
 
 
-class Parser(argparse.ArgumentParser):
-    def error(self, message):
-        raise Refusal(2, message)
+def new_parser():
+    """What reads the words of a command line. Nothing but that has a use for it."""
+    import argparse
 
-    def print_help(self, file=None):
-        send(self.format_help().encode(), 1)
+    class Parser(argparse.ArgumentParser):
+        def error(self, message):
+            raise Refusal(2, message)
+
+        def print_help(self, file=None):
+            send(self.format_help().encode(), 1)
+
+    return Parser(
+        description=__doc__,
+        epilog=STATUSES,
+        formatter_class=argparse.RawDescriptionHelpFormatter,
+        allow_abbrev=False,
+    )
 
 
 def size_of(word):
+    from argparse import ArgumentTypeError
+
     if not word.isdecimal():
-        raise argparse.ArgumentTypeError("it takes a number of bytes")
+        raise ArgumentTypeError("it takes a number of bytes")
     return int(word)
 
 
@@ -490,12 +511,7 @@ def sheets_of(word):
 
 
 def asked_of(words):
-    parser = Parser(
-        description=__doc__,
-        epilog=STATUSES,
-        formatter_class=argparse.RawDescriptionHelpFormatter,
-        allow_abbrev=False,
-    )
+    parser = new_parser()
     parser.add_argument("file", metavar="FILE.xlsx")
     parser.add_argument(
         "--all",
