@@ -23,9 +23,12 @@ DOCTYPE_STEP = re.compile(
 LONGEST_OPENING = 9
 
 # Up to so many characters are cut at a time, but for the last text in them, and at first so many.
-MOST, FEWEST = 16_384, 32
-# A run has at least so many characters, at most so many, and fewer beginnings of tags than these.
+MOST, FEWEST = 8192, 32
+# A run has at least so many characters, at most so many, and fewer separators than these that the
+# run before it did not have.
 RUN, LONGEST_RUN, DIFFERENT = 256, 4 * MOST, 64
+# So many brackets are looked at for one behind a text.
+NEAR = 16
 # The events of so many tags are kept, where these are shorter than this.
 KEPT, LONG = 1000, 100
 
@@ -35,17 +38,21 @@ OTHER = '["o"]'
 # backslash, so that no text has these.
 START, END, EMPTY, BETWEEN = '["s",', '["e",', '["b",', '"],["'
 
-# All bytes but those by which a run is told.
-BESIDE = bytes(set(range(256)) - set(b"<>\"'"))
+# Bytes that tell of a run, characters that aren't spelled as they are, and all other bytes.
+TELLING, CONTROLS = b"<>\"'", bytes(range(32))
+BESIDE = bytes(set(range(256)) - set(TELLING + CONTROLS))
 # A text of a run with references in it.
 REFERRING = re.compile("(?<=>)[^<>&]*&[^<>]*")
 # What stands in a run that is being cut: where a text ends, if there is one, and where one begins,
 # behind a start and behind all else; and the brackets of an element with nothing in it. What is
 # spelled has no such characters.
 TEXT_END, TEXT, TEXT_IN, OPEN, CLOSE = "\1\2\3\4\5"
-# How a tag begins, as far as it tells of its events, by a name that is spelled as it is.
-PLAIN = r"""[^\0-\x20<>"'/!?&\\]+"""
-BEGINNING = re.compile(f"<{PLAIN}[ >]|</{PLAIN}>|{OPEN}{PLAIN}[ {CLOSE}]")
+# What separates attribute texts and texts: the end of a tag with attributes, tags without any, and
+# the beginning of one with some. The names are spelled as they are.
+NAME_AS_IT_IS = r"""[^\0-\x20<>"'/!?&\\]+"""
+WITHOUT = f"(?:</?{NAME_AS_IT_IS}>|{OPEN}{NAME_AS_IT_IS}{CLOSE})"
+SEPARATOR = re.compile(f'(?:">|{CLOSE})?{WITHOUT}*(?:{WITHOUT}|[<{OPEN}]{NAME_AS_IT_IS} )')
+TAG = re.compile(f"([<{OPEN}])(/?)({NAME_AS_IT_IS})([> {CLOSE}])")
 
 DECLARED = re.compile(r"""<\?xml\s[^>]*?\bencoding\s*=\s*["']([^"']*)["']""")
 READ = re.compile("utf-?(8|16)|us-ascii", re.IGNORECASE)
@@ -158,21 +165,31 @@ class Tags:
         return found
 
 
-def events_begun(beginning):
-    """What stands for a tag's beginning."""
-    bracket, name, end = beginning[0], beginning[1:-1], beginning[-1]
-    if name.startswith("/"):
-        return f'{TEXT_END}{END}"{name[1:]}"]{TEXT}'
+def events_of_tag(found):
+    """What stands for a tag without attributes, or for the beginning of one with some."""
+    bracket, slash, name, last = found.groups()
+    if slash:
+        return f'{TEXT_END}{END}"{name}"]{TEXT}'
     event = f'{TEXT_END}{START if bracket == "<" else EMPTY}"{name}","'
-    return event + {" ": " ", ">": f'"]{TEXT_IN}', CLOSE: f'"]{TEXT}'}[end]
+    return event + {" ": " ", ">": f'"]{TEXT_IN}', CLOSE: f'"]{TEXT}'}[last]
+
+
+def events_between(separator):
+    """What stands for a separator."""
+    text = TAG.sub(events_of_tag, separator)
+    if text.startswith('">'):
+        text = f'""]{TEXT_IN}{text[2:]}'
+    text = paired(text.replace(CLOSE, f'"]{TEXT}')).replace(TEXT + TEXT_END, ",")
+    # An end behind a start waits for its name.
+    return re.sub(f"{TEXT_IN}{TEXT_END}(?!{re.escape(END)})", ",", text)
 
 
 def referred(found):
     """A text with the events of its references; a bracket where one has no end."""
     text, *parts = found[0].split("&")
     for part in parts:
-        name, closed, rest = part.partition(";")
-        if not closed:
+        name, end, rest = part.partition(";")
+        if not end:
             return "<"
         text += f'{TEXT_END}["r","{name}"]{TEXT}{rest}'
     return text
@@ -187,9 +204,9 @@ def paired(text):
     out = [front]
     for part in parts:
         name, behind = part.split('"', 1)
-        front, _, start = out[-1].rpartition(f'{TEXT_END}{START}"')
+        front, _, start = out[-1].rpartition(f'{START}"')
         if start.startswith(f'{name}"'):
-            out[-1:] = [f'{front}{TEXT_END}{EMPTY}"{start}', behind[1:]]
+            out[-1:] = [f'{front}{EMPTY}"{start}', behind[1:]]
         else:
             out.append(ending + part)
     return "".join(out)
@@ -205,20 +222,24 @@ def closed(text):
 
 
 class Run:
-    """Cuts tags and texts at once, with no step for each of them, by what they begin with."""
+    """Cuts tags and texts at once, with no step for each of them, by what separates them."""
 
     def __init__(self):
-        # What stands for the beginnings of tags, of those that the last run had.
-        self.begun = {}
+        # The events of the separators that the last run had.
+        self.between = {}
 
     def get(self, markup):
         """The events of tags and the texts behind them, with commas between them. None where there
         is other markup in it, or what this way can't tell."""
-        bones = markup.encode().translate(None, BESIDE).replace(b'""', b"")
+        bones = markup.encode().translate(None, BESIDE)
+        tags = bones.translate(None, CONTROLS).replace(b'""', b"")
         # Each bracket has its other one, with quotes in pairs between them, and no text has any.
-        if not bones.count(b"<>") == bones.count(b"<") == bones.count(b">"):
+        if not tags.count(b"<>") == tags.count(b"<") == tags.count(b">"):
             return None
-        text = spelled(markup)[1:-1]
+        # As it is spelled, but faster.
+        text = markup.replace("\\", r"\\").replace('"', r"\"")
+        for control in set(bones.translate(None, TELLING)):
+            text = text.replace(chr(control), spelled(chr(control))[1:-1])
         if "&" in text:
             text = REFERRING.sub(referred, text)
         if "/>" in text:
@@ -233,19 +254,20 @@ class Run:
         return closed(paired(text))
 
     def with_events(self, text):
-        """The text with events in place of the beginnings of its tags. What is none stays, and all
-        that are too many."""
-        last, self.begun = self.begun, {}
-        for beginning, begun in last.items():
-            changed = text.replace(beginning, begun)
+        """The text with events in place of its separators. A tag that is in none stays, and all
+        stay that are too many."""
+        last, self.between = self.between, {}
+        # The longest first: another one may be a part of it.
+        for separator in sorted(last, key=len, reverse=True):
+            changed = text.replace(separator, last[separator])
             # Where there is none the text itself comes back.
             if changed is not text:
-                self.begun[beginning], text = begun, changed
+                self.between[separator], text = last[separator], changed
         if "<" in text or OPEN in text:
-            more = set(BEGINNING.findall(text))
-            for beginning in more if len(more) < DIFFERENT else ():
-                self.begun[beginning] = begun = events_begun(beginning)
-                text = text.replace(beginning, begun)
+            more = set(SEPARATOR.findall(text))
+            for separator in sorted(more, key=len, reverse=True) if len(more) < DIFFERENT else ():
+                self.between[separator] = events_between(separator)
+                text = text.replace(separator, self.between[separator])
         return text
 
 
@@ -322,6 +344,19 @@ def add_run(text, out):
         out.append(text)
 
 
+def stop_behind(buffer, at, safe):
+    """Where a bracket stands behind a place; it has a text in front, if there is one soon, so that
+    what separates texts stays whole."""
+    stop = at - 1
+    for _ in range(NEAR):
+        stop = buffer.find("<", stop + 1, safe)
+        if stop < 0:
+            return safe
+        if buffer[stop - 1] != ">":
+            break
+    return stop
+
+
 class Cutter:
     """Cuts a text that comes in pieces: each event once its end is there."""
 
@@ -369,9 +404,9 @@ class Cutter:
         place."""
         size = FEWEST
         while at < safe:
-            stop = buffer.find("<", at + size, safe)
+            stop = stop_behind(buffer, at + size, safe)
             size = min(2 * size, MOST)
-            text, bracket, markup = buffer[at : safe if stop < 0 else stop].partition("<")
+            text, bracket, markup = buffer[at:stop].partition("<")
             self.add_text(text, at, out)
             at += len(text)
             is_run = RUN <= len(markup) <= LONGEST_RUN
