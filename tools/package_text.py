@@ -479,8 +479,8 @@ def write(path, is_all, limit, descriptor, sheets=Sheets.ALL, version=2):
                 send(piece, descriptor)
 
 
-def new_parser():
-    """What reads the words of a command line. Nothing but that has a use for it."""
+def parser_of(description, statuses):
+    """What reads the words of a command line. No script that has its words needs what this takes."""
     import argparse
 
     class Parser(argparse.ArgumentParser):
@@ -491,8 +491,8 @@ def new_parser():
             send(self.format_help().encode(), 1)
 
     return Parser(
-        description=__doc__,
-        epilog=STATUSES,
+        description=description,
+        epilog=statuses,
         formatter_class=argparse.RawDescriptionHelpFormatter,
         allow_abbrev=False,
     )
@@ -511,7 +511,7 @@ def sheets_of(word):
 
 
 def asked_of(words):
-    parser = new_parser()
+    parser = parser_of(__doc__, STATUSES)
     parser.add_argument("file", metavar="FILE.xlsx")
     parser.add_argument(
         "--all",
