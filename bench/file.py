@@ -1,35 +1,30 @@
 #!/usr/bin/env python3
 """Measures `./xlsx FILE.xlsx cells S`, from the file to the lines, beside openpyxl, and prints one
-table; with `--csv` it measures `csv S` beside openpyxl and the writer of Python's `csv`
-(docs/PERFORMANCE.md)."""
+table; with `--csv` it measures `csv S` beside openpyxl and the writer of Python's `csv`, and with
+`--dates` `csv S --dates` (docs/PERFORMANCE.md).
+
+The script writes workbook files with four cells in a row: texts and formulas, or with `--dates` a
+date, a shared string, a number, and a date with a time of day. It runs in turn `./xlsx`,
+`tools/package_text.py` alone (`its text`), and openpyxl, which opens the workbook and goes once
+over all cells, with `read_only` and without; it tells their formulas so, or else their values,
+where `cells` tells both. Rows are written by openpyxl with `read_only` and by `csv.writer`. All of
+this runs by one interpreter. Seconds are those of processor time of all processes that a run
+starts. What `./xlsx` wrote is compared with the lines that are wanted, or with the other's rows.
+"""
 
 import argparse
+import filecmp
 import os
-import shutil
 import subprocess
 import sys
 import tempfile
-import zipfile
-from xml.sax.saxutils import escape
 
-from cells import Listing, Texts, check
-from measure import TOP, TYPES, add_repeats, build, each, measured, mib, table
-
-MAIN = "http://schemas.openxmlformats.org/spreadsheetml/2006/main"
-PACKAGE = "http://schemas.openxmlformats.org/package/2006/"
-CONTENT = "application/vnd.openxmlformats-officedocument.spreadsheetml."
-
-CONTENT_TYPES = f"""\
-<Types xmlns="{PACKAGE}content-types">\
-<Default Extension="rels" ContentType="application/vnd.openxmlformats-package.relationships+xml"/>\
-<Override PartName="/xl/workbook.xml" ContentType="{CONTENT}sheet.main+xml"/>\
-<Override PartName="/xl/worksheets/sheet1.xml" ContentType="{CONTENT}worksheet+xml"/></Types>"""
-
-# What the cells hold.
-MIX = Texts()
+from books import Dates, Formulas, run_by, write_book
+from cells import Listing, check
+from measure import TOP, add_repeats, build, each, measured, mib, table
 
 # Reads every cell once, and answers how many there are.
-OPENPYXL = """\
+CELLS = """\
 import sys
 from openpyxl import load_workbook
 book = load_workbook(sys.argv[1], read_only=sys.argv[2] == "True")
@@ -44,135 +39,105 @@ book = load_workbook(sys.argv[1], read_only=True, data_only=True)
 csv.writer(sys.stdout, lineterminator="\\n").writerows(book["S"].iter_rows(values_only=True))
 """
 
-
-def relationships(kind, target):
-    return (
-        f'<Relationships xmlns="{PACKAGE}relationships">'
-        f'<Relationship Id="rId1" Type="{TYPES}{kind}" Target="{target}"/></Relationships>'
-    )
-
-
-def workbook():
-    return (
-        f'<workbook xmlns="{MAIN}" xmlns:r="{TYPES[:-1]}">'
-        '<sheets><sheet name="S" sheetId="1" r:id="rId1"/></sheets></workbook>'
-    )
-
-
-def sheet(rows):
-    """The markup of the sheet, piece by piece.
-
-`bench/file.py` writes workbook files with four cells in a row, as those above, and runs in turn
-`./xlsx FILE.xlsx cells S`, `tools/package_text.py` alone (`its text`), and openpyxl, which opens
-the workbook and goes once over all cells, with `read_only` and without; it tells their formulas so,
-or else their values, where `cells` tells both. Seconds are those of processor time of all processes
-that a run starts. What `./xlsx` wrote is compared with the lines that are wanted.
+# The same, with dates as `--dates` writes them.
+ROWS_OF_DATES = """\
+import csv, sys
+from datetime import datetime
+from openpyxl import load_workbook
+def told(value):
+    return value.isoformat().removesuffix("T00:00:00") if type(value) is datetime else value
+book = load_workbook(sys.argv[1], read_only=True, data_only=True)
+rows = (map(told, row) for row in book["S"].iter_rows(values_only=True))
+csv.writer(sys.stdout, lineterminator="\\n").writerows(rows)
 """
-    yield f'<worksheet xmlns="{MAIN}"><sheetData>'
-    for row in range(1, rows + 1):
-        yield f'<row r="{row}">'
-        for reference, formula, text in MIX.cells_of(row):
-            told = "" if formula is None else f"<f>{escape(formula)}</f>"
-            yield f'<c r="{reference}" t="str">{told}<v>{escape(text)}</v></c>'
-        yield "</row>"
-    yield "</sheetData></worksheet>"
-
-
-def write_book(path, rows):
-    with zipfile.ZipFile(path, "w", zipfile.ZIP_DEFLATED) as book:
-        book.writestr("[Content_Types].xml", CONTENT_TYPES)
-        book.writestr("_rels/.rels", relationships("officeDocument", "xl/workbook.xml"))
-        book.writestr(
-            "xl/_rels/workbook.xml.rels", relationships("worksheet", "worksheets/sheet1.xml")
-        )
-        book.writestr("xl/workbook.xml", workbook())
-        book.writestr("xl/worksheets/sheet1.xml", "".join(sheet(rows)))
 
 
 class Size:
+    """A workbook with so many rows, and the runs on it."""
+
+    mix, words = Formulas(), ("cells", "S")
+
     def __init__(self, folder, python, rows):
         self.rows, self.python = rows, python
         self.book = os.path.join(folder, f"book-{rows}.xlsx")
-        self.lines = os.path.join(folder, "lines.txt")
-        self.text = os.path.join(folder, "package.json")
-        write_book(self.book, rows)
-        self.listing = Listing()
-        for row in range(1, rows + 1):
-            self.listing.add(MIX.row_lines(row).encode())
+        files = ("lines.txt", "theirs.txt", "package.json")
+        self.lines, self.theirs, self.text = (os.path.join(folder, name) for name in files)
+        write_book(self.book, {"S": self.mix}, rows)
         self.ours, self.feeder, self.full, self.read_only = [], [], [], []
 
-    def run(self):
-        self.ours.append(
-            measured([str(TOP / "xlsx"), self.book, "cells", "S"], os.devnull, self.lines)
-        )
-        check(self.lines, self.listing)
-        words = [shutil.which("python3"), str(TOP / "tools" / "package_text.py"), self.book]
+    def run_ours(self):
+        words = [str(TOP / "xlsx"), self.book, *self.words]
+        self.ours.append(measured(words, os.devnull, self.lines))
+        words = [self.python, str(TOP / "tools" / "package_text.py"), self.book]
         self.feeder.append(measured(words, os.devnull, self.text))
+
+    def run_theirs(self, runs, *words):
+        runs.append(measured([self.python, "-c", *words], os.devnull, self.theirs))
+
+
+class Cells(Size):
+    """The cells, each looked at once."""
+
+    head = ["openpyxl", "ratio", "read_only", "ratio", "peak MiB", "openpyxl"]
+
+    def __init__(self, *given):
+        super().__init__(*given)
+        self.listing = Listing()
+        for row in range(1, self.rows + 1):
+            self.listing.add(self.mix.texts.row_lines(row).encode())
+
+    def run(self):
+        self.run_ours()
+        check(self.lines, self.listing)
         for runs, is_read_only in ((self.full, False), (self.read_only, True)):
-            words = [self.python, "-c", OPENPYXL, self.book, str(is_read_only)]
-            runs.append(measured(words, os.devnull, self.lines))
-            with open(self.lines, encoding="ascii") as found:
+            self.run_theirs(runs, CELLS, self.book, str(is_read_only))
+            with open(self.theirs, encoding="ascii") as found:
                 assert int(found.read()) == 4 * self.rows
 
-    def row(self):
-        of_each = (self.ours, self.feeder, self.full, self.read_only)
-        ours, feeder, full, read_only = (each(min, runs) for runs in of_each)
-        return [
-            f"{4 * self.rows:,}",
-            f"{os.path.getsize(self.book):,}",
-            f"{ours.processor:.2f}",
-            f"{feeder.processor:.2f}",
-            f"{full.processor:.2f}",
-            f"{ours.processor / full.processor:.2f}",
-            f"{read_only.processor:.2f}",
-            f"{ours.processor / read_only.processor:.2f}",
-            mib(ours.peak),
-            mib(full.peak),
-        ]
+    def fields(self, ours):
+        full, read_only = each(min, self.full), each(min, self.read_only)
+        of_both = (
+            field
+            for theirs in (full, read_only)
+            for field in (f"{theirs.processor:.2f}", f"{ours.processor / theirs.processor:.2f}")
+        )
+        return [*of_both, mib(ours.peak), mib(full.peak)]
 
 
 class Rows(Size):
-    """The rows of a workbook's values, written by both."""
+    """The rows of the values, written by both."""
+
+    words, theirs_by = ("csv", "S"), ROWS
+    head = ["openpyxl", "ratio", "peak MiB", "openpyxl"]
 
     def run(self):
-        other = os.path.join(os.path.dirname(self.lines), "rows.csv")
-        words = [str(TOP / "xlsx"), self.book, "csv", "S"]
-        self.ours.append(measured(words, os.devnull, self.lines))
-        words = [self.python, "-c", ROWS, self.book]
-        self.read_only.append(measured(words, os.devnull, other))
-        with open(self.lines, "rb") as found, open(other, "rb") as wanted:
-            assert found.read() == wanted.read()
+        self.run_ours()
+        self.run_theirs(self.read_only, self.theirs_by, self.book)
+        if not filecmp.cmp(self.lines, self.theirs, shallow=False):
+            sys.exit("file.py: the rows aren't those of csv.writer")
 
-    def row(self):
-        ours, read_only = (each(min, runs) for runs in (self.ours, self.read_only))
-        return [
-            f"{4 * self.rows:,}",
-            f"{ours.processor:.2f}",
-            f"{read_only.processor:.2f}",
-            f"{ours.processor / read_only.processor:.2f}",
-            mib(ours.peak),
-            mib(read_only.peak),
-        ]
+    def fields(self, ours):
+        theirs = each(min, self.read_only)
+        ratio = ours.processor / theirs.processor
+        return [f"{theirs.processor:.2f}", f"{ratio:.2f}", mib(ours.peak), mib(theirs.peak)]
 
 
-ROWS_HEAD = ["cells", "seconds", "openpyxl", "ratio", "peak MiB", "openpyxl"]
+class RowsOfDates(Rows):
+    """The same of dates, as dates."""
 
-HEAD = [
-    "cells",
-    "bytes",
-    "seconds",
-    "its text",
-    "openpyxl",
-    "ratio",
-    "read_only",
-    "ratio",
-    "peak MiB",
-    "openpyxl",
-]
+    mix, words, theirs_by = Dates(), ("csv", "S", "--dates"), ROWS_OF_DATES
+
+
+def row_of(size):
+    ours, feeder = each(min, size.ours), each(min, size.feeder)
+    seconds = [f"{ours.processor:.2f}", f"{feeder.processor:.2f}"]
+    return [f"{4 * size.rows:,}", f"{os.path.getsize(size.book):,}", *seconds, *size.fields(ours)]
 
 
 def main():
-    parser = argparse.ArgumentParser(description=__doc__)
+    parser = argparse.ArgumentParser(
+        description=__doc__, formatter_class=argparse.RawDescriptionHelpFormatter
+    )
     parser.add_argument(
         "--rows",
         type=int,
@@ -182,7 +147,15 @@ def main():
     parser.add_argument(
         "--python", default=sys.executable, help="an interpreter that has openpyxl (default: this)"
     )
-    parser.add_argument("--csv", action="store_true", help="measure the rows as CSV")
+    kinds = parser.add_mutually_exclusive_group()
+    for option, kind, what in (
+        ("--csv", Rows, "the rows as CSV"),
+        ("--dates", RowsOfDates, "rows with dates as CSV"),
+    ):
+        kinds.add_argument(
+            option, dest="kind", action="store_const", const=kind, help=f"measure {what}"
+        )
+    parser.set_defaults(kind=Cells)
     add_repeats(parser, 5)
     asked = parser.parse_args()
     if asked.rows < 1 or asked.repeats < 1:
@@ -193,12 +166,13 @@ def main():
         sys.exit(f"file.py: {asked.python} has no openpyxl: name one that has with --python")
     build()
     with tempfile.TemporaryDirectory() as folder:
-        kind, head = (Rows, ROWS_HEAD) if asked.csv else (Size, HEAD)
-        sizes = [kind(folder, asked.python, rows) for rows in (asked.rows, 2 * asked.rows)]
+        python = run_by(asked.python, folder)
+        sizes = [asked.kind(folder, python, rows) for rows in (asked.rows, 2 * asked.rows)]
         for _ in range(asked.repeats):
             for size in sizes:
                 size.run()
-        table(head, [size.row() for size in sizes])
+        head = ["cells", "bytes", "seconds", "its text", *asked.kind.head]
+        table(head, [row_of(size) for size in sizes])
 
 
 if __name__ == "__main__":

@@ -1,83 +1,95 @@
 #!/usr/bin/env python3
-"""Measures `./xlsx FILE.xlsx WORDS` on a workbook of many sheets beside the same on its whole
-package text, and prints one table (docs/PERFORMANCE.md)."""
+"""Measures `./xlsx FILE.xlsx WORDS` on a workbook of many sheets, and of one, beside the program on
+the whole package text, and prints one table; with `--large` it tries that a sheet is answered whose
+workbook's whole text is too large (docs/PERFORMANCE.md).
+
+A row of a sheet has a shared string, a number, a formula and the number of the sheet. `whole` is
+`tools/package_text.py` on the file and then the program on what it wrote, in seconds of processor
+time and by the larger peak. Both answers are the same, byte by byte, and those of `cells` the lines
+that are wanted.
+"""
 
 import argparse
+import filecmp
 import os
 import sys
 import tempfile
-import zipfile
 
-from file import CONTENT_TYPES, MAIN, PACKAGE
-from measure import TOP, TYPES, add_repeats, build, each, measured, mib, table
+from books import Numbered, run_by, write_book
+from cells import Listing, check
+from measure import LIMIT, PROGRAM, TOP, add_repeats, build, each, measured, mib, table
 
-# The commands that are measured, on the sheet of this number of many.
+# The sheet that is asked for, of many.
 SHEET = 7
 COMMANDS = (("cells", f"S{SHEET}"), ("csv", f"S{SHEET}"), ("sheets",), ("props",))
 
-
-def relationships(*kinds_and_targets):
-    each_one = (
-        f'<Relationship Id="rId{number}" Type="{TYPES}{kind}" Target="{target}"/>'
-        for number, (kind, target) in enumerate(kinds_and_targets, 1)
-    )
-    return f'<Relationships xmlns="{PACKAGE}relationships">{"".join(each_one)}</Relationships>'
+# The sheets of the large workbook, and the rows of each: some 10 MB of text.
+LARGE_SHEETS, LARGE_ROWS = 15, 28_000
+TOO_LARGE = 4
 
 
-def sheet(number, rows):
-    """The markup of a sheet: a shared string, a number and a formula in each row."""
-    yield f'<worksheet xmlns="{MAIN}"><sheetData>'
+def mixes_of(sheets):
+    names = (f"S{number}" for number in range(1, sheets + 1)) if sheets > 1 else ["S"]
+    return {name: Numbered(number) for number, name in enumerate(names, 1)}
+
+
+def listing_of(mix, rows):
+    listing = Listing()
     for row in range(1, rows + 1):
-        yield (
-            f'<row r="{row}"><c r="A{row}" t="s"><v>{(number * rows + row) % 5000}</v></c>'
-            f'<c r="B{row}"><v>{row}.5</v></c><c r="C{row}"><f>B{row}*2</f><v>{2 * row + 1}</v></c>'
-            f'<c r="D{row}"><v>{number}</v></c></row>'
-        )
-    yield "</sheetData></worksheet>"
+        listing.add(mix.row_lines(row).encode())
+    return listing
 
 
-def write_book(path, sheets, rows):
-    names = range(1, sheets + 1)
-    with zipfile.ZipFile(path, "w", zipfile.ZIP_DEFLATED) as book:
-        book.writestr("[Content_Types].xml", CONTENT_TYPES)
-        book.writestr("_rels/.rels", relationships(("officeDocument", "xl/workbook.xml")))
-        targets = [("worksheet", f"worksheets/sheet{name}.xml") for name in names]
-        book.writestr("xl/_rels/workbook.xml.rels", relationships(*targets))
-        told = "".join(f'<sheet name="S{n}" sheetId="{n}" r:id="rId{n}"/>' for n in names)
-        start = f'<workbook xmlns="{MAIN}" xmlns:r="{TYPES[:-1]}">'
-        book.writestr("xl/workbook.xml", f"{start}<sheets>{told}</sheets></workbook>")
-        strings = "".join(f"<si><t>a text that is shared, {n}</t></si>" for n in range(5000))
-        book.writestr("xl/sharedStrings.xml", f'<sst xmlns="{MAIN}">{strings}</sst>')
-        for name in names:
-            book.writestr(f"xl/worksheets/sheet{name}.xml", "".join(sheet(name, rows)))
+class Book:
+    """A workbook file, and what is run on it, in files of a folder."""
 
+    def __init__(self, folder, python, sheets, rows):
+        self.python, self.rows, self.mixes = python, rows, mixes_of(sheets)
+        self.path = os.path.join(folder, f"book-{sheets}.xlsx")
+        names = ("ours", "whole", "text", "said")
+        self.ours, self.whole, self.text, self.said = (os.path.join(folder, name) for name in names)
+        write_book(self.path, self.mixes, rows)
 
-class Words:
-    """One command on the file, and on its whole text, which is made anew each time."""
+    def front(self, *words, out=None):
+        """A run of ./xlsx on the file."""
+        return measured([str(TOP / "xlsx"), self.path, *words], os.devnull, out or self.ours)
 
-    def __init__(self, folder, book, words):
-        self.words, self.book = words, book
-        self.files = [os.path.join(folder, name) for name in ("ours", "whole", "text")]
-        self.ours, self.whole = [], []
-
-    def run(self):
-        ours, whole, text = self.files
-        program = str(TOP / "xlsx")
-        self.ours.append(measured([program, self.book, *self.words], os.devnull, ours))
-        feeding = [sys.executable, str(TOP / "tools" / "package_text.py"), self.book]
-        fed = measured(feeding, os.devnull, text)
-        read = measured([program, *self.words], text, whole)
-        self.whole.append(fed._replace(
+    def on_whole(self, words):
+        """The runs on the whole text, as one."""
+        feeding = [self.python, str(TOP / "tools" / "package_text.py"), self.path]
+        fed = measured(feeding, os.devnull, self.text)
+        read = measured([str(PROGRAM), *words], self.text, self.whole)
+        return fed._replace(
             seconds=fed.seconds + read.seconds,
             processor=fed.processor + read.processor,
             peak=max(fed.peak, read.peak),
-        ))
-        with open(ours, "rb") as found, open(whole, "rb") as wanted:
-            assert found.read() == wanted.read(), self.words
+        )
+
+    def check(self, words):
+        """Sees that the answer to `cells` has the lines that are wanted."""
+        if words[0] == "cells":
+            check(self.ours, listing_of(self.mixes[words[1]], self.rows))
+
+
+class Words:
+    """One command on a workbook, and the runs of both ways."""
+
+    def __init__(self, book, words):
+        self.book, self.words = book, words
+        self.ours, self.whole = [], []
+
+    def run(self):
+        book = self.book
+        self.ours.append(book.front(*self.words))
+        book.check(self.words)
+        self.whole.append(book.on_whole(self.words))
+        if not filecmp.cmp(book.ours, book.whole, shallow=False):
+            sys.exit(f"sheets.py: {' '.join(self.words)} has another answer on the whole text")
 
     def row(self):
         ours, whole = each(min, self.ours), each(min, self.whole)
         return [
+            f"{len(self.book.mixes):,}",
             " ".join(self.words),
             f"{ours.processor:.2f}",
             f"{whole.processor:.2f}",
@@ -88,11 +100,38 @@ class Words:
         ]
 
 
+def try_large(folder, python):
+    """Tries a workbook whose text is too large, and no sheet of it."""
+    book = Book(folder, python, LARGE_SHEETS, LARGE_ROWS)
+    book.front("package", out=book.text)
+    size = os.path.getsize(book.text)
+    measured([str(PROGRAM), "cells", f"S{SHEET}"], book.text, book.whole, book.said, (TOO_LARGE,))
+    run = book.front("cells", f"S{SHEET}")
+    book.check(("cells", f"S{SHEET}"))
+    of_sheet = os.path.join(folder, "sheet")
+    words = ["--sheets", f"xl/worksheets/sheet{SHEET}.xml"]
+    feeder = str(TOP / "tools" / "package_text.py")
+    measured([python, feeder, book.path, *words], os.devnull, of_sheet)
+    if not os.path.getsize(of_sheet) < LIMIT < size:
+        sys.exit("sheets.py: the large workbook has another size")
+    head = ["sheets", "bytes of the whole text", "of a sheet's", "seconds", "peak MiB"]
+    sizes = [f"{size:,}", f"{os.path.getsize(of_sheet):,}"]
+    table(head, [[f"{LARGE_SHEETS}", *sizes, f"{run.processor:.2f}", mib(run.peak)]])
+
+
 def main():
-    parser = argparse.ArgumentParser(description=__doc__)
+    parser = argparse.ArgumentParser(
+        description=__doc__, formatter_class=argparse.RawDescriptionHelpFormatter
+    )
     parser.add_argument("--sheets", type=int, default=20, help="how many sheets (default: 20)")
     parser.add_argument(
         "--rows", type=int, default=5_000, help="rows of four cells in each (default: 5,000)"
+    )
+    parser.add_argument(
+        "--large", action="store_true", help="try a workbook of which one sheet alone is read"
+    )
+    parser.add_argument(
+        "--python", default=sys.executable, help="the interpreter of the scripts (default: this)"
     )
     add_repeats(parser, 3)
     asked = parser.parse_args()
@@ -100,13 +139,17 @@ def main():
         parser.error(f"--sheets takes at least {SHEET}, --rows and --repeats at least 1")
     build()
     with tempfile.TemporaryDirectory() as folder:
-        book = os.path.join(folder, "book.xlsx")
-        write_book(book, asked.sheets, asked.rows)
-        all_words = [Words(folder, book, words) for words in COMMANDS]
+        python = run_by(asked.python, folder)
+        if asked.large:
+            try_large(folder, python)
+            return
+        many = Book(folder, python, asked.sheets, asked.rows)
+        one = Book(folder, python, 1, asked.rows)
+        all_words = [*(Words(many, words) for words in COMMANDS), Words(one, ("cells", "S"))]
         for _ in range(asked.repeats):
             for words in all_words:
                 words.run()
-        head = ["words", "seconds", "whole", "ratio", "peak MiB", "whole", "ratio"]
+        head = ["sheets", "words", "seconds", "whole", "ratio", "peak MiB", "whole", "ratio"]
         table(head, [words.row() for words in all_words])
 
 

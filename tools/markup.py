@@ -1,7 +1,8 @@
 """Cuts the markup of a part into the events of a package text (docs/FORMAT.md), each as JSON.
 
 Nothing is normalised: names, attribute texts and texts are as written. Nesting is the reader's. A
-tag that ends in `/` is one event, as in version 2; two tags are two.
+tag that ends in `/` is one event, as in version 2. Two tags are two, but in a run of tags and texts
+that is cut at once: there a start and the end of its name behind it are one, too.
 """
 
 import codecs
@@ -21,12 +22,37 @@ DOCTYPE_STEP = re.compile(
 # No other markup begins in more characters.
 LONGEST_OPENING = 9
 
-# Up to so many characters are split at a time, and at first so many.
-MOST, FEWEST = 4096, 32
+# Up to so many characters are cut at a time, but for the last text in them, and at first so many.
+MOST, FEWEST = 8192, 32
+# A run has at least so many characters, at most so many, and fewer separators than these that the
+# run before it did not have.
+RUN, LONGEST_RUN, DIFFERENT = 256, 4 * MOST, 64
+# So many brackets are looked at for one behind a text.
+NEAR = 16
 # The events of so many tags are kept, where these are shorter than this.
 KEPT, LONG = 1000, 100
 
 OTHER = '["o"]'
+
+# How events begin, and what stands between two of them. A quote in a text stands behind a
+# backslash, so that no text has these.
+START, END, EMPTY, BETWEEN = '["s",', '["e",', '["b",', '"],["'
+
+# Bytes that tell of a run, characters that aren't spelled as they are, and all other bytes.
+TELLING, CONTROLS = b"<>\"'", bytes(range(32))
+BESIDE = bytes(set(range(256)) - set(TELLING + CONTROLS))
+# A text of a run with references in it.
+REFERRING = re.compile("(?<=>)[^<>&]*&[^<>]*")
+# What stands in a run that is being cut: where a text ends, if there is one, and where one begins,
+# behind a start and behind all else; and the brackets of an element with nothing in it. What is
+# spelled has no such characters.
+TEXT_END, TEXT, TEXT_IN, OPEN, CLOSE = "\1\2\3\4\5"
+# What separates attribute texts and texts: the end of a tag with attributes, tags without any, and
+# the beginning of one with some. The names are spelled as they are.
+NAME_AS_IT_IS = r"""[^\0-\x20<>"'/!?&\\]+"""
+WITHOUT = f"(?:</?{NAME_AS_IT_IS}>|{OPEN}{NAME_AS_IT_IS}{CLOSE})"
+SEPARATOR = re.compile(f'(?:">|{CLOSE})?{WITHOUT}*(?:{WITHOUT}|[<{OPEN}]{NAME_AS_IT_IS} )')
+TAG = re.compile(f"([<{OPEN}])(/?)({NAME_AS_IT_IS})([> {CLOSE}])")
 
 DECLARED = re.compile(r"""<\?xml\s[^>]*?\bencoding\s*=\s*["']([^"']*)["']""")
 READ = re.compile("utf-?(8|16)|us-ascii", re.IGNORECASE)
@@ -139,6 +165,112 @@ class Tags:
         return found
 
 
+def events_of_tag(found):
+    """What stands for a tag without attributes, or for the beginning of one with some."""
+    bracket, slash, name, last = found.groups()
+    if slash:
+        return f'{TEXT_END}{END}"{name}"]{TEXT}'
+    event = f'{TEXT_END}{START if bracket == "<" else EMPTY}"{name}","'
+    return event + {" ": " ", ">": f'"]{TEXT_IN}', CLOSE: f'"]{TEXT}'}[last]
+
+
+def events_between(separator):
+    """What stands for a separator."""
+    text = TAG.sub(events_of_tag, separator)
+    if text.startswith('">'):
+        text = f'""]{TEXT_IN}{text[2:]}'
+    text = paired(text.replace(CLOSE, f'"]{TEXT}')).replace(TEXT + TEXT_END, ",")
+    # An end behind a start waits for its name.
+    return re.sub(f"{TEXT_IN}{TEXT_END}(?!{re.escape(END)})", ",", text)
+
+
+def referred(found):
+    """A text with the events of its references; a bracket where one has no end."""
+    text, *parts = found[0].split("&")
+    for part in parts:
+        name, end, rest = part.partition(";")
+        if not end:
+            return "<"
+        text += f'{TEXT_END}["r","{name}"]{TEXT}{rest}'
+    return text
+
+
+def paired(text):
+    """The text of a run with one event for each start and the end of its name behind it."""
+    ending = f'{TEXT_IN}{TEXT_END}{END}"'
+    if ending not in text:
+        return text
+    front, *parts = text.split(ending)
+    out = [front]
+    for part in parts:
+        name, behind = part.split('"', 1)
+        front, _, start = out[-1].rpartition(f'{START}"')
+        if start.startswith(f'{name}"'):
+            out[-1:] = [f'{front}{EMPTY}"{start}', behind[1:]]
+        else:
+            out.append(ending + part)
+    return "".join(out)
+
+
+def closed(text):
+    """The events of a run."""
+    text = text.replace(TEXT_IN, TEXT)
+    is_last = text.endswith(TEXT)
+    text = text[1:-1] if is_last else text[1:] + TEXT_END
+    text = text.replace(TEXT + TEXT_END, ",").replace(TEXT, ',["t","').replace(TEXT_END, '"],')
+    return text if is_last else text[:-1]
+
+
+class Run:
+    """Cuts tags and texts at once, with no step for each of them, by what separates them."""
+
+    def __init__(self):
+        # The events of the separators that the last run had.
+        self.between = {}
+
+    def get(self, markup):
+        """The events of tags and the texts behind them, with commas between them. None where there
+        is other markup in it, or what this way can't tell."""
+        bones = markup.encode().translate(None, BESIDE)
+        tags = bones.translate(None, CONTROLS).replace(b'""', b"")
+        # Each bracket has its other one, with quotes in pairs between them, and no text has any.
+        if not tags.count(b"<>") == tags.count(b"<") == tags.count(b">"):
+            return None
+        # As it is spelled, but faster.
+        text = markup.replace("\\", r"\\").replace('"', r"\"")
+        for control in set(bones.translate(None, TELLING)):
+            text = text.replace(chr(control), spelled(chr(control))[1:-1])
+        if "&" in text:
+            text = REFERRING.sub(referred, text)
+        if "/>" in text:
+            *empty, text = text.split("/>")
+            parts = (part.rpartition("<") for part in empty)
+            text = "".join(f"{front}{OPEN}{tag}{CLOSE}" for front, _, tag in parts) + text
+        text = self.with_events(text)
+        # A bracket that stays is of no tag that is told so.
+        if "<" in text or OPEN in text:
+            return None
+        text = text.replace(">", f'"]{TEXT_IN}').replace(CLOSE, f'"]{TEXT}')
+        return closed(paired(text))
+
+    def with_events(self, text):
+        """The text with events in place of its separators. A tag that is in none stays, and all
+        stay that are too many."""
+        last, self.between = self.between, {}
+        # The longest first: another one may be a part of it.
+        for separator in sorted(last, key=len, reverse=True):
+            changed = text.replace(separator, last[separator])
+            # Where there is none the text itself comes back.
+            if changed is not text:
+                self.between[separator], text = last[separator], changed
+        if "<" in text or OPEN in text:
+            more = set(SEPARATOR.findall(text))
+            for separator in sorted(more, key=len, reverse=True) if len(more) < DIFFERENT else ():
+                self.between[separator] = events_between(separator)
+                text = text.replace(separator, self.between[separator])
+        return text
+
+
 def tag_end(buffer, at):
     """Where the bracket stands that ends a tag or breaks it; None where it isn't there."""
     if buffer.startswith("</", at):
@@ -195,11 +327,41 @@ def markup_at(buffer, at):
     return tag_at(buffer, at)
 
 
+def add_run(text, out):
+    """Adds the events of a run: as one text, but for an end in front and a start at its end, which
+    may be one with what stands beside them."""
+    if text.startswith(END):
+        first, _, text = text.partition(BETWEEN)
+        if not text:
+            out.append(first)
+            return
+        out.append(f'{first}"]')
+        text = f'["{text}'
+    front, _, last = text.rpartition(BETWEEN)
+    if front and last.startswith(START[2:]):
+        out += (f'{front}"]', f'["{last}')
+    else:
+        out.append(text)
+
+
+def stop_behind(buffer, at, safe):
+    """Where a bracket stands behind a place; it has a text in front, if there is one soon, so that
+    what separates texts stays whole."""
+    stop = at - 1
+    for _ in range(NEAR):
+        stop = buffer.find("<", stop + 1, safe)
+        if stop < 0:
+            return safe
+        if buffer[stop - 1] != ">":
+            break
+    return stop
+
+
 class Cutter:
     """Cuts a text that comes in pieces: each event once its end is there."""
 
     def __init__(self, limit=sys.maxsize):
-        self.limit, self.tags = limit, Tags()
+        self.limit, self.tags, self.run = limit, Tags(), Run()
         # What isn't cut yet: a front that was looked at, and the pieces behind it with their size.
         self.front, self.pieces, self.size = "", [], 0
         # How many characters were cut.
@@ -240,25 +402,40 @@ class Cutter:
     def plain(self, buffer, at, safe, out):
         """Cuts texts, references and most tags. Answers where other markup begins, or the safe
         place."""
-        add, tag_event, size = out.append, self.tags.get, FEWEST
+        size = FEWEST
         while at < safe:
-            stop = buffer.find("<", at + size, safe)
+            stop = stop_behind(buffer, at + size, safe)
             size = min(2 * size, MOST)
-            text, *parts = buffer[at : safe if stop < 0 else stop].split("<")
+            text, bracket, markup = buffer[at:stop].partition("<")
             self.add_text(text, at, out)
             at += len(text)
-            for part in parts:
-                tag, closed, text = part.partition(">")
-                found = tag_event(tag) if closed else None
-                if found is None:
-                    return at
-                add(found)
-                if "&" in text:
-                    self.add_text(text, at + len(tag) + 2, out)
-                elif text:
-                    add(f'["t",{spelled(text)}]')
-                at += len(part) + 1
+            is_run = RUN <= len(markup) <= LONGEST_RUN
+            found = self.run.get(bracket + markup) if is_run else None
+            if found is not None:
+                add_run(found, out)
+                at += 1 + len(markup)
+            elif bracket:
+                at, is_whole = self.tagged(markup, at, out)
+                if not is_whole:
+                    break
         return at
+
+    def tagged(self, markup, at, out):
+        """Cuts tags and texts, from behind the first bracket on. Answers where other markup begins,
+        or the end, and whether it is that."""
+        add, tag_event = out.append, self.tags.get
+        for part in markup.split("<"):
+            tag, closed, text = part.partition(">")
+            found = tag_event(tag) if closed else None
+            if found is None:
+                return at, False
+            add(found)
+            if "&" in text:
+                self.add_text(text, at + len(tag) + 2, out)
+            elif text:
+                add(f'["t",{spelled(text)}]')
+            at += len(part) + 1
+        return at, True
 
     def add_text(self, text, at, out):
         """Cuts a text at a place, and the references in it."""

@@ -1,11 +1,9 @@
 #!/usr/bin/env python3
 """Writes the package text of a workbook file to standard output (docs/FORMAT.md)."""
 
-import argparse
 import contextlib
 import enum
 import errno
-import html
 import json
 import os
 import re
@@ -17,7 +15,7 @@ import tempfile
 import zipfile
 import zlib
 
-from markup import MarkupFault, TooLong, events, spelled
+from markup import BETWEEN, EMPTY, END, START, MarkupFault, TooLong, events, spelled
 from words import one_line
 
 try:
@@ -89,9 +87,8 @@ CONTENTLESS = re.compile(rb"<[!?]")
 UTF_16 = (b"\xff\xfe", b"\xfe\xff")
 DECLARATION = re.compile(rb"(?:\xef\xbb\xbf)?(?:<\?xml [^>]*\?>)?")
 
-# How events begin, and one of an element with nothing in it. A quote in a text stands behind a
-# backslash, so that no event begins in a text.
-START, END, EMPTY = '["s",', '["e",', '["b",'
+# The event of an element with nothing in it. A quote in a text stands behind a backslash, so that
+# no event begins in a text.
 TEXT = r'"[^"\\]*(?:\\.[^"\\]*)*"'
 EMPTY_EVENT = re.compile(rf'\["b",({TEXT}),({TEXT})\]')
 
@@ -134,7 +131,7 @@ def joined(lists):
         ends = [at for at, (one, two) in enumerate(pairs, 1) if two[2] == "e" and one[2] == "s"]
         for at in ends:
             start, name = some[at - 1], some[at][len(END) : -1]
-            if start.startswith(f"{START}{name},"):
+            if start.startswith(f"{START}{name},") and BETWEEN not in start:
                 some[at - 1], some[at] = EMPTY + start[len(START) :], ""
         # A start waits for what stands behind it.
         held = [some.pop()] if some and some[-1].startswith(START) else []
@@ -256,6 +253,16 @@ def archive_of(file):
         raise Refusal(14, NO_ARCHIVE)
 
 
+def unescaped(text):
+    """A text with its references resolved."""
+    if "&" not in text:
+        return text
+    # Few texts have any, and this takes a while to come in.
+    import html
+
+    return html.unescape(text)
+
+
 def targets_of(event):
     """The file names that a relationship leads to, each with its type, where that is wanted."""
     if event[0] not in ("s", "b") or event[1].split(":")[-1] != "Relationship":
@@ -264,7 +271,7 @@ def targets_of(event):
     pairs = [
         (key, value)
         for key, double, single in PAIR.findall(event[2])
-        for value in (double or single, html.unescape(double or single))
+        for value in (double or single, unescaped(double or single))
     ]
     types = {kind.split("/")[-1] for key, kind in pairs if key == "Type"} & TYPES
     return {(file_name(target), kind) for key, target in pairs if key == "Target" for kind in types}
@@ -472,17 +479,30 @@ def write(path, is_all, limit, descriptor, sheets=Sheets.ALL, version=2):
                 send(piece, descriptor)
 
 
-class Parser(argparse.ArgumentParser):
-    def error(self, message):
-        raise Refusal(2, message)
+def parser_of(description, statuses):
+    """What reads the words of a command line. No script that has its words needs what this takes."""
+    import argparse
 
-    def print_help(self, file=None):
-        send(self.format_help().encode(), 1)
+    class Parser(argparse.ArgumentParser):
+        def error(self, message):
+            raise Refusal(2, message)
+
+        def print_help(self, file=None):
+            send(self.format_help().encode(), 1)
+
+    return Parser(
+        description=description,
+        epilog=statuses,
+        formatter_class=argparse.RawDescriptionHelpFormatter,
+        allow_abbrev=False,
+    )
 
 
 def size_of(word):
+    from argparse import ArgumentTypeError
+
     if not word.isdecimal():
-        raise argparse.ArgumentTypeError("it takes a number of bytes")
+        raise ArgumentTypeError("it takes a number of bytes")
     return int(word)
 
 
@@ -491,12 +511,7 @@ def sheets_of(word):
 
 
 def asked_of(words):
-    parser = Parser(
-        description=__doc__,
-        epilog=STATUSES,
-        formatter_class=argparse.RawDescriptionHelpFormatter,
-        allow_abbrev=False,
-    )
+    parser = parser_of(__doc__, STATUSES)
     parser.add_argument("file", metavar="FILE.xlsx")
     parser.add_argument(
         "--all",

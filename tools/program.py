@@ -2,7 +2,6 @@
 
 import contextlib
 import os
-import pathlib
 import resource
 import shutil
 import signal
@@ -12,9 +11,9 @@ import tempfile
 
 from words import one_line
 
-TOP = pathlib.Path(__file__).resolve().parent.parent
-CRATE = TOP / "crates" / "xlsx_tool"
-PROGRAM = CRATE / "out" / "xlsx_tool"
+TOP = os.path.dirname(os.path.dirname(os.path.realpath(__file__)))
+CRATE = os.path.join(TOP, "crates", "xlsx_tool")
+PROGRAM = os.path.join(CRATE, "out", "xlsx_tool")
 
 # The most bytes that the program reads.
 LIMIT = 64 * 1024 * 1024
@@ -71,11 +70,14 @@ def is_fresh():
 
     if not os.access(PROGRAM, os.X_OK):
         return False
-    moment = PROGRAM.stat().st_mtime_ns
-    table = TOP / "crates.txt"
-    return table.stat().st_mtime_ns <= moment and not any(
-        newer(TOP / "crates" / crate / folder, moment)
-        for crate in needs_of("xlsx_tool", table.read_text())
+    moment = os.stat(PROGRAM).st_mtime_ns
+    with open(os.path.join(TOP, "crates.txt")) as table:
+        needs = needs_of("xlsx_tool", table.read())
+        if os.fstat(table.fileno()).st_mtime_ns > moment:
+            return False
+    return not any(
+        newer(os.path.join(TOP, "crates", crate, folder), moment)
+        for crate in needs
         for folder in ("src", "specs", "proofs")
     )
 
@@ -129,12 +131,12 @@ def status_of(child):
 def build():
     """Proves and builds the program."""
     find("rt", "the command of the Rattle kit")
-    out = PROGRAM.parent
-    log = out / "proving.log"
+    out = os.path.dirname(PROGRAM)
+    log = os.path.join(out, "proving.log")
     say(f"no proved program is there yet: proving takes {PROVING}; {ANSWERS}")
     say(f"proving; what rt says goes to {log}")
     try:
-        out.mkdir(exist_ok=True)
+        os.makedirs(out, exist_ok=True)
         with tempfile.NamedTemporaryFile(dir=out) as began:
             moment = os.stat(began.name).st_mtime_ns
     except OSError as error:

@@ -10,7 +10,6 @@ The status is 0 where all is proved and built, and else 1.
 
 import contextlib
 import os
-import pathlib
 import re
 import signal
 import subprocess
@@ -67,9 +66,10 @@ def side_by_side():
     """How many proofs the machine has processors and memory for."""
     most = os.cpu_count() or 1
     try:
-        for line in pathlib.Path("/proc/meminfo").read_text().splitlines():
-            if line.startswith("MemAvailable:"):
-                most = min(most, int(line.split()[1]) // MEMORY)
+        with open("/proc/meminfo") as lines:
+            for line in lines:
+                if line.startswith("MemAvailable:"):
+                    most = min(most, int(line.split()[1]) // MEMORY)
     except OSError:
         pass
     return max(1, most)
@@ -82,7 +82,7 @@ class Work:
         self.said = tempfile.TemporaryFile()
         self.child = subprocess.Popen(
             words,
-            cwd=pathlib.Path("crates", name),
+            cwd=os.path.join("crates", name),
             stdin=subprocess.DEVNULL,
             stdout=self.said,
             stderr=self.said,
@@ -179,7 +179,8 @@ class Proving:
 
 
 def main(program, path):
-    needs = needs_of(program, pathlib.Path("crates.txt").read_text())
+    with open("crates.txt") as table:
+        needs = needs_of(program, table.read())
     signal.signal(signal.SIGTERM, lambda number, frame: sys.exit(128 + number))
     signal.signal(signal.SIGHUP, lambda number, frame: sys.exit(128 + number))
     with open(path, "wb") as log:

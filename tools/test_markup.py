@@ -6,10 +6,16 @@ import itertools
 import json
 import tracemalloc
 import unittest
+import unittest.mock
+from random import Random
 from xml.parsers import expat
 
+import markup
 from markup import Cutter, MarkupFault, TooLong, events
 from package_text import FORMS
+
+# What cuts tag by tag.
+CUT_TAGS = Cutter.tagged
 
 # All kinds of markup at once.
 MIXED = """\
@@ -183,6 +189,57 @@ class Events(unittest.TestCase):
         )
 
 
+class Runs(unittest.TestCase):
+    """What is cut at once is what is cut tag by tag."""
+
+    NAMES = ("c", "v", "row", "aa", "a", "x:t", "\u00e9")
+    VALUES = ("", "A1", "/", "&amp;", "&", "\\", "\t", "\u00e9", " ", ">", "<", "'", '],["e"', "\4")
+    TEXTS = ("", "", "", "45", "nut ", "&amp;&#13;", "&;", '"', "'", "\\", "\n", '],["s"', ">", "\1;")
+
+    def tag(self, random):
+        name, kind = random.choice(self.NAMES), random.random()
+        value = random.choice(self.VALUES)
+        own = random.choice(("", "", f' r="{value}"', f' r="{value}" s="1"', f"\n r='{value}'"))
+        if kind < 0.3:
+            return f"<{name}{own}>"
+        if kind < 0.6:
+            return f"</{name}>"
+        if kind < 0.8:
+            return f"<{name}{own}/>"
+        return f"<{name}{own}></{random.choice((name, name, random.choice(self.NAMES)))}>"
+
+    def told(self, data, size, version, least):
+        with unittest.mock.patch("markup.RUN", least):
+            try:
+                return cut(data, size, version)
+            except MarkupFault as fault:
+                return str(fault)
+
+    def test_runs_have_the_events_of_their_tags(self):
+        random = Random(7)
+        with unittest.mock.patch("markup.add_run", wraps=markup.add_run) as added:
+            for count in (3, 10, 40, 100) * 60:
+                tags = (self.tag(random) + random.choice(self.TEXTS) for _ in range(count))
+                data = "".join(tags).encode()
+                for size, version in itertools.product((len(data), 150), (1, 2)):
+                    wanted = self.told(data, size, version, len(data))
+                    self.assertEqual(self.told(data, size, version, 1), wanted, data)
+        self.assertGreater(added.call_count, 500)
+
+    def test_a_sheet_is_cut_at_once(self):
+        cells = '<c r="A1" s="1"><v>1</v></c><c r="B1"><f>A1&amp;"x"</f><v>2</v></c><c r="C1"/>'
+        data = f'<row r="1">{cells}</row>'.encode() * 1000
+        with unittest.mock.patch.object(Cutter, "tagged", autospec=True) as tagged:
+            tagged.side_effect = CUT_TAGS
+            found = cut(data)
+        self.assertEqual(len(found), 1000 * 19)
+        self.assertLess(sum(len(call.args[1]) for call in tagged.call_args_list), 1000)
+
+    def test_many_different_tags_take_no_longer(self):
+        data = "".join(f"<a{n}><b{n}/></a{n}>" for n in range(500)).encode()
+        self.assertEqual(len(cut(data)), 2000)
+
+
 class Encodings(unittest.TestCase):
     WANTED = [["s", "a", " b='\u00e9'"], ["t", "\u00e9\U0001f330"]]
     TEXT = "<a b='\u00e9'>\u00e9\U0001f330"
@@ -316,7 +373,11 @@ class Streams(unittest.TestCase):
         piece, times = row * 30, 100
         tracemalloc.start()
         try:
-            number = sum(map(len, events(piece for _ in range(times))))
+            number = sum(
+                len(json.loads(f"[{text}]"))
+                for some in events(piece for _ in range(times))
+                for text in some
+            )
             peak = tracemalloc.get_traced_memory()[1]
         finally:
             tracemalloc.stop()

@@ -1,7 +1,6 @@
 #!/usr/bin/env python3
 """Writes the package text of standard input as a workbook file (docs/FORMAT.md)."""
 
-import argparse
 import contextlib
 import html
 import io
@@ -14,7 +13,7 @@ import tempfile
 import zipfile
 
 from markup import WHITE_SPACE
-from package_text import PAIR, Parser, Refusal, folded, is_foreign
+from package_text import PAIR, Refusal, folded, is_foreign, parser_of
 from program import LIMIT, end_by_signals
 from words import one_line
 
@@ -351,12 +350,7 @@ def save(source, path):
 
 
 def asked_of(words):
-    parser = Parser(
-        description=__doc__,
-        epilog=STATUSES,
-        formatter_class=argparse.RawDescriptionHelpFormatter,
-        allow_abbrev=False,
-    )
+    parser = parser_of(__doc__, STATUSES)
     parser.add_argument("file", metavar="OUT.xlsx")
     return parser.parse_args(words)
 
