@@ -152,10 +152,8 @@ impl SheetCursor {
         ensures plain { reads_children asked.entry.wants ≡ false →
             IfErr result IsStyledStreamError }
     {
-        let asked = Asked {
-            keeps_masters: true,
-            ..asked
-        };
+        let mut asked = asked;
+        asked.keeps_masters = true;
         let Some(read) = self.next(package, asked)? else {
             return Ok(None);
         };
@@ -166,9 +164,8 @@ impl SheetCursor {
             style_id,
         } = read;
         self.failed = true;
-        let formula = self
-            .masters
-            .cell_formula(self.cursor.alloc(), formula, pos)?;
+        let alloc = self.cursor.alloc();
+        let formula = self.masters.cell_formula(alloc, formula, pos)?;
         self.failed = false;
         Ok(Some(CellWithFormula {
             pos,
