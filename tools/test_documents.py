@@ -29,6 +29,7 @@ FUNCTION = re.compile(r"^( *)pub (?:const )?fn (\w+)", re.M)
 BLOCK = re.compile(r"^(?:impl\b.*|pub trait (\w+).*)\{$|^impl\b[^{;]*$", re.M)
 ANY_FUNCTION = re.compile(r"\bfn (\w+)")
 CLAUSE = re.compile(r"^\s*ensures\*?(?: (\w+))?\s*(?=\{|$)", re.M)
+RECORD = re.compile(r"^pub record (\w+)((?:.*\n)(?: .*\n|\n(?= ))*)", re.M)
 TEST = re.compile(r"#\[test\]\s*(?:#\[[^\]]*\]\s*)*fn (\w+)")
 
 
@@ -120,8 +121,16 @@ class Documents(unittest.TestCase):
                 found.setdefault(one.group(1), set()).update(labels)
         return found
 
+    def fields(self):
+        """For each record of definitions, the names of its fields."""
+        found = {}
+        for code in (code for path, code in self.code.items() if path.parent.name == "specs"):
+            for name, body in RECORD.findall(code):
+                found.setdefault(name, set()).update(re.findall(r"^ +pub (\w+) :", body, re.M))
+        return found
+
     def test_every_clause_that_the_promises_cite_is_one_of_its_call(self):
-        clauses = self.clauses()
+        clauses, fields = self.clauses(), self.fields()
         for cells in (cells for document in PROMISES for cells in rows_of(document)):
             cell = cells[1] if len(cells) > 1 else ""
             spoken = re.sub(r"\([^()]*\)|ghost fields? (?:`\w+`(?:, | and )?)+", "", cell)
@@ -129,9 +138,11 @@ class Documents(unittest.TestCase):
             calls = [name.split("::")[-1].rstrip("!") for name in names]
             of_calls = {label for call in calls for label in clauses.get(call, ())}
             labels = {name for name in names if name not in clauses} & set().union(*clauses.values())
+            # A clause that is a record has the labels of its fields: "`step` (`TakesStep`): ..".
+            held = {own for name in re.findall(r"\(`(\w+)`\): `", cell) for own in fields[name]}
             # A cell that names a type alone speaks of all its calls.
             if of_calls and not re.search("the calls of|every call|^these", cell):
-                self.assertEqual(labels - of_calls, set(), cell)
+                self.assertEqual(labels - of_calls - held, set(), cell)
 
     def exported(self, crate):
         """The names that a crate hands out."""

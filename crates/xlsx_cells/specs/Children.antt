@@ -1,6 +1,6 @@
 -- How the children of a cell are read.
 use Rattle.std.specs.Prelude.{◌≡◌, ◌⊎◌, List, [], ◌∷◌, length, true, false, Bool, Option, Some}
-use Rattle.std.specs.Prelude.{None, option_map, Ok, Err, codes}
+use Rattle.std.specs.Prelude.{None, Result, option_map, Ok, Err, OnOk, codes}
 use Rattle.std.specs.List.{last_or}
 use Rattle.part_events.specs.Event.{Tag, Event, start}
 use Rattle.part_events.specs.Reading.{Reading, ahead}
@@ -9,14 +9,19 @@ use Rattle.cell_data.specs.CellValue.{CellValue, value_of_data_ref}
 use Rattle.cell_data.specs.declared.format.CellFormat.{CellFormat}
 use Rattle.cell_data.specs.declared.value.DataRef.{DataRef}
 use Rattle.xlsx_error.specs.declared.error.XlsxError.{XlsxError}
+use Rattle.xlsx_sections.specs.Answers.{or_earlier}
 use Rattle.xlsx_sections.specs.PartSection.{PartSection, SectionFails, inside_of}
 use Rattle.xlsx_sections.specs.Refusal.{Refusal}
+use Rattle.xlsx_values.specs.Book.{kind_of, grounds_of}
 use Rattle.xlsx_values.specs.CellType.{CellKind}
-use Rattle.xlsx_values.specs.Value.{Grounds, said_value, value_in}
+use Rattle.xlsx_values.specs.Value.{Grounds, said_value, value_in, or_nothing}
 use Rattle.xlsx_formulas.specs.Formula.{FormulaText, said_formula, formulas_in, behind_formulas}
-use Rattle.xlsx_formulas.specs.Kept.{AreMasters}
+use Rattle.xlsx_formulas.specs.Kept.{AreMasters, last_seen}
 use Rattle.xlsx_formulas.specs.declared.masters.Masters.{Masters}
-use Rattle.xlsx_cells.specs.Ends.{end_in_child}
+use Rattle.xlsx_cells.specs.Ends.{end_in_child, end_in_children}
+use Rattle.xlsx_cells.specs.declared.children.Asked.{Asked}
+use Rattle.xlsx_cells.specs.declared.children.CellContents.{CellContents}
+use Rattle.xlsx_cells.specs.declared.children.CellStart.{CellStart}
 use Rattle.xlsx_cells.specs.declared.children.Wants.{Wants}
 use Rattle.xlsx_cells.specs.declared.children.ChildName.{ChildName}
 use Rattle.xlsx_cells.specs.declared.children.ChildName.TheVariants.{Formula, Value, Inline, Stray}
@@ -68,6 +73,13 @@ AreChildrenRefused wants grounds format kind s refusal =
     ((wants.values ≡ true) × (value_in grounds format kind (inside_of s) ≡ Err refusal))
     ⊎ ((wants.formulas ≡ true) × (formulas_in (inside_of s) ≡ Err refusal))
 
+-- when what stands in the cell at whose start a reader stands can't be read
+abbrev pub ContentsFail : Asked → CellStart → Reading → Reading → XlsxError → Type 0
+ContentsFail asked begun old new error =
+    SectionFails (end_in_children asked.wants (kind_of begun.typ))
+    (AreChildrenRefused asked.wants (grounds_of asked.book) begun.format (kind_of begun.typ))
+    (length old.names) old new error
+
 -- the masters and the last formula, before and behind a child
 pub record LastStep : Type 0 where
   pub masters : Masters
@@ -108,3 +120,50 @@ pub record ReadsCellFormulas
   pub listed : formulas_in inside ≡ Ok written
   pub last : new.last ≡ last_or None written
   pub masters : KeepsMasters (kept_by keeps written) old new.masters
+
+-- the value that a child says, by what is asked for and what the start of its cell says
+abbrev pub child_said : Asked → CellStart → Element → Result (Option CellValue) Refusal
+child_said asked begun element =
+    said_value (grounds_of asked.book) begun.format (kind_of begun.typ) element.tag element.inside
+
+-- when that child can't be read
+abbrev pub ChildFailsBy : Asked → CellStart → Element → Reading → Reading → XlsxError → Type 0
+ChildFailsBy asked begun element old new error =
+    ChildFails asked.wants (grounds_of asked.book) begun.format (kind_of begun.typ) element.tag
+    old new error
+
+-- What a child leaves of what the children before it said, where it can be read; a reader stands at
+-- its start. `before` and `behind` are the masters.
+pub record TakesChild
+    {A : Type 0} (asked : Asked) (begun : CellStart) (result : Result A XlsxError) (r : Reading)
+    (before behind : Masters) (old new : CellContents) : Type 0 where
+  pub value :
+      r.source.is_told ≡ true → asked.wants.values ≡ true → (element : Element) →
+      StandsAtElement element r → OnOk result
+      (or_earlier (value_kept old.value) (child_said asked begun element)
+      ≡ Ok (value_kept new.value))
+  pub formula :
+      r.source.is_told ≡ true → asked.wants.formulas ≡ true → (element : Element) →
+      StandsAtElement element r → OnOk result
+      (ReadsFormula asked.keeps_masters element.tag element.inside
+      (record { masters = before; last = last_seen old.formula })
+      (record { masters = behind; last = last_seen new.formula }))
+  pub same : asked.wants.formulas ≡ false → OnOk result (behind ≡ before)
+  pub unvalued : asked.wants.values ≡ false → OnOk result (new.value ≡ old.value)
+  pub unlisted : asked.wants.formulas ≡ false → OnOk result (new.formula ≡ old.formula)
+
+-- What the children of a cell say, all together; a reader stands at its start.
+pub record ReadsContents
+    (asked : Asked) (begun : CellStart) (r : Reading) (before behind : Masters)
+    (contents : CellContents) : Type 0 where
+  pub value :
+      r.source.is_told ≡ true → asked.wants.values ≡ true →
+      value_in (grounds_of asked.book) begun.format (kind_of begun.typ) (content 0 (ahead r))
+      ≡ or_nothing (Ok (value_kept contents.value))
+  pub formula :
+      r.source.is_told ≡ true → asked.wants.formulas ≡ true →
+      ReadsCellFormulas asked.keeps_masters (content 0 (ahead r)) before
+      (record { masters = behind; last = last_seen contents.formula })
+  pub same : asked.wants.formulas ≡ false → behind ≡ before
+  pub unvalued : asked.wants.values ≡ false → contents.value ≡ None
+  pub unlisted : asked.wants.formulas ≡ false → contents.formula ≡ None

@@ -10,6 +10,7 @@ pub mod Position
 pub mod Records
 pub mod Sheet
 pub mod SheetPart
+pub mod Steps
 pub mod Stream
 pub mod StyleIds
 pub mod StyleSteps

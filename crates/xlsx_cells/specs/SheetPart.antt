@@ -8,6 +8,7 @@ use Rattle.part_events.specs.Package.{PackageState, SameParts, CountsUp, part_of
 use Rattle.part_events.specs.Reading.{events_of}
 use Rattle.cell_data.specs.CellValue.{CellValue, value_of_data_ref}
 use Rattle.cell_data.specs.Cells.{AreInSheet}
+use Rattle.cell_data.specs.Gathered.{cells_gathered}
 use Rattle.xlsx_error.specs.declared.error.XlsxError.{XlsxError}
 use Rattle.cell_data.specs.declared.value.DataRef.{DataRef}
 use Rattle.cell_styles.specs.StyleMap.{StyledCell, IsOnSheet}
@@ -15,6 +16,7 @@ use Rattle.xlsx_sections.specs.Failing.{FailsBy}
 use Rattle.xlsx_sections.specs.PartSection.{PartSection, SectionCause, SectionFails, section_left}
 use Rattle.xlsx_sections.specs.PartSection.{section_in, inside_of, has_end}
 use Rattle.xlsx_sections.specs.Refusal.{Refusal}
+use Rattle.xlsx_values.specs.Book.{grounds_of}
 use Rattle.xlsx_values.specs.Value.{Grounds}
 use Rattle.xlsx_formulas.specs.Formula.{FormulaText}
 use Rattle.xlsx_formulas.specs.Kept.{text_of_formula}
@@ -26,9 +28,11 @@ use Rattle.xlsx_cells.specs.Marks.{marks}
 use Rattle.xlsx_cells.specs.Position.{IsPlaced}
 use Rattle.xlsx_cells.specs.Sheet.{values_in, formulas_written, used_values, used_formulas}
 use Rattle.xlsx_cells.specs.Sheet.{formulas_along}
-use Rattle.xlsx_cells.specs.Stream.{Stream, IsGoing, StandsBehind, IsCellRefused}
-use Rattle.xlsx_cells.specs.StyleIds.{ids_in}
+use Rattle.xlsx_cells.specs.Stream.{Stream, IsGoing, StandsBehind, IsCellRefused, data_ahead}
+use Rattle.xlsx_cells.specs.StyleIds.{ids_in, HoldsIds}
+use Rattle.xlsx_cells.specs.declared.children.Asked.{Asked}
 use Rattle.xlsx_cells.specs.declared.children.Wants.{Wants}
+use Rattle.xlsx_cells.specs.declared.sheet_cells.SheetCells.{SheetCells}
 
 -- Why the data of a sheet are refused. Behind a row that is refused, and behind a cell that has no
 -- position, nothing is asked.
@@ -141,3 +145,22 @@ abbrev pub HoldsFormulas : List Event → List ((ℕ × ℕ) × List ℕ) → Ty
 HoldsFormulas inside found =
     (all : List ((ℕ × ℕ) × List FormulaText)) × (formulas_written inside ≡ Ok all)
     × (found ≡ used_formulas (formulas_along [] all))
+
+-- what was collected of the rest of a sheet's data
+pub record CollectsCells (asked : Asked) (old : Stream) (cells : SheetCells) : Type 0 where
+  pub inside :
+      LieInSheet (cells_gathered cells.values) (cells_gathered cells.formulas)
+      cells.style_ids.items
+  pub values :
+      old.reading.source.is_told ≡ true → asked.wants.values ≡ true →
+      HoldsValues (grounds_of asked.book) (data_ahead old)
+      (value_entries (cells_gathered cells.values))
+  pub formulas :
+      old.reading.source.is_told ≡ true → asked.wants.formulas ≡ true →
+      HoldsFormulas (data_ahead old) (formula_entries (cells_gathered cells.formulas))
+  pub styles :
+      old.reading.source.is_told ≡ true → asked.wants.styles ≡ true →
+      HoldsIds asked.style_count (data_ahead old) cells.style_ids.items
+  pub unwanted :
+      LackUnwanted asked.wants (cells_gathered cells.values) (cells_gathered cells.formulas)
+      cells.style_ids.items

@@ -16,17 +16,19 @@ use Rattle.xlsx_error.specs.declared.error.XlsxError.TheVariants.{Failed}
 use Rattle.xlsx_sections.specs.Elements.{KeepsElements}
 use Rattle.xlsx_sections.specs.PartSection.{PartSection, SectionFails, inside_of}
 use Rattle.xlsx_sections.specs.Refusal.{Refusal, in_element}
+use Rattle.xlsx_values.specs.Book.{grounds_of}
 use Rattle.xlsx_values.specs.Value.{Grounds, cell_value}
 use Rattle.xlsx_formulas.specs.Formula.{FormulaText, formulas_in, cell_formula, behind_formulas}
 use Rattle.xlsx_formulas.specs.Kept.{AreMasters, last_seen, text_of_formula}
 use Rattle.xlsx_formulas.specs.declared.masters.Masters.{Masters}
-use Rattle.xlsx_cells.specs.Children.{kept_by}
+use Rattle.xlsx_cells.specs.Children.{kept_by, StandsAtElement, ReadsCellFormulas}
 use Rattle.xlsx_cells.specs.Counting.{AreKept}
 use Rattle.xlsx_cells.specs.Ends.{end_in_contents, end_in_data}
 use Rattle.xlsx_cells.specs.Finding.{IsStepRefused, IsCutOff, TakesElement}
 use Rattle.xlsx_cells.specs.Marks.{Mark, cell, is_cell, marks, behind_marks}
 use Rattle.xlsx_cells.specs.Position.{cell_position, PassesMarks, NoCell}
 use Rattle.xlsx_cells.specs.StyleIds.{id_named}
+use Rattle.xlsx_cells.specs.declared.children.Asked.{Asked}
 use Rattle.xlsx_cells.specs.declared.children.Wants.{Wants}
 use Rattle.xlsx_cells.specs.declared.counters.Counters.{Counters}
 use Rattle.xlsx_cells.specs.declared.cell_read.CellRead.{CellRead}
@@ -155,6 +157,34 @@ pub record IsRead
   pub none : wants.formulas ≡ false → written ≡ []
   pub is_kept : kept ≡ kept_by keeps written
 
+-- what wasn't wanted of a cell is empty
+pub record LacksUnwanted (wants : Wants) (read : CellRead) : Type 0 where
+  pub value : wants.values ≡ false → read.value ≡ Empty
+  pub formula : wants.formulas ≡ false → read.formula ≡ None
+  pub style : wants.styles ≡ false → read.style_id ≡ 0
+
+-- What was read of a cell at this place, at whose start a reader stands. `before` and `behind` are
+-- the masters.
+pub record ReadsCell
+    (asked : Asked) (place : ℕ × ℕ) (r : Reading) (before behind : Masters) (read : CellRead)
+    : Type 0 where
+  pub pos : read.pos ≡ place
+  pub value :
+      r.source.is_told ≡ true → asked.wants.values ≡ true → (element : Element) →
+      StandsAtElement element r →
+      cell_value (grounds_of asked.book) element.tag element.inside
+      ≡ Ok (value_of_data_ref read.value)
+  pub formula :
+      r.source.is_told ≡ true → asked.wants.formulas ≡ true → (element : Element) →
+      StandsAtElement element r →
+      ReadsCellFormulas asked.keeps_masters element.inside before
+      (record { masters = behind; last = last_seen read.formula })
+  pub same : asked.wants.formulas ≡ false → behind ≡ before
+  pub styled :
+      asked.wants.styles ≡ true → (element : Element) → StandsAtElement element r →
+      id_named element.tag ≡ Ok read.style_id
+  pub unwanted : LacksUnwanted asked.wants read
+
 -- a cell with the text of its formula
 pub record WrittenCell : Type 0 where
   pub pos : ℕ × ℕ
@@ -193,12 +223,6 @@ pub record IsWritten
   pub found :
       wants.formulas ≡ true → own.text ≡ cell_formula earlier own.pos kept
   pub none : wants.formulas ≡ false → kept ≡ []
-
--- what wasn't wanted of a cell is empty
-pub record LacksUnwanted (wants : Wants) (read : CellRead) : Type 0 where
-  pub value : wants.values ≡ false → read.value ≡ Empty
-  pub formula : wants.formulas ≡ false → read.formula ≡ None
-  pub style : wants.styles ≡ false → read.style_id ≡ 0
 
 -- what is not wanted of a cell is left empty
 pub record LacksUnwantedText (wants : Wants) (own : WrittenCell) : Type 0 where

@@ -1,18 +1,16 @@
-ghost use Rattle.std.specs.Prelude.{◌≡◌, List, true, false, Ok, Err, IfOk, OnOk, IfErr};
+ghost use Rattle.std.specs.Prelude.{◌≡◌, List, true, false, Ok, Err, IfOk, IfErr};
 ghost use Rattle.std.specs.Option.{option_copied, unwrap_or};
 ghost use Rattle.part_events.specs.Event.{Event, tag_of};
 ghost use Rattle.part_events.specs.Reading.{reading, IsReadingElement, ReadsElement};
 ghost use Rattle.part_events.specs.Section.{Element};
-ghost use Rattle.cell_data.specs.CellValue.{value_of_data_ref};
 ghost use Rattle.xlsx_error.specs.declared.error.XlsxError.TheVariants.{Io};
 ghost use Rattle.xlsx_values.specs.Book.{kind_of, grounds_of};
 ghost use Rattle.xlsx_values.specs.Value.{cell_value, value_in, style_number};
-ghost use Rattle.xlsx_formulas.specs.Kept.{last_seen};
-ghost use Rattle.xlsx_cells.specs.Children.{StandsAtElement, ReadsCellFormulas};
+ghost use Rattle.xlsx_cells.specs.Children.{StandsAtElement};
 ghost use Rattle.xlsx_cells.specs.Counting.{IsStartRefused, IsRefused, IsPositionError};
 ghost use Rattle.xlsx_cells.specs.Ends.{kind_of_cell, reads_children};
 ghost use Rattle.xlsx_cells.specs.CellErrors.{IsCellError, IsStyledError};
-ghost use Rattle.xlsx_cells.specs.Stream.{CellFails, IsHeadRefused, LacksUnwanted};
+ghost use Rattle.xlsx_cells.specs.Stream.{CellFails, IsHeadRefused, ReadsCell};
 ghost use Rattle.xlsx_cells.specs.StyleIds.{id_named};
 
 use crate::children::{Asked, CellContents, CellStart, Wants, read_children};
@@ -142,25 +140,10 @@ pub fn read_cell<P: Package>(
     masters: &mut Masters,
 ) -> Result<CellRead, XlsxError>
     requires element { IsReadingElement (reading (P.state «package».old) cursor.old) }
-    ensures reads { let old = reading (P.state «package».old) cursor.old in
-        let new = reading (P.state «package».new) cursor.new in
-        ReadsElement Io result old new }
-    ensures pos { IfOk result (λ read. read.pos ≡ pos) }
-    ensures value { let old = reading (P.state «package».old) cursor.old in
-        let value = cell_value (grounds_of asked.entry.book) in
-        old.source.is_told ≡ true → asked.entry.wants.values ≡ true → (element : Element) →
-        StandsAtElement element old → IfOk result (λ read.
-        value element.tag element.inside ≡ Ok (value_of_data_ref read.value)) }
-    ensures formula { let old = reading (P.state «package».old) cursor.old in
-        old.source.is_told ≡ true → asked.entry.wants.formulas ≡ true → (element : Element) →
-        StandsAtElement element old →
-        IfOk result (λ read. ReadsCellFormulas asked.entry.keeps_masters element.inside masters.old
-        (record { masters = masters.new; last = last_seen read.formula })) }
-    ensures same { asked.entry.wants.formulas ≡ false → OnOk result (masters.new ≡ masters.old) }
-    ensures styled { let old = reading (P.state «package».old) cursor.old in
-        asked.entry.wants.styles ≡ true → (element : Element) → StandsAtElement element old →
-        IfOk result (λ read. id_named element.tag ≡ Ok read.style_id) }
-    ensures unwanted { IfOk result (LacksUnwanted asked.entry.wants) }
+    ensures reads { ReadsElement Io result (reading (P.state «package».old) cursor.old)
+        (reading (P.state «package».new) cursor.new) }
+    ensures cell { let old = reading (P.state «package».old) cursor.old in
+        IfOk result (ReadsCell asked.entry pos old masters.old masters.new) }
     ensures err { let old = reading (P.state «package».old) cursor.old in
         let new = reading (P.state «package».new) cursor.new in
         IfErr result (λ error. (element : Element) → StandsAtElement element old →

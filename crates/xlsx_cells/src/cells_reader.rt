@@ -1,19 +1,17 @@
-ghost use Rattle.std.specs.Prelude.{◌≡◌, List, map, string_bytes, true, false, is_err};
-ghost use Rattle.std.specs.Prelude.{IfOk, IfErr, IfSome, IsErrAnd, length, option_map, slice_get};
+ghost use Rattle.std.specs.Prelude.{◌≡◌, map, string_bytes, true, false, IfOk, IfErr, IfSome};
+ghost use Rattle.std.specs.Prelude.{length, option_map, slice_get};
 ghost use Rattle.part_events.specs.Lending.{LentFails};
 ghost use Rattle.part_events.specs.Reader as xml_reader;
-ghost use Rattle.part_events.specs.Reading.{ReadsPart, IsReading};
+ghost use Rattle.part_events.specs.Reading.{IsReading};
 ghost use Rattle.cell_styles.specs.StyleMap.{is_explicit};
-ghost use Rattle.xlsx_error.specs.declared.error.XlsxError.TheVariants.{Io, Failed};
+ghost use Rattle.xlsx_error.specs.declared.error.XlsxError.TheVariants.{Io};
 ghost use Rattle.xlsx_values.specs.Book.{grounds_of};
-ghost use Rattle.xlsx_formulas.specs.Formula.{FormulaText};
 ghost use Rattle.xlsx_cells.specs.CellErrors.{IsStreamError, IsStyledStreamError};
 ghost use Rattle.xlsx_cells.specs.CellsReader.{written_text};
 ghost use Rattle.xlsx_cells.specs.Head.{IsHeadError};
-ghost use Rattle.xlsx_cells.specs.Marks.{Mark};
 ghost use Rattle.xlsx_cells.specs.Position.{NoCell};
-ghost use Rattle.xlsx_cells.specs.Stream.{stream, StandsBehind, IsStreaming, StandsTo, TakesEach};
-ghost use Rattle.xlsx_cells.specs.Stream.{NextCellFails, RestsAtEnd};
+ghost use Rattle.xlsx_cells.specs.Steps.{TakesStep, TakesNext};
+ghost use Rattle.xlsx_cells.specs.Stream.{stream, IsStreaming, NextCellFails};
 
 use crate::cell_read::{CellRead, CellText};
 use crate::cell_records::{XlsxCellFormula, XlsxCellFormulaMetadataRecord};
@@ -43,6 +41,17 @@ fn written_text(text: String) -> Option<String>
 ///
 /// What it keeps beside what it borrows is a type parameter, so that a caller knows what became of
 /// the package once the reader is gone.
+///
+/// # Examples
+///
+/// Each cell that is left, with its value and its formula:
+///
+/// ```
+/// let mut cells = Vec::new(alloc);
+/// 'cells: while let Some(cell) = reader.next_cell_with_formula()? {
+///     cells.push(cell)?;
+/// }
+/// ```
 pub struct XlsxCellReader<'a, P: Package, S: Drop = SheetCursor> {
     package: &'a mut P,
     strings: &'a [String],
@@ -227,28 +236,14 @@ impl<'a, P: Package> XlsxCellReader<'a, P> {
     pub fn next_cell(&mut self) -> Result<Option<Cell<DataRef>>, XlsxError>
         requires { IsStreaming (stream_by P.state self.old) }
         ensures hold { KeepsHold self.old self.new }
-        ensures streaming { IsStreaming (stream_by P.state self.new) }
-        ensures reads { let old = stream_by P.state self.old in
-            let new = stream_by P.state self.new in
-            ReadsPart Io result old.reading new.reading }
-        ensures rests { RestsAtEnd (stream_by P.state self.old) (stream_by P.state self.new) }
-        ensures stands { let old = stream_by P.state self.old in
-            let new = stream_by P.state self.new in
-            IfOk result (λ found. StandsTo (λ own. own.pos) found old new) }
-        ensures takes { let old = stream_by P.state self.old in
-            let new = stream_by P.state self.new in
-            let grounds = grounds_by self.old in
-            old.reading.source.is_told ≡ true → (before : List Mark)
-            (earlier : List FormulaText) → StandsBehind before earlier old →
-            IfOk result (λ found.
-            TakesEach NoCell (IsValued grounds) before earlier found old new) }
+        ensures step { TakesStep (λ own. own.pos) result (stream_by P.state self.old)
+            (stream_by P.state self.new) }
+        ensures takes { TakesNext NoCell (λ earlier. IsValued (grounds_by self.old)) result
+            (stream_by P.state self.old) (stream_by P.state self.new) }
         ensures err { let old = stream_by P.state self.old in
             let new = stream_by P.state self.new in
             IfErr result (NextCellFails values_alone (grounds_by self.old) old new.reading) }
         ensures kind { IfErr result IsStreamError }
-        ensures after { (stream_by P.state self.old).is_failed ≡ true →
-            IsErrAnd result (λ error. error ≡ Failed) }
-        ensures failed { (stream_by P.state self.new).is_failed ≡ is_err result }
     {
         let asked = self.asked(Wants::VALUES, false);
         let Some(read) = self.sheet.next(self.package, asked)? else {
@@ -268,27 +263,14 @@ impl<'a, P: Package> XlsxCellReader<'a, P> {
     pub fn next_formula(&mut self) -> Result<Option<Cell<String>>, XlsxError>
         requires { IsStreaming (stream_by P.state self.old) }
         ensures hold { KeepsHold self.old self.new }
-        ensures streaming { IsStreaming (stream_by P.state self.new) }
-        ensures reads { let old = stream_by P.state self.old in
-            let new = stream_by P.state self.new in
-            ReadsPart Io result old.reading new.reading }
-        ensures rests { RestsAtEnd (stream_by P.state self.old) (stream_by P.state self.new) }
-        ensures stands { let old = stream_by P.state self.old in
-            let new = stream_by P.state self.new in
-            IfOk result (λ found. StandsTo (λ own. own.pos) found old new) }
-        ensures takes { let old = stream_by P.state self.old in
-            let new = stream_by P.state self.new in
-            old.reading.source.is_told ≡ true → (before : List Mark)
-            (earlier : List FormulaText) → StandsBehind before earlier old →
-            IfOk result (λ found.
-            TakesEach NoCell (IsFormula earlier) before earlier found old new) }
+        ensures step { TakesStep (λ own. own.pos) result (stream_by P.state self.old)
+            (stream_by P.state self.new) }
+        ensures takes { TakesNext NoCell IsFormula result
+            (stream_by P.state self.old) (stream_by P.state self.new) }
         ensures err { let old = stream_by P.state self.old in
             let new = stream_by P.state self.new in
             IfErr result (NextCellFails formulas_alone (grounds_by self.old) old new.reading) }
         ensures kind { IfErr result IsStreamError }
-        ensures after { (stream_by P.state self.old).is_failed ≡ true →
-            IsErrAnd result (λ error. error ≡ Failed) }
-        ensures failed { (stream_by P.state self.new).is_failed ≡ is_err result }
     {
         let asked = self.asked(Wants::FORMULAS, true);
         let Some(found) = self.sheet.next_text(self.package, asked)? else {
@@ -305,27 +287,14 @@ impl<'a, P: Package> XlsxCellReader<'a, P> {
     pub fn next_cell_with_style_id(&mut self) -> Result<Option<(Cell<DataRef>, usize)>, XlsxError>
         requires { IsStreaming (stream_by P.state self.old) }
         ensures hold { KeepsHold self.old self.new }
-        ensures streaming { IsStreaming (stream_by P.state self.new) }
-        ensures reads { let old = stream_by P.state self.old in
-            let new = stream_by P.state self.new in
-            ReadsPart Io result old.reading new.reading }
-        ensures rests { RestsAtEnd (stream_by P.state self.old) (stream_by P.state self.new) }
-        ensures stands { let old = stream_by P.state self.old in
-            let new = stream_by P.state self.new in
-            IfOk result (λ found. StandsTo (λ own. own.0.pos) found old new) }
-        ensures takes { let old = stream_by P.state self.old in
-            let new = stream_by P.state self.new in
-            let fact = IsValuedStyle (grounds_by self.old) in
-            old.reading.source.is_told ≡ true → (before : List Mark)
-            (earlier : List FormulaText) → StandsBehind before earlier old →
-            IfOk result (λ found. TakesEach NoCell fact before earlier found old new) }
+        ensures step { TakesStep (λ own. own.0.pos) result (stream_by P.state self.old)
+            (stream_by P.state self.new) }
+        ensures takes { TakesNext NoCell (λ earlier. IsValuedStyle (grounds_by self.old)) result
+            (stream_by P.state self.old) (stream_by P.state self.new) }
         ensures err { let old = stream_by P.state self.old in
             let new = stream_by P.state self.new in
             IfErr result (NextCellFails values_and_styles (grounds_by self.old) old new.reading) }
         ensures kind { IfErr result IsStreamError }
-        ensures after { (stream_by P.state self.old).is_failed ≡ true →
-            IsErrAnd result (λ error. error ≡ Failed) }
-        ensures failed { (stream_by P.state self.new).is_failed ≡ is_err result }
     {
         let asked = self.asked(Wants::VALUES_AND_STYLES, false);
         let Some(read) = self.sheet.next(self.package, asked)? else {
@@ -347,27 +316,14 @@ impl<'a, P: Package> XlsxCellReader<'a, P> {
     pub fn next_cell_with_formula(&mut self) -> Result<Option<XlsxCellFormula>, XlsxError>
         requires { IsStreaming (stream_by P.state self.old) }
         ensures hold { KeepsHold self.old self.new }
-        ensures streaming { IsStreaming (stream_by P.state self.new) }
-        ensures reads { let old = stream_by P.state self.old in
-            let new = stream_by P.state self.new in
-            ReadsPart Io result old.reading new.reading }
-        ensures rests { RestsAtEnd (stream_by P.state self.old) (stream_by P.state self.new) }
-        ensures stands { let old = stream_by P.state self.old in
-            let new = stream_by P.state self.new in
-            IfOk result (λ found. StandsTo (λ own. own.pos) found old new) }
-        ensures takes { let old = stream_by P.state self.old in
-            let new = stream_by P.state self.new in
-            let fact = IsValuedFormula (grounds_by self.old) in
-            old.reading.source.is_told ≡ true → (before : List Mark)
-            (earlier : List FormulaText) → StandsBehind before earlier old →
-            IfOk result (λ found. TakesEach NoCell (fact earlier) before earlier found old new) }
+        ensures step { TakesStep (λ own. own.pos) result (stream_by P.state self.old)
+            (stream_by P.state self.new) }
+        ensures takes { TakesNext NoCell (IsValuedFormula (grounds_by self.old)) result
+            (stream_by P.state self.old) (stream_by P.state self.new) }
         ensures err { let old = stream_by P.state self.old in
             let new = stream_by P.state self.new in
             IfErr result (NextCellFails values_and_formulas (grounds_by self.old) old new.reading) }
         ensures kind { IfErr result IsStreamError }
-        ensures after { (stream_by P.state self.old).is_failed ≡ true →
-            IsErrAnd result (λ error. error ≡ Failed) }
-        ensures failed { (stream_by P.state self.new).is_failed ≡ is_err result }
     {
         let asked = self.asked(Wants::VALUES_AND_FORMULAS, true);
         let Some(found) = self.sheet.next_text(self.package, asked)? else {
@@ -396,27 +352,14 @@ impl<'a, P: Package> XlsxCellReader<'a, P> {
     ) -> Result<Option<XlsxCellFormulaMetadataRecord>, XlsxError>
         requires { IsStreaming (stream_by P.state self.old) }
         ensures hold { KeepsHold self.old self.new }
-        ensures streaming { IsStreaming (stream_by P.state self.new) }
-        ensures reads { let old = stream_by P.state self.old in
-            let new = stream_by P.state self.new in
-            ReadsPart Io result old.reading new.reading }
-        ensures rests { RestsAtEnd (stream_by P.state self.old) (stream_by P.state self.new) }
-        ensures stands { let old = stream_by P.state self.old in
-            let new = stream_by P.state self.new in
-            IfOk result (λ found. StandsTo (λ own. own.pos) found old new) }
-        ensures takes { let old = stream_by P.state self.old in
-            let new = stream_by P.state self.new in
-            let fact = IsValuedMetadata (grounds_by self.old) in
-            old.reading.source.is_told ≡ true → (before : List Mark)
-            (earlier : List FormulaText) → StandsBehind before earlier old →
-            IfOk result (λ found. TakesEach NoCell fact before earlier found old new) }
+        ensures step { TakesStep (λ own. own.pos) result (stream_by P.state self.old)
+            (stream_by P.state self.new) }
+        ensures takes { TakesNext NoCell (λ earlier. IsValuedMetadata (grounds_by self.old)) result
+            (stream_by P.state self.old) (stream_by P.state self.new) }
         ensures err { let old = stream_by P.state self.old in
             let new = stream_by P.state self.new in
             IfErr result (NextCellFails values_and_formulas (grounds_by self.old) old new.reading) }
         ensures kind { IfErr result IsStreamError }
-        ensures after { (stream_by P.state self.old).is_failed ≡ true →
-            IsErrAnd result (λ error. error ≡ Failed) }
-        ensures failed { (stream_by P.state self.new).is_failed ≡ is_err result }
     {
         let asked = self.asked(Wants::VALUES_AND_FORMULAS, false);
         let Some(read) = self.sheet.next(self.package, asked)? else {
@@ -447,30 +390,17 @@ impl<'a, P: Package> XlsxCellReader<'a, P> {
     pub fn next_style_id(&mut self) -> Result<Option<(u32, u32, usize)>, XlsxError>
         requires { IsStreaming (stream_by P.state self.old) }
         ensures hold { KeepsHold self.old self.new }
-        ensures streaming { IsStreaming (stream_by P.state self.new) }
-        ensures reads { let old = stream_by P.state self.old in
-            let new = stream_by P.state self.new in
-            ReadsPart Io result old.reading new.reading }
-        ensures rests { RestsAtEnd (stream_by P.state self.old) (stream_by P.state self.new) }
-        ensures stands { let old = stream_by P.state self.old in
-            let new = stream_by P.state self.new in
-            IfOk result (λ found. StandsTo styled_position found old new) }
+        ensures step { TakesStep styled_position result (stream_by P.state self.old)
+            (stream_by P.state self.new) }
         ensures counts { let count = length (styles_held self.old) in
             IfOk result (λ found. IfSome found (λ own. is_explicit count own ≡ true)) }
-        ensures takes { let old = stream_by P.state self.old in
-            let new = stream_by P.state self.new in
-            let count = length (styles_held self.old) in
-            old.reading.source.is_told ≡ true → (before : List Mark)
-            (earlier : List FormulaText) → StandsBehind before earlier old →
-            IfOk result (λ found.
-            TakesEach (IsUnstyled count) IsStyled before earlier found old new) }
+        ensures takes { let count = length (styles_held self.old) in
+            TakesNext (IsUnstyled count) (λ earlier. IsStyled) result
+            (stream_by P.state self.old) (stream_by P.state self.new) }
         ensures err { let old = stream_by P.state self.old in
             let new = stream_by P.state self.new in
             IfErr result (StyledFails (length (styles_held self.old)) old new.reading) }
         ensures kind { IfErr result IsStyledStreamError }
-        ensures after { (stream_by P.state self.old).is_failed ≡ true →
-            IsErrAnd result (λ error. error ≡ Failed) }
-        ensures failed { (stream_by P.state self.new).is_failed ≡ is_err result }
     {
         let book = self.book();
         self.sheet

@@ -1,22 +1,20 @@
-ghost use Rattle.std.specs.Prelude.{◌≡◌, length, true, false, Ok, IfOk, OnOk, IfErr, codes, None};
-ghost use Rattle.part_events.specs.Event.{tag_of, start};
-ghost use Rattle.part_events.specs.Reading.{reading, IsReadingElement, ReadsElement, ahead};
-ghost use Rattle.part_events.specs.Section.{Element, content};
-ghost use Rattle.cell_data.specs.CellValue.{value_of_data_ref};
+ghost use Rattle.std.specs.Prelude.{◌≡◌, true, false, Ok, IfOk, OnOk, IfErr};
+ghost use Rattle.part_events.specs.Event.{tag_of};
+ghost use Rattle.part_events.specs.Reading.{reading, IsReadingElement, ReadsElement};
+ghost use Rattle.part_events.specs.Section.{Element};
 ghost use Rattle.xlsx_error.specs.declared.error.XlsxError.TheVariants.{Io};
-ghost use Rattle.xlsx_sections.specs.PartSection.{SectionFails};
-ghost use Rattle.xlsx_values.specs.Book.{kind_of, grounds_of};
 ghost use Rattle.cell_data.specs.declared.format.CellFormat.{CellFormat};
 ghost use Rattle.xlsx_values.specs.CellType.{CellKind};
-ghost use Rattle.xlsx_values.specs.Value.{Grounds, value_in, said_value, or_nothing};
+ghost use Rattle.xlsx_values.specs.Value.{Grounds};
 ghost use Rattle.xlsx_sections.specs.Answers.{or_earlier};
 ghost use Rattle.xlsx_formulas.specs.Kept.{last_seen};
 ghost use Rattle.xlsx_cells.specs.Children.{StandsAtElement, value_kept, IsNamedAs, value_name};
-ghost use Rattle.xlsx_cells.specs.Children.{ChildFails, AreChildrenRefused, LastStep};
-ghost use Rattle.xlsx_cells.specs.Children.{ReadsFormula, ReadsCellFormulas};
+ghost use Rattle.xlsx_cells.specs.Children.{ChildFails, ChildFailsBy, ContentsFail};
+ghost use Rattle.xlsx_cells.specs.Children.{LastStep, ReadsFormula, child_said};
+ghost use Rattle.xlsx_cells.specs.Children.{TakesChild, ReadsContents};
 ghost use Rattle.xlsx_cells.specs.declared.children.ChildName.TheVariants.{Formula};
 ghost use Rattle.xlsx_cells.specs.CellErrors.{IsCellError};
-ghost use Rattle.xlsx_cells.specs.Ends.{reads_children, end_in_children};
+ghost use Rattle.xlsx_cells.specs.Ends.{reads_children};
 
 use cell_data::{CellFormat, DataRef};
 use part_events::{Cursor, Package, StartTag};
@@ -140,9 +138,8 @@ fn keep_formula<P: Package>(
     last: &mut Option<xlsx_formulas::Formula>,
 ) -> Result<(), XlsxError>
     requires element { IsReadingElement (reading (P.state «package».old) cursor.old) }
-    ensures reads { let old = reading (P.state «package».old) cursor.old in
-        let new = reading (P.state «package».new) cursor.new in
-        ReadsElement Io result old new }
+    ensures reads { ReadsElement Io result (reading (P.state «package».old) cursor.old)
+        (reading (P.state «package».new) cursor.new) }
     ensures formula { let old = reading (P.state «package».old) cursor.old in
         let before : LastStep = record { masters = masters.old; last = last_seen last.old } in
         let after : LastStep = record { masters = masters.new; last = last_seen last.new } in
@@ -182,24 +179,19 @@ fn keep_value<P: Package>(
     value: &mut Option<DataRef>,
 ) -> Result<(), XlsxError>
     requires element { IsReadingElement (reading (P.state «package».old) cursor.old) }
-    ensures reads { let old = reading (P.state «package».old) cursor.old in
-        let new = reading (P.state «package».new) cursor.new in
-        ReadsElement Io result old new }
+    ensures reads { ReadsElement Io result (reading (P.state «package».old) cursor.old)
+        (reading (P.state «package».new) cursor.new) }
     ensures value { let old = reading (P.state «package».old) cursor.old in
-        let said = said_value (grounds_of asked.entry.book) start.now.format
-        (kind_of start.now.typ) in
         old.source.is_told ≡ true → asked.entry.wants.values ≡ true → (element : Element) →
         StandsAtElement element old → IsNamedAs (value_name is_inline) element.tag → OnOk result
-        (or_earlier (value_kept value.old) (said element.tag element.inside)
+        (or_earlier (value_kept value.old) (child_said asked.entry start.now element)
         ≡ Ok (value_kept value.new)) }
     ensures unvalued { asked.entry.wants.values ≡ false → OnOk result (value.new ≡ value.old) }
     ensures err { let old = reading (P.state «package».old) cursor.old in
         let new = reading (P.state «package».new) cursor.new in
-        let grounds = grounds_of asked.entry.book in
-        let kind = kind_of start.now.typ in
-        IfErr result (λ error. (element : Element) →
-        StandsAtElement element old → IsNamedAs (value_name is_inline) element.tag →
-        ChildFails asked.entry.wants grounds start.now.format kind element.tag old new error) }
+        IfErr result (λ error. (element : Element) → StandsAtElement element old →
+        IsNamedAs (value_name is_inline) element.tag →
+        ChildFailsBy asked.entry start.now element old new error) }
     ensures kind { IfErr result IsCellError }
 {
     if !asked.wants.values {
@@ -228,36 +220,14 @@ fn read_child<P: Package>(
 ) -> Result<(), XlsxError>
     requires element { IsReadingElement (reading (P.state «package».old) cursor.old) }
     requires wanted { reads_children asked.wants ≡ true }
-    ensures reads { let old = reading (P.state «package».old) cursor.old in
-        let new = reading (P.state «package».new) cursor.new in
-        ReadsElement Io result old new }
-    ensures value { let old = reading (P.state «package».old) cursor.old in
-        let said = said_value (grounds_of asked.entry.book) start.now.format
-        (kind_of start.now.typ) in
-        old.source.is_told ≡ true → asked.entry.wants.values ≡ true → (element : Element) →
-        StandsAtElement element old → OnOk result
-        (or_earlier (value_kept latest.old.value) (said element.tag element.inside)
-        ≡ Ok (value_kept latest.new.value)) }
-    ensures formula { let old = reading (P.state «package».old) cursor.old in
-        let before : LastStep =
-        record { masters = masters.old; last = last_seen latest.old.formula } in
-        let after : LastStep =
-        record { masters = masters.new; last = last_seen latest.new.formula } in
-        old.source.is_told ≡ true → asked.entry.wants.formulas ≡ true → (element : Element) →
-        StandsAtElement element old →
-        OnOk result (ReadsFormula asked.entry.keeps_masters element.tag element.inside before
-        after) }
-    ensures same { asked.entry.wants.formulas ≡ false → OnOk result (masters.new ≡ masters.old) }
-    ensures unvalued { asked.entry.wants.values ≡ false →
-        OnOk result (latest.new.value ≡ latest.old.value) }
-    ensures unlisted { asked.entry.wants.formulas ≡ false →
-        OnOk result (latest.new.formula ≡ latest.old.formula) }
+    ensures reads { ReadsElement Io result (reading (P.state «package».old) cursor.old)
+        (reading (P.state «package».new) cursor.new) }
+    ensures takes { let old = reading (P.state «package».old) cursor.old in
+        TakesChild asked.entry start.now result old masters.old masters.new latest.old latest.new }
     ensures err { let old = reading (P.state «package».old) cursor.old in
         let new = reading (P.state «package».new) cursor.new in
-        let grounds = grounds_of asked.entry.book in
-        let kind = kind_of start.now.typ in
         IfErr result (λ error. (element : Element) → StandsAtElement element old →
-        ChildFails asked.entry.wants grounds start.now.format kind element.tag old new error) }
+        ChildFailsBy asked.entry start.now element old new error) }
     ensures kind { IfErr result IsCellError }
 {
     match child_name(start_tag(package)) {
@@ -289,32 +259,12 @@ pub fn read_children<P: Package>(
 ) -> Result<CellContents, XlsxError>
     requires element { IsReadingElement (reading (P.state «package».old) cursor.old) }
     requires wanted { reads_children asked.wants ≡ true }
-    ensures reads { let old = reading (P.state «package».old) cursor.old in
-        let new = reading (P.state «package».new) cursor.new in
-        ReadsElement Io result old new }
-    ensures value { let old = reading (P.state «package».old) cursor.old in
-        let value = value_in (grounds_of asked.entry.book) start.now.format
-        (kind_of start.now.typ) in
-        old.source.is_told ≡ true → asked.entry.wants.values ≡ true →
-        IfOk result (λ contents. value (content 0 (ahead old))
-        ≡ or_nothing (Ok (value_kept contents.value))) }
-    ensures formula { let old = reading (P.state «package».old) cursor.old in
-        old.source.is_told ≡ true → asked.entry.wants.formulas ≡ true →
-        IfOk result (λ contents. ReadsCellFormulas asked.entry.keeps_masters (content 0 (ahead old))
-        masters.old (record { masters = masters.new; last = last_seen contents.formula })) }
-    ensures same { asked.entry.wants.formulas ≡ false → OnOk result (masters.new ≡ masters.old) }
-    ensures unvalued { asked.entry.wants.values ≡ false →
-        IfOk result (λ contents. contents.value ≡ None) }
-    ensures unlisted { asked.entry.wants.formulas ≡ false →
-        IfOk result (λ contents. contents.formula ≡ None) }
-    ensures err { let old = reading (P.state «package».old) cursor.old in
-        let new = reading (P.state «package».new) cursor.new in
-        let wants = asked.entry.wants in
-        let kind = kind_of start.now.typ in
-        let refused = AreChildrenRefused wants (grounds_of asked.entry.book) start.now.format kind
-        in
-        IfErr result (SectionFails (end_in_children wants kind) refused (length old.names)
-        old new) }
+    ensures reads { ReadsElement Io result (reading (P.state «package».old) cursor.old)
+        (reading (P.state «package».new) cursor.new) }
+    ensures contents { let old = reading (P.state «package».old) cursor.old in
+        IfOk result (ReadsContents asked.entry start.now old masters.old masters.new) }
+    ensures err { IfErr result (ContentsFail asked.entry start.now
+        (reading (P.state «package».old) cursor.old) (reading (P.state «package».new) cursor.new)) }
     ensures kind { IfErr result IsCellError }
 {
     let base = cursor.depth();

@@ -29,9 +29,10 @@
 //! switch says whether the formulas of groups are kept (`keeps_masters`). Which formula that is in
 //! the cell is told by the masters behind it (`next_with_formula`), and its text is made by whoever
 //! wants text (`next_text`); both are seen as one cell (`WrittenCell`). What a formula tells with
-//! none written out needs no masters. What any call takes of a cell is one definition with the
-//! call's fact as its argument (`TakesEach`), so that mixing calls is said by each call's clause
-//! alone: where one leaves the cursor is what the next asks for.
+//! none written out needs no masters. What any of the ten calls does, whatever it takes, is one
+//! record (`TakesStep`), and what it takes of a cell one definition with the call's fact as its
+//! argument (`TakesNext`), so that mixing calls is said by each call's clause alone: where one
+//! leaves the cursor is what the next asks for.
 //!
 //! **Style ids.** `SheetCursor::next_styled` is a loop over `next` with style ids alone, up to the
 //! next id that counts; what it passes are rows and unstyled cells (`IsUnstyled`). `collect` keeps

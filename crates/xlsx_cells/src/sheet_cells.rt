@@ -13,10 +13,9 @@ ghost use Rattle.xlsx_values.specs.Book.{grounds_of};
 ghost use Rattle.xlsx_formulas.specs.Kept.{text_of_formula};
 ghost use Rattle.xlsx_cells.specs.Ends.{reads_children};
 ghost use Rattle.xlsx_cells.specs.CellErrors.{IsCellError, IsStyledError};
-ghost use Rattle.xlsx_cells.specs.SheetPart.{DataFails, HoldsValues, HoldsFormulas, value_entries};
-ghost use Rattle.xlsx_cells.specs.SheetPart.{formula_entries, LieInSheet, LackUnwanted};
-ghost use Rattle.xlsx_cells.specs.StyleIds.{HoldsIds};
-ghost use Rattle.xlsx_cells.specs.Stream.{stream, IsGoing, StandsBehind, data_ahead};
+ghost use Rattle.xlsx_cells.specs.SheetPart.{DataFails, CollectsCells, value_entries};
+ghost use Rattle.xlsx_cells.specs.SheetPart.{formula_entries};
+ghost use Rattle.xlsx_cells.specs.Stream.{stream, IsGoing, StandsBehind};
 
 use crate::cell_read::CellWithFormula;
 use crate::children::Asked;
@@ -137,21 +136,8 @@ pub fn collect<P: Package>(
         let new = stream (P.state «package».new) sheet.new in
         old.reading.source.is_told ≡ true →
         OnOk result (ReachesEnd old.base old.reading new.reading) }
-    ensures inside { IfOk result (λ cells. LieInSheet (cells_gathered cells.values)
-        (cells_gathered cells.formulas) cells.style_ids.items) }
-    ensures values { let old = stream (P.state «package».old) sheet.old in
-        old.reading.source.is_told ≡ true → asked.entry.wants.values ≡ true →
-        IfOk result (λ cells. HoldsValues (grounds_of asked.entry.book) (data_ahead old)
-        (value_entries (cells_gathered cells.values))) }
-    ensures formulas { let old = stream (P.state «package».old) sheet.old in
-        old.reading.source.is_told ≡ true → asked.entry.wants.formulas ≡ true →
-        IfOk result (λ cells. HoldsFormulas (data_ahead old)
-        (formula_entries (cells_gathered cells.formulas))) }
-    ensures styles { let old = stream (P.state «package».old) sheet.old in
-        old.reading.source.is_told ≡ true → asked.entry.wants.styles ≡ true → IfOk result (λ cells.
-        HoldsIds asked.entry.style_count (data_ahead old) cells.style_ids.items) }
-    ensures unwanted { IfOk result (λ cells. LackUnwanted asked.entry.wants
-        (cells_gathered cells.values) (cells_gathered cells.formulas) cells.style_ids.items) }
+    ensures cells { let old = stream (P.state «package».old) sheet.old in
+        IfOk result (CollectsCells asked.entry old) }
     ensures err { let old = stream (P.state «package».old) sheet.old in
         let new = stream (P.state «package».new) sheet.new in
         IfErr result (DataFails asked.entry.wants (grounds_of asked.entry.book) old new) }

@@ -1,22 +1,20 @@
-ghost use Rattle.std.specs.Prelude.{◌≡◌, List, [], length, true, false, None, IfOk, OnOk, IfErr};
-ghost use Rattle.std.specs.Prelude.{IfSome, IfNone, IsErrAnd, is_err};
+ghost use Rattle.std.specs.Prelude.{◌≡◌, [], length, true, false, None, IfOk, IfErr};
+ghost use Rattle.std.specs.Prelude.{IfSome, IfNone};
 ghost use Rattle.part_events.specs.Package.{UsesPackage, LeavesPackage, part_of, event_count};
 ghost use Rattle.part_events.specs.Package.{CountsUp};
 ghost use Rattle.xlsx_cells.specs.Head.{IsHeadError, IfNoWorksheet};
 ghost use Rattle.xlsx_cells.specs.SheetPart.{EntersData, OpenDataFails};
-ghost use Rattle.part_events.specs.Reading.{ReadsPart, open_elements};
+ghost use Rattle.part_events.specs.Reading.{open_elements};
 ghost use Rattle.cell_styles.specs.StyleMap.{is_explicit};
-ghost use Rattle.xlsx_error.specs.declared.error.XlsxError.TheVariants.{Io, Failed};
+ghost use Rattle.xlsx_error.specs.declared.error.XlsxError.TheVariants.{Io};
 ghost use Rattle.xlsx_values.specs.Book.{grounds_of};
-ghost use Rattle.xlsx_formulas.specs.Formula.{FormulaText};
 ghost use Rattle.xlsx_formulas.specs.Kept.{AreMasters};
 ghost use Rattle.xlsx_cells.specs.Counting.{AreKept};
 ghost use Rattle.xlsx_cells.specs.Ends.{reads_children};
 ghost use Rattle.xlsx_cells.specs.CellErrors.{IsStreamError, IsStyledStreamError};
-ghost use Rattle.xlsx_cells.specs.Marks.{Mark};
 ghost use Rattle.xlsx_cells.specs.Position.{NoCell};
-ghost use Rattle.xlsx_cells.specs.Stream.{stream, IsStreaming, StandsBehind, StandsTo, TakesEach};
-ghost use Rattle.xlsx_cells.specs.Stream.{IsRead, IsWritten, NextCellFails, RestsAtEnd};
+ghost use Rattle.xlsx_cells.specs.Steps.{TakesStep, TakesNext, AskedStepFails};
+ghost use Rattle.xlsx_cells.specs.Stream.{stream, IsStreaming, IsRead, IsWritten};
 ghost use Rattle.xlsx_cells.specs.Stream.{LacksUnwanted, LacksUnwantedText};
 ghost use Rattle.xlsx_cells.specs.Stream.{seen_with_text, seen_with_formula};
 ghost use Rattle.xlsx_cells.specs.StyleSteps.{IsUnstyled, IsStyled, styled_position, StyledFails};
@@ -35,6 +33,21 @@ use xlsx_values::Book;
 
 /// Where reading stands in a sheet's data: behind the cells that were taken. After the end of the
 /// data each call answers None, and after a refusal `Failed`.
+///
+/// # Examples
+///
+/// How many cells the part at a path has:
+///
+/// ```
+/// let Some((sheet, _)) = open_data(alloc, package, path)? else {
+///     return Ok(0);
+/// };
+/// let mut sheet = sheet;
+/// let mut count = 0u64;
+/// 'cells: while let Some(_) = sheet.next(package, asked)? {
+///     count = count.saturating_add(1);
+/// }
+/// ```
 #[derive(Drop)]
 pub struct SheetCursor {
     cursor: Cursor,
@@ -85,32 +98,18 @@ impl SheetCursor {
         asked: Asked<'_>,
     ) -> Result<Option<CellRead>, XlsxError>
         requires { IsStreaming (stream (P.state «package».old) self.old) }
-        ensures streaming { IsStreaming (stream (P.state «package».new) self.new) }
-        ensures reads { let old = stream (P.state «package».old) self.old in
-            let new = stream (P.state «package».new) self.new in
-            ReadsPart Io result old.reading new.reading }
-        ensures rests { RestsAtEnd (stream (P.state «package».old) self.old)
-            (stream (P.state «package».new) self.new) }
-        ensures stands { let old = stream (P.state «package».old) self.old in
-            let new = stream (P.state «package».new) self.new in
-            IfOk result (λ found. StandsTo (λ read. read.pos) found old new) }
-        ensures takes { let old = stream (P.state «package».old) self.old in
-            let new = stream (P.state «package».new) self.new in
-            let fact = IsRead asked.entry.wants asked.entry.keeps_masters
-            (grounds_of asked.entry.book) in
-            old.reading.source.is_told ≡ true → (before : List Mark)
-            (earlier : List FormulaText) → StandsBehind before earlier old →
-            IfOk result (λ found. TakesEach NoCell fact before earlier found old new) }
+        ensures step { TakesStep (λ read. read.pos) result
+            (stream (P.state «package».old) self.old) (stream (P.state «package».new) self.new) }
+        ensures takes { let wants = asked.entry.wants in
+            let fact = IsRead wants asked.entry.keeps_masters (grounds_of asked.entry.book) in
+            TakesNext NoCell (λ earlier. fact) result
+            (stream (P.state «package».old) self.old) (stream (P.state «package».new) self.new) }
         ensures unwanted { IfOk result (λ found. IfSome found (LacksUnwanted asked.entry.wants)) }
-        ensures err { let old = stream (P.state «package».old) self.old in
-            let new = stream (P.state «package».new) self.new in
-            IfErr result
-            (NextCellFails asked.entry.wants (grounds_of asked.entry.book) old new.reading) }
+        ensures err { IfErr result (AskedStepFails asked.entry
+            (stream (P.state «package».old) self.old) (stream (P.state «package».new) self.new)) }
         ensures kind { IfErr result IsStreamError }
         ensures plain { reads_children asked.entry.wants ≡ false →
             IfErr result IsStyledStreamError }
-        ensures after { self.old.failed ≡ true → IsErrAnd result (λ error. error ≡ Failed) }
-        ensures failed { self.new.failed ≡ is_err result }
     {
         if self.failed {
             return Err(XlsxError::Failed);
@@ -126,14 +125,8 @@ impl SheetCursor {
             self.failed = false;
             return Ok(None);
         };
-        let read = read_cell(
-            alloc,
-            package,
-            &mut self.cursor,
-            asked,
-            pos,
-            &mut self.masters,
-        )?;
+        let masters = &mut self.masters;
+        let read = read_cell(alloc, package, &mut self.cursor, asked, pos, masters)?;
         self.failed = false;
         Ok(Some(read))
     }
@@ -146,42 +139,21 @@ impl SheetCursor {
         asked: Asked<'_>,
     ) -> Result<Option<CellWithFormula>, XlsxError>
         requires { IsStreaming (stream (P.state «package».old) self.old) }
-        ensures streaming { IsStreaming (stream (P.state «package».new) self.new) }
-        ensures reads { let old = stream (P.state «package».old) self.old in
-            let new = stream (P.state «package».new) self.new in
-            ReadsPart Io result old.reading new.reading }
-        ensures rests { RestsAtEnd (stream (P.state «package».old) self.old)
-            (stream (P.state «package».new) self.new) }
-        ensures stands { let old = stream (P.state «package».old) self.old in
-            let new = stream (P.state «package».new) self.new in
-            IfOk result (λ found. StandsTo (λ own. own.pos) found old new) }
-        ensures takes { let old = stream (P.state «package».old) self.old in
-            let new = stream (P.state «package».new) self.new in
-            let wants = asked.entry.wants in
-            let grounds = grounds_of asked.entry.book in
-            old.reading.source.is_told ≡ true → (before : List Mark)
-            (earlier : List FormulaText) → StandsBehind before earlier old →
-            IfOk result (λ found. TakesEach NoCell
-            (λ own. IsWritten wants grounds earlier (seen_with_formula own))
-            before earlier found old new) }
+        ensures step { TakesStep (λ own. own.pos) result
+            (stream (P.state «package».old) self.old) (stream (P.state «package».new) self.new) }
+        ensures takes { let fact = IsWritten asked.entry.wants (grounds_of asked.entry.book) in
+            TakesNext NoCell (λ earlier own. fact earlier (seen_with_formula own)) result
+            (stream (P.state «package».old) self.old) (stream (P.state «package».new) self.new) }
         ensures unwanted { IfOk result (λ found.
             IfSome found (λ own. LacksUnwantedText asked.entry.wants (seen_with_formula own))) }
-        ensures err { let old = stream (P.state «package».old) self.old in
-            let new = stream (P.state «package».new) self.new in
-            IfErr result
-            (NextCellFails asked.entry.wants (grounds_of asked.entry.book) old new.reading) }
+        ensures err { IfErr result (AskedStepFails asked.entry
+            (stream (P.state «package».old) self.old) (stream (P.state «package».new) self.new)) }
         ensures kind { IfErr result IsStreamError }
         ensures plain { reads_children asked.entry.wants ≡ false →
             IfErr result IsStyledStreamError }
-        ensures after { self.old.failed ≡ true → IsErrAnd result (λ error. error ≡ Failed) }
-        ensures failed { self.new.failed ≡ is_err result }
     {
-        let asked = Asked {
-            wants: asked.wants,
-            book: asked.book,
-            style_count: asked.style_count,
-            keeps_masters: true,
-        };
+        let mut asked = asked;
+        asked.keeps_masters = true;
         let Some(read) = self.next(package, asked)? else {
             return Ok(None);
         };
@@ -210,35 +182,18 @@ impl SheetCursor {
         asked: Asked<'_>,
     ) -> Result<Option<CellText>, XlsxError>
         requires { IsStreaming (stream (P.state «package».old) self.old) }
-        ensures streaming { IsStreaming (stream (P.state «package».new) self.new) }
-        ensures reads { let old = stream (P.state «package».old) self.old in
-            let new = stream (P.state «package».new) self.new in
-            ReadsPart Io result old.reading new.reading }
-        ensures rests { RestsAtEnd (stream (P.state «package».old) self.old)
-            (stream (P.state «package».new) self.new) }
-        ensures stands { let old = stream (P.state «package».old) self.old in
-            let new = stream (P.state «package».new) self.new in
-            IfOk result (λ found. StandsTo (λ own. own.pos) found old new) }
-        ensures takes { let old = stream (P.state «package».old) self.old in
-            let new = stream (P.state «package».new) self.new in
-            let wants = asked.entry.wants in
-            let grounds = grounds_of asked.entry.book in
-            old.reading.source.is_told ≡ true → (before : List Mark)
-            (earlier : List FormulaText) → StandsBehind before earlier old →
-            IfOk result (λ found. TakesEach NoCell
-            (λ own. IsWritten wants grounds earlier (seen_with_text own))
-            before earlier found old new) }
+        ensures step { TakesStep (λ own. own.pos) result
+            (stream (P.state «package».old) self.old) (stream (P.state «package».new) self.new) }
+        ensures takes { let fact = IsWritten asked.entry.wants (grounds_of asked.entry.book) in
+            TakesNext NoCell (λ earlier own. fact earlier (seen_with_text own)) result
+            (stream (P.state «package».old) self.old) (stream (P.state «package».new) self.new) }
         ensures unwanted { IfOk result (λ found.
             IfSome found (λ own. LacksUnwantedText asked.entry.wants (seen_with_text own))) }
-        ensures err { let old = stream (P.state «package».old) self.old in
-            let new = stream (P.state «package».new) self.new in
-            IfErr result
-            (NextCellFails asked.entry.wants (grounds_of asked.entry.book) old new.reading) }
+        ensures err { IfErr result (AskedStepFails asked.entry
+            (stream (P.state «package».old) self.old) (stream (P.state «package».new) self.new)) }
         ensures kind { IfErr result IsStreamError }
         ensures plain { reads_children asked.entry.wants ≡ false →
             IfErr result IsStyledStreamError }
-        ensures after { self.old.failed ≡ true → IsErrAnd result (λ error. error ≡ Failed) }
-        ensures failed { self.new.failed ≡ is_err result }
     {
         let Some(found) = self.next_with_formula(package, asked)? else {
             return Ok(None);
@@ -276,29 +231,16 @@ impl SheetCursor {
         style_count: usize,
     ) -> Result<Option<(u32, u32, usize)>, XlsxError>
         requires { IsStreaming (stream (P.state «package».old) self.old) }
-        ensures streaming { IsStreaming (stream (P.state «package».new) self.new) }
-        ensures reads { let old = stream (P.state «package».old) self.old in
-            let new = stream (P.state «package».new) self.new in
-            ReadsPart Io result old.reading new.reading }
-        ensures rests { RestsAtEnd (stream (P.state «package».old) self.old)
-            (stream (P.state «package».new) self.new) }
-        ensures stands { let old = stream (P.state «package».old) self.old in
-            let new = stream (P.state «package».new) self.new in
-            IfOk result (λ found. StandsTo styled_position found old new) }
+        ensures step { TakesStep styled_position result
+            (stream (P.state «package».old) self.old) (stream (P.state «package».new) self.new) }
         ensures counts { IfOk result (λ found.
             IfSome found (λ own. is_explicit style_count own ≡ true)) }
-        ensures takes { let old = stream (P.state «package».old) self.old in
-            let new = stream (P.state «package».new) self.new in
-            old.reading.source.is_told ≡ true → (before : List Mark)
-            (earlier : List FormulaText) → StandsBehind before earlier old →
-            IfOk result (λ found.
-            TakesEach (IsUnstyled style_count) IsStyled before earlier found old new) }
+        ensures takes { TakesNext (IsUnstyled style_count) (λ earlier. IsStyled) result
+            (stream (P.state «package».old) self.old) (stream (P.state «package».new) self.new) }
         ensures err { let old = stream (P.state «package».old) self.old in
             let new = stream (P.state «package».new) self.new in
             IfErr result (StyledFails style_count old new.reading) }
         ensures kind { IfErr result IsStyledStreamError }
-        ensures after { self.old.failed ≡ true → IsErrAnd result (λ error. error ≡ Failed) }
-        ensures failed { self.new.failed ≡ is_err result }
     {
         if self.failed {
             return Err(XlsxError::Failed);

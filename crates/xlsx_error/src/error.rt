@@ -69,45 +69,40 @@ impl fmt::Display for XlsxError {
 
     fn fmt<W: fmt::Write>(&self, f: &mut fmt::Formatter<W>) -> fmt::Result {
         match self {
-            XlsxError::OutOfMemory => f.write_str("out of memory"),
-            XlsxError::Failed => f.write_str("the reader has failed before"),
-            XlsxError::Io => f.write_str("I/O error"),
-            XlsxError::Xml(fault) => {
-                let (what, place) = (fault.description(), fault.place());
-                write!(f, "Xml error: {what} at {place}")
-            }
-            XlsxError::XmlAttr(fault) => {
+            Self::OutOfMemory => f.write_str("out of memory"),
+            Self::Failed => f.write_str("the reader has failed before"),
+            Self::Io => f.write_str("I/O error"),
+            Self::Xml(own) => write!(f, "Xml error: {} at {}", own.description(), own.place()),
+            Self::XmlAttr(fault) => {
                 let (what, place) = (fault.description(), fault.place());
                 write!(f, "Xml attribute error: {what} at {place}")
             }
-            XlsxError::ParseFloat(text) => write!(f, "Parse float error: {text}"),
-            XlsxError::ParseInt(text) => write!(f, "Parse integer error: {text}"),
-            XlsxError::XmlEof(name) => { write!(f, "Unexpected end of xml, expecting '</{name}>'") }
-            XlsxError::UnexpectedNode(name) => write!(f, "Expecting '{name}' node"),
-            XlsxError::FileNotFound(name) => write!(f, "File not found '{name}'"),
-            XlsxError::RelationshipNotFound => f.write_str("Relationship not found"),
-            XlsxError::Alphanumeric(byte) => {
-                write!(f, "Expecting alphanumeric character, got {byte:X}")
-            }
-            XlsxError::RangeWithoutColumnComponent => {
+            Self::ParseFloat(text) => write!(f, "Parse float error: {text}"),
+            Self::ParseInt(text) => write!(f, "Parse integer error: {text}"),
+            Self::XmlEof(name) => { write!(f, "Unexpected end of xml, expecting '</{name}>'") }
+            Self::UnexpectedNode(name) => write!(f, "Expecting '{name}' node"),
+            Self::FileNotFound(name) => write!(f, "File not found '{name}'"),
+            Self::RelationshipNotFound => f.write_str("Relationship not found"),
+            Self::Alphanumeric(byte) => write!(f, "Expecting alphanumeric character, got {byte:X}"),
+            Self::RangeWithoutColumnComponent => {
                 f.write_str("Range is missing the expected column component.")
             }
-            XlsxError::RangeWithoutRowComponent => {
+            Self::RangeWithoutRowComponent => {
                 f.write_str("Range is missing the expected row component.")
             }
-            XlsxError::ColumnNumberOverflow => f.write_str("column number overflow"),
-            XlsxError::RowNumberOverflow => f.write_str("row number overflow"),
-            XlsxError::DimensionCount(count) => {
+            Self::ColumnNumberOverflow => f.write_str("column number overflow"),
+            Self::RowNumberOverflow => f.write_str("row number overflow"),
+            Self::DimensionCount(count) => {
                 write!(f, "Range dimension must be lower than 2. Got {count}")
             }
-            XlsxError::CellTAttribute(typ) => write!(f, "Unknown cell 't' attribute: \"{typ}\""),
-            XlsxError::Unexpected(text) => f.write_str(text),
-            XlsxError::Unrecognized { typ, val } => write!(f, "Unrecognized {typ}: {val}"),
-            XlsxError::CellError(text) => write!(f, "Unsupported cell error value '{text}'"),
-            XlsxError::WorksheetNotFound(name) => write!(f, "Worksheet '{name}' not found"),
-            XlsxError::TableNotFound(name) => write!(f, "Table '{name}' not found"),
-            XlsxError::NotAWorksheet(name) => write!(f, "Expecting a worksheet, got {name}"),
-            XlsxError::PivotTableNotFound(name) => {
+            Self::CellTAttribute(typ) => write!(f, "Unknown cell 't' attribute: \"{typ}\""),
+            Self::Unexpected(text) => f.write_str(text),
+            Self::Unrecognized { typ, val } => write!(f, "Unrecognized {typ}: {val}"),
+            Self::CellError(text) => write!(f, "Unsupported cell error value '{text}'"),
+            Self::WorksheetNotFound(name) => write!(f, "Worksheet '{name}' not found"),
+            Self::TableNotFound(name) => write!(f, "Table '{name}' not found"),
+            Self::NotAWorksheet(name) => write!(f, "Expecting a worksheet, got {name}"),
+            Self::PivotTableNotFound(name) => {
                 write!(f, "Pivot Table '{name}' was not found on worksheet")
             }
         }

@@ -1,13 +1,16 @@
 -- What a cursor over the rows of a cache has left, and what its steps do.
 use Rattle.std.specs.Prelude.{◌≡◌, ℕ, ◌+◌, ◌<◌, ◌≤◌, List, [], ◌∷◌, length, true, Option, Some}
 use Rattle.std.specs.Prelude.{None, option_map, option_to_list, if◌then◌else◌, Result, Ok, Err}
-use Rattle.std.specs.Prelude.{MatchResult}
+use Rattle.std.specs.Prelude.{MatchResult, IfOk, IfErr, OnOk, OnErr, IfSome, IfNone}
+use Rattle.std.specs.declared.alloc.Global.{Global}
+use Rattle.std.specs.declared.vec.Vec.{Vec}
 use Rattle.part_events.specs.Package.{PackageState, SameParts, CountsUp, part_of, event_count}
 use Rattle.part_events.specs.Reading.{Reading, reading, IsReading, MovesForward, SamePart}
 use Rattle.part_events.specs.Reading.{LeavesPart, events_of}
 use Rattle.part_events.specs.Section.{Element, outermost, unclosed}
 use Rattle.part_events.specs.Walk.{section_ahead, is_closed_ahead}
 use Rattle.cell_data.specs.CellValue.{CellValue}
+use Rattle.cell_data.specs.declared.value.Data.{Data}
 use Rattle.xlsx_error.specs.declared.error.XlsxError.{XlsxError}
 use Rattle.xlsx_error.specs.declared.error.XlsxError.TheVariants.{Io}
 use Rattle.xlsx_sections.specs.ElementLists.{element_said}
@@ -17,9 +20,11 @@ use Rattle.xlsx_sections.specs.PartSection.{PartSection, SectionCause, StartCaus
 use Rattle.xlsx_sections.specs.PartSection.{section_in, section_left, inside_of, has_end, last_of}
 use Rattle.xlsx_sections.specs.Refusal.{Refusal}
 use Rattle.xlsx_parts.specs.PartSaid.{ok_or_none, section_said}
+use Rattle.xlsx_pivot_cache.specs.CacheErrors.{IsRowError}
 use Rattle.xlsx_pivot_cache.specs.CacheFields.{FieldSaid, fields_kept, fields_at}
 use Rattle.xlsx_pivot_cache.specs.CacheRecords.{row_in, row_said, rows_in, is_record}
 use Rattle.xlsx_pivot_cache.specs.CacheRecords.{records_name, names_row, names_first, cache_rows}
+use Rattle.xlsx_pivot_cache.specs.CacheRecords.{row_kept, RowsCause}
 use Rattle.xlsx_pivot_cache.specs.declared.pivot_cursor.PivotCursor.{PivotCursor}
 use Rattle.xlsx_pivot_cache.specs.declared.pivot_cursor.RecordsPlace.{RecordsPlace}
 use Rattle.xlsx_pivot_cache.specs.declared.pivot_cursor.RecordsPlace.TheVariants.{Before, Within}
@@ -207,6 +212,32 @@ RowCauseAt Done fields r error = ⊥
 abbrev pub NextRowFails : PivotRows → PackageState → XlsxError → Type 0
 NextRowFails old new error =
     FailsBy (RowCauseAt old.place old.fields old.reading) old.reading.source new error
+
+-- What a call for the next row does: it is given, or none is left, or it is refused.
+pub record GivesRow (answer : Option (Result (Vec Data Global) XlsxError)) (old new : PivotRows)
+    : Type 0 where
+  pub fields : new.fields ≡ old.fields
+  pub reads : ReadsRow answer old.reading new.reading
+  pub row : IfSome answer (λ next. IfOk next (λ row. TakesRow (row_kept row.items) old new))
+  pub given : IfSome answer (λ next. IfOk next (λ row. GivesRowOf (row_kept row.items) old new))
+  pub step : IfSome answer (λ next. OnOk next (IsFewer old.reading new.reading))
+  pub none : old.reading.source.is_told ≡ true → IfNone answer (cache_rows_left old ≡ Some [])
+  pub none_left : IfNone answer (GivesNone old new)
+  pub ended : IfNone answer (IsDone new)
+  pub done : IfSome answer (λ next. OnErr next (IsDone new))
+  pub rests : IsDone old → (answer ≡ None) × (new ≡ old)
+  pub err :
+      IfSome answer (λ next. IfErr next
+      (FailsBy (RowsCause old.fields (events_of old.reading)) old.reading.source
+      new.reading.source))
+  pub refused : IfSome answer (λ next. IfErr next (NextRowFails old new.reading.source))
+  pub kind : IfSome answer (λ next. IfErr next IsRowError)
+
+-- a row that may be refused, or none, where it is first told whether there is a refusal
+abbrev pub answer_of : {A : Type 0} → Result (Option A) XlsxError → Option (Result A XlsxError)
+answer_of (Ok None) = None
+answer_of (Ok (Some row)) = Some (Ok row)
+answer_of (Err error) = Some (Err error)
 
 -- The fields of a cache are these, whose definitions are the part at the first path, and the part
 -- of its records, at the second one, is open.

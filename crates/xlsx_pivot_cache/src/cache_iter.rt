@@ -12,6 +12,13 @@ use xlsx_error::XlsxError;
 /// What it keeps beside the package is a type parameter, so that a caller knows what became of the
 /// package once the iterator is gone. A caller who has to know what became of the package where a
 /// cache can't be opened calls `PivotCursor::open`.
+///
+/// # Examples
+///
+/// ```
+/// let rows = PivotCacheIter::open(alloc, package, definitions, records)?;
+/// let rows: Vec<Result<Vec<Data>, XlsxError>> = rows.collect(alloc)?;
+/// ```
 pub struct PivotCacheIter<'a, P: Package, C: Drop = PivotCursor> {
     package: &'a mut P,
     rows: C,
@@ -60,8 +67,7 @@ impl<'a, P: Package> PivotCacheIter<'a, P> {
 
 impl<'a, P: Package> Iterator for PivotCacheIter<'a, P> {
     ghost use Rattle.xlsx_pivot_cache.specs.CacheIter.{rows_by, rows_reference, rows_count};
-    ghost use Rattle.xlsx_pivot_cache.specs.CacheIter.{GivesRow};
-    ghost use Rattle.xlsx_pivot_cache.specs.PivotRows.{IsAtRecords};
+    ghost use Rattle.xlsx_pivot_cache.specs.PivotRows.{IsAtRecords, GivesRow};
 
     type Item = Result<Vec<Data>, XlsxError>;
 

@@ -12,8 +12,9 @@
 //!
 //! **A cursor is said by the rows that it has left** (`cache_rows_left`): the names and the rows of
 //! the records' part before their start, those that are ahead in their section, and none behind its
-//! end or a refusal. A step takes the first of them. Of a refusal the cause is one of the whole
-//! part of the records, since what is left of a section is tied to it (`IsLeftOf`); the lemmas
+//! end or a refusal. A step takes the first of them, and one record says what it does, for a cursor
+//! and for the iterator (`GivesRow`). Of a refusal the cause is one of the whole part of the
+//! records, since what is left of a section is tied to it (`IsLeftOf`); the lemmas
 //! `CacheRead` hand it on to the two parts of the cache (`CacheCause`). `PivotCacheIter` holds the
 //! package beside such a cursor; its bound is the events that its package still gives
 //! (`rows_count`).

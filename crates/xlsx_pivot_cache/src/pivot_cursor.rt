@@ -1,15 +1,11 @@
-ghost use Rattle.std.specs.Prelude.{◌≡◌, ◌<◌, [], true, Some, None, IfOk, IfErr, OnOk, OnErr};
-ghost use Rattle.std.specs.Prelude.{IfSome, IfNone};
+ghost use Rattle.std.specs.Prelude.{◌≡◌, Some, IfOk, IfErr};
 ghost use Rattle.part_events.specs.Package.{LeavesPackage, event_count};
-ghost use Rattle.part_events.specs.Reading.{ReadsPart, events_of};
 ghost use Rattle.xlsx_error.specs.declared.error.XlsxError.TheVariants.{Io};
 ghost use Rattle.xlsx_sections.specs.Failing.{FailsBy};
-ghost use Rattle.xlsx_pivot_cache.specs.CacheErrors.{IsRowError, IsCacheFieldsError};
-ghost use Rattle.xlsx_pivot_cache.specs.CacheRecords.{row_kept, RowsCause, OpenRowsCause};
-ghost use Rattle.xlsx_pivot_cache.specs.PivotRows.{pivot_rows, cache_rows_left, IsAtRecords};
-ghost use Rattle.xlsx_pivot_cache.specs.PivotRows.{IsDone};
-ghost use Rattle.xlsx_pivot_cache.specs.PivotRows.{ReadsRow, TakesRow, OpensRows, IsFewer};
-ghost use Rattle.xlsx_pivot_cache.specs.PivotRows.{GivesRowOf, GivesNone, NextRowFails};
+ghost use Rattle.xlsx_pivot_cache.specs.CacheErrors.{IsCacheFieldsError};
+ghost use Rattle.xlsx_pivot_cache.specs.CacheRecords.{OpenRowsCause};
+ghost use Rattle.xlsx_pivot_cache.specs.PivotRows.{pivot_rows, IsAtRecords, OpensRows, GivesRow};
+ghost use Rattle.xlsx_pivot_cache.specs.PivotRows.{answer_of};
 ghost use Rattle.xlsx_pivot_cache.specs.declared.pivot_cursor.RecordsPlace.TheVariants.{Before};
 ghost use Rattle.xlsx_pivot_cache.specs.declared.pivot_cursor.RecordsPlace.TheVariants.{Within};
 
@@ -35,6 +31,18 @@ pub enum RecordsPlace {
 
 /// The rows of a pivot table's cache, and where reading stands in its records (ECMA-376 part 1,
 /// section 18.10.1.69): the names of the fields first, and then a row for each record.
+///
+/// # Examples
+///
+/// A line of each row:
+///
+/// ```
+/// let mut cursor = PivotCursor::open(alloc, &mut package, definitions, records)?;
+/// 'rows: while let Some(next) = cursor.next(&mut package) {
+///     let row = next?;
+///     push_row_line(&mut out, &row)?;
+/// }
+/// ```
 #[derive(Debug, Drop)]
 pub struct PivotCursor {
     fields: Vec<CacheField>,
@@ -82,25 +90,8 @@ impl PivotCursor {
         requires place { self.old.place ≡ Before }
         ensures at { IsAtRecords (pivot_rows (P.state «package».new) self.new) }
         ensures fields { self.new.fields ≡ self.old.fields }
-        ensures reads { let old = pivot_rows (P.state «package».old) self.old in
-            let new = pivot_rows (P.state «package».new) self.new in
-            ReadsPart Io result old.reading new.reading }
-        ensures row { let old = pivot_rows (P.state «package».old) self.old in
-            let new = pivot_rows (P.state «package».new) self.new in
-            IfOk result (λ row. TakesRow (row_kept row.items) old new) }
-        ensures given { let old = pivot_rows (P.state «package».old) self.old in
-            let new = pivot_rows (P.state «package».new) self.new in
-            IfOk result (λ row. GivesRowOf (row_kept row.items) old new) }
-        ensures step { let old = pivot_rows (P.state «package».old) self.old in
-            let new = pivot_rows (P.state «package».new) self.new in
-            OnOk result (IsFewer old.reading new.reading) }
-        ensures done { OnErr result (IsDone (pivot_rows (P.state «package».new) self.new)) }
-        ensures err { let old = pivot_rows (P.state «package».old) self.old in
-            IfErr result (FailsBy (RowsCause old.fields (events_of old.reading))
-            old.reading.source (P.state «package».new)) }
-        ensures refused { let old = pivot_rows (P.state «package».old) self.old in
-            IfErr result (NextRowFails old (P.state «package».new)) }
-        ensures kind { IfErr result IsRowError }
+        ensures gives { GivesRow (Some result) (pivot_rows (P.state «package».old) self.old)
+            (pivot_rows (P.state «package».new) self.new) }
     {
         // Each refusal leaves it so.
         self.place = RecordsPlace::Done;
@@ -123,42 +114,17 @@ impl PivotCursor {
         requires place { self.old.place ≡ Within base }
         ensures at { IsAtRecords (pivot_rows (P.state «package».new) self.new) }
         ensures fields { self.new.fields ≡ self.old.fields }
-        ensures reads { let old = pivot_rows (P.state «package».old) self.old in
-            let new = pivot_rows (P.state «package».new) self.new in
-            ReadsPart Io result old.reading new.reading }
-        ensures row { let old = pivot_rows (P.state «package».old) self.old in
-            let new = pivot_rows (P.state «package».new) self.new in
-            IfOk result (λ found. IfSome found (λ row. TakesRow (row_kept row.items) old new)) }
-        ensures given { let old = pivot_rows (P.state «package».old) self.old in
-            let new = pivot_rows (P.state «package».new) self.new in
-            IfOk result (λ found. IfSome found (λ row.
-            GivesRowOf (row_kept row.items) old new)) }
-        ensures step { let old = pivot_rows (P.state «package».old) self.old in
-            let new = pivot_rows (P.state «package».new) self.new in
-            IfOk result (λ found. IfSome found (λ row. IsFewer old.reading new.reading)) }
-        ensures none { let old = pivot_rows (P.state «package».old) self.old in
-            old.reading.source.is_told ≡ true →
-            IfOk result (λ found. IfNone found (cache_rows_left old ≡ Some [])) }
-        ensures none_left { let old = pivot_rows (P.state «package».old) self.old in
-            let new = pivot_rows (P.state «package».new) self.new in
-            IfOk result (λ found. IfNone found (GivesNone old new)) }
-        ensures ended { IfOk result (λ found.
-            IfNone found (IsDone (pivot_rows (P.state «package».new) self.new))) }
-        ensures done { OnErr result (IsDone (pivot_rows (P.state «package».new) self.new)) }
-        ensures err { let old = pivot_rows (P.state «package».old) self.old in
-            IfErr result (FailsBy (RowsCause old.fields (events_of old.reading))
-            old.reading.source (P.state «package».new)) }
-        ensures refused { let old = pivot_rows (P.state «package».old) self.old in
-            IfErr result (NextRowFails old (P.state «package».new)) }
-        ensures kind { IfErr result IsRowError }
+        ensures gives { GivesRow (answer_of result) (pivot_rows (P.state «package».old) self.old)
+            (pivot_rows (P.state «package».new) self.new) }
     {
         self.place = RecordsPlace::Done;
         let alloc = self.cursor.alloc();
-        let row = next_record(alloc, package, &mut self.cursor, base, &self.fields)?;
-        if row.is_some() {
-            self.place = RecordsPlace::Within(base);
-        }
-        Ok(row)
+        let next = next_record(alloc, package, &mut self.cursor, base, &self.fields)?;
+        let Some(row) = next else {
+            return Ok(None);
+        };
+        self.place = RecordsPlace::Within(base);
+        Ok(Some(row))
     }
 
     /// Gives the next row: that of the names of the fields, as texts, and then a row for each
@@ -176,35 +142,8 @@ impl PivotCursor {
         requires { IsAtRecords (pivot_rows (P.state «package».old) self.old) }
         ensures at { IsAtRecords (pivot_rows (P.state «package».new) self.new) }
         ensures fields { self.new.fields ≡ self.old.fields }
-        ensures reads { let old = pivot_rows (P.state «package».old) self.old in
-            let new = pivot_rows (P.state «package».new) self.new in
-            ReadsRow result old.reading new.reading }
-        ensures row { let old = pivot_rows (P.state «package».old) self.old in
-            let new = pivot_rows (P.state «package».new) self.new in
-            IfSome result (λ next. IfOk next (λ row. TakesRow (row_kept row.items) old new)) }
-        ensures given { let old = pivot_rows (P.state «package».old) self.old in
-            let new = pivot_rows (P.state «package».new) self.new in
-            IfSome result (λ next. IfOk next (λ row.
-            GivesRowOf (row_kept row.items) old new)) }
-        ensures step { IfSome result (λ next.
-            OnOk next ((P.state «package».new).left < (P.state «package».old).left)) }
-        ensures none { let old = pivot_rows (P.state «package».old) self.old in
-            old.reading.source.is_told ≡ true → IfNone result (cache_rows_left old ≡ Some []) }
-        ensures none_left { let old = pivot_rows (P.state «package».old) self.old in
-            let new = pivot_rows (P.state «package».new) self.new in
-            IfNone result (GivesNone old new) }
-        ensures ended { IfNone result (IsDone (pivot_rows (P.state «package».new) self.new)) }
-        ensures done { IfSome result (λ next.
-            OnErr next (IsDone (pivot_rows (P.state «package».new) self.new))) }
-        ensures rests { let old = pivot_rows (P.state «package».old) self.old in
-            IsDone old → (result ≡ None) × (pivot_rows (P.state «package».new) self.new ≡ old) }
-        ensures err { let old = pivot_rows (P.state «package».old) self.old in
-            IfSome result (λ next. IfErr next
-            (FailsBy (RowsCause old.fields (events_of old.reading)) old.reading.source
-            (P.state «package».new))) }
-        ensures refused { let old = pivot_rows (P.state «package».old) self.old in
-            IfSome result (λ next. IfErr next (NextRowFails old (P.state «package».new))) }
-        ensures kind { IfSome result (λ next. IfErr next IsRowError) }
+        ensures gives { GivesRow result (pivot_rows (P.state «package».old) self.old)
+            (pivot_rows (P.state «package».new) self.new) }
     {
         match self.place {
             RecordsPlace::Before => Some(self.take_names(package)),

@@ -31,7 +31,7 @@ cells-preserved g c =
     let now = c.cells.invariant in
     let (sound, none, took, through) = now.took in
     let own = c.in-Some.cell in
-    let stands : PassesCell own.pos mid new = rw c.in-Some.is at c.in_ok-cell.ensures.stands in
+    let stands : PassesCell own.pos mid new = rw c.in-Some.is at c.in_ok-cell.ensures.step.stands in
     record {
       hold = c.in_ok-cell.ensures.hold.grounds ∙ now.hold;
       took = (

@@ -32,7 +32,7 @@ cells-preserved g c =
     let new = stream_by g.P.Package.state c.next_cell_with_formula.new.self in
     let now = c.cells.invariant in
     let own = c.in-Some.cell in
-    let stands : PassesCell own.pos mid new = rw c.in-Some.is at c.in_ok-cell.ensures.stands in
+    let stands : PassesCell own.pos mid new = rw c.in-Some.is at c.in_ok-cell.ensures.step.stands in
     record {
       hold = c.in_ok-cell.ensures.hold.grounds ∙ now.hold;
       took = took_further now.took stands (λ told.

@@ -22,7 +22,7 @@ returns-clause-takes g c = λ told before earlier kept.
     let second : TakesCell NoCell behind earlier mid new
     (IsValuedFormula (grounds_by c.next_cell.new.self) earlier c.in-Some-2.second) =
     rw c.in-Some-2.is at (c.in_ok-second.ensures.takes
-    (c.in_ok-first.ensures.reads.moves.parts.is_told ∙ told) behind earlier stands) in
+    (c.in_ok-first.ensures.step.reads.moves.parts.is_told ∙ told) behind earlier stands) in
     record {
       mid = mid;
       first = first;
@@ -43,7 +43,8 @@ returns-in_default-2-clause-none g c = λ told before earlier kept.
     let first :
     TakesCell NoCell before earlier old mid (IsValued (grounds_by c.args.reader.now) own) =
     rw c.in-Some.is at (c.in_ok-first.ensures.takes told before earlier kept) in
-    let passes : PassesCell own.pos old mid = rw c.in-Some.is at c.in_ok-first.ensures.stands in
+    let passes : PassesCell own.pos old mid =
+    rw c.in-Some.is at c.in_ok-first.ensures.step.stands in
     let behind = cell first.element ∷ behind_marks first.takes.front.passed before in
     let stands : StandsBehind behind earlier mid =
     subst (λ (kept : List FormulaText). StandsBehind behind (behind_formulas kept earlier) mid)
@@ -53,6 +54,6 @@ returns-in_default-2-clause-none g c = λ told before earlier kept.
       own,
       first,
       (rw c.in_default-2.is at (c.in_ok-second.ensures.takes
-          (c.in_ok-first.ensures.reads.moves.parts.is_told ∙ told) behind earlier stands))
+          (c.in_ok-first.ensures.step.reads.moves.parts.is_told ∙ told) behind earlier stands))
           passes.goes_on.done,
     )

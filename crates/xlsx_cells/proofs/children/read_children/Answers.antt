@@ -1,5 +1,5 @@
 use Rattle.std.proofs.Common.{◌≡◌, ℕ, true, None, refl, ◌∙◌, ap, subst, inl, inr, arith}
-use Rattle.std.proofs.Common.{codes}
+use Rattle.std.proofs.Common.{codes, rules}
 use Rattle.std.proofs.lemmas.Result.{err_from_is_err_and}
 use Rattle.part_events.specs.Reading.{reading, ahead}
 use Rattle.part_events.specs.Section.{content, is_any}
@@ -81,16 +81,16 @@ children-preserved g c =
           (or_earlier_in_element element (value_kept c.children.latest.value)
           (value_kept c.read_child.new.latest.value)
           (said_value grounds format kind tag element.inside)
-          (c.in_ok-read_child.ensures.value (still told) wanted element stand))
+          (c.in_ok-read_child.ensures.takes.value (still told) wanted element stand))
           (now.value told wanted);
       formulas = λ told wanted.
           written_further before behind (now.formulas told wanted) (passed.elements told)
-          (c.in_ok-read_child.ensures.formula (still told) wanted element stand);
-      same = λ unwanted. c.in_ok-read_child.ensures.same unwanted ∙ now.same unwanted;
+          (c.in_ok-read_child.ensures.takes.formula (still told) wanted element stand);
+      same = λ unwanted. c.in_ok-read_child.ensures.takes.same unwanted ∙ now.same unwanted;
       unvalued = λ unwanted.
-          c.in_ok-read_child.ensures.unvalued unwanted ∙ now.unvalued unwanted;
+          c.in_ok-read_child.ensures.takes.unvalued unwanted ∙ now.unvalued unwanted;
       unlisted = λ unwanted.
-          c.in_ok-read_child.ensures.unlisted unwanted ∙ now.unlisted unwanted;
+          c.in_ok-read_child.ensures.takes.unlisted unwanted ∙ now.unlisted unwanted;
     }
 
 pub returns-in_err-read_child-clause-reads : goal.returns-in_err-read_child-clause-reads
@@ -145,21 +145,29 @@ returns-in_err-read_child-clause-err g c =
     ])
     (c.in_err-read_child.ensures.err element stand)))
 
-pub returns-clause-formula : goal.returns-clause-formula
-returns-clause-formula g c = λ told wanted.
+pub returns-clause-contents : goal.returns-clause-contents
+returns-clause-contents g c =
     let old = reading (g.P.Package.state c.args.package.now) c.args.cursor.now in
     let mid = reading (g.P.Package.state c.children.package) c.children.cursor in
     let new = reading (g.P.Package.state c.next_child_in.new.package) c.next_child_in.new.cursor in
     let base = c.depth-base.result in
     let now = c.children.invariant in
-    let closes : FindsElementIn is_any base None mid new =
-    rw c.in_default.is at
-    (c.in_ok-next_child_in.ensures.found (now.keeps.section.reads.moves.parts.is_told ∙ told)) in
     let behind : LastStep = record {
       masters = c.children.masters;
       last = last_seen c.children.latest.formula;
     } in
     let none : inside base old ≡ 0 = omega (arith, now.base) in
-    subst (λ (n : ℕ). ReadsCellFormulas c.args.asked.keeps_masters (content n (ahead old))
-    c.args.masters.now behind) none
-    (formulas_whole behind (now.formulas told wanted) closes.elements)
+    record {
+      value = search rules;
+      formula = λ told wanted.
+          let closes : FindsElementIn is_any base None mid new =
+          rw c.in_default.is at
+          (c.in_ok-next_child_in.ensures.found (now.keeps.section.reads.moves.parts.is_told ∙ told))
+          in
+          subst (λ (n : ℕ). ReadsCellFormulas c.args.asked.keeps_masters (content n (ahead old))
+          c.args.masters.now behind) none
+          (formulas_whole behind (now.formulas told wanted) closes.elements);
+      same = now.same;
+      unvalued = now.unvalued;
+      unlisted = now.unlisted;
+    }

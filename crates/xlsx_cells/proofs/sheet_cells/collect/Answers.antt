@@ -1,10 +1,10 @@
-use Rattle.std.proofs.Common.{ℕ, suc, sym, ◌∙◌, ap, subst}
+use Rattle.std.proofs.Common.{◌≡◌, ℕ, suc, true, sym, ◌∙◌, ap, subst}
 use Rattle.std.proofs.lemmas.Result.{err_from_is_err_and}
 use Rattle.cell_data.specs.Gathered.{cells_gathered}
 use Rattle.xlsx_sections.specs.Elements.{KeepsElements, ReachesEnd}
 use Rattle.xlsx_values.specs.Book.{grounds_of}
 use Rattle.xlsx_cells.specs.Marks.{is_cell}
-use Rattle.xlsx_cells.specs.Position.{NoCell}
+use Rattle.xlsx_cells.specs.Position.{NoCell, PassesMarks}
 use Rattle.xlsx_cells.specs.SheetPart.{value_entries, formula_entries}
 use Rattle.xlsx_cells.specs.Stream.{stream, PassesCell, EndsData, TakesCell, IsWritten}
 use Rattle.xlsx_cells.specs.Stream.{IsCellRefused, marks_ahead, LacksUnwantedText}
@@ -42,7 +42,8 @@ cells-preserved g c =
     let grounds = grounds_of c.args.asked.book in
     let now = c.cells.invariant in
     let read = seen_with_formula c.in-Some.found in
-    let stands : PassesCell read.pos mid new = rw c.in-Some.is at c.in_ok-found.ensures.stands in
+    let stands : PassesCell read.pos mid new =
+    rw c.in-Some.is at c.in_ok-found.ensures.step.stands in
     record {
       base = stands.base ∙ now.base;
       keeps = keeps_on now.keeps
@@ -95,59 +96,39 @@ returns-clause-ends g c = λ told.
       ends = own.ends ∙ ap suc (now.keeps.section.last told);
     }
 
-pub returns-clause-values : goal.returns-clause-values
-returns-clause-values g c = λ told wanted.
+pub returns-clause-cells : goal.returns-clause-cells
+returns-clause-cells g c =
     let old = stream (g.P.Package.state c.args.package.now) c.args.sheet.now in
     let mid = stream (g.P.Package.state c.cells.package) c.cells.sheet in
-    let wants = c.args.asked.wants in
-    let grounds = grounds_of c.args.asked.book in
-    let now = c.cells.invariant in
-    let been = now.collected told in
     let new = stream (g.P.Package.state c.next_with_formula.new.package)
     c.next_with_formula.new.self in
+    let wants = c.args.asked.wants in
+    let grounds = grounds_of c.args.asked.book in
+    let count = c.args.asked.style_count in
+    let values = value_entries (cells_gathered c.cells.cells.values) in
+    let formulas = formula_entries (cells_gathered c.cells.cells.formulas) in
+    let ids = c.cells.cells.style_ids.items in
+    let now = c.cells.invariant in
+    let rows : (told : old.reading.source.is_told ≡ true)
+    → PassesMarks NoCell (now.collected told).before (marks_ahead mid) = λ told.
+    let been = now.collected told in
     let ends : EndsData NoCell been.before mid new = rw c.in_default.is at
     (c.in_ok-found.ensures.takes (now.keeps.section.reads.moves.parts.is_told ∙ told) been.before
     been.earlier been.stands) now.going.done in
-    values_whole wants grounds c.args.asked.style_count old mid
-    (value_entries (cells_gathered c.cells.cells.values))
-    (formula_entries (cells_gathered c.cells.cells.formulas)) c.cells.cells.style_ids.items been
-    ends.rows wanted
-
-pub returns-clause-formulas : goal.returns-clause-formulas
-returns-clause-formulas g c = λ told wanted.
-    let old = stream (g.P.Package.state c.args.package.now) c.args.sheet.now in
-    let mid = stream (g.P.Package.state c.cells.package) c.cells.sheet in
-    let wants = c.args.asked.wants in
-    let grounds = grounds_of c.args.asked.book in
-    let now = c.cells.invariant in
-    let been = now.collected told in
-    let new = stream (g.P.Package.state c.next_with_formula.new.package)
-    c.next_with_formula.new.self in
-    let ends : EndsData NoCell been.before mid new = rw c.in_default.is at
-    (c.in_ok-found.ensures.takes (now.keeps.section.reads.moves.parts.is_told ∙ told) been.before
-    been.earlier been.stands) now.going.done in
-    formulas_whole wants grounds c.args.asked.style_count old mid
-    (value_entries (cells_gathered c.cells.cells.values))
-    (formula_entries (cells_gathered c.cells.cells.formulas)) c.cells.cells.style_ids.items been
-    ends.rows wanted
-
-pub returns-clause-styles : goal.returns-clause-styles
-returns-clause-styles g c = λ told wanted.
-    let old = stream (g.P.Package.state c.args.package.now) c.args.sheet.now in
-    let mid = stream (g.P.Package.state c.cells.package) c.cells.sheet in
-    let wants = c.args.asked.wants in
-    let grounds = grounds_of c.args.asked.book in
-    let now = c.cells.invariant in
-    let been = now.collected told in
-    let new = stream (g.P.Package.state c.next_with_formula.new.package)
-    c.next_with_formula.new.self in
-    let ends : EndsData NoCell been.before mid new = rw c.in_default.is at
-    (c.in_ok-found.ensures.takes (now.keeps.section.reads.moves.parts.is_told ∙ told) been.before
-    been.earlier been.stands) now.going.done in
-    ids_whole wants grounds c.args.asked.style_count old mid
-    (value_entries (cells_gathered c.cells.cells.values))
-    (formula_entries (cells_gathered c.cells.cells.formulas)) c.cells.cells.style_ids.items been
-    ends.rows wanted
+    ends.rows in
+    record {
+      inside = (now.values_inside, now.formulas_inside, now.ids_inside);
+      values = λ told wanted.
+          values_whole wants grounds count old mid values formulas ids (now.collected told)
+          (rows told) wanted;
+      formulas = λ told wanted.
+          formulas_whole wants grounds count old mid values formulas ids (now.collected told)
+          (rows told) wanted;
+      styles = λ told wanted.
+          ids_whole wants grounds count old mid values formulas ids (now.collected told)
+          (rows told) wanted;
+      unwanted = now.unwanted;
+    }
 
 pub returns-in_err-found-clause-kind : goal.returns-in_err-found-clause-kind
 returns-in_err-found-clause-kind g c =

@@ -19,7 +19,7 @@ returns-in_err-cursor-clause-err c =
     c.in_err-cursor.ensures.err)
 
 pub rows-smaller : goal.rows-smaller
-rows-smaller c = rw c.in_ok-row.was at c.in-Some.ensures.step
+rows-smaller c = rw c.in_ok-row.was at c.in-Some.ensures.gives.step
 
 pub rows-preserved : goal.rows-preserved
 rows-preserved c =
@@ -28,8 +28,9 @@ rows-preserved c =
     let now = c.rows.invariant in
     let taken = now.rows.0 in
     let row = row_kept c.in_ok-row.row.items in
-    let reads : KeepsPart old.reading new.reading = rw c.in_ok-row.was at c.in-Some.ensures.reads in
-    let takes : TakesRow row old new = rw c.in_ok-row.was at c.in-Some.ensures.row in
+    let reads : KeepsPart old.reading new.reading =
+    rw c.in_ok-row.was at c.in-Some.ensures.gives.reads in
+    let takes : TakesRow row old new = rw c.in_ok-row.was at c.in-Some.ensures.gives.row in
     record {
       at = c.next.ensures.at;
       fields = rw c.next.ensures.fields now.fields;

@@ -1,4 +1,4 @@
-use Rattle.std.proofs.Common.{◌≡◌, ◌-◌, List, Some, true, ◌∙◌, refl, arith, codes, inl}
+use Rattle.std.proofs.Common.{◌≡◌, ◌-◌, List, Some, true, ◌∙◌, refl, arith, codes, inl, rules}
 use Rattle.std.proofs.lemmas.Result.{err_from_is_err_and}
 use Rattle.part_events.specs.Reading.{reading}
 use Rattle.part_events.specs.Walk.{element_at}
@@ -106,14 +106,14 @@ returns-clause-takes g c = λ told before earlier behind.
     taken_cell wants c.args.asked.keeps_masters (grounds_of c.args.asked.book) before earlier pos
     old mid new c.find_cell.new.counters c.read_cell.new.masters c.in_ok-read.read there passed
     found.deep (c.in_ok-read.ensures.reads.skips told_mid).closed told behind.masters
-    c.in_ok-read.ensures.pos
-    (λ wanted. c.in_ok-read.ensures.value told_mid wanted element stand)
-    (λ wanted. c.in_ok-read.ensures.formula told_mid wanted element stand)
-    c.in_ok-read.ensures.same
-    (λ wanted. c.in_ok-read.ensures.styled wanted element stand)
+    c.in_ok-read.ensures.cell.pos
+    (λ wanted. c.in_ok-read.ensures.cell.value told_mid wanted element stand)
+    (λ wanted. c.in_ok-read.ensures.cell.formula told_mid wanted element stand)
+    c.in_ok-read.ensures.cell.same
+    (λ wanted. c.in_ok-read.ensures.cell.styled wanted element stand)
 
-pub returns-clause-stands : goal.returns-clause-stands
-returns-clause-stands g c =
+pub returns-clause-step : goal.returns-clause-step
+returns-clause-step g c =
     let own = c.args.self.now in
     let base = own.base in
     let all = stream (g.P.Package.state c.args.package.now) own in
@@ -127,18 +127,26 @@ returns-clause-stands g c =
     c.in_ok-found.ensures.reads stands.0 (λ told. rw c.in-Some.is at
     (c.in_ok-found.ensures.element told)) in
     let passed = element_passed there.2 c.in_ok-read.ensures.reads in
-    let placed = c.in_ok-read.ensures.pos in record {
-      going = going;
-      goes_on = record {
-        reading = passed.keeps.section.reads.stays.reading;
-        within = passed.keeps.section.within;
-        done = c.if-self-2.false;
-        failed = refl;
+    let placed = c.in_ok-read.ensures.cell.pos in
+    record {
+      streaming = search rules;
+      reads = search rules;
+      rests = search rules;
+      stands = record {
+        going = going;
+        goes_on = record {
+          reading = passed.keeps.section.reads.stays.reading;
+          within = passed.keeps.section.within;
+          done = c.if-self-2.false;
+          failed = refl;
+        };
+        base = refl;
+        further =
+            omega (arith, stands.0.3, stands.0.4, c.in_ok-read.ensures.reads.reads.moves.forward);
+        elements = passed.keeps;
+        row = rw placed stands.1;
+        column = rw placed stands.2;
       };
-      base = refl;
-      further =
-          omega (arith, stands.0.3, stands.0.4, c.in_ok-read.ensures.reads.reads.moves.forward);
-      elements = passed.keeps;
-      row = rw placed stands.1;
-      column = rw placed stands.2;
+      after = search rules;
+      failed = search rules;
     }

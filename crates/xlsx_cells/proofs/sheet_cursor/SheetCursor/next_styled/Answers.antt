@@ -60,7 +60,8 @@ cells-preserved g c =
     let new = stream (g.P.Package.state c.next.new.package) c.next.new.self in
     let now = c.cells.invariant in
     let read = c.in-Some.read in
-    let stands : PassesCell read.pos mid new = rw c.in-Some.is at c.in_ok-read.ensures.stands in
+    let stands : PassesCell read.pos mid new =
+    rw c.in-Some.is at c.in_ok-read.ensures.step.stands in
     let uncounted : is_explicit c.args.style_count (read.pos.0, read.pos.1, read.style_id)
     ≡ false = elim c.else-style_id-gt0.branch [
       | else-style_id-gt0-via-then-style_id-gt0+else-style_id-style_count w ↦

@@ -1,4 +1,4 @@
-use Rattle.std.proofs.Common.{◌≡◌, ◌∙◌, List, Some, length, refl, sym, ap, subst}
+use Rattle.std.proofs.Common.{◌≡◌, ◌∙◌, List, Some, length, refl, sym, ap, subst, rules}
 use Rattle.part_events.specs.Event.{Event}
 use Rattle.part_events.specs.Reading.{reading, events_of}
 use Rattle.xlsx_sections.specs.PartSection.{section_in, section_left}
@@ -10,35 +10,55 @@ use Rattle.xlsx_pivot_cache.proofs.RowsLeft.{names_taken, in_records, find_fails
 use Rattle.xlsx_pivot_cache.proofs.RowsLeft.{records_found, lacks_records}
 use Rattle.xlsx_pivot_cache.proofs.pivot_cursor.PivotCursor.take_names.Goals as goal
 
-pub returns-in_err-_at-clause-err : goal.returns-in_err-_at-clause-err
-returns-in_err-_at-clause-err g c =
+pub returns-in_err-_at-clause-gives : goal.returns-in_err-_at-clause-gives
+returns-in_err-_at-clause-gives g c =
     let fields = fields_kept c.args.self.now.fields.items in
     let old = reading (g.P.Package.state c.args.package.now) c.args.self.now.cursor in
     let new = reading (g.P.Package.state c.find_element.new.package) c.find_element.new.cursor in
-    given_back _ c.from_residual-in_err-_at.result c.from_residual-in_err-_at.ensures.1
-    (start_fails fields old new c.in_err-_at.field-0.0
-    (find_fails fields old new c.in_err-_at.field-0.0 c.in_err-_at.ensures.err))
+    let fails = find_fails fields old new c.in_err-_at.field-0.0 c.in_err-_at.ensures.err in
+    record {
+      fields = search rules;
+      reads = search rules;
+      row = search rules;
+      given = search rules;
+      step = search rules;
+      none = search rules;
+      none_left = search rules;
+      ended = search rules;
+      done = search rules;
+      rests = search rules;
+      err =
+          given_back _ c.from_residual-in_err-_at.result c.from_residual-in_err-_at.ensures.1
+          (start_fails fields old new c.in_err-_at.field-0.0 fails);
+      refused =
+          rw c.requires.place
+          (given_back _ c.from_residual-in_err-_at.result c.from_residual-in_err-_at.ensures.1
+          fails);
+      kind = search rules;
+    }
 
-pub returns-in_err-_at-clause-refused : goal.returns-in_err-_at-clause-refused
-returns-in_err-_at-clause-refused g c =
+pub returns-in_default-clause-gives : goal.returns-in_default-clause-gives
+returns-in_default-clause-gives g c =
     let old = reading (g.P.Package.state c.args.package.now) c.args.self.now.cursor in
-    let new = reading (g.P.Package.state c.find_element.new.package) c.find_element.new.cursor in
-    rw c.requires.place
-    (given_back _ c.from_residual-in_err-_at.result c.from_residual-in_err-_at.ensures.1
-    (find_fails (fields_kept c.args.self.now.fields.items) old new c.in_err-_at.field-0.0
-    c.in_err-_at.ensures.err))
-
-pub returns-in_default-clause-err : goal.returns-in_default-clause-err
-returns-in_default-clause-err g c = λ told.
-    let old = reading (g.P.Package.state c.args.package.now) c.args.self.now.cursor in
-    let ends = rw c.in_default.is at (c.in_ok-_at.ensures.found told) in
-    rw (lacks_records (events_of old) ends.0) (refl, ends.1.0)
-
-pub returns-in_default-clause-refused : goal.returns-in_default-clause-refused
-returns-in_default-clause-refused g c = λ told.
-    let old = reading (g.P.Package.state c.args.package.now) c.args.self.now.cursor in
-    let ends = rw c.in_default.is at (c.in_ok-_at.ensures.found told) in
-    rw c.requires.place (lacks_records (events_of old) ends.0, (refl, ends.1.0))
+    record {
+      fields = search rules;
+      reads = search rules;
+      row = search rules;
+      given = search rules;
+      step = search rules;
+      none = search rules;
+      none_left = search rules;
+      ended = search rules;
+      done = search rules;
+      rests = search rules;
+      err = λ told.
+          let ends = rw c.in_default.is at (c.in_ok-_at.ensures.found told) in
+          rw (lacks_records (events_of old) ends.0) (refl, ends.1.0);
+      refused = λ told.
+          let ends = rw c.in_default.is at (c.in_ok-_at.ensures.found told) in
+          rw c.requires.place (lacks_records (events_of old) ends.0, (refl, ends.1.0));
+      kind = search rules;
+    }
 
 pub returns-clause-at : goal.returns-clause-at
 returns-clause-at g c =
@@ -53,29 +73,38 @@ returns-clause-at g c =
     ≡ Some (section_left (length new.names) new)) (sym (reads.stays.part told))
     (records_found old new (rw c.in-Some.is at (c.in_ok-_at.ensures.found told)))))
 
-pub returns-clause-row : goal.returns-clause-row
-returns-clause-row g c = λ told.
+pub returns-clause-gives : goal.returns-clause-gives
+returns-clause-gives g c =
     let old = reading (g.P.Package.state c.args.package.now) c.args.self.now.cursor in
     let new = reading (g.P.Package.state c.find_element.new.package) c.find_element.new.cursor in
     let fields = fields_kept c.args.self.now.fields.items in
     let same : row_kept c.in_ok-names.names.items ≡ names_row fields =
     c.in_ok-names.ensures
     ∙ ap (λ (own : List CacheField). names_row (fields_kept own)) c.deref.ensures.value in
-    rw (c.requires.place, same, c.depth.ensures)
-    (names_taken fields old new
-    (records_found old new (rw c.in-Some.is at (c.in_ok-_at.ensures.found told))))
-
-pub returns-clause-given : goal.returns-clause-given
-returns-clause-given g c =
-    let old = reading (g.P.Package.state c.args.package.now) c.args.self.now.cursor in
-    let new = reading (g.P.Package.state c.find_element.new.package) c.find_element.new.cursor in
-    rw c.requires.place (
-      c.in_ok-names.ensures
-          ∙ ap (λ (own : List CacheField). names_row (fields_kept own)) c.deref.ensures.value,
-      record {
-        depth = c.depth.ensures;
-        there = λ told.
-            rw c.depth.ensures
-            (records_found old new (rw c.in-Some.is at (c.in_ok-_at.ensures.found told)));
-      },
-    )
+    record {
+      fields = search rules;
+      reads = search rules;
+      row = λ told.
+          rw (c.requires.place, same, c.depth.ensures)
+          (names_taken fields old new
+          (records_found old new (rw c.in-Some.is at (c.in_ok-_at.ensures.found told))));
+      given =
+          rw c.requires.place (
+            same,
+            record {
+              depth = c.depth.ensures;
+              there = λ told.
+                  rw c.depth.ensures
+                  (records_found old new (rw c.in-Some.is at (c.in_ok-_at.ensures.found told)));
+            },
+          );
+      step = search rules;
+      none = search rules;
+      none_left = search rules;
+      ended = search rules;
+      done = search rules;
+      rests = search rules;
+      err = search rules;
+      refused = search rules;
+      kind = search rules;
+    }
