@@ -1,5 +1,5 @@
 //! The cells of a sheet as they came, beside what the sheets of their workbook share.
-ghost use Rattle.std.specs.Prelude.{◌≡◌, true, OnOk, IfOk, IfErr, filter, length};
+ghost use Rattle.std.specs.Prelude.{◌≡◌, List, true, OnOk, IfOk, IfErr, filter, length};
 ghost use Rattle.cell_data.specs.Gathered.{cells_gathered};
 ghost use Rattle.cell_data.specs.declared.value.HeaderRow.TheVariants.{FirstNonEmptyRow};
 ghost use Rattle.cell_styles.specs.StyleMap.{StyledCell, is_explicit, styles_of};
