@@ -119,8 +119,9 @@ def write_book(path, mixes, rows):
 
 
 def run_by(python, folder):
-    """Has the scripts of ./xlsx run by this interpreter itself: a `python3` on the path may be a
-    script that chooses one, which takes as long as a small workbook does."""
+    """Has the scripts of ./xlsx run by this interpreter itself, which keeps what it compiles: a
+    `python3` on the path may be a script that chooses one, which takes as long as a small workbook
+    does, and so does the compiling."""
     found = subprocess.run(
         [python, "-c", "import sys; print(sys.executable)"],
         stdout=subprocess.PIPE,
@@ -131,4 +132,6 @@ def run_by(python, folder):
     os.mkdir(commands)
     os.symlink(found, os.path.join(commands, "python3"))
     os.environ["PATH"] = f"{commands}:{os.environ['PATH']}"
+    os.environ.pop("PYTHONDONTWRITEBYTECODE", None)
+    os.environ["PYTHONPYCACHEPREFIX"] = os.path.join(folder, "compiled")
     return found

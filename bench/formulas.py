@@ -1,6 +1,6 @@
 #!/usr/bin/env python3
-"""Measures `precedents S`, `dependents S REF` or `check S` of xlsx_tool beside `cells S` on the
-same package, and prints one table (docs/PERFORMANCE.md)."""
+"""Measures `precedents S`, `dependents S REF`, `check S` or `csv S` of xlsx_tool beside `cells S` on
+the same package, and prints one table (docs/PERFORMANCE.md)."""
 
 import argparse
 import os
@@ -103,6 +103,9 @@ def asked_words(command, mix):
     """The program's words, and what is printed of a row."""
     if command == "check":
         return ["check", "S"], lambda own, row: own.check_lines(row)
+    if command == "csv":
+        # The cells of the other mix have no values.
+        return ["csv", "S"], lambda own, row: f"{row},{row}\n" if mix == "shared" else ""
     if command == "precedents":
         return ["precedents", "S"], lambda own, row: precedents_lines(mix, row)
     column, at = ASKED[mix]
@@ -115,7 +118,7 @@ HEAD = ["text", "rows", "seconds", "cells", "ratio", "peak MiB", "cells", "ratio
 
 def main():
     parser = argparse.ArgumentParser(description=__doc__)
-    parser.add_argument("command", choices=("precedents", "dependents", "check"))
+    parser.add_argument("command", choices=("precedents", "dependents", "check", "csv"))
     parser.add_argument("--mix", choices=ASKED, default="shared", help="what formulas are named of")
     parser.add_argument("--bytes", type=int, default=LIMIT - 1, help="the size of the larger text")
     add_repeats(parser, 3)
