@@ -173,13 +173,13 @@ held grounds palette events values formulas ids kept written styles holds last l
 
 module _ (parts : List Part) (name : List ℕ) (read : ReadCells)
     (cells : HoldsCells parts name read) where
-  values : List ((ℕ × ℕ) × CellValue)
+  abbrev values : List ((ℕ × ℕ) × CellValue)
   values = value_entries (cells_gathered read.cells.values)
 
-  formulas : List ((ℕ × ℕ) × List ℕ)
+  abbrev formulas : List ((ℕ × ℕ) × List ℕ)
   formulas = formula_entries (cells_gathered read.cells.formulas)
 
-  ids : List StyledCell
+  abbrev ids : List StyledCell
   ids = (cells.holds.styled refl).0
 
   -- a sheet is read as what its cells come to
@@ -188,7 +188,6 @@ module _ (parts : List Part) (name : List ℕ) (read : ReadCells)
       → kept ≡ last_of_each (with_texts (strings_beside read) values)
       → written ≡ last_of_each formulas → styles ≡ styles_of (palette_beside read) ids
       → ReadsAs parts name kept written styles
-  unfolding values formulas ids
   cells_read kept written styles last listed styled = record {
     opening = cells.opening;
     palette = palette_beside read;
@@ -209,7 +208,6 @@ module _ (parts : List Part) (name : List ℕ) (read : ReadCells)
       → read.cells.style_ids.items ≡ filter (is_explicit (length (palette_beside read))) all
       → found.styles ≡ styles_of (palette_beside read) all)
       → ReadsAs parts name (value_pairs found.values) (formula_pairs found.formulas) found.styles
-  unfolding values formulas ids
   ranges_read found valued written styled =
       cells_read (value_pairs found.values) (formula_pairs found.formulas) found.styles
       valued.cells written.cells (styled ids (cells.holds.styled refl).2)
@@ -217,7 +215,6 @@ module _ (parts : List Part) (name : List ℕ) (read : ReadCells)
   pub values_read : (range : Range Data)
       → IsValueRange FirstNonEmptyRow (with_texts (strings_beside read) values) range
       → ReadsValuesAs parts name (value_pairs range)
-  unfolding values formulas ids
   values_read range valued =
       let listed = last_of_each formulas in
       let styles = styles_of (palette_beside read) ids in

@@ -1,4 +1,13 @@
-use Rattle.std.proofs.Common.{ap}
+use Rattle.std.proofs.Common.{ap, length, subst, ◌∙◌, List, String, Global, map, string_bytes}
+use Rattle.cell_data.specs.Gathered.{cells_gathered}
+use Rattle.cell_data.specs.declared.value.HeaderRow.{HeaderRow}
+use Rattle.xlsx_cells.specs.SheetPart.{value_entries, formula_entries}
+use Rattle.xlsx_core.specs.SheetReading.{events_at}
+use Rattle.xlsx_core.specs.TableData.{IsRangeIn}
+use Rattle.xlsx_core.specs.Worksheets.{grounds_of_book, palette_of_book, path_of}
+use Rattle.xlsx_core.proofs.RangesRead.{values_answered}
+use Rattle.xlsx_cells.specs.Sheet.{with_texts}
+use Rattle.xlsx_open.specs.declared.shared_parts.SharedParts.{SharedParts}
 use Rattle.std.proofs.lemmas.Result.{err_from_is_err_and}
 use Rattle.cell_data.specs.CellValue.{nothing, value_of_data}
 use Rattle.cell_data.specs.Cells.{placed_cells}
@@ -23,3 +32,27 @@ returns-in_err-cells-clause-err g c =
     rw (p.1, p.2, c.in-Some.is)
     (area_fails xlsx c.args.sheet.now c.in-Some.area old new c.in_err-cells.field-0.0
     c.in_err-cells.ensures.err)
+
+pub returns-clause-reads : goal.returns-clause-reads
+returns-clause-reads g c = λ told.
+    let xlsx = c.args.self.now in
+    let old = g.P.Package.state xlsx.package in
+    let cells = c.in_ok-cells.cells in
+    let kept = c.in_ok-cells.ensures.rest.book in
+    let range = c.in_ok-values_in_area.field-0 in
+    rw c.in-Some.is
+    (values_answered (events_at (path_of xlsx c.args.sheet.now) old.parts) (grounds_of_book xlsx)
+    (length (palette_of_book xlsx)) (value_entries (cells_gathered cells.values))
+    (formula_entries (cells_gathered cells.formulas)) cells.style_ids.items
+    (λ values. IsRangeIn value_of_data xlsx.header_row c.in-Some.area
+    (with_texts (grounds_of_book xlsx).strings values) nothing range)
+    (c.in_ok-cells.ensures.reads told)
+    (subst (λ (header : HeaderRow). IsRangeIn value_of_data header c.in-Some.area
+    (with_texts (grounds_of_book xlsx).strings (value_entries (cells_gathered cells.values)))
+    nothing range) kept.header_row
+    (subst (λ (strings : List (String Global)). IsRangeIn value_of_data
+    c.worksheet_cells.new.self.header_row c.in-Some.area
+    (with_texts (map string_bytes strings) (value_entries (cells_gathered cells.values)))
+    nothing range)
+    (c.deref.ensures.value ∙ ap (λ (shared : SharedParts). shared.strings.items) kept.shared)
+    c.in_ok-values_in_area.ensures)))
