@@ -74,7 +74,7 @@ pub use laws::{
     sheets_are_read_alike, sheets_go_by_their_parts, table_data_that_are_read_are_not_refused,
     worksheets_are_listed_or_left_out, worksheets_that_are_read_are_not_refused,
 };
-pub use sheet_reading::{SheetAnswer, SheetReading, read_sheet, read_sheet_values};
+pub use sheet_reading::{SheetAnswer, SheetReading, ValuesAnswer, read_sheet, read_sheet_values};
 pub use table_list::TableNames;
 pub use workbook::Workbook;
 pub use xlsx::{OpenFailure, Xlsx};

@@ -32,7 +32,6 @@ pub struct ReadCells {
 impl ReadCells {
     /// The cells as ranges: the last value and the last formula of each position, and its first
     /// style id.
-    #[tactic(auto, using(crate::proofs::LeastAreas::least_ranges))]
     pub fn into_ranges(self, alloc: Global) -> Result<SheetReading, AllocError>
         requires { LieOnSheet self }
         ensures values { IfOk result (λ found. IsValueRange FirstNonEmptyRow

@@ -32,6 +32,9 @@ pub struct SheetAnswer<P: Package, T: Drop = SheetReading> {
     pub package: P,
 }
 
+/// The values of a sheet, or why they were not read, with the package.
+pub type ValuesAnswer<P> = SheetAnswer<P, Range<Data>>;
+
 /// The values, the formulas and the styles of the first sheet of this name, read in one pass over
 /// its part (ECMA-376 part 1, section 18.3.1.80).
 ///
@@ -82,11 +85,7 @@ pub fn read_sheet<P: Package>(alloc: Global, package: P, name: &str) -> SheetAns
 
 /// The values that `read_sheet` reads, which is refused where it is: formulas and styles are read
 /// with them in the same pass, and nothing is made of these.
-pub fn read_sheet_values<P: Package>(
-    alloc: Global,
-    package: P,
-    name: &str,
-) -> SheetAnswer<P, Range<Data>>
+pub fn read_sheet_values<P: Package>(alloc: Global, package: P, name: &str) -> ValuesAnswer<P>
     ensures keeps { SameParts (P.state «package») (P.state result.package) }
     ensures faults { OnOk result.result
         ((P.state result.package).faults ≡ (P.state «package»).faults) }

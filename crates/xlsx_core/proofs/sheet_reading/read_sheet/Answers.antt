@@ -1,9 +1,17 @@
+use Rattle.std.proofs.Common.{Result, subst}
+use Rattle.std.specs.Prelude.{IfOk}
+use Rattle.xlsx_error.specs.declared.error.XlsxError.{XlsxError}
+use Rattle.xlsx_core.specs.ReadCells.{HoldsCells}
+use Rattle.xlsx_core.specs.declared.read_cells.ReadCells.{ReadCells}
 use Rattle.xlsx_core.proofs.SheetsRead.{ranges_read}
 use Rattle.xlsx_core.proofs.sheet_reading.read_sheet.Goals as goal
 
 pub returns-in-Ok-into_ranges-clause-reading : goal.returns-in-Ok-into_ranges-clause-reading
 returns-in-Ok-into_ranges-clause-reading g c = λ told.
+    let parts = (g.P.Package.state c.args.package).parts in
+    let name = c.args.name.now in
     let made = c.in-Ok-into_ranges in
-    ranges_read (g.P.Package.state c.args.package).parts c.args.name.now c.in-Ok.read
-    (c.in-Ok.ensures.reading told) made.found made.ensures.values made.ensures.formulas
+    let cells = subst (λ (own : Result ReadCells XlsxError). IfOk own (HoldsCells parts name))
+    c.in-Ok.is (c.read_cells-result.ensures.reading told) in
+    ranges_read parts name c.in-Ok.read cells made.found made.ensures.values made.ensures.formulas
     made.ensures.styles
