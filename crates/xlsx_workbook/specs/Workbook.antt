@@ -1,6 +1,7 @@
 -- What is kept of a workbook's section while it is read.
 use Rattle.std.specs.Prelude.{◌≡◌, ◌⊎◌, ⊤, ℕ, List, length, map, Bool, true, false, Option, Result}
 use Rattle.std.specs.Prelude.{Ok, Err}
+use Rattle.std.specs.Arc.{arc_str_bytes}
 use Rattle.part_events.specs.Event.{Event, start, end, leaf}
 use Rattle.part_events.specs.JoinedText.{is_unknown}
 use Rattle.part_events.specs.Section.{content}
@@ -12,8 +13,10 @@ use Rattle.xlsx_sections.specs.PartSection.{PartSection, inside_of}
 use Rattle.xlsx_sections.specs.Refusal.{Refusal}
 use Rattle.xlsx_workbook.specs.DefinedNames.{name_with_text, is_defined_name, names_in}
 use Rattle.xlsx_workbook.specs.KeptContents.{pair_of, sheet_of_entry}
+use Rattle.xlsx_relationships.specs.KeptRelationships.{related_by_id}
 use Rattle.xlsx_relationships.specs.Relationships.{Related}
 use Rattle.xlsx_workbook.specs.Sheets.{PlacedSheet, sheets_in, epoch_in}
+use Rattle.xlsx_workbook.specs.declared.workbook.SheetPlaces.{SheetPlaces}
 use Rattle.xlsx_workbook.specs.declared.workbook.WorkbookContents.{WorkbookContents}
 
 -- the sheets of a workbook
@@ -86,3 +89,30 @@ unfoldable pub AreContentsRefused :
 AreContentsRefused folder related s refusal =
     (sheets_in folder related (inside_of s) ≡ Err refusal)
     ⊎ ((names_in (inside_of s) ≡ Err refusal) ⊎ (epoch_in (inside_of s) ≡ Err refusal))
+
+-- ---- where sheets lie
+
+-- what entries and rest say of sheets that lie at these places
+abbrev pub KeepsSheetsAt :
+    SheetPlaces → WorkbookContents → List Event → WorkbookContents → List Event → Type 0
+KeepsSheetsAt places first events last left =
+    KeepsSheets (arc_str_bytes places.folder.now) (related_by_id places.relationships.now) first
+    events last left
+
+-- why a defined name is refused among sheets that lie at these places
+abbrev pub IsNameRefusedAt :
+    SheetPlaces → WorkbookContents → Option (List ℕ) → PartSection → Refusal → Type 0
+IsNameRefusedAt places found name =
+    IsNameRefused (arc_str_bytes places.folder.now) (related_by_id places.relationships.now) found
+    name
+
+-- what a workbook's section holds, whose sheets lie at these places
+abbrev pub IsContentsAt : SheetPlaces → List Event → WorkbookContents → Type 0
+IsContentsAt places inside found =
+    IsContents (arc_str_bytes places.folder.now) (related_by_id places.relationships.now) inside
+    found
+
+-- and why it can't be taken
+abbrev pub AreContentsRefusedAt : SheetPlaces → PartSection → Refusal → Type 0
+AreContentsRefusedAt places =
+    AreContentsRefused (arc_str_bytes places.folder.now) (related_by_id places.relationships.now)

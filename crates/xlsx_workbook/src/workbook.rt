@@ -20,6 +20,8 @@ ghost use Rattle.xlsx_workbook.specs.KeptContents.{pair_of};
 ghost use Rattle.xlsx_workbook.specs.Workbook.{KeepsSheets, AreSheetsRefused, names_of};
 ghost use Rattle.xlsx_workbook.specs.Workbook.{TextRefused, KeepsName, IsNameRefused};
 ghost use Rattle.xlsx_workbook.specs.Workbook.{is_name_start, IsContents, AreContentsRefused};
+ghost use Rattle.xlsx_workbook.specs.Workbook.{KeepsSheetsAt, IsNameRefusedAt, IsContentsAt};
+ghost use Rattle.xlsx_workbook.specs.Workbook.{AreContentsRefusedAt};
 ghost use Rattle.xlsx_workbook.specs.WorkbookErrors.{IsWorkbookError};
 
 use crate::sheet::SheetEntry;
@@ -180,9 +182,7 @@ fn read_name<P: Package>(
         OnOk result (KeepsSection base old new) }
     ensures sheets { let old = reading (P.state «package».old) cursor.old in
         let new = reading (P.state «package».new) cursor.new in
-        let folder = arc_str_bytes places.entry.folder.now in
-        let related = related_by_id places.entry.relationships.now in
-        old.source.is_told ≡ true → OnOk result (KeepsSheets folder related
+        old.source.is_told ≡ true → OnOk result (KeepsSheetsAt places.entry
         found.old (section_ahead base old) found.new (section_ahead base new)) }
     ensures names { let old = reading (P.state «package».old) cursor.old in
         let inside = content 0 (ahead old) in
@@ -190,9 +190,7 @@ fn read_name<P: Package>(
         (length (section_ahead base old)) (names_of found.old) (names_of found.new)) }
     ensures err { let old = reading (P.state «package».old) cursor.old in
         let new = reading (P.state «package».new) cursor.new in
-        let folder = arc_str_bytes places.entry.folder.now in
-        let related = related_by_id places.entry.relationships.now in
-        let refused = IsNameRefused folder related found.old (option_map string_bytes name) in
+        let refused = IsNameRefusedAt places.entry found.old (option_map string_bytes name) in
         IfErr result (SectionFails (always (codes "workbook")) refused base old new) }
     ensures kind { IfErr result IsWorkbookError }
 {
@@ -240,15 +238,11 @@ fn contents_in<P: Package>(
         let new = reading (P.state «package».new) cursor.new in
         old.source.is_told ≡ true → OnOk result (new.at ≡ suc (section_end base old)) }
     ensures contents { let old = reading (P.state «package».old) cursor.old in
-        let folder = arc_str_bytes places.entry.folder.now in
-        let related = related_by_id places.entry.relationships.now in
         old.source.is_told ≡ true →
-        IfOk result (IsContents folder related (section_ahead base old)) }
+        IfOk result (IsContentsAt places.entry (section_ahead base old)) }
     ensures err { let old = reading (P.state «package».old) cursor.old in
         let new = reading (P.state «package».new) cursor.new in
-        let folder = arc_str_bytes places.entry.folder.now in
-        let related = related_by_id places.entry.relationships.now in
-        let refused = AreContentsRefused folder related in
+        let refused = AreContentsRefusedAt places.entry in
         IfErr result (SectionFails (always (codes "workbook")) refused base old new) }
     ensures kind { IfErr result IsWorkbookError }
 {
