@@ -38,7 +38,8 @@ positions-preserved c =
     c.in-Some.ensures.before_ids c.next_at-id.ensures.value c.next_at-id.ensures.left in
     record {
       printed = lines_on style p value formula id (option_copied c.style_with_id-style.result)
-          values vs formulas fs ids ds (string_bytes c.positions.out) (string_bytes c.push_line.new.out)
+          values vs formulas fs ids ds (string_bytes c.positions.out)
+          (string_bytes c.push_line.new.out)
           (string_bytes c.args.out.now
           ++ lines_left style (placed_left c.args.values) (placed_left c.args.formulas)
           (ids_left c.args.ids))

@@ -1,4 +1,5 @@
-use Rattle.std.proofs.Common.{◌≡◌, ◌∷◌, ◌++◌, map, string_bytes, codes, rules, arith, inr, ◌∙◌, ap, List}
+use Rattle.std.proofs.Common.{◌≡◌, ◌∷◌, ◌++◌, map, string_bytes, codes, rules, arith, inr, ◌∙◌}
+use Rattle.std.proofs.Common.{ap, List}
 use Rattle.std.specs.List.{sum_by}
 use Rattle.std.proofs.lemmas.List.{append_assoc}
 use Rattle.part_events.specs.Package.{event_count}
