@@ -54,14 +54,7 @@ pub fn own_package(alloc: Global, command: Command<'_>) -> Result<Option<MemoryP
 }
 
 /// The output of a command on a package, whole.
-#[tactic(
-    auto,
-    unfolding(
-        crate::specs::Outputs::IsOutput,
-        crate::specs::Outputs::RefusedWorkbookCause,
-        crate::specs::Outputs::IsTooLarge
-    )
-)]
+#[tactic(auto, unfolding(crate::specs::Outputs::IsOutput, crate::specs::Outputs::RefusedWorkbookCause, crate::specs::Outputs::IsTooLarge))]
 pub fn output_of(
     alloc: Global,
     command: Command<'_>,

@@ -67,7 +67,12 @@ impl ReadCells {
         ensures range { IfOk result HasLeastRange }
     {
         let ReadCells { cells, shared } = self;
-        value_range(alloc, cells.values, &shared.strings, HeaderRow::FirstNonEmptyRow)
+        value_range(
+            alloc,
+            cells.values,
+            &shared.strings,
+            HeaderRow::FirstNonEmptyRow,
+        )
     }
 }
 

@@ -89,7 +89,9 @@ impl<P: Package> Xlsx<P> {
         let mut xlsx = self;
         let found = xlsx.placed_cells(name, Wants::ALL);
         let Xlsx {
-            package, shared, ..
+            package,
+            shared,
+            ..
         } = xlsx;
         let result = match found {
             Ok(cells) => Ok(ReadCells { cells, shared }),
