@@ -1,5 +1,6 @@
 ghost use Rattle.std.specs.Prelude.{◌≡◌, Some, IfOk, IfErr};
 ghost use Rattle.part_events.specs.Package.{LeavesPackage, event_count};
+ghost use Rattle.part_events.specs.Reading.{ReadsPart};
 ghost use Rattle.xlsx_error.specs.declared.error.XlsxError.TheVariants.{Io};
 ghost use Rattle.xlsx_sections.specs.Failing.{FailsBy};
 ghost use Rattle.xlsx_pivot_cache.specs.CacheErrors.{IsCacheFieldsError};
@@ -90,6 +91,9 @@ impl PivotCursor {
         requires place { self.old.place ≡ Before }
         ensures at { IsAtRecords (pivot_rows (P.state «package».new) self.new) }
         ensures fields { self.new.fields ≡ self.old.fields }
+        ensures reads { let old = pivot_rows (P.state «package».old) self.old in
+            let new = pivot_rows (P.state «package».new) self.new in
+            ReadsPart Io result old.reading new.reading }
         ensures gives { GivesRow (Some result) (pivot_rows (P.state «package».old) self.old)
             (pivot_rows (P.state «package».new) self.new) }
     {
@@ -114,6 +118,9 @@ impl PivotCursor {
         requires place { self.old.place ≡ Within base }
         ensures at { IsAtRecords (pivot_rows (P.state «package».new) self.new) }
         ensures fields { self.new.fields ≡ self.old.fields }
+        ensures reads { let old = pivot_rows (P.state «package».old) self.old in
+            let new = pivot_rows (P.state «package».new) self.new in
+            ReadsPart Io result old.reading new.reading }
         ensures gives { GivesRow (answer_of result) (pivot_rows (P.state «package».old) self.old)
             (pivot_rows (P.state «package».new) self.new) }
     {
