@@ -19,7 +19,6 @@ use Rattle.cell_refs.proofs.PositionOrder.{and_both}
 use Rattle.sorted_cells.proofs.Orders.{after_sorted}
 use Rattle.sorted_cells.specs.Last.{last_key, comes_after}
 use Rattle.sorted_cells.specs.Placed.{first_position, left_behind}
-use Rattle.cell_data.proofs.Placing.{one_further}
 use Rattle.cell_data.proofs.Splitting.{past, at_first}
 use Rattle.cell_data.proofs.Stepping.{Adds, used_given, used_both, first_entries, no_positions}
 use Rattle.cell_data.proofs.Stepping.{below_entries, below_used, below_both, stands_before}
@@ -312,16 +311,6 @@ first_is_found values formulas ids value formula id behind result is_v is_f is_d
     (subst (λ v. MatchOption result ((v ≡ None) × (behind ≡ None)) (IsEarlier v behind)) is_v own)
 
 -- ---- the styled positions
-
--- one styled position more is listed
-pub styled_more : (cells after : List ((ℕ × ℕ) × ℕ)) (item : StyledCell)
-    (left rest : List StyledCell) (whole : List ((ℕ × ℕ) × ℕ)) → left ≡ item ∷ rest →
-    after ≡ cells ++ styled_entry item ∷ [] → cells ++ map styled_entry left ≡ whole →
-    after ++ map styled_entry rest ≡ whole
-styled_more cells after item left rest whole is more same =
-    ap (λ es. es ++ map styled_entry rest) more
-    ∙ one_further cells (styled_entry item) (map styled_entry left) (map styled_entry rest) whole
-    (ap (map styled_entry) is) same
 
 -- the next styled position comes after those before it
 pub styled_after : (cells : List ((ℕ × ℕ) × ℕ)) (item : StyledCell) (left rest : List StyledCell)

@@ -35,11 +35,12 @@
 //! name is made once. Each puts its values into new sorted cells, which lie in an area exactly
 //! where the old ones do (`HaveSamePlaces`). Then `range_of` takes the least area, or that which
 //! begins with the header row, and `Range::in_area` makes the range. What stands above a header row
-//! was cut off before (`last_below`, by `keep_area`), so that no text is made of it. That this
-//! gives the range of all cells is the lemmas `StandingRanges`. Every range is said by a meaning of
-//! its cells (`IsRangeOf`), so that the two ranges of values, and that of formulas, have one
-//! definition and one lemma. `worksheets` finds the first sheet of each name in an ordered map,
-//! which is filled from the last sheet to the first.
+//! was cut off before (`last_below`, by `keep_area`), so that no text is made of it, and of the
+//! data of a table all that lies outside its area (`last_in_area`). That this gives the range of
+//! all cells is the lemmas `StandingRanges`. Every range is said by a meaning of its cells
+//! (`IsRangeOf`), so that the two ranges of values, and that of formulas, have one definition and
+//! one lemma. `worksheets` finds the first sheet of each name in an ordered map, which is filled
+//! from the last sheet to the first.
 //!
 //! A table that is loaded keeps the number of its sheet, and is said with that sheet's name
 //! (`loaded_tables`), by which its data are read: where two sheets have one name, those of the
