@@ -1,14 +1,14 @@
 -- How calls for each of many lead to one that asks all of them.
-use Rattle.std.proofs.Common.{◌≡◌, ◌+◌, ◌≤◌, ℕ, List, [], ◌∷◌, ◌++◌, Some, Result, Ok, Err, true}
+use Rattle.std.proofs.Common.{◌≡◌, ◌+◌, ◌≤◌, ℕ, List, [], ◌∷◌, ◌++◌, Some, Result, Ok, Err}
 use Rattle.std.proofs.Common.{refl, sym, ◌∙◌, ap, append_assoc, append-nil, arith, inl, inr}
 use Rattle.std.proofs.lemmas.List.{map-append}
 use Rattle.std.proofs.lemmas.List.Sums.{sum_by-cons}
 use Rattle.std.specs.List.{sum_by}
 use Rattle.std.specs.Prelude.{Option, map, option_map}
-use Rattle.part_events.specs.Package.{PackageState, SameParts, LeavesPackage, NeverFalls, CountsUp}
+use Rattle.part_events.specs.Package.{PackageState, CountsUp}
 use Rattle.part_events.proofs.Uses.{same_further}
 use Rattle.xlsx_error.specs.declared.error.XlsxError.{XlsxError}
-use Rattle.xlsx_error.specs.declared.error.XlsxError.TheVariants.{Io, OutOfMemory}
+use Rattle.xlsx_error.specs.declared.error.XlsxError.TheVariants.{OutOfMemory}
 use Rattle.xlsx_sections.specs.Asking.{Ask, Answers}
 use Rattle.xlsx_sections.proofs.Failing.{fails_by_weaker, same_parts}
 use Rattle.xlsx_parts.specs.ManyAsked.{Appends, Leads, each, map_each}
@@ -85,8 +85,8 @@ pub leads_refused : {X A R T : Type 0} {kind : XlsxError → Type 0} {whole : As
     (ask : X → Ask (List A)) (x : X) (xs : List X) (after : List A)
     → ((ask x).kind error → whole.kind error)
     → Leads (each kind ask (x ∷ xs)) now here whole before first
-    → Appends (ask x) now next (Err {R} error) here new
-    → Appends whole before after (Err {T} error) first new
+    → Appends {R = R} (ask x) now next (Err error) here new
+    → Appends {R = T} whole before after (Err error) first new
 leads_refused {X = X} {whole = whole} {first = first} {here = here} {new = new} {error = error} ask
     x xs after kinds leads step = record {
   uses = record {
@@ -113,17 +113,21 @@ pub leads_done : {X A T : Type 0} {kind : XlsxError → Type 0} {whole : Ask (Li
     {before now : List A} {first here : PackageState} {answer : T} (ask : X → Ask (List A))
     → Leads (each kind ask []) now here whole before first
     → Appends whole before now (Ok answer) first here
-leads_done ask leads = record {
+leads_done {X = X} {first = first} ask leads = record {
   uses = record {
     parts = leads.same;
     faults = leads.faults;
     forward = leads.forward;
     taken = λ told. omega (arith, leads.most told);
   };
-  to_end = λ told. leads.exact told;
+  to_end = λ told. let exact = leads.exact told in omega (arith, exact);
   said = λ told.
       let so_far = leads.said told in
-      (so_far.0, sym so_far.2 ∙ said_of_none _ so_far.0, so_far.1);
+      (
+        so_far.0,
+        sym so_far.2 ∙ said_of_none (λ (own : X). (ask own).said first.parts) so_far.0,
+        so_far.1,
+      );
   err = tt;
   kind = tt;
 }
@@ -132,7 +136,7 @@ leads_done ask leads = record {
 pub leads_stopped : {A T : Type 0} {left whole : Ask (List A)} {before now : List A}
     {first here : PackageState} (after : List A) → whole.kind OutOfMemory
     → Leads left now here whole before first
-    → Appends whole before after (Err {T} OutOfMemory) first here
+    → Appends {R = T} whole before after (Err OutOfMemory) first here
 leads_stopped after kind leads = record {
   uses = record {
     parts = leads.same;
@@ -163,7 +167,7 @@ answers_all {ask = ask} {old = old} view value same kept = record {
 -- and a refusal is one of it
 pub answers_refused : {A R T : Type 0} {ask : Ask (List A)} {before after : List A}
     {old new : PackageState} {error : XlsxError} (view : T → List A)
-    → Appends ask before after (Err {R} error) old new → Answers ask view (Err error) old new
+    → Appends {R = R} ask before after (Err error) old new → Answers ask view (Err error) old new
 answers_refused view kept = record {
   uses = kept.uses;
   to_end = λ told. tt;

@@ -1,8 +1,8 @@
 -- Calls on a package that keep what it says behind what was kept, one for each of many.
-use Rattle.std.specs.Prelude.{◌≡◌, ℕ, ◌+◌, ◌≤◌, List, ◌++◌, map, true, Some, option_map, Result}
+use Rattle.std.specs.Prelude.{◌≡◌, ◌+◌, ◌≤◌, List, ◌++◌, map, true, Some, option_map, Result}
 use Rattle.std.specs.Prelude.{OnOk, IfErr}
 use Rattle.std.specs.List.{sum_by}
-use Rattle.part_events.specs.Package.{Part, PackageState, SameParts, Uses, NeverFalls, CountsUp}
+use Rattle.part_events.specs.Package.{PackageState, SameParts, Uses, NeverFalls, CountsUp}
 use Rattle.xlsx_error.specs.declared.error.XlsxError.{XlsxError}
 use Rattle.xlsx_error.specs.declared.error.XlsxError.TheVariants.{Io}
 use Rattle.xlsx_sections.specs.Asking.{Ask}

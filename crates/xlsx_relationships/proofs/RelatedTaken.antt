@@ -1,19 +1,17 @@
 -- How the parts are asked that the relationships of a part lead to.
-use Rattle.std.proofs.Common.{◌≡◌, ℕ, List, [], Option, Some, Ok, Err, Result, arith, sym, ap, ◌∙◌}
-use Rattle.std.proofs.Common.{append-nil, inl, inr}
+use Rattle.std.proofs.Common.{◌≡◌, ℕ, List, [], Option, Some, Ok, arith, sym, ap, ◌∙◌}
+use Rattle.std.proofs.Common.{append-nil, inr}
 use Rattle.std.specs.List.{sum_by}
 use Rattle.std.specs.Option.{option_map_or}
 use Rattle.std.specs.Prelude.{option_and_then}
 use Rattle.part_events.specs.Package.{PackageState}
 use Rattle.xlsx_error.specs.declared.error.XlsxError.{XlsxError}
 use Rattle.xlsx_sections.specs.Asking.{Ask, Answers}
-use Rattle.xlsx_sections.proofs.Failing.{fails_by_weaker, same_parts}
-use Rattle.xlsx_parts.specs.ManyAsked.{Appends, Leads, each}
+use Rattle.xlsx_parts.specs.ManyAsked.{Leads, each}
 use Rattle.xlsx_parts.specs.PartSaid.{all_said}
 use Rattle.xlsx_parts.proofs.ManySaid.{said_before}
 use Rattle.xlsx_relationships.specs.RelatedAsked.{related_ask, each_related}
-use Rattle.xlsx_relationships.specs.RelatedParts.{related_parts, RelatedCause}
-use Rattle.xlsx_relationships.specs.RelationshipErrors.{IsRelatedError}
+use Rattle.xlsx_relationships.specs.RelatedParts.{related_parts}
 
 -- a count of the parts that are found
 sum_found : (count : List ℕ → ℕ) (found : Option (List (List ℕ))) (paths : List (List ℕ))
@@ -52,26 +50,3 @@ leads_related {A = A} {view = view} {answer = answer} {before = before} {old = o
       );
       cause = λ told error cause. inr (rw (first.said told) cause);
     }
-
--- it can't be said where they lead, and so nothing of the parts
-pub related_refused : {T A R : Type 0} {kind : XlsxError → Type 0} {view : T → List (List ℕ)}
-    {error : XlsxError} {old new : PackageState} (ask : List ℕ → Ask (List A))
-    (wanted path : List ℕ) (before after : List A) → (IsRelatedError error → kind error)
-    → Answers (related_ask wanted path) view (Err {T} error) old new
-    → Appends (each_related kind ask wanted path) before after (Err {R} error) old new
-related_refused {kind = kind} {error = error} {old = old} {new = new} ask wanted path before after
-    kinds first = record {
-  uses = record {
-    parts = first.uses.parts;
-    faults = first.uses.faults;
-    forward = first.uses.forward;
-    taken = λ told. let bound = first.uses.taken told in omega (arith, bound);
-  };
-  to_end = λ told. tt;
-  said = λ told. tt;
-  err =
-      fails_by_weaker ((each_related kind ask wanted path).cause old.parts)
-      (RelatedCause old.parts wanted path) new error (same_parts old) (λ told cause. inl cause)
-      first.err;
-  kind = kinds first.kind;
-}

@@ -12,7 +12,7 @@ invariant-paths g l =
           Leads (each r.Kind (r.ask l.by) (map string_bytes l.left)) (held l.items.items)
           (g.P.Package.state l.package) (each_related r.Kind (r.ask l.by) l.typ l.path)
           (held l.fn.items.items) (g.P.Package.state l.fn.package);
-      kept : (more : List r.Item) × (l.items.items ≡ l.fn.items.items ++ more);
+      kept : (more : List g.row.R-Item.Denot) × (l.items.items ≡ l.fn.items.items ++ more);
     }
 
 abbrev pub decreases-paths : goal.decreases-paths
