@@ -151,9 +151,9 @@ leads_stopped after kind leads = record {
 }
 
 -- what was kept behind nothing is what is said
-pub answers_all : {A R T : Type 0} {ask : Ask (List A)} {after : List A} {old new : PackageState}
-    {answer : R} (view : T → List A) (value : T) → after ≡ view value
-    → Appends ask [] after (Ok answer) old new → Answers ask view (Ok value) old new
+pub answers_all : {A T : Type 0} {ask : Ask (List A)} {after : List A} {old new : PackageState}
+    (view : T → List A) (value : T) → after ≡ view value
+    → Appends {R = Unit {0}} ask [] after (Ok tt) old new → Answers ask view (Ok value) old new
 answers_all {ask = ask} {old = old} view value same kept = record {
   uses = kept.uses;
   to_end = kept.to_end;
@@ -165,9 +165,10 @@ answers_all {ask = ask} {old = old} view value same kept = record {
 }
 
 -- and a refusal is one of it
-pub answers_refused : {A R T : Type 0} {ask : Ask (List A)} {before after : List A}
+pub answers_refused : {A T : Type 0} {ask : Ask (List A)} {before after : List A}
     {old new : PackageState} {error : XlsxError} (view : T → List A)
-    → Appends {R = R} ask before after (Err error) old new → Answers ask view (Err error) old new
+    → Appends {R = Unit {0}} ask before after (Err error) old new
+    → Answers ask view (Err error) old new
 answers_refused view kept = record {
   uses = kept.uses;
   to_end = λ told. tt;

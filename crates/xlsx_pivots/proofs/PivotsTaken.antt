@@ -1,18 +1,36 @@
 -- How many events are taken where a pivot table is read: of its part, of its relationships and of
 -- those beside its definitions, in turn.
-use Rattle.std.proofs.Common.{◌≡◌, ◌+◌, ◌∙◌, ℕ, List, true, Option, Some, Ok, Err, arith, ap, sym}
-use Rattle.std.proofs.Common.{subst, codes}
+use Rattle.std.proofs.Common.{◌≡◌, ◌+◌, ◌∙◌, ℕ, List, true, Option, Some, Result, Ok, Err, arith, ap}
+use Rattle.std.proofs.Common.{sym, subst, codes}
 use Rattle.std.specs.Option.{option_map_or}
-use Rattle.part_events.specs.Package.{Part, PackageState, UsesPackage, LeavesPackage, CountsUp}
+use Rattle.part_events.specs.Package.{Part, PackageState, Uses, UsesPackage, LeavesPackage, CountsUp}
 use Rattle.part_events.specs.Package.{event_count}
 use Rattle.part_events.proofs.Uses.{uses_then, leaves_then}
 use Rattle.xlsx_error.specs.declared.error.XlsxError.{XlsxError}
 use Rattle.xlsx_error.specs.declared.error.XlsxError.TheVariants.{Io}
 use Rattle.xlsx_sections.specs.SectionEvents.{section_events_of}
 use Rattle.xlsx_relationships.specs.Paths.{relationships_beside}
-use Rattle.xlsx_relationships.proofs.RelatedTaken.{told_uses}
 use Rattle.xlsx_pivots.specs.Pivots.{pivot_events, pivot_sections, sum_of_pivot}
 use Rattle.xlsx_pivots.specs.Targets.{definitions_at}
+
+-- a bound counts where the package tells its parts
+told_uses : {A : Type 0} (result : Result A XlsxError) (most other : ℕ) (old new : PackageState)
+    → (old.is_told ≡ true → most ≡ other) → Uses most Io result old new
+    → Uses other Io result old new
+told_uses (Ok value) most other old new same uses = record {
+  parts = uses.parts;
+  faults = uses.faults;
+  forward = uses.forward;
+  taken = λ told. let bound = uses.taken told in let equal = same told in
+      omega (arith, bound, equal);
+}
+told_uses (Err error) most other old new same uses = record {
+  parts = uses.parts;
+  faults = uses.faults;
+  forward = uses.forward;
+  taken = λ told. let bound = uses.taken told in let equal = same told in
+      omega (arith, bound, equal);
+}
 
 -- the relationships beside the definitions that are found
 beside_found : (beside : List ℕ → ℕ) (found : Option (List ℕ)) (there : List ℕ)

@@ -161,17 +161,7 @@ abbrev pub PivotsCause : List Part → List SheetPath → XlsxError → Type 0
 PivotsCause parts sheets error =
     SomeCause (λ (sheet : SheetPath). PivotsAtCause parts sheet.path) sheets error
 
--- what is asked for the pivot table of the part at a path
-abbrev pub pivot_ask : List ℕ → List ℕ → List ℕ → Ask PivotSaid
-pivot_ask folder sheet path = record {
-  most = λ parts. pivot_events parts path;
-  exact = λ parts. pivot_sections parts path;
-  said = λ parts. pivot_at parts folder sheet path;
-  cause = λ parts. PivotCause parts path;
-  kind = IsPivotsError;
-}
-
--- for it as a list
+-- what is asked for the pivot table of the part at a path, as a list
 abbrev pub one_pivot_ask : List ℕ → List ℕ → List ℕ → Ask (List PivotSaid)
 one_pivot_ask folder sheet path = record {
   most = λ parts. pivot_events parts path;

@@ -1,12 +1,16 @@
-ghost use Rattle.std.specs.Prelude.{◌≡◌, ◌++◌, List, map};
+ghost use Rattle.std.proofs.Common.{rules};
+ghost use Rattle.std.specs.Prelude.{◌≡◌, ◌++◌, List, map, true, Some, IfOk, OnOk, IfErr};
+ghost use Rattle.part_events.specs.Package.{Uses, CountsUp};
+ghost use Rattle.xlsx_error.specs.declared.error.XlsxError.TheVariants.{Io};
 ghost use Rattle.xlsx_sections.specs.Asking.{Answers};
+ghost use Rattle.xlsx_sections.specs.Failing.{FailsBy};
 ghost use Rattle.xlsx_parts.specs.ManyAsked.{Appends};
 ghost use Rattle.xlsx_parts.specs.SheetPaths.{sheet_at};
 ghost use Rattle.xlsx_pivots.specs.PivotErrors.{IsPivotsError};
 ghost use Rattle.xlsx_pivots.specs.PivotTables.{pivot_kept, pivots_kept, sheet_given};
-ghost use Rattle.xlsx_pivots.specs.Pivots.{PivotSaid, pivot_ask, one_pivot_ask, pivots_on_ask};
+ghost use Rattle.xlsx_pivots.specs.Pivots.{PivotSaid, PivotCause, pivot_at, pivot_events};
+ghost use Rattle.xlsx_pivots.specs.Pivots.{pivot_sections, one_pivot_ask, pivots_on_ask};
 ghost use Rattle.xlsx_pivots.specs.Pivots.{pivots_ask};
-ghost use Rattle.xlsx_pivots.proofs.PivotsRead.{related_error};
 
 use crate::pivot_parts::name_at;
 use crate::pivot_tables::{PivotTable, PivotTables};
@@ -27,8 +31,19 @@ fn pivot_at<P: Package>(
     path: &str,
     folder: &str,
 ) -> Result<PivotTable, XlsxError>
-    ensures answers { let ask = pivot_ask folder.now sheet.now path.now in
-        Answers ask pivot_kept result (P.state «package».old) (P.state «package».new) }
+    ensures uses { let old = P.state «package».old in
+        let new = P.state «package».new in
+        Uses (pivot_events old.parts path.now) Io result old new }
+    ensures to_end { let old = P.state «package».old in
+        let new = P.state «package».new in
+        let count = pivot_sections old.parts path.now in
+        old.is_told ≡ true → OnOk result (CountsUp count old.taken new.taken) }
+    ensures pivot { let old = P.state «package».old in
+        old.is_told ≡ true → IfOk result (λ pivot.
+        pivot_at old.parts folder.now sheet.now path.now ≡ Some (pivot_kept pivot)) }
+    ensures err { let old = P.state «package».old in
+        IfErr result (FailsBy (PivotCause old.parts path.now) old (P.state «package».new)) }
+    ensures kind { IfErr result IsPivotsError }
 {
     let name = name_at(alloc, package, path)?;
     let definitions = definitions_at(alloc, package, path)?;
@@ -62,7 +77,7 @@ impl ReadsRelated for PivotReader<'_> {
 
     ghost kinds = { λ r path error is. is };
 
-    ghost related_kinds = { related_error };
+    ghost related_kinds = { Prim.search rules };
 
     fn push<P: Package>(
         &self,
@@ -90,7 +105,8 @@ pub fn read_sheet_pivots<P: Package>(
     ensures answers { let ask = pivots_on_ask folder.now (sheet_at sheet.now path.now) in
         Appends ask (pivots_kept found.old) (pivots_kept found.new) result
         (P.state «package».old) (P.state «package».new) }
-    ensures kept { (more : List PivotSaid) × (pivots_kept found.new ≡ pivots_kept found.old ++ more) }
+    ensures kept { (more : List PivotSaid)
+        × (pivots_kept found.new ≡ pivots_kept found.old ++ more) }
 {
     let by = PivotReader {
         alloc,
