@@ -1,8 +1,9 @@
 -- How a cell format is made of its start and of what is set in it.
-use Rattle.std.proofs.Common.{◌≡◌, ℕ, List, Option, Some, None, Result, Ok, refl, sym, ◌∙◌, ap}
+use Rattle.std.proofs.Common.{◌≡◌, ℕ, List, Option, Some, None, Result, Ok, Err, refl, sym, ◌∙◌, ap}
 use Rattle.std.proofs.Common.{subst, codes, length, get_or}
 use Rattle.std.specs.Prelude.{IsOkAnd}
 use Rattle.attr_text.specs.Attributes.{lookup}
+use Rattle.attr_text.specs.declared.fault.AttrFault.{AttrFault}
 use Rattle.part_events.specs.Event.{Tag, Event}
 use Rattle.part_events.specs.Reading.{Reading}
 use Rattle.part_events.specs.declared.fault.XmlFault.TheVariants.{EndMismatch}
@@ -14,7 +15,7 @@ use Rattle.xlsx_sections.specs.PartSection.{always, inside_of, section_left}
 use Rattle.xlsx_sections.specs.Refusal.{Refusal, ElementFails}
 use Rattle.xlsx_sections.proofs.Refused.{refused_as}
 use Rattle.xlsx_styles.specs.Errors.{IsPlainError}
-use Rattle.xlsx_formats.specs.FormatCodes.{WrittenFormat, code_kept, AreCodes}
+use Rattle.xlsx_formats.specs.FormatCodes.{WrittenFormat, code_kept, code_written, AreCodes}
 use Rattle.xlsx_formats.specs.Formattings.{NamedSaid, FormattingSaid, format_named}
 use Rattle.xlsx_formats.specs.Formattings.{number_format_named}
 use Rattle.xlsx_formats.specs.Formattings.{formatting_keys, formatting_named, no_settings}
@@ -61,6 +62,30 @@ named_same first second same lists texts settings =
       format_same first second same (get_or texts 0 None),
       number_format_same first second same (get_or texts 0 None),
     ) refl
+
+by_same : (first second : List WrittenFormat) (lists : NamedLists)
+    → ((id : List ℕ) → code_written id first ≡ code_written id second)
+    → (settings : Result Settings Refusal) (texts : Result (List (Option (List ℕ))) AttrFault)
+    → formatting_by (named_said first lists) settings texts
+    ≡ formatting_by (named_said second lists) settings texts
+by_same first second lists same settings (Err fault) = refl
+by_same first second lists same (Err refusal) (Ok texts) = refl
+by_same first second lists same (Ok settings) (Ok texts) =
+    let own = code_said (named_said first lists) in
+    let other = code_said (named_said second lists) in
+    rw (
+      format_same own other same (get_or texts 0 None),
+      number_format_same own other same (get_or texts 0 None),
+    ) refl
+
+-- a cell format is the same by any written formats that the codes are
+pub formatting_same : (first second : List WrittenFormat) (lists : NamedLists)
+    → AreCodes first lists.codes.now → AreCodes second lists.codes.now
+    → (tag : Tag) (inside : List Event) → formatting_of (named_said first lists) tag inside
+    ≡ formatting_of (named_said second lists) tag inside
+formatting_same first second lists are also tag inside =
+    by_same first second lists (λ id. sym (are id) ∙ also id) (settings_of inside)
+    (lookup formatting_keys tag.attributes)
 
 -- a start names this, and this is set in its element
 pub formatting_found : (formats : List WrittenFormat) (lists : NamedLists) (tag own : Tag)

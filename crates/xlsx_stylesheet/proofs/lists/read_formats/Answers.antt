@@ -1,40 +1,29 @@
-use Rattle.std.proofs.Common.{[], ◌∷◌, codes}
-use Rattle.std.proofs.lemmas.List.{map-append}
-use Rattle.xlsx_sections.specs.PartSection.{always}
-use Rattle.xlsx_sections.proofs.ElementsSaid.{kept_further}
-use Rattle.xlsx_sections.proofs.Failing.{given_back}
-use Rattle.xlsx_sections.proofs.ListsRead.{list_added, own_list_refused, own_list_stopped}
-use Rattle.xlsx_formats.specs.Formattings.{formatting_said, named_said}
+use Rattle.std.proofs.Common.{map, length, sym, ◌∙◌, ap}
+use Rattle.std.proofs.lemmas.Result.{MatchResult-weaker, on_ok_weaker}
+use Rattle.part_events.specs.Reading.{reading, ahead}
+use Rattle.part_events.specs.Section.{content}
+use Rattle.xlsx_sections.specs.Answers.{prepended}
+use Rattle.xlsx_sections.proofs.StartsKept.{refused_same}
+use Rattle.xlsx_formats.specs.Formattings.{formatting_said, named_said, named_kept}
+use Rattle.xlsx_stylesheet.specs.Lists.{formattings_in, end_in_formats}
+use Rattle.xlsx_stylesheet.proofs.StyleListsRead.{formattings_same}
 use Rattle.xlsx_stylesheet.proofs.lists.read_formats.Goals as goal
 
-pub returns-in_err-_at-clause-err : goal.returns-in_err-_at-clause-err
-returns-in_err-_at-clause-err g c =
-    given_back _ c.from_residual.result c.from_residual.ensures.1
-    (λ formats are. own_list_stopped (codes "cellXfs") (always (codes "xf"))
-    (g.P.Package.state c.next_element_in.new.package) _ c.depth-base.ensures
-    (c.formats.invariant.formattings formats are) c.in_err-_at.ensures.refused)
+pub returns-clause-formattings : goal.returns-clause-formattings
+returns-clause-formattings g c = λ told.
+    let old = reading (g.P.Package.state c.args.package.now) c.args.cursor.now in
+    on_ok_weaker c.keep_elements.result
+    (λ is formats are. ap (prepended (map formatting_said c.args.formattings.now.items))
+    (sym (formattings_same formats c.args.lists.now are (content 0 (ahead old)))) ∙ is)
+    (c.keep_elements.ensures.kept told)
 
-pub returns-in_err-read_format-clause-err : goal.returns-in_err-read_format-clause-err
-returns-in_err-read_format-clause-err g c =
-    given_back _ c.from_residual-in_err-read_format.result
-    c.from_residual-in_err-read_format.ensures.1
-    (λ formats are. own_list_refused (codes "cellXfs") (always (codes "xf")) _
-    (g.P.Package.state c.read_format.new.package) _ c.depth-base.ensures c.in-Some.is
-    (c.formats.invariant.formattings formats are) c.in_ok-_at.ensures.step
-    (λ tag current. c.in_err-read_format.ensures.err tag (named_said formats c.args.lists.now)
-    current))
-
-pub formats-preserved : goal.formats-preserved
-formats-preserved g c = record {
-  keeps = kept_further c.in-Some.is c.formats.invariant.keeps c.in_ok-_at.ensures.step
-      c.in_ok-read_format.ensures.reads;
-  formattings = λ formats are.
-      rw (
-        c.in_ok-push.ensures.items,
-        map-append formatting_said c.formats.formattings.items (c.in_ok-read_format.field-0 ∷ []),
-      )
-      (list_added (formatting_said c.in_ok-read_format.field-0) c.in-Some.is
-      (c.formats.invariant.formattings formats are) c.in_ok-_at.ensures.step
-      c.in_ok-read_format.ensures.reads
-      (λ told tag current. c.in_ok-read_format.ensures.formatting told tag formats current are));
-}
+pub returns-clause-err : goal.returns-clause-err
+returns-clause-err g c =
+    let old = reading (g.P.Package.state c.args.package.now) c.args.cursor.now in
+    let new = reading (g.P.Package.state c.keep_elements.new.package) c.keep_elements.new.cursor in
+    let lists = c.args.lists.now in
+    MatchResult-weaker c.keep_elements.result c.keep_elements.ensures.err (λ _ is. is)
+    (λ error fails formats are.
+    refused_same (formattings_in (named_kept lists)) (formattings_in (named_said formats lists))
+    (length old.names) old end_in_formats new error
+    (λ events refusal is. sym (formattings_same formats lists are events) ∙ is) fails)

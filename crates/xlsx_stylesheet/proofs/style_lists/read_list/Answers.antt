@@ -4,10 +4,11 @@ use Rattle.part_events.specs.Reading.{reading, ahead}
 use Rattle.part_events.specs.Section.{content}
 use Rattle.xlsx_sections.specs.Answers.{prepended}
 use Rattle.xlsx_formats.specs.FormatCodes.{WrittenFormat, formats_written, AreCodes}
+use Rattle.xlsx_formats.proofs.CodesRead.{ok_found}
 use Rattle.xlsx_stylesheet.specs.Lists.{fonts_in, fills_in, borders_in, formattings_in}
 use Rattle.xlsx_stylesheet.specs.StyleSheet.{with_list, with_formats, with_fonts, with_fills}
 use Rattle.xlsx_stylesheet.specs.StyleSheet.{with_borders, with_formattings, lists_said}
-use Rattle.xlsx_stylesheet.proofs.StyleListsRead.{list_fails, list_lengthened, list_there, answered}
+use Rattle.xlsx_stylesheet.proofs.StyleListsRead.{list_fails, list_lengthened, list_there}
 use Rattle.xlsx_stylesheet.proofs.StyleListsRead.{arm_refused}
 use Rattle.xlsx_stylesheet.proofs.style_lists.read_list.Goals as goal
 
@@ -19,8 +20,8 @@ returns-in-NumberFormats-clause-lists g c = λ told.
     let written = formats_written (content 0 (ahead old)) in
     on_ok_weaker c.read_number_formats.result
     (λ holds tag formats there are.
-    let more = answered written (λ more. (earlier : List WrittenFormat)
-    → AreCodes earlier lists.codes → AreCodes (earlier ++ more) kept) holds in
+    let more = ok_found (λ (more : List WrittenFormat). (earlier : List WrittenFormat)
+    → AreCodes earlier lists.codes → AreCodes (earlier ++ more) kept) written holds in
     list_lengthened tag (formats ++ more.0)
     (list_there c.in-NumberFormats.is c.list_of.ensures c.start_tag.ensures there)
     (more.2 formats are)
@@ -44,7 +45,7 @@ returns-in-Fonts-clause-lists g c = λ told.
     list_lengthened tag formats
     (list_there c.in-Fonts.is c.list_of.ensures c.start_tag.ensures there) are
     (ap (with_list (with_fonts (lists_said formats c.args.lists.now))) holds))
-    (c.read_fonts.ensures.fonts told)
+    (c.read_fonts.ensures.says told)
 
 pub returns-in-Fonts-clause-err : goal.returns-in-Fonts-clause-err
 returns-in-Fonts-clause-err g c =
@@ -61,7 +62,7 @@ returns-in-Fills-clause-lists g c = λ told.
     list_lengthened tag formats
     (list_there c.in-Fills.is c.list_of.ensures c.start_tag.ensures there) are
     (ap (with_list (with_fills (lists_said formats c.args.lists.now))) holds))
-    (c.read_fills.ensures.fills told)
+    (c.read_fills.ensures.says told)
 
 pub returns-in-Fills-clause-err : goal.returns-in-Fills-clause-err
 returns-in-Fills-clause-err g c =
@@ -78,7 +79,7 @@ returns-in-Borders-clause-lists g c = λ told.
     list_lengthened tag formats
     (list_there c.in-Borders.is c.list_of.ensures c.start_tag.ensures there) are
     (ap (with_list (with_borders (lists_said formats c.args.lists.now))) holds))
-    (c.read_borders.ensures.borders told)
+    (c.read_borders.ensures.says told)
 
 pub returns-in-Borders-clause-err : goal.returns-in-Borders-clause-err
 returns-in-Borders-clause-err g c =
