@@ -21,6 +21,7 @@ use Rattle.xlsx_formats.specs.Formattings.{number_format_named}
 use Rattle.xlsx_formats.specs.Formattings.{formatting_keys, formatting_named, no_settings}
 use Rattle.xlsx_formats.specs.Formattings.{settings_of, code_said}
 use Rattle.xlsx_formats.specs.Formattings.{formatting_set, formatting_by, formatting_of, named_said}
+use Rattle.xlsx_formats.specs.declared.format_codes.FormatCodes.{FormatCodes}
 use Rattle.xlsx_formats.proofs.CodesRead.{ok_found}
 use Rattle.xlsx_formats.specs.declared.formatting.NamedLists.{NamedLists}
 use Rattle.xlsx_formats.specs.declared.settings.Settings.{Settings}
@@ -63,27 +64,35 @@ named_same first second same lists texts settings =
       number_format_same first second same (get_or texts 0 None),
     ) refl
 
-by_same : (first second : List WrittenFormat) (lists : NamedLists)
+-- lists with these number formats
+abbrev pub naming : List WrittenFormat → NamedSaid → NamedSaid
+naming formats lists = record {
+  formats = formats;
+  fonts = lists.fonts;
+  fills = lists.fills;
+  borders = lists.borders;
+}
+
+by_same : (first second : List WrittenFormat) (lists : NamedSaid)
     → ((id : List ℕ) → code_written id first ≡ code_written id second)
     → (settings : Result Settings Refusal) (texts : Result (List (Option (List ℕ))) AttrFault)
-    → formatting_by (named_said first lists) settings texts
-    ≡ formatting_by (named_said second lists) settings texts
+    → formatting_by (naming first lists) settings texts
+    ≡ formatting_by (naming second lists) settings texts
 by_same first second lists same settings (Err fault) = refl
 by_same first second lists same (Err refusal) (Ok texts) = refl
 by_same first second lists same (Ok settings) (Ok texts) =
-    let own = code_said (named_said first lists) in
-    let other = code_said (named_said second lists) in
     rw (
-      format_same own other same (get_or texts 0 None),
-      number_format_same own other same (get_or texts 0 None),
+      format_same (λ id. code_written id first) (λ id. code_written id second) same
+          (get_or texts 0 None),
+      number_format_same (λ id. code_written id first) (λ id. code_written id second) same
+          (get_or texts 0 None),
     ) refl
 
--- a cell format is the same by any written formats that the codes are
-pub formatting_same : (first second : List WrittenFormat) (lists : NamedLists)
-    → AreCodes first lists.codes.now → AreCodes second lists.codes.now
-    → (tag : Tag) (inside : List Event) → formatting_of (named_said first lists) tag inside
-    ≡ formatting_of (named_said second lists) tag inside
-formatting_same first second lists are also tag inside =
+-- a cell format is the same by all written formats whose codes are the ones that are kept
+pub formatting_same : (first second : List WrittenFormat) (kept : FormatCodes) (lists : NamedSaid)
+    → AreCodes first kept → AreCodes second kept → (tag : Tag) (inside : List Event)
+    → formatting_of (naming first lists) tag inside ≡ formatting_of (naming second lists) tag inside
+formatting_same first second kept lists are also tag inside =
     by_same first second lists (λ id. sym (are id) ∙ also id) (settings_of inside)
     (lookup formatting_keys tag.attributes)
 

@@ -23,7 +23,7 @@ pub record ReadsInside
   pub kind : IfErr result Kind
 
 -- the same where the element's start says something, too
-pub record ReadsStarted
+pub record ReadsWithStart
     {A B : Type 0} (meaning : Tag → List Event → Result B Refusal) (said : A → B)
     (ending : Ending) (Kind : XlsxError → Type 0) (result : Result A XlsxError)
     (old new : Reading) : Type 0 where

@@ -10,7 +10,7 @@ ghost use Rattle.xlsx_styles.specs.Borders.{line_named, border_line, side_line, 
 ghost use Rattle.xlsx_styles.specs.Borders.{color_in, side_of, side_named, with_side, border_of};
 ghost use Rattle.xlsx_styles.specs.Borders.{end_in_border};
 ghost use Rattle.xlsx_styles.specs.Errors.{IsPlainError, IsBorderError};
-ghost use Rattle.xlsx_styles.specs.ReadElements.{ReadsInside, ReadsStarted};
+ghost use Rattle.xlsx_styles.specs.ReadElements.{ReadsInside, ReadsWithStart};
 
 use crate::color_text::parse_color;
 use attr_text::{AttrFault, RawAttributes};
@@ -135,7 +135,7 @@ fn read_side<P: Package>(
     theme_colors: &[Color],
 ) -> Result<Border, XlsxError>
     requires element { IsReadingElement (reading (P.state «package».old) cursor.old) }
-    ensures { ReadsStarted (side_of theme_colors.now) (λ side. side)
+    ensures { ReadsWithStart (side_of theme_colors.now) (λ side. side)
         (always (codes "border side")) IsBorderError result
         (reading (P.state «package».old) cursor.old)
         (reading (P.state «package».new) cursor.new) }

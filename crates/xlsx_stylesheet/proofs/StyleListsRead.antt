@@ -22,8 +22,7 @@ use Rattle.xlsx_sections.proofs.Kept.{change_further, change_refused}
 use Rattle.xlsx_sections.proofs.Refused.{refused_as}
 use Rattle.xlsx_sections.proofs.SectionsRead.{same_tag}
 use Rattle.xlsx_formats.specs.FormatCodes.{WrittenFormat, AreCodes, formats_kept}
-use Rattle.xlsx_formats.specs.Formattings.{formatting_of, named_said, named_kept}
-use Rattle.xlsx_formats.specs.declared.formatting.NamedLists.{NamedLists}
+use Rattle.xlsx_formats.specs.Formattings.{formatting_of}
 use Rattle.xlsx_formats.proofs.CodesWritten.{codes_written}
 use Rattle.xlsx_formats.proofs.FormattingsRead.{formatting_same}
 use Rattle.xlsx_stylesheet.specs.Lists.{is_format, formattings_in}
@@ -39,17 +38,19 @@ answers_same : {X A : Type 0} (first second : X → Result A Refusal)
 answers_same first second same [] = refl
 answers_same first second same (x ∷ xs) = rw (same x, answers_same first second same xs) refl
 
--- the cell formats of a list, by any written formats that the codes are
-pub formattings_same : (formats : List WrittenFormat) (lists : NamedLists)
-    → AreCodes formats lists.codes.now → (inside : List Event)
-    → formattings_in (named_kept lists) inside ≡ formattings_in (named_said formats lists) inside
+-- the cell formats of a list, by all written formats whose codes are the ones that are kept
+pub formattings_same : (formats : List WrittenFormat) (lists : StyleLists)
+    → AreCodes formats lists.codes → (inside : List Event)
+    → formattings_in (lists_said (formats_kept lists.codes) lists).named inside
+    ≡ formattings_in (lists_said formats lists).named inside
 formattings_same formats lists are inside =
-    let first = element_said (formatting_of (named_kept lists)) in
-    let second = element_said (formatting_of (named_said formats lists)) in
-    answers_same first second
+    let kept = formats_kept lists.codes in
+    let own = (lists_said formats lists).named in
+    answers_same (element_said (formatting_of (lists_said kept lists).named))
+    (element_said (formatting_of own))
     (λ element. ap (in_element element)
-    (formatting_same (formats_kept lists.codes.now) formats lists
-    (codes_written lists.codes.now) are element.tag element.inside))
+    (formatting_same kept formats lists.codes own (codes_written lists.codes) are element.tag
+    element.inside))
     (outermost is_format inside)
 
 -- the lists of a section were read up to here

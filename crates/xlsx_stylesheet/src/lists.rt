@@ -1,24 +1,18 @@
 ghost use Rattle.std.proofs.Common.{rules};
-ghost use Rattle.std.specs.Prelude.{◌≡◌, List, ◌∷◌, [], codes, map, true, Ok, Err, OnOk, IfErr};
-ghost use Rattle.std.specs.Prelude.{MatchResult};
+ghost use Rattle.std.specs.Prelude.{◌≡◌, ◌∷◌, [], codes, map, Ok, Err, MatchResult};
 ghost use Rattle.std.specs.Option.{option_copied};
 ghost use Rattle.attr_text.specs.Attributes.{lookup};
 ghost use Rattle.part_events.specs.Event.{tag_of};
-ghost use Rattle.part_events.specs.Reading.{reading, IsReadingElement, ReadsElement, ahead};
-ghost use Rattle.part_events.specs.Section.{content};
-ghost use Rattle.xlsx_error.specs.declared.error.XlsxError.TheVariants.{Io};
+ghost use Rattle.part_events.specs.Reading.{reading, IsReadingElement};
 ghost use Rattle.cell_styles.specs.declared.border.Borders.{Borders};
 ghost use Rattle.cell_styles.specs.declared.fill.Fill.{Fill};
-ghost use Rattle.xlsx_sections.specs.Answers.{prepended};
-ghost use Rattle.xlsx_sections.specs.Elements.{ElementReadFails};
 ghost use Rattle.xlsx_sections.specs.PartSection.{always};
 ghost use Rattle.xlsx_styles.specs.Borders.{end_in_border};
 ghost use Rattle.xlsx_styles.specs.Errors.{IsBorderError};
 ghost use Rattle.xlsx_styles.specs.Fonts.{FontSaid, said_of};
-ghost use Rattle.xlsx_styles.specs.ReadElements.{ReadsStarted};
-ghost use Rattle.xlsx_formats.specs.FormatCodes.{WrittenFormat, AreCodes};
+ghost use Rattle.xlsx_styles.specs.ReadElements.{ReadsWithStart};
 ghost use Rattle.xlsx_formats.specs.Formattings.{FormattingSaid, formatting_of, formatting_said};
-ghost use Rattle.xlsx_formats.specs.Formattings.{named_said, named_kept};
+ghost use Rattle.xlsx_formats.specs.Formattings.{named_kept};
 ghost use Rattle.xlsx_stylesheet.specs.Lists.{formattings_in, end_in_formats, fonts_in};
 ghost use Rattle.xlsx_stylesheet.specs.Lists.{end_in_fonts, fills_in, end_in_fills, diagonal_keys};
 ghost use Rattle.xlsx_stylesheet.specs.Lists.{diagonals_of, border_said, borders_in};
@@ -157,7 +151,7 @@ fn read_one_border<P: Package>(
     theme_colors: &[Color],
 ) -> Result<Borders, XlsxError>
     requires element { IsReadingElement (reading (P.state «package».old) cursor.old) }
-    ensures { ReadsStarted (border_said theme_colors.now) (λ borders. borders)
+    ensures { ReadsWithStart (border_said theme_colors.now) (λ borders. borders)
         end_in_border IsBorderError result (reading (P.state «package».old) cursor.old)
         (reading (P.state «package».new) cursor.new) }
 {
@@ -255,23 +249,10 @@ pub fn read_formats<P: Package>(
     formattings: &mut Vec<Formatting>,
 ) -> Result<(), XlsxError>
     requires element { IsReadingElement (reading (P.state «package».old) cursor.old) }
-    ensures reads { let old = reading (P.state «package».old) cursor.old in
-        let new = reading (P.state «package».new) cursor.new in
-        ReadsElement Io result old new }
-    ensures formattings { let old = reading (P.state «package».old) cursor.old in
-        let inside = content 0 (ahead old) in
-        old.source.is_told ≡ true → OnOk result ((formats : List WrittenFormat) →
-        AreCodes formats lists.now.codes.now →
-        prepended (map formatting_said formattings.old.items)
-        (formattings_in (named_said formats lists.now) inside)
-        ≡ Ok (map formatting_said formattings.new.items)) }
-    ensures err { let old = reading (P.state «package».old) cursor.old in
-        let new = reading (P.state «package».new) cursor.new in
-        IfErr result (λ error. (formats : List WrittenFormat) →
-        AreCodes formats lists.now.codes.now →
-        ElementReadFails end_in_formats (formattings_in (named_said formats lists.now))
-        old new error) }
-    ensures kind { IfErr result AreStylesError }
+    ensures { ReadsBehind (formattings_in (named_kept lists.now)) (map formatting_said)
+        end_in_formats result formattings.old.items formattings.new.items
+        (reading (P.state «package».old) cursor.old)
+        (reading (P.state «package».new) cursor.new) }
 {
     let by = FormatReader { alloc, lists };
     keep_elements(package, cursor, &["xf"], "cellXfs", &by, formattings)
