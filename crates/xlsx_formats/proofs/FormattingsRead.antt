@@ -81,12 +81,11 @@ by_same : (first second : List WrittenFormat) (lists : NamedSaid)
 by_same first second lists same settings (Err fault) = refl
 by_same first second lists same (Err refusal) (Ok texts) = refl
 by_same first second lists same (Ok settings) (Ok texts) =
-    rw (
-      format_same (λ id. code_written id first) (λ id. code_written id second) same
-          (get_or texts 0 None),
-      number_format_same (λ id. code_written id first) (λ id. code_written id second) same
-          (get_or texts 0 None),
-    ) refl
+    let own = λ (id : List ℕ). code_written id first in
+    let other = λ (id : List ℕ). code_written id second in
+    ap (λ (said : FormattingSaid). let answer : Result FormattingSaid Refusal = Ok said in answer)
+    (sym (named_same own own (λ _. refl) lists texts settings)
+    ∙ named_same own other same lists texts settings)
 
 -- a cell format is the same by all written formats whose codes are the ones that are kept
 pub formatting_same : (first second : List WrittenFormat) (kept : FormatCodes) (lists : NamedSaid)
