@@ -60,9 +60,8 @@ fn next_model<P: Package>(
 ) -> Result<Option<u64>, XlsxError>
     requires reading { IsReading (reading (P.state «package».old) cursor.old) }
     requires within { base ≤ length (open_elements cursor.old) }
-    ensures reads { let old = reading (P.state «package».old) cursor.old in
-        let new = reading (P.state «package».new) cursor.new in
-        ReadsPart Io result old new }
+    ensures reads { ReadsPart Io result (reading (P.state «package».old) cursor.old)
+        (reading (P.state «package».new) cursor.new) }
     ensures stands { let old = reading (P.state «package».old) cursor.old in
         let new = reading (P.state «package».new) cursor.new in
         IfOk result (λ found. StandsAtStart is_color_model base found old new) }
