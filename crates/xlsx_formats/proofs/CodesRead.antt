@@ -40,39 +40,33 @@ one_less {x = x} {rest = rest} front same starts =
     append_assoc front (x ∷ []) rest
     ∙ (ap (λ (more : List PlacedTag). front ++ more) (sym same) ∙ starts)
 
-one_more : (passed : List WrittenFormat) (found : Option WrittenFormat) (front : List PlacedTag)
-    (x : PlacedTag) → some_answers written_format front ≡ Ok passed → written_format x ≡ Ok found
-    → some_answers written_format (front ++ x ∷ []) ≡ Ok (with_written passed found)
-one_more passed None front x written is =
-    some_and_more written_format front (x ∷ []) passed written
-    ∙ (ap (λ (own : Result (Option WrittenFormat) Refusal).
-    prepended passed (and_others_if own (Ok []))) is
-    ∙ ap (λ (formats : List WrittenFormat). let answer
-    : Result (List WrittenFormat) Refusal = Ok formats in answer) (append-nil passed))
-one_more passed (Some format) front x written is =
-    some_and_more written_format front (x ∷ []) passed written
-    ∙ ap (λ (own : Result (Option WrittenFormat) Refusal).
-    prepended passed (and_others_if own (Ok []))) is
+put_one : (passed : List WrittenFormat) (found : Option WrittenFormat)
+    → prepended passed (and_others_if (Ok found) (Ok [])) ≡ Ok (with_written passed found)
+put_one passed None =
+    ap (λ (formats : List WrittenFormat). let answer : Result (List WrittenFormat) Refusal =
+    Ok formats in answer) (append-nil passed)
+put_one passed (Some format) = refl
+
+behind_passed : (earlier passed : List WrittenFormat) (found : Option WrittenFormat)
+    → with_written (earlier ++ passed) found ≡ earlier ++ with_written passed found
+behind_passed earlier passed None = refl
+behind_passed earlier passed (Some format) = append_assoc earlier passed (format ∷ [])
 
 -- what a start writes was kept
 code_taken : {x : PlacedTag} {all left rest : List PlacedTag} {old mid now : FormatCodes}
     (found : Option WrittenFormat) → KeepsCodes all left old mid → left ≡ x ∷ rest
     → written_format x ≡ Ok found → ((earlier : List WrittenFormat) → AreCodes earlier mid
     → AreCodes (with_written earlier found) now) → KeepsCodes all rest old now
-code_taken {x = x} {rest = rest} None keeps same is codes = record {
+code_taken {x = x} {now = now} found keeps same is codes = record {
   front = keeps.front ++ x ∷ [];
-  passed = keeps.passed;
+  passed = with_written keeps.passed found;
   starts = one_less keeps.front same keeps.starts;
-  written = one_more keeps.passed None keeps.front x keeps.written is;
-  kept = λ earlier are. codes (earlier ++ keeps.passed) (keeps.kept earlier are);
-}
-code_taken {x = x} {now = now} (Some format) keeps same is codes = record {
-  front = keeps.front ++ x ∷ [];
-  passed = keeps.passed ++ format ∷ [];
-  starts = one_less keeps.front same keeps.starts;
-  written = one_more keeps.passed (Some format) keeps.front x keeps.written is;
+  written = some_and_more written_format keeps.front (x ∷ []) keeps.passed keeps.written
+      ∙ ap (λ (own : Result (Option WrittenFormat) Refusal).
+      prepended keeps.passed (and_others_if own (Ok []))) is
+      ∙ put_one keeps.passed found;
   kept = λ earlier are. subst (λ (formats : List WrittenFormat). AreCodes formats now)
-      (append_assoc earlier keeps.passed (format ∷ []))
+      (behind_passed earlier keeps.passed found)
       (codes (earlier ++ keeps.passed) (keeps.kept earlier are));
 }
 

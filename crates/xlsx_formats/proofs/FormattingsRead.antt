@@ -1,8 +1,9 @@
 -- How a cell format is made of its start and of what is set in it.
-use Rattle.std.proofs.Common.{◌≡◌, ℕ, List, Option, Some, None, Result, Ok, refl, sym, ◌∙◌, ap}
+use Rattle.std.proofs.Common.{◌≡◌, ℕ, List, Option, Some, None, Result, Ok, Err, refl, sym, ◌∙◌, ap}
 use Rattle.std.proofs.Common.{subst, codes, length, get_or}
 use Rattle.std.specs.Prelude.{IsOkAnd}
 use Rattle.attr_text.specs.Attributes.{lookup}
+use Rattle.attr_text.specs.declared.fault.AttrFault.{AttrFault}
 use Rattle.part_events.specs.Event.{Tag, Event}
 use Rattle.part_events.specs.Reading.{Reading}
 use Rattle.part_events.specs.declared.fault.XmlFault.TheVariants.{EndMismatch}
@@ -14,12 +15,13 @@ use Rattle.xlsx_sections.specs.PartSection.{always, inside_of, section_left}
 use Rattle.xlsx_sections.specs.Refusal.{Refusal, ElementFails}
 use Rattle.xlsx_sections.proofs.Refused.{refused_as}
 use Rattle.xlsx_styles.specs.Errors.{IsPlainError}
-use Rattle.xlsx_formats.specs.FormatCodes.{WrittenFormat, code_kept, AreCodes}
+use Rattle.xlsx_formats.specs.FormatCodes.{WrittenFormat, code_kept, code_written, AreCodes}
 use Rattle.xlsx_formats.specs.Formattings.{NamedSaid, FormattingSaid, format_named}
 use Rattle.xlsx_formats.specs.Formattings.{number_format_named}
 use Rattle.xlsx_formats.specs.Formattings.{formatting_keys, formatting_named, no_settings}
 use Rattle.xlsx_formats.specs.Formattings.{settings_of, code_said}
 use Rattle.xlsx_formats.specs.Formattings.{formatting_set, formatting_by, formatting_of, named_said}
+use Rattle.xlsx_formats.specs.declared.format_codes.FormatCodes.{FormatCodes}
 use Rattle.xlsx_formats.proofs.CodesRead.{ok_found}
 use Rattle.xlsx_formats.specs.declared.formatting.NamedLists.{NamedLists}
 use Rattle.xlsx_formats.specs.declared.settings.Settings.{Settings}
@@ -61,6 +63,37 @@ named_same first second same lists texts settings =
       format_same first second same (get_or texts 0 None),
       number_format_same first second same (get_or texts 0 None),
     ) refl
+
+-- lists with these number formats
+abbrev pub naming : List WrittenFormat → NamedSaid → NamedSaid
+naming formats lists = record {
+  formats = formats;
+  fonts = lists.fonts;
+  fills = lists.fills;
+  borders = lists.borders;
+}
+
+by_same : (first second : List WrittenFormat) (lists : NamedSaid)
+    → ((id : List ℕ) → code_written id first ≡ code_written id second)
+    → (settings : Result Settings Refusal) (texts : Result (List (Option (List ℕ))) AttrFault)
+    → formatting_by (naming first lists) settings texts
+    ≡ formatting_by (naming second lists) settings texts
+by_same first second lists same settings (Err fault) = refl
+by_same first second lists same (Err refusal) (Ok texts) = refl
+by_same first second lists same (Ok settings) (Ok texts) =
+    let own = λ (id : List ℕ). code_written id first in
+    let other = λ (id : List ℕ). code_written id second in
+    ap (λ (said : FormattingSaid). let answer : Result FormattingSaid Refusal = Ok said in answer)
+    (sym (named_same own own (λ _. refl) lists texts settings)
+    ∙ named_same own other same lists texts settings)
+
+-- a cell format is the same by all written formats whose codes are the ones that are kept
+pub formatting_same : (first second : List WrittenFormat) (kept : FormatCodes) (lists : NamedSaid)
+    → AreCodes first kept → AreCodes second kept → (tag : Tag) (inside : List Event)
+    → formatting_of (naming first lists) tag inside ≡ formatting_of (naming second lists) tag inside
+formatting_same first second kept lists are also tag inside =
+    by_same first second lists (λ id. sym (are id) ∙ also id) (settings_of inside)
+    (lookup formatting_keys tag.attributes)
 
 -- a start names this, and this is set in its element
 pub formatting_found : (formats : List WrittenFormat) (lists : NamedLists) (tag own : Tag)

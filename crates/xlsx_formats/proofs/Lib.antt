@@ -1,3 +1,4 @@
 pub mod CodesKept
 pub mod CodesRead
+pub mod CodesWritten
 pub mod FormattingsRead

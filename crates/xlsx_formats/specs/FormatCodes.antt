@@ -1,9 +1,10 @@
 -- The codes of number formats, by their ids (ECMA-376 part 1, section 18.8.30).
 use Rattle.std.specs.Prelude.{◌≡◌, ℕ, List, [], ◌∷◌, ◌++◌, Bool, if◌then◌else◌, codes, Option, Some}
-use Rattle.std.specs.Prelude.{None, option_map, Result, Ok, Err, string_bytes, IsOkAnd}
+use Rattle.std.specs.Prelude.{None, option_map, Result, Ok, Err, String, string_bytes, IsOkAnd}
 use Rattle.std.specs.BTreeMap.{get_by_text}
 use Rattle.std.specs.Option.{option_or}
 use Rattle.std.specs.Str.{bytes_eq}
+use Rattle.std.specs.declared.alloc.Global.{Global}
 use Rattle.attr_text.specs.Attributes.{lookup}
 use Rattle.attr_text.specs.declared.fault.AttrFault.{AttrFault}
 use Rattle.part_events.specs.Event.{Tag, Event}
@@ -75,6 +76,16 @@ code_of kept = string_bytes kept.code
 -- the code that is kept of this id
 abbrev pub code_kept : FormatCodes → List ℕ → Option (List ℕ)
 code_kept kept id = option_map code_of (get_by_text kept.by_id id)
+
+-- the formats of a map's entries, the first one last
+abbrev pub formats_at : List (String Global × KeptCode) → List WrittenFormat
+formats_at [] = []
+formats_at (entry ∷ entries) =
+    formats_at entries ++ record { id = string_bytes entry.0; code = code_of entry.1 } ∷ []
+
+-- formats whose codes are kept, one of each id
+abbrev pub formats_kept : FormatCodes → List WrittenFormat
+formats_kept kept = formats_at kept.by_id.entries
 
 -- the codes that are kept are those of these formats, in the order in which they were written
 abbrev pub AreCodes : List WrittenFormat → FormatCodes → Type 0

@@ -21,7 +21,7 @@ use Rattle.xlsx_sections.specs.Refusal.{Refusal, plain, lookup_fault}
 use Rattle.xlsx_styles.specs.Alignments.{alignment_of, protection_of}
 use Rattle.xlsx_styles.specs.Fonts.{FontSaid, said_of}
 use Rattle.xlsx_sections.specs.NumberText.{number_below}
-use Rattle.xlsx_formats.specs.FormatCodes.{WrittenFormat, code_written}
+use Rattle.xlsx_formats.specs.FormatCodes.{WrittenFormat, code_written, formats_kept}
 use Rattle.xlsx_formats.specs.declared.formatting.Formatting.{Formatting}
 use Rattle.xlsx_formats.specs.declared.formatting.NamedLists.{NamedLists}
 use Rattle.xlsx_formats.specs.declared.settings.Settings.{Settings}
@@ -74,6 +74,10 @@ named_said formats lists = record {
   fills = lists.fills.now;
   borders = lists.borders.now;
 }
+
+-- and where their number formats are those whose codes are kept
+abbrev pub named_kept : NamedLists → NamedSaid
+named_kept lists = named_said (formats_kept lists.codes.now) lists
 
 -- with the alignment, or the protection, of a later start
 abbrev pub with_alignment : Settings → Alignment → Settings

@@ -182,9 +182,8 @@ pub fn read_format<P: Package>(
     lists: &NamedLists<'_>,
 ) -> Result<Formatting, XlsxError>
     requires element { IsReadingElement (reading (P.state «package».old) cursor.old) }
-    ensures reads { let old = reading (P.state «package».old) cursor.old in
-        let new = reading (P.state «package».new) cursor.new in
-        ReadsElement Io result old new }
+    ensures reads { ReadsElement Io result (reading (P.state «package».old) cursor.old)
+        (reading (P.state «package».new) cursor.new) }
     ensures formatting { let old = reading (P.state «package».old) cursor.old in
         old.source.is_told ≡ true → IfOk result (λ formatting.
         (tag : Tag) (formats : List WrittenFormat) → start tag ≡ old.source.current →

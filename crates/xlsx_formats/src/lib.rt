@@ -11,6 +11,9 @@
 //! formats goes on where the first ended. Nothing is taken in advance by a `count`. Fonts, fills
 //! and borders are named by numbers, and number formats by texts: `014` names no built-in format of
 //! dates, and has the code of number 14 all the same.
+//!
+//! Its lemma files: `CodesRead`, `CodesWritten` (the codes that are kept are those of some formats)
+//! and `FormattingsRead` (all formats with these codes make the same of a cell format).
 #![tactic(auto)]
 
 mod equality;

@@ -60,9 +60,8 @@ pub fn read_number_formats<P: Package>(
     kept: &mut FormatCodes,
 ) -> Result<(), XlsxError>
     requires element { IsReadingElement (reading (P.state «package».old) cursor.old) }
-    ensures reads { let old = reading (P.state «package».old) cursor.old in
-        let new = reading (P.state «package».new) cursor.new in
-        ReadsElement Io result old new }
+    ensures reads { ReadsElement Io result (reading (P.state «package».old) cursor.old)
+        (reading (P.state «package».new) cursor.new) }
     ensures formats { let old = reading (P.state «package».old) cursor.old in
         old.source.is_told ≡ true → OnOk result
         (IsOkAnd (formats_written (content 0 (ahead old))) (λ formats.

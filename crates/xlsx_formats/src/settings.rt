@@ -1,13 +1,11 @@
 ghost use Rattle.std.proofs.Common.{rules};
-ghost use Rattle.std.specs.Prelude.{◌≡◌, ⊤, ℕ, codes, true, Ok, IfOk, IfErr, MatchResult, Err};
+ghost use Rattle.std.specs.Prelude.{◌≡◌, ⊤, ℕ, codes, Ok, MatchResult, Err};
 ghost use Rattle.part_events.specs.Event.{tag_of};
-ghost use Rattle.part_events.specs.Reading.{reading, IsReadingElement, ReadsElement, ahead};
-ghost use Rattle.part_events.specs.Section.{content};
-ghost use Rattle.xlsx_error.specs.declared.error.XlsxError.TheVariants.{Io};
-ghost use Rattle.xlsx_sections.specs.Elements.{ElementReadFails};
+ghost use Rattle.part_events.specs.Reading.{reading, IsReadingElement};
 ghost use Rattle.xlsx_sections.specs.PartSection.{always};
 ghost use Rattle.xlsx_sections.specs.Refusal.{plain, lookup_fault, placed_at};
 ghost use Rattle.xlsx_styles.specs.Errors.{IsPlainError};
+ghost use Rattle.xlsx_styles.specs.ReadElements.{ReadsInside};
 ghost use Rattle.xlsx_formats.specs.Formattings.{setting_change, settings_of};
 ghost use Rattle.xlsx_formats.specs.declared.settings.Settings.{Settings};
 
@@ -68,16 +66,9 @@ pub fn read_settings<P: Package>(
     cursor: &mut Cursor,
 ) -> Result<Settings, XlsxError>
     requires element { IsReadingElement (reading (P.state «package».old) cursor.old) }
-    ensures reads { let old = reading (P.state «package».old) cursor.old in
-        let new = reading (P.state «package».new) cursor.new in
-        ReadsElement Io result old new }
-    ensures settings { let old = reading (P.state «package».old) cursor.old in
-        old.source.is_told ≡ true →
-        IfOk result (λ settings. settings_of (content 0 (ahead old)) ≡ Ok settings) }
-    ensures err { let old = reading (P.state «package».old) cursor.old in
-        let new = reading (P.state «package».new) cursor.new in
-        IfErr result (ElementReadFails (always (codes "xf")) settings_of old new) }
-    ensures kind { IfErr result (IsPlainError (codes "xf")) }
+    ensures { ReadsInside settings_of (λ settings. settings) (always (codes "xf"))
+        (IsPlainError (codes "xf")) result (reading (P.state «package».old) cursor.old)
+        (reading (P.state «package».new) cursor.new) }
 {
     let mut settings = Settings {
         alignment: None,

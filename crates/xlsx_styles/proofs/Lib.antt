@@ -1,3 +1,4 @@
+pub mod ElementsTold
 pub mod FontErrors
 pub mod Nearest
 pub mod Orders

@@ -1,19 +1,11 @@
 -- Which refusals are those of an element, by that of a step in it.
-use Rattle.std.proofs.Common.{ℕ, List, codes, inl, inr}
+use Rattle.std.proofs.Common.{codes, inl, inr}
 use Rattle.part_events.specs.declared.fault.XmlFault.TheVariants.{EndMismatch}
 use Rattle.xlsx_error.specs.declared.error.XlsxError.{XlsxError}
 use Rattle.xlsx_error.specs.declared.error.XlsxError.TheVariants.{OutOfMemory, Io, Xml, XmlAttr}
 use Rattle.xlsx_error.specs.declared.error.XlsxError.TheVariants.{XmlEof}
 use Rattle.xlsx_sections.specs.PartSection.{IsStepError}
 use Rattle.xlsx_styles.specs.Errors.{IsPlainError, IsBorderError}
-
-pub plain_step : (name : List ℕ) (error : XlsxError) → IsStepError name error
-    → IsPlainError name error
-plain_step name OutOfMemory is = tt
-plain_step name Io is = tt
-plain_step name (Xml (EndMismatch at)) is = tt
-plain_step name (XmlEof element) is = is
-plain_step name _ is = absurd is
 
 pub border_step : (error : XlsxError) → IsStepError (codes "border") error → IsBorderError error
 border_step OutOfMemory is = tt

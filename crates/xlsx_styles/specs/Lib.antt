@@ -4,6 +4,7 @@ pub mod Colors
 pub mod Errors
 pub mod Fills
 pub mod Fonts
+pub mod ReadElements
 pub mod Texts
 pub mod Theme
 pub mod Tint

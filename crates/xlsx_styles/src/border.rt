@@ -1,25 +1,23 @@
-ghost use Rattle.std.specs.Prelude.{◌≡◌, ℕ, codes, true, Ok, Err, IfOk, IfErr, MatchResult};
+ghost use Rattle.std.proofs.Common.{rules};
+ghost use Rattle.std.specs.Prelude.{◌≡◌, codes};
 ghost use Rattle.std.specs.Option.{option_copied};
 ghost use Rattle.attr_text.specs.Attributes.{local_name_of};
-ghost use Rattle.part_events.specs.Event.{Tag, start, tag_of};
-ghost use Rattle.part_events.specs.Reading.{reading, IsReadingElement, ReadsElement, ahead};
-ghost use Rattle.part_events.specs.Section.{content};
-ghost use Rattle.xlsx_error.specs.declared.error.XlsxError.TheVariants.{Io};
-ghost use Rattle.xlsx_sections.specs.Answers.{or_earlier};
-ghost use Rattle.xlsx_sections.specs.Elements.{ElementReadFails};
+ghost use Rattle.part_events.specs.Event.{tag_of};
+ghost use Rattle.part_events.specs.Reading.{reading, IsReadingElement};
+ghost use Rattle.cell_styles.specs.declared.color.Color.{Color};
 ghost use Rattle.xlsx_sections.specs.PartSection.{always};
-ghost use Rattle.xlsx_sections.specs.Refusal.{plain, lookup_fault, placed_at};
 ghost use Rattle.xlsx_styles.specs.Borders.{line_named, border_line, side_line, side_color};
 ghost use Rattle.xlsx_styles.specs.Borders.{color_in, side_of, side_named, with_side, border_of};
 ghost use Rattle.xlsx_styles.specs.Borders.{end_in_border};
 ghost use Rattle.xlsx_styles.specs.Errors.{IsPlainError, IsBorderError};
+ghost use Rattle.xlsx_styles.specs.ReadElements.{ReadsInside, ReadsWithStart};
 
 use crate::color_text::parse_color;
 use attr_text::{AttrFault, RawAttributes};
 use cell_styles::{Border, BorderStyle, Borders, Color};
 use part_events::{Cursor, Package, StartTag};
 use xlsx_error::XlsxError;
-use xlsx_sections::{next_element_in, next_start_in, start_tag};
+use xlsx_sections::{Reads, keep_last, next_element_in, start_tag};
 
 /// A side of a border, by the name of its element.
 #[derive(Clone, Copy)]
@@ -86,51 +84,47 @@ fn side_line(tag: StartTag<'_>) -> Result<BorderStyle, AttrFault>
     Ok(border_line(tag.raw_attr("style")?))
 }
 
-/// Keeps the color that a start names, where it names one.
-fn keep_color(
-    kept: &mut Option<Color>,
-    tag: StartTag<'_>,
-    theme_colors: &[Color],
-) -> Result<(), AttrFault>
-    ensures { MatchResult result
-        (λ _. (behind : ℕ) → or_earlier kept.old
-        (side_color theme_colors.now (placed_at (tag_of tag.entry) behind)) ≡ Ok kept.new)
-        (λ fault. (behind : ℕ) → side_color theme_colors.now (placed_at (tag_of tag.entry) behind)
-        ≡ Err (plain (lookup_fault fault))) }
-{
-    let color = parse_color(&tag, theme_colors)?;
-    if color.is_some() {
-        *kept = color;
+/// Reads the color that a start names, where it names one.
+#[derive(Drop)]
+struct SideColors<'a> {
+    theme_colors: &'a [Color],
+}
+
+impl Reads for SideColors<'_> {
+    type Item = Color;
+
+    ghost Kept = { Color };
+
+    ghost said = { λ color. color };
+
+    ghost meaning = { λ r. side_color r.theme_colors.now };
+
+    ghost section = { codes "border side" };
+
+    ghost Kind = { IsPlainError (codes "border side") };
+
+    ghost kinds = { Prim.search rules };
+
+    fn read(&self, tag: StartTag<'_>, _at: u64) -> Result<Option<Color>, XlsxError> {
+        Ok(parse_color(&tag, self.theme_colors)?)
     }
-    Ok(())
 }
 
 /// The color of the side at whose start the package stands, which is read to its end.
-#[tactic(auto, using(crate::proofs::StepErrors::plain_step))]
 fn read_side_color<P: Package>(
     package: &mut P,
     cursor: &mut Cursor,
     theme_colors: &[Color],
 ) -> Result<Option<Color>, XlsxError>
     requires element { IsReadingElement (reading (P.state «package».old) cursor.old) }
-    ensures reads { let old = reading (P.state «package».old) cursor.old in
-        let new = reading (P.state «package».new) cursor.new in
-        ReadsElement Io result old new }
-    ensures color { let old = reading (P.state «package».old) cursor.old in
-        old.source.is_told ≡ true →
-        IfOk result (λ color. color_in theme_colors.now (content 0 (ahead old)) ≡ Ok color) }
-    ensures err { let old = reading (P.state «package».old) cursor.old in
-        let new = reading (P.state «package».new) cursor.new in
-        IfErr result (ElementReadFails (always (codes "border side")) (color_in theme_colors.now)
-        old new) }
-    ensures kind { IfErr result (IsPlainError (codes "border side")) }
+    ensures { ReadsInside (color_in theme_colors.now) (λ color. color)
+        (always (codes "border side")) (IsPlainError (codes "border side")) result
+        (reading (P.state «package».old) cursor.old)
+        (reading (P.state «package».new) cursor.new) }
 {
     let base = cursor.depth();
-    let mut color = None;
-    'starts: while let Some(_at) = next_start_in(package, cursor, base, "color", "border side")? {
-        keep_color(&mut color, start_tag(package), theme_colors)?;
-    }
-    Ok(color)
+    let by = SideColors { theme_colors };
+    keep_last(package, cursor, base, &["color"], "border side", by)
 }
 
 /// The side at whose start the package stands, which is read to its end.
@@ -141,19 +135,10 @@ fn read_side<P: Package>(
     theme_colors: &[Color],
 ) -> Result<Border, XlsxError>
     requires element { IsReadingElement (reading (P.state «package».old) cursor.old) }
-    ensures reads { let old = reading (P.state «package».old) cursor.old in
-        let new = reading (P.state «package».new) cursor.new in
-        ReadsElement Io result old new }
-    ensures side { let old = reading (P.state «package».old) cursor.old in
-        old.source.is_told ≡ true → IfOk result (λ side. (tag : Tag) →
-        start tag ≡ old.source.current →
-        side_of theme_colors.now tag (content 0 (ahead old)) ≡ Ok side) }
-    ensures err { let old = reading (P.state «package».old) cursor.old in
-        let new = reading (P.state «package».new) cursor.new in
-        IfErr result (λ error. (tag : Tag) → start tag ≡ old.source.current →
-        ElementReadFails (always (codes "border side")) (side_of theme_colors.now tag)
-        old new error) }
-    ensures kind { IfErr result IsBorderError }
+    ensures { ReadsWithStart (side_of theme_colors.now) (λ side. side)
+        (always (codes "border side")) IsBorderError result
+        (reading (P.state «package».old) cursor.old)
+        (reading (P.state «package».new) cursor.new) }
 {
     let style = side_line(start_tag(package))?;
     let color = read_side_color(package, cursor, theme_colors)?;
@@ -196,18 +181,10 @@ pub fn read_border<P: Package>(
     theme_colors: &[Color],
 ) -> Result<Borders, XlsxError>
     requires element { IsReadingElement (reading (P.state «package».old) cursor.old) }
-    ensures reads { let old = reading (P.state «package».old) cursor.old in
-        let new = reading (P.state «package».new) cursor.new in
-        ReadsElement Io result old new }
-    ensures borders { let old = reading (P.state «package».old) cursor.old in
-        old.source.is_told ≡ true → IfOk result (λ borders.
-        border_of theme_colors.now diagonal_down diagonal_up (content 0 (ahead old))
-        ≡ Ok borders) }
-    ensures err { let old = reading (P.state «package».old) cursor.old in
-        let new = reading (P.state «package».new) cursor.new in
-        IfErr result (ElementReadFails end_in_border
-        (border_of theme_colors.now diagonal_down diagonal_up) old new) }
-    ensures kind { IfErr result IsBorderError }
+    ensures { ReadsInside (border_of theme_colors.now diagonal_down diagonal_up)
+        (λ borders. borders) end_in_border IsBorderError result
+        (reading (P.state «package».old) cursor.old)
+        (reading (P.state «package».new) cursor.new) }
 {
     let base = cursor.depth();
     let mut borders = Borders::default();

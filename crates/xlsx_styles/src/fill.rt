@@ -1,17 +1,15 @@
 ghost use Rattle.std.proofs.Common.{rules};
-ghost use Rattle.std.specs.Prelude.{◌≡◌, ⊤, codes, true, Ok, Err, IfOk, IfErr, MatchResult};
+ghost use Rattle.std.specs.Prelude.{◌≡◌, ⊤, codes, Ok, Err, MatchResult};
 ghost use Rattle.std.specs.Option.{option_copied};
 ghost use Rattle.attr_text.specs.Attributes.{value_of};
 ghost use Rattle.part_events.specs.Event.{tag_of};
-ghost use Rattle.part_events.specs.Reading.{reading, IsReadingElement, ReadsElement, ahead};
-ghost use Rattle.part_events.specs.Section.{content};
-ghost use Rattle.xlsx_error.specs.declared.error.XlsxError.TheVariants.{Io};
-ghost use Rattle.xlsx_sections.specs.Elements.{ElementReadFails};
+ghost use Rattle.part_events.specs.Reading.{reading, IsReadingElement};
 ghost use Rattle.xlsx_sections.specs.PartSection.{always};
 ghost use Rattle.xlsx_sections.specs.Changes.{changed_with};
 ghost use Rattle.xlsx_styles.specs.Errors.{IsPlainError};
 ghost use Rattle.xlsx_styles.specs.Fills.{pattern_named, with_pattern, with_foreground};
 ghost use Rattle.xlsx_styles.specs.Fills.{with_background, fill_changed, fill_change, fill_of};
+ghost use Rattle.xlsx_styles.specs.ReadElements.{ReadsInside};
 ghost use Rattle.cell_styles.specs.declared.fill.Fill.{Fill};
 
 use crate::color_text::parse_color;
@@ -134,17 +132,9 @@ pub fn read_fill<P: Package>(
     theme_colors: &[Color],
 ) -> Result<Fill, XlsxError>
     requires element { IsReadingElement (reading (P.state «package».old) cursor.old) }
-    ensures reads { let old = reading (P.state «package».old) cursor.old in
-        let new = reading (P.state «package».new) cursor.new in
-        ReadsElement Io result old new }
-    ensures fill { let old = reading (P.state «package».old) cursor.old in
-        old.source.is_told ≡ true →
-        IfOk result (λ fill. fill_of theme_colors.now (content 0 (ahead old)) ≡ Ok fill) }
-    ensures err { let old = reading (P.state «package».old) cursor.old in
-        let new = reading (P.state «package».new) cursor.new in
-        IfErr result (ElementReadFails (always (codes "fill")) (fill_of theme_colors.now)
-        old new) }
-    ensures kind { IfErr result (IsPlainError (codes "fill")) }
+    ensures { ReadsInside (fill_of theme_colors.now) (λ fill. fill) (always (codes "fill"))
+        (IsPlainError (codes "fill")) result (reading (P.state «package».old) cursor.old)
+        (reading (P.state «package».new) cursor.new) }
 {
     let fill = Fill::default();
     let mut keeper = FillKeeper { theme_colors, fill };

@@ -1,15 +1,13 @@
 ghost use Rattle.std.proofs.Common.{rules};
-ghost use Rattle.std.specs.Prelude.{◌≡◌, ⊤, ℕ, codes, true, Ok, IfOk, OnOk, IfErr};
+ghost use Rattle.std.specs.Prelude.{◌≡◌, ⊤, ℕ, codes, Ok, OnOk, IfErr};
 ghost use Rattle.attr_text.specs.Attributes.{value_of};
 ghost use Rattle.part_events.specs.Event.{tag_of};
-ghost use Rattle.part_events.specs.Reading.{reading, IsReadingElement, ReadsElement, ahead};
-ghost use Rattle.part_events.specs.Section.{content};
-ghost use Rattle.xlsx_error.specs.declared.error.XlsxError.TheVariants.{Io};
-ghost use Rattle.xlsx_sections.specs.Elements.{ElementReadFails};
+ghost use Rattle.part_events.specs.Reading.{reading, IsReadingElement};
 ghost use Rattle.xlsx_sections.specs.PartSection.{always};
 ghost use Rattle.xlsx_sections.specs.Refusal.{ElementFails, placed_at};
 ghost use Rattle.xlsx_styles.specs.Errors.{IsFontError};
 ghost use Rattle.xlsx_styles.specs.Fonts.{FontSaid, said_of, name_changed, font_change, font_of};
+ghost use Rattle.xlsx_styles.specs.ReadElements.{ReadsInside};
 
 use crate::font_parts::{change_color, change_value};
 use attr_text::RawAttributes;
@@ -100,17 +98,9 @@ pub fn read_font<P: Package>(
     theme_colors: &[Color],
 ) -> Result<Font, XlsxError>
     requires element { IsReadingElement (reading (P.state «package».old) cursor.old) }
-    ensures reads { let old = reading (P.state «package».old) cursor.old in
-        let new = reading (P.state «package».new) cursor.new in
-        ReadsElement Io result old new }
-    ensures font { let old = reading (P.state «package».old) cursor.old in
-        old.source.is_told ≡ true →
-        IfOk result (λ font. font_of theme_colors.now (content 0 (ahead old)) ≡ Ok (said_of font)) }
-    ensures err { let old = reading (P.state «package».old) cursor.old in
-        let new = reading (P.state «package».new) cursor.new in
-        IfErr result (ElementReadFails (always (codes "font")) (font_of theme_colors.now)
-        old new) }
-    ensures kind { IfErr result IsFontError }
+    ensures { ReadsInside (font_of theme_colors.now) said_of (always (codes "font"))
+        IsFontError result (reading (P.state «package».old) cursor.old)
+        (reading (P.state «package».new) cursor.new) }
 {
     let mut keeper = FontKeeper {
         alloc,

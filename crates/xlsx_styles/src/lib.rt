@@ -12,7 +12,9 @@
 //! says nothing changes nothing. Starts in a font and a fill count at any depth; the sides of a
 //! border are its outermost ones, and the color of a side is that of the last start in it that
 //! names one. A loop keeps that what is left makes of what is kept is what the whole makes of the
-//! default.
+//! default. What a call does that reads an element is one record (`ReadsInside`, `ReadsWithStart`).
+//!
+//! The lemma file is `ElementsTold`: what such a call says, by the call whose answer it hands on.
 #![tactic(auto)]
 
 mod alignment;

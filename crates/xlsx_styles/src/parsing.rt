@@ -1,14 +1,12 @@
-ghost use Rattle.std.specs.Prelude.{◌≡◌, codes, true, Ok, IfOk, IfErr};
+ghost use Rattle.std.specs.Prelude.{codes};
 ghost use Rattle.part_events.specs.Reader.{reading_by, SamePackage};
-ghost use Rattle.part_events.specs.Reading.{ahead, IsReadingElement, ReadsElement};
-ghost use Rattle.part_events.specs.Section.{content};
-ghost use Rattle.xlsx_error.specs.declared.error.XlsxError.TheVariants.{Io};
-ghost use Rattle.xlsx_sections.specs.Elements.{ElementReadFails};
+ghost use Rattle.part_events.specs.Reading.{IsReadingElement};
 ghost use Rattle.xlsx_sections.specs.PartSection.{always};
 ghost use Rattle.xlsx_styles.specs.Borders.{border_of, end_in_border};
 ghost use Rattle.xlsx_styles.specs.Errors.{IsPlainError, IsFontError, IsBorderError};
 ghost use Rattle.xlsx_styles.specs.Fills.{fill_of};
 ghost use Rattle.xlsx_styles.specs.Fonts.{said_of, font_of};
+ghost use Rattle.xlsx_styles.specs.ReadElements.{ReadsInside};
 
 use crate::border::read_border;
 use crate::fill::read_fill;
@@ -29,16 +27,8 @@ pub fn parse_font<P: Package>(
 ) -> Result<Font, XlsxError>
     requires element { IsReadingElement (reading_by P.state xml.old) }
     ensures same_package { SamePackage xml.old xml.new }
-    ensures reads { let old = reading_by P.state xml.old in
-        ReadsElement Io result old (reading_by P.state xml.new) }
-    ensures font { let old = reading_by P.state xml.old in
-        old.source.is_told ≡ true →
-        IfOk result (λ font. font_of theme_colors.now (content 0 (ahead old)) ≡ Ok (said_of font)) }
-    ensures err { let old = reading_by P.state xml.old in
-        let new = reading_by P.state xml.new in
-        IfErr result (ElementReadFails (always (codes "font")) (font_of theme_colors.now)
-        old new) }
-    ensures kind { IfErr result IsFontError }
+    ensures font { ReadsInside (font_of theme_colors.now) said_of (always (codes "font"))
+        IsFontError result (reading_by P.state xml.old) (reading_by P.state xml.new) }
 {
     let alloc = xml.cursor.alloc();
     read_font(alloc, xml.package, &mut xml.cursor, theme_colors)
@@ -53,16 +43,9 @@ pub fn parse_fill<P: Package>(
 ) -> Result<Fill, XlsxError>
     requires element { IsReadingElement (reading_by P.state xml.old) }
     ensures same_package { SamePackage xml.old xml.new }
-    ensures reads { let old = reading_by P.state xml.old in
-        ReadsElement Io result old (reading_by P.state xml.new) }
-    ensures fill { let old = reading_by P.state xml.old in
-        old.source.is_told ≡ true →
-        IfOk result (λ fill. fill_of theme_colors.now (content 0 (ahead old)) ≡ Ok fill) }
-    ensures err { let old = reading_by P.state xml.old in
-        let new = reading_by P.state xml.new in
-        IfErr result (ElementReadFails (always (codes "fill")) (fill_of theme_colors.now)
-        old new) }
-    ensures kind { IfErr result (IsPlainError (codes "fill")) }
+    ensures fill { ReadsInside (fill_of theme_colors.now) (λ fill. fill) (always (codes "fill"))
+        (IsPlainError (codes "fill")) result (reading_by P.state xml.old)
+        (reading_by P.state xml.new) }
 {
     read_fill(xml.package, &mut xml.cursor, theme_colors)
 }
@@ -81,17 +64,9 @@ pub fn parse_border<P: Package>(
 ) -> Result<Borders, XlsxError>
     requires element { IsReadingElement (reading_by P.state xml.old) }
     ensures same_package { SamePackage xml.old xml.new }
-    ensures reads { let old = reading_by P.state xml.old in
-        ReadsElement Io result old (reading_by P.state xml.new) }
-    ensures borders { let old = reading_by P.state xml.old in
-        old.source.is_told ≡ true → IfOk result (λ borders.
-        border_of theme_colors.now diagonal_down diagonal_up (content 0 (ahead old))
-        ≡ Ok borders) }
-    ensures err { let old = reading_by P.state xml.old in
-        let new = reading_by P.state xml.new in
-        IfErr result (ElementReadFails end_in_border
-        (border_of theme_colors.now diagonal_down diagonal_up) old new) }
-    ensures kind { IfErr result IsBorderError }
+    ensures borders { ReadsInside (border_of theme_colors.now diagonal_down diagonal_up)
+        (λ borders. borders) end_in_border IsBorderError result (reading_by P.state xml.old)
+        (reading_by P.state xml.new) }
 {
     read_border(
         xml.package,

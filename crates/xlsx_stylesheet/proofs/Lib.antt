@@ -1,4 +1,2 @@
-pub mod BordersRead
-pub mod CodesWritten
 pub mod Sound
 pub mod StyleListsRead

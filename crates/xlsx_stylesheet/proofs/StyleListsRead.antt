@@ -1,7 +1,7 @@
 -- How the lists of a section of styles are read one by one.
-use Rattle.std.proofs.Common.{◌≡◌, ℕ, List, length, true, false, Result}
-use Rattle.std.proofs.Common.{Ok, Err, refl, sym, ◌∙◌, ap, subst, inl, inr, codes}
-use Rattle.std.specs.Prelude.{IsOkAnd, IfErr}
+use Rattle.std.proofs.Common.{◌≡◌, ℕ, List, [], ◌∷◌, length, true, false, Result}
+use Rattle.std.proofs.Common.{Ok, refl, sym, ◌∙◌, ap, subst, inl, inr, codes}
+use Rattle.std.specs.Prelude.{IfErr}
 use Rattle.std.proofs.lemmas.Bool.{cases_Bool}
 use Rattle.std.proofs.lemmas.Result.{MatchResult-weaker}
 use Rattle.part_events.specs.Event.{Tag, Event, start}
@@ -10,8 +10,9 @@ use Rattle.part_events.specs.Section.{content, outermost}
 use Rattle.part_events.specs.Walk.{section_ahead, element_at}
 use Rattle.xlsx_error.specs.declared.error.XlsxError.{XlsxError}
 use Rattle.cell_styles.specs.declared.color.Color.{Color}
-use Rattle.xlsx_sections.specs.Answers.{prepended}
+use Rattle.xlsx_sections.specs.Answers.{prepended, all_answers}
 use Rattle.xlsx_sections.specs.Changes.{all_changes}
+use Rattle.xlsx_sections.specs.ElementLists.{element_said}
 use Rattle.xlsx_sections.specs.Elements.{KeepsElements, ElementReadFails, IsInsideRefused}
 use Rattle.xlsx_sections.specs.PartSection.{SectionFails, inside_of, section_left}
 use Rattle.xlsx_sections.specs.Refusal.{Refusal, in_element}
@@ -20,13 +21,37 @@ use Rattle.xlsx_sections.proofs.ElementsRead.{own_inside}
 use Rattle.xlsx_sections.proofs.Kept.{change_further, change_refused}
 use Rattle.xlsx_sections.proofs.Refused.{refused_as}
 use Rattle.xlsx_sections.proofs.SectionsRead.{same_tag}
-use Rattle.xlsx_formats.specs.FormatCodes.{WrittenFormat, AreCodes}
+use Rattle.xlsx_formats.specs.FormatCodes.{WrittenFormat, AreCodes, formats_kept}
+use Rattle.xlsx_formats.specs.Formattings.{formatting_of}
+use Rattle.xlsx_formats.proofs.CodesWritten.{codes_written}
+use Rattle.xlsx_formats.proofs.FormattingsRead.{formatting_same}
+use Rattle.xlsx_stylesheet.specs.Lists.{is_format, formattings_in}
 use Rattle.xlsx_stylesheet.specs.StyleSheet.{ListsSaid, with_list, list_of, list_read, list_change}
 use Rattle.xlsx_stylesheet.specs.StyleSheet.{is_style_list, lists_in, list_end, list_element_end}
 use Rattle.xlsx_stylesheet.specs.StyleSheet.{end_in_styles, lists_said, IsListRead}
 use Rattle.xlsx_stylesheet.specs.declared.style_lists.StyleList.{StyleList}
 use Rattle.xlsx_stylesheet.specs.declared.style_lists.StyleLists.{StyleLists}
-use Rattle.xlsx_stylesheet.proofs.CodesWritten.{codes_written}
+
+answers_same : {X A : Type 0} (first second : X → Result A Refusal)
+    → ((x : X) → first x ≡ second x) → (xs : List X)
+    → all_answers first xs ≡ all_answers second xs
+answers_same first second same [] = refl
+answers_same first second same (x ∷ xs) = rw (same x, answers_same first second same xs) refl
+
+-- the cell formats of a list, by all written formats whose codes are the ones that are kept
+pub formattings_same : (formats : List WrittenFormat) (lists : StyleLists)
+    → AreCodes formats lists.codes → (inside : List Event)
+    → formattings_in (lists_said (formats_kept lists.codes) lists).named inside
+    ≡ formattings_in (lists_said formats lists).named inside
+formattings_same formats lists are inside =
+    let kept = formats_kept lists.codes in
+    let own = (lists_said formats lists).named in
+    answers_same (element_said (formatting_of (lists_said kept lists).named))
+    (element_said (formatting_of own))
+    (λ element. ap (in_element element)
+    (formatting_same kept formats lists.codes own (codes_written lists.codes) are element.tag
+    element.inside))
+    (outermost is_format inside)
 
 -- the lists of a section were read up to here
 pub record KeepsLists (theme : List Color) (base : ℕ) (lists : StyleLists) (first now : Reading)
@@ -83,11 +108,10 @@ lists_lengthened {theme = theme} {base = base} {tag = tag} {first = first} {new 
                 (passed.elements told) (ap (in_element here) one.said) (kept.said told);
           }
       | inr is_not ↦
-          let own = codes_written longer.codes in
           record {
             keeps = passed.keeps;
-            formats = own.0;
-            codes = own.1;
+            formats = formats_kept longer.codes;
+            codes = codes_written longer.codes;
             said = λ told. let never : true ≡ false = sym told ∙ is_not in absurd (cc);
           }
     ]
@@ -124,12 +148,6 @@ list_lengthened {theme = theme} {old = old} {new = new} {inside = inside} {forma
       said = subst (λ (kind : StyleList). list_read theme kind (lists_said formats old) inside
           ≡ Ok (lists_said later new)) named said;
     }
-
--- what is there of an answer that isn't refused
-pub answered : {A : Type 0} (answer : Result A Refusal) (P : A → Type 0) → IsOkAnd answer P
-    → (a : A) × (answer ≡ Ok a) × P a
-answered (Ok a) P is = (a, refl, is)
-answered (Err refusal) P is = absurd is
 
 -- the list of the start at which a reader stands
 pub list_there : {own tag : Tag} {event : Event} {found kind : StyleList} → found ≡ kind

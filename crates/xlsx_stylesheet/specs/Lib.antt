@@ -1,3 +1,4 @@
 pub mod Lists
+pub mod ReadLists
 pub mod StyleSheet
 pub mod StylesErrors

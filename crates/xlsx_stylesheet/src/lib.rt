@@ -7,12 +7,11 @@
 //! what it names. A cell format is kept with its style, and the two are parted at the end.
 //!
 //! **A list is what its elements say, one behind the other** (`list_said`): an item for each
-//! outermost element of its name, or the first refusal. Fonts, fills and borders are read by one
-//! loop (`keep_elements` of xlsx_sections). The loop over cell formats has the same invariant
-//! (`KeepsList`) for each list of codes that their numbers may name: what is kept, with what the
-//! rest of the element says, is what was kept before with what the whole says. The section is a
-//! chain of changes (`list_change`) of five lists, so that a second element of a name makes its
-//! list longer, and a cell format sees what stands before it.
+//! outermost element of its name, or the first refusal. All four are read by one loop
+//! (`keep_elements` of xlsx_sections). The numbers of cell formats name the codes that are kept
+//! (`named_kept`), and by all lists of written formats with these codes they say the same
+//! (`formattings_same`). The section is a chain of changes (`list_change`) of five lists, so that a
+//! second element of a name makes its list longer, and a cell format sees what stands before it.
 //!
 //! The lemma file is `Sound`.
 #![tactic(auto)]

@@ -1,26 +1,23 @@
 ghost use Rattle.std.proofs.Common.{rules};
-ghost use Rattle.std.specs.Prelude.{◌≡◌, List, [], ◌∷◌, codes, map, true, Ok};
-ghost use Rattle.std.specs.Prelude.{Err, IfOk, OnOk, IfErr, MatchResult};
+ghost use Rattle.std.specs.Prelude.{◌≡◌, ◌∷◌, [], codes, map, Ok, Err, MatchResult};
 ghost use Rattle.std.specs.Option.{option_copied};
 ghost use Rattle.attr_text.specs.Attributes.{lookup};
-ghost use Rattle.part_events.specs.Event.{Tag, start, tag_of};
-ghost use Rattle.part_events.specs.Reading.{reading, IsReadingElement, ReadsElement, ahead};
-ghost use Rattle.part_events.specs.Section.{content};
-ghost use Rattle.xlsx_error.specs.declared.error.XlsxError.TheVariants.{Io};
-ghost use Rattle.xlsx_sections.specs.Answers.{prepended};
-ghost use Rattle.xlsx_sections.specs.Elements.{ElementReadFails};
+ghost use Rattle.part_events.specs.Event.{tag_of};
+ghost use Rattle.part_events.specs.Reading.{reading, IsReadingElement};
+ghost use Rattle.cell_styles.specs.declared.border.Borders.{Borders};
+ghost use Rattle.cell_styles.specs.declared.fill.Fill.{Fill};
+ghost use Rattle.xlsx_sections.specs.PartSection.{always};
 ghost use Rattle.xlsx_styles.specs.Borders.{end_in_border};
 ghost use Rattle.xlsx_styles.specs.Errors.{IsBorderError};
 ghost use Rattle.xlsx_styles.specs.Fonts.{FontSaid, said_of};
-ghost use Rattle.cell_styles.specs.declared.fill.Fill.{Fill};
-ghost use Rattle.cell_styles.specs.declared.border.Borders.{Borders};
-ghost use Rattle.xlsx_sections.specs.PartSection.{always};
-ghost use Rattle.xlsx_formats.specs.FormatCodes.{WrittenFormat, AreCodes};
-ghost use Rattle.xlsx_formats.specs.Formattings.{formatting_said, named_said};
+ghost use Rattle.xlsx_styles.specs.ReadElements.{ReadsWithStart};
+ghost use Rattle.xlsx_formats.specs.Formattings.{FormattingSaid, formatting_of, formatting_said};
+ghost use Rattle.xlsx_formats.specs.Formattings.{named_kept};
 ghost use Rattle.xlsx_stylesheet.specs.Lists.{formattings_in, end_in_formats, fonts_in};
 ghost use Rattle.xlsx_stylesheet.specs.Lists.{end_in_fonts, fills_in, end_in_fills, diagonal_keys};
 ghost use Rattle.xlsx_stylesheet.specs.Lists.{diagonals_of, border_said, borders_in};
 ghost use Rattle.xlsx_stylesheet.specs.Lists.{end_in_borders, font_said, fill_said};
+ghost use Rattle.xlsx_stylesheet.specs.ReadLists.{ReadsBehind};
 ghost use Rattle.xlsx_stylesheet.specs.StylesErrors.{AreStylesError};
 
 use attr_text::{AttrFault, AttrValue, RawAttributes, two_values};
@@ -29,7 +26,7 @@ use part_events::{Cursor, Package, StartTag};
 use std::alloc::Global;
 use xlsx_error::XlsxError;
 use xlsx_formats::{Formatting, NamedLists, read_format};
-use xlsx_sections::{ReadsEach, keep_elements, next_element_in, start_tag};
+use xlsx_sections::{ReadsEach, keep_elements, start_tag};
 use xlsx_styles::{read_border, read_fill, read_font, truth_or};
 
 /// Reads fonts.
@@ -71,18 +68,9 @@ pub fn read_fonts<P: Package>(
     fonts: &mut Vec<Font>,
 ) -> Result<(), XlsxError>
     requires element { IsReadingElement (reading (P.state «package».old) cursor.old) }
-    ensures reads { let old = reading (P.state «package».old) cursor.old in
-        let new = reading (P.state «package».new) cursor.new in
-        ReadsElement Io result old new }
-    ensures fonts { let old = reading (P.state «package».old) cursor.old in
-        let inside = content 0 (ahead old) in
-        old.source.is_told ≡ true → OnOk result
-        (prepended (map said_of fonts.old.items) (fonts_in theme_colors.now inside)
-        ≡ Ok (map said_of fonts.new.items)) }
-    ensures err { let old = reading (P.state «package».old) cursor.old in
-        let new = reading (P.state «package».new) cursor.new in
-        IfErr result (ElementReadFails end_in_fonts (fonts_in theme_colors.now) old new) }
-    ensures kind { IfErr result AreStylesError }
+    ensures { ReadsBehind (fonts_in theme_colors.now) (map said_of) end_in_fonts result
+        fonts.old.items fonts.new.items (reading (P.state «package».old) cursor.old)
+        (reading (P.state «package».new) cursor.new) }
 {
     let by = FontReader {
         alloc,
@@ -129,17 +117,9 @@ pub fn read_fills<P: Package>(
     fills: &mut Vec<Fill>,
 ) -> Result<(), XlsxError>
     requires element { IsReadingElement (reading (P.state «package».old) cursor.old) }
-    ensures reads { let old = reading (P.state «package».old) cursor.old in
-        let new = reading (P.state «package».new) cursor.new in
-        ReadsElement Io result old new }
-    ensures fills { let old = reading (P.state «package».old) cursor.old in
-        let inside = content 0 (ahead old) in
-        old.source.is_told ≡ true → OnOk result
-        (prepended fills.old.items (fills_in theme_colors.now inside) ≡ Ok fills.new.items) }
-    ensures err { let old = reading (P.state «package».old) cursor.old in
-        let new = reading (P.state «package».new) cursor.new in
-        IfErr result (ElementReadFails end_in_fills (fills_in theme_colors.now) old new) }
-    ensures kind { IfErr result AreStylesError }
+    ensures { ReadsBehind (fills_in theme_colors.now) (λ fills. fills) end_in_fills result
+        fills.old.items fills.new.items (reading (P.state «package».old) cursor.old)
+        (reading (P.state «package».new) cursor.new) }
 {
     let by = FillReader { theme_colors };
     keep_elements(package, cursor, &["fill"], "fills", &by, fills)
@@ -171,18 +151,9 @@ fn read_one_border<P: Package>(
     theme_colors: &[Color],
 ) -> Result<Borders, XlsxError>
     requires element { IsReadingElement (reading (P.state «package».old) cursor.old) }
-    ensures reads { let old = reading (P.state «package».old) cursor.old in
-        let new = reading (P.state «package».new) cursor.new in
-        ReadsElement Io result old new }
-    ensures borders { let old = reading (P.state «package».old) cursor.old in
-        old.source.is_told ≡ true → IfOk result (λ borders. (tag : Tag) →
-        start tag ≡ old.source.current →
-        border_said theme_colors.now tag (content 0 (ahead old)) ≡ Ok borders) }
-    ensures err { let old = reading (P.state «package».old) cursor.old in
-        let new = reading (P.state «package».new) cursor.new in
-        IfErr result (λ error. (tag : Tag) → start tag ≡ old.source.current →
-        ElementReadFails end_in_border (border_said theme_colors.now tag) old new error) }
-    ensures kind { IfErr result IsBorderError }
+    ensures { ReadsWithStart (border_said theme_colors.now) (λ borders. borders)
+        end_in_border IsBorderError result (reading (P.state «package».old) cursor.old)
+        (reading (P.state «package».new) cursor.new) }
 {
     let (down, up) = diagonals_of(&start_tag(package))?;
     read_border(package, cursor, down, up, theme_colors)
@@ -226,21 +197,46 @@ pub fn read_borders<P: Package>(
     borders: &mut Vec<Borders>,
 ) -> Result<(), XlsxError>
     requires element { IsReadingElement (reading (P.state «package».old) cursor.old) }
-    ensures reads { let old = reading (P.state «package».old) cursor.old in
-        let new = reading (P.state «package».new) cursor.new in
-        ReadsElement Io result old new }
-    ensures borders { let old = reading (P.state «package».old) cursor.old in
-        let inside = content 0 (ahead old) in
-        old.source.is_told ≡ true → OnOk result
-        (prepended borders.old.items (borders_in theme_colors.now inside)
-        ≡ Ok borders.new.items) }
-    ensures err { let old = reading (P.state «package».old) cursor.old in
-        let new = reading (P.state «package».new) cursor.new in
-        IfErr result (ElementReadFails end_in_borders (borders_in theme_colors.now) old new) }
-    ensures kind { IfErr result AreStylesError }
+    ensures { ReadsBehind (borders_in theme_colors.now) (λ borders. borders)
+        end_in_borders result borders.old.items borders.new.items
+        (reading (P.state «package».old) cursor.old)
+        (reading (P.state «package».new) cursor.new) }
 {
     let by = BorderReader { theme_colors };
     keep_elements(package, cursor, &["border"], "borders", &by, borders)
+}
+
+/// Reads cell formats.
+#[derive(Drop)]
+struct FormatReader<'a> {
+    alloc: Global,
+    lists: &'a NamedLists<'a>,
+}
+
+impl ReadsEach for FormatReader<'_> {
+    type Item = Formatting;
+
+    ghost Kept = { FormattingSaid };
+
+    ghost said = { λ formatting. formatting_said formatting };
+
+    ghost meaning = { λ r. formatting_of (named_kept r.lists.now) };
+
+    ghost ending = { always (codes "xf") };
+
+    ghost section = { codes "cellXfs" };
+
+    ghost Kind = { AreStylesError };
+
+    ghost kinds = { Prim.search rules };
+
+    fn read<P: Package>(
+        &self,
+        package: &mut P,
+        cursor: &mut Cursor,
+    ) -> Result<Formatting, XlsxError> {
+        read_format(self.alloc, package, cursor, self.lists)
+    }
 }
 
 /// Appends the cell formats of the element at whose start the package stands, which is read to its
@@ -253,27 +249,11 @@ pub fn read_formats<P: Package>(
     formattings: &mut Vec<Formatting>,
 ) -> Result<(), XlsxError>
     requires element { IsReadingElement (reading (P.state «package».old) cursor.old) }
-    ensures reads { let old = reading (P.state «package».old) cursor.old in
-        let new = reading (P.state «package».new) cursor.new in
-        ReadsElement Io result old new }
-    ensures formattings { let old = reading (P.state «package».old) cursor.old in
-        let inside = content 0 (ahead old) in
-        old.source.is_told ≡ true → OnOk result ((formats : List WrittenFormat) →
-        AreCodes formats lists.now.codes.now →
-        prepended (map formatting_said formattings.old.items)
-        (formattings_in (named_said formats lists.now) inside)
-        ≡ Ok (map formatting_said formattings.new.items)) }
-    ensures err { let old = reading (P.state «package».old) cursor.old in
-        let new = reading (P.state «package».new) cursor.new in
-        IfErr result (λ error. (formats : List WrittenFormat) →
-        AreCodes formats lists.now.codes.now →
-        ElementReadFails end_in_formats (formattings_in (named_said formats lists.now))
-        old new error) }
-    ensures kind { IfErr result AreStylesError }
+    ensures { ReadsBehind (formattings_in (named_kept lists.now)) (map formatting_said)
+        end_in_formats result formattings.old.items formattings.new.items
+        (reading (P.state «package».old) cursor.old)
+        (reading (P.state «package».new) cursor.new) }
 {
-    let base = cursor.depth();
-    'formats: while let Some(_at) = next_element_in(package, cursor, base, &["xf"], "cellXfs")? {
-        formattings.push(read_format(alloc, package, cursor, lists)?)?;
-    }
-    Ok(())
+    let by = FormatReader { alloc, lists };
+    keep_elements(package, cursor, &["xf"], "cellXfs", &by, formattings)
 }

@@ -83,9 +83,8 @@ fn read_list<P: Package>(
     lists: &mut StyleLists,
 ) -> Result<(), XlsxError>
     requires element { IsReadingElement (reading (P.state «package».old) cursor.old) }
-    ensures reads { let old = reading (P.state «package».old) cursor.old in
-        let new = reading (P.state «package».new) cursor.new in
-        ReadsElement Io result old new }
+    ensures reads { ReadsElement Io result (reading (P.state «package».old) cursor.old)
+        (reading (P.state «package».new) cursor.new) }
     ensures lists { let old = reading (P.state «package».old) cursor.old in
         old.source.is_told ≡ true →
         OnOk result (ReadsList theme_colors.now lists.old lists.new old) }
@@ -123,9 +122,8 @@ pub fn lists_in<P: Package>(
 ) -> Result<StyleLists, XlsxError>
     requires reading { IsReading (reading (P.state «package».old) cursor.old) }
     requires within { base ≤ length (open_elements cursor.old) }
-    ensures reads { let old = reading (P.state «package».old) cursor.old in
-        let new = reading (P.state «package».new) cursor.new in
-        ReadsPart Io result old new }
+    ensures reads { ReadsPart Io result (reading (P.state «package».old) cursor.old)
+        (reading (P.state «package».new) cursor.new) }
     ensures reaches { let old = reading (P.state «package».old) cursor.old in
         let new = reading (P.state «package».new) cursor.new in
         old.source.is_told ≡ true → OnOk result (ReachesEnd base old new) }

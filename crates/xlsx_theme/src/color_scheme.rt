@@ -26,9 +26,8 @@ fn next_slot<P: Package>(
 ) -> Result<Option<u64>, XlsxError>
     requires reading { IsReading (reading (P.state «package».old) cursor.old) }
     requires within { base ≤ length (open_elements cursor.old) }
-    ensures reads { let old = reading (P.state «package».old) cursor.old in
-        let new = reading (P.state «package».new) cursor.new in
-        ReadsPart Io result old new }
+    ensures reads { ReadsPart Io result (reading (P.state «package».old) cursor.old)
+        (reading (P.state «package».new) cursor.new) }
     ensures stands { let old = reading (P.state «package».old) cursor.old in
         let new = reading (P.state «package».new) cursor.new in
         IfOk result (λ found. StandsAtStart is_slot base found old new) }
@@ -68,9 +67,8 @@ pub(crate) fn read_slots<P: Package>(
 ) -> Result<Vec<Color>, XlsxError>
     requires reading { IsReading (reading (P.state «package».old) cursor.old) }
     requires within { base ≤ length (open_elements cursor.old) }
-    ensures reads { let old = reading (P.state «package».old) cursor.old in
-        let new = reading (P.state «package».new) cursor.new in
-        ReadsPart Io result old new }
+    ensures reads { ReadsPart Io result (reading (P.state «package».old) cursor.old)
+        (reading (P.state «package».new) cursor.new) }
     ensures reaches { let old = reading (P.state «package».old) cursor.old in
         let new = reading (P.state «package».new) cursor.new in
         old.source.is_told ≡ true → OnOk result (ReachesEnd base old new) }

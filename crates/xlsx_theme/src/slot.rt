@@ -1,16 +1,15 @@
-ghost use Rattle.std.specs.Prelude.{◌≡◌, ◌≤◌, List, ℕ, length, true, None, Ok, Err, IfOk};
+ghost use Rattle.std.specs.Prelude.{◌≡◌, ◌≤◌, ℕ, length, true, None, Ok, Err, IfOk};
 ghost use Rattle.std.specs.Prelude.{IfErr, MatchResult, option_and_then};
 ghost use Rattle.std.specs.Option.{option_copied};
 ghost use Rattle.part_events.specs.Event.{tag_of};
 ghost use Rattle.part_events.specs.Reading.{Reading, reading, open_elements, IsReading};
-ghost use Rattle.part_events.specs.Reading.{IsReadingElement, ReadsElement, ReadsPart, ahead};
-ghost use Rattle.part_events.specs.Section.{content};
+ghost use Rattle.part_events.specs.Reading.{IsReadingElement, ReadsPart};
 ghost use Rattle.xlsx_error.specs.declared.error.XlsxError.TheVariants.{Io};
-ghost use Rattle.xlsx_sections.specs.Elements.{ElementReadFails, IsEndError, KeepsStarts};
-ghost use Rattle.xlsx_sections.specs.Elements.{named_end};
+ghost use Rattle.xlsx_sections.specs.Elements.{IsEndError, KeepsStarts, named_end};
 ghost use Rattle.xlsx_sections.specs.PartSection.{Never, SectionFails, StandsAtStart, FindsStartIn};
 ghost use Rattle.xlsx_sections.specs.Refusal.{plain, lookup_fault, placed_at};
 ghost use Rattle.xlsx_styles.specs.Colors.{hex_color};
+ghost use Rattle.xlsx_styles.specs.ReadElements.{ReadsInside};
 ghost use Rattle.xlsx_sections.specs.Steps.{StepsToStart};
 ghost use Rattle.xlsx_theme.specs.ColorScheme.{is_color_model, model_color, model_answer};
 ghost use Rattle.xlsx_theme.specs.ColorScheme.{unless_given, slot_color, IsSchemeError};
@@ -61,9 +60,8 @@ fn next_model<P: Package>(
 ) -> Result<Option<u64>, XlsxError>
     requires reading { IsReading (reading (P.state «package».old) cursor.old) }
     requires within { base ≤ length (open_elements cursor.old) }
-    ensures reads { let old = reading (P.state «package».old) cursor.old in
-        let new = reading (P.state «package».new) cursor.new in
-        ReadsPart Io result old new }
+    ensures reads { ReadsPart Io result (reading (P.state «package».old) cursor.old)
+        (reading (P.state «package».new) cursor.new) }
     ensures stands { let old = reading (P.state «package».old) cursor.old in
         let new = reading (P.state «package».new) cursor.new in
         IfOk result (λ found. StandsAtStart is_color_model base found old new) }
@@ -98,16 +96,9 @@ pub(crate) fn read_slot<P: Package>(
     cursor: &mut Cursor,
 ) -> Result<Color, XlsxError>
     requires element { IsReadingElement (reading (P.state «package».old) cursor.old) }
-    ensures reads { let old = reading (P.state «package».old) cursor.old in
-        let new = reading (P.state «package».new) cursor.new in
-        ReadsElement Io result old new }
-    ensures color { let old = reading (P.state «package».old) cursor.old in
-        old.source.is_told ≡ true →
-        IfOk result (λ color. slot_color (content 0 (ahead old)) ≡ Ok color) }
-    ensures err { let old = reading (P.state «package».old) cursor.old in
-        let new = reading (P.state «package».new) cursor.new in
-        IfErr result (ElementReadFails (named_end None) slot_color old new) }
-    ensures kind { IfErr result IsSchemeError }
+    ensures { ReadsInside slot_color (λ color. color) (named_end None) IsSchemeError result
+        (reading (P.state «package».old) cursor.old)
+        (reading (P.state «package».new) cursor.new) }
 {
     let base = cursor.depth();
     let mut color = None;

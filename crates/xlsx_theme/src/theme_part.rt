@@ -56,9 +56,8 @@ fn read_scheme<P: Package>(
 ) -> Result<ThemeColors, XlsxError>
     requires reading { IsReading (reading (P.state «package».old) cursor.old) }
     requires first { (reading (P.state «package».old) cursor.old).at ≡ 0 }
-    ensures reads { let old = reading (P.state «package».old) cursor.old in
-        let new = reading (P.state «package».new) cursor.new in
-        ReadsPart Io result old new }
+    ensures reads { ReadsPart Io result (reading (P.state «package».old) cursor.old)
+        (reading (P.state «package».new) cursor.new) }
     ensures behind { let old = reading (P.state «package».old) cursor.old in
         let new = reading (P.state «package».new) cursor.new in
         old.source.is_told ≡ true → OnOk result (ahead new ≡ behind_scheme (ahead old)) }

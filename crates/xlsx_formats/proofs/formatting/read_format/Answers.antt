@@ -44,4 +44,4 @@ returns-clause-formatting g c = λ told tag formats current are.
     (content 0 (ahead old)) c.in_ok-alignment.field-0
     (formatting_said c.in_ok-formatting.formatting)
     (same_tag (current ∙ sym c.start_tag.ensures)) are (c.in_ok-formatting.ensures.ok formats)
-    (c.in_ok-alignment.ensures.settings told)
+    (c.in_ok-alignment.ensures.says told)

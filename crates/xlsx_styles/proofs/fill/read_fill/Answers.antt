@@ -1,15 +1,17 @@
 use Rattle.std.proofs.Common.{◌≡◌, rules}
 use Rattle.cell_styles.specs.Default.{default_fill}
-use Rattle.xlsx_sections.proofs.Failing.{given_back}
+use Rattle.xlsx_styles.proofs.ElementsTold.{told_inside, refused_inside}
 use Rattle.xlsx_styles.proofs.fill.read_fill.Goals as goal
 
-pub returns-in_err-keep_in_element-clause-err : goal.returns-in_err-keep_in_element-clause-err
-returns-in_err-keep_in_element-clause-err g c =
+pub returns-in_err-keep_in_element : goal.returns-in_err-keep_in_element
+returns-in_err-keep_in_element g c =
     let fresh : c.default-fill.result ≡ default_fill = search rules in
-    given_back _ c.from_residual.result c.from_residual.ensures.1
-    (rw fresh at (c.in_err-keep_in_element.ensures.err tt))
+    refused_inside c.from_residual.result c.from_residual.ensures.1
+    c.in_err-keep_in_element.ensures.reads (rw fresh at (c.in_err-keep_in_element.ensures.err tt))
+    c.in_err-keep_in_element.ensures.kind
 
-pub returns-clause-fill : goal.returns-clause-fill
-returns-clause-fill g c = λ told.
+pub returns : goal.returns
+returns g c =
     let fresh : c.default-fill.result ≡ default_fill = search rules in
-    rw fresh at (c.in_ok-keep_in_element.ensures.kept told tt)
+    told_inside _ c.in_ok-keep_in_element.ensures.reads
+    (λ told. rw fresh at (c.in_ok-keep_in_element.ensures.kept told tt))

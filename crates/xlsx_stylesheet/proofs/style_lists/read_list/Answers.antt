@@ -1,14 +1,18 @@
-use Rattle.std.proofs.Common.{◌++◌, List, refl, ap}
+use Rattle.std.proofs.Common.{◌++◌, List, map, length, refl, sym, ◌∙◌, ap}
 use Rattle.std.proofs.lemmas.Result.{MatchResult-weaker, on_ok_weaker}
 use Rattle.part_events.specs.Reading.{reading, ahead}
 use Rattle.part_events.specs.Section.{content}
 use Rattle.xlsx_sections.specs.Answers.{prepended}
-use Rattle.xlsx_formats.specs.FormatCodes.{WrittenFormat, formats_written, AreCodes}
+use Rattle.xlsx_sections.proofs.StartsKept.{refused_same}
+use Rattle.xlsx_formats.specs.FormatCodes.{WrittenFormat, formats_written, formats_kept, AreCodes}
+use Rattle.xlsx_formats.specs.Formattings.{formatting_said}
+use Rattle.xlsx_formats.proofs.CodesRead.{ok_found}
 use Rattle.xlsx_stylesheet.specs.Lists.{fonts_in, fills_in, borders_in, formattings_in}
+use Rattle.xlsx_stylesheet.specs.Lists.{end_in_formats}
 use Rattle.xlsx_stylesheet.specs.StyleSheet.{with_list, with_formats, with_fonts, with_fills}
 use Rattle.xlsx_stylesheet.specs.StyleSheet.{with_borders, with_formattings, lists_said}
-use Rattle.xlsx_stylesheet.proofs.StyleListsRead.{list_fails, list_lengthened, list_there, answered}
-use Rattle.xlsx_stylesheet.proofs.StyleListsRead.{arm_refused}
+use Rattle.xlsx_stylesheet.proofs.StyleListsRead.{list_fails, list_lengthened, list_there}
+use Rattle.xlsx_stylesheet.proofs.StyleListsRead.{arm_refused, formattings_same}
 use Rattle.xlsx_stylesheet.proofs.style_lists.read_list.Goals as goal
 
 pub returns-in-NumberFormats-clause-lists : goal.returns-in-NumberFormats-clause-lists
@@ -19,8 +23,8 @@ returns-in-NumberFormats-clause-lists g c = λ told.
     let written = formats_written (content 0 (ahead old)) in
     on_ok_weaker c.read_number_formats.result
     (λ holds tag formats there are.
-    let more = answered written (λ more. (earlier : List WrittenFormat)
-    → AreCodes earlier lists.codes → AreCodes (earlier ++ more) kept) holds in
+    let more = ok_found (λ (more : List WrittenFormat). (earlier : List WrittenFormat)
+    → AreCodes earlier lists.codes → AreCodes (earlier ++ more) kept) written holds in
     list_lengthened tag (formats ++ more.0)
     (list_there c.in-NumberFormats.is c.list_of.ensures c.start_tag.ensures there)
     (more.2 formats are)
@@ -44,7 +48,7 @@ returns-in-Fonts-clause-lists g c = λ told.
     list_lengthened tag formats
     (list_there c.in-Fonts.is c.list_of.ensures c.start_tag.ensures there) are
     (ap (with_list (with_fonts (lists_said formats c.args.lists.now))) holds))
-    (c.read_fonts.ensures.fonts told)
+    (c.read_fonts.ensures.says told)
 
 pub returns-in-Fonts-clause-err : goal.returns-in-Fonts-clause-err
 returns-in-Fonts-clause-err g c =
@@ -61,7 +65,7 @@ returns-in-Fills-clause-lists g c = λ told.
     list_lengthened tag formats
     (list_there c.in-Fills.is c.list_of.ensures c.start_tag.ensures there) are
     (ap (with_list (with_fills (lists_said formats c.args.lists.now))) holds))
-    (c.read_fills.ensures.fills told)
+    (c.read_fills.ensures.says told)
 
 pub returns-in-Fills-clause-err : goal.returns-in-Fills-clause-err
 returns-in-Fills-clause-err g c =
@@ -78,7 +82,7 @@ returns-in-Borders-clause-lists g c = λ told.
     list_lengthened tag formats
     (list_there c.in-Borders.is c.list_of.ensures c.start_tag.ensures there) are
     (ap (with_list (with_borders (lists_said formats c.args.lists.now))) holds))
-    (c.read_borders.ensures.borders told)
+    (c.read_borders.ensures.says told)
 
 pub returns-in-Borders-clause-err : goal.returns-in-Borders-clause-err
 returns-in-Borders-clause-err g c =
@@ -90,21 +94,27 @@ returns-in-Borders-clause-err g c =
 
 pub returns-in-Formats-clause-lists : goal.returns-in-Formats-clause-lists
 returns-in-Formats-clause-lists g c = λ told.
+    let old = reading (g.P.Package.state c.args.package.now) c.args.cursor.now in
+    let lists = c.args.lists.now in
     on_ok_weaker c.read_formats.result
     (λ holds tag formats there are.
     list_lengthened tag formats
     (list_there c.in-Formats.is c.list_of.ensures c.start_tag.ensures there) are
-    (ap (with_list (with_formattings (lists_said formats c.args.lists.now))) (holds formats are)))
+    (ap (with_list (with_formattings (lists_said formats lists)))
+    (ap (prepended (map formatting_said lists.formattings.items))
+    (sym (formattings_same formats lists are (content 0 (ahead old)))) ∙ holds)))
     (rw (
       c.as_slice.ensures.value,
       c.as_slice-in-Formats.ensures.value,
       c.as_slice-in-Formats-2.ensures.value,
-    ) at (c.read_formats.ensures.formattings told))
+    ) at (c.read_formats.ensures.says told))
 
 pub returns-in-Formats-clause-err : goal.returns-in-Formats-clause-err
 returns-in-Formats-clause-err g c =
     let old = reading (g.P.Package.state c.args.package.now) c.args.cursor.now in
     let new = reading (g.P.Package.state c.read_formats.new.package) c.read_formats.new.cursor in
+    let lists = c.args.lists.now in
+    let kept = lists_said (formats_kept lists.codes) lists in
     MatchResult-weaker c.read_formats.result
     (rw (
       c.as_slice.ensures.value,
@@ -113,8 +123,10 @@ returns-in-Formats-clause-err g c =
     ) at c.read_formats.ensures.err)
     (λ _ is. is)
     (λ error fails tag formats there are.
-    let said = lists_said formats c.args.lists.now in
+    let said = lists_said formats lists in
     list_fails c.args.theme_colors.now said (with_formattings said) said.formattings
     (formattings_in said.named) tag old new error
     (list_there c.in-Formats.is c.list_of.ensures c.start_tag.ensures there) (λ _. refl)
-    (fails formats are))
+    (refused_same (formattings_in kept.named) (formattings_in said.named) (length old.names) old
+    end_in_formats new error
+    (λ events refusal is. sym (formattings_same formats lists are events) ∙ is) fails))

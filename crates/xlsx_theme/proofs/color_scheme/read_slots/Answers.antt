@@ -21,7 +21,8 @@ pub slots-preserved : goal.slots-preserved
 slots-preserved g c =
     rw c.in_ok-push.ensures.items
     (list_added c.in_ok-read_slot.field-0 c.in-Some.is c.slots.invariant c.in_ok-_at.ensures.step
-    c.in_ok-read_slot.ensures.reads (λ told tag current. c.in_ok-read_slot.ensures.color told))
+    c.in_ok-read_slot.ensures.reads
+    (λ told tag current. c.in_ok-read_slot.ensures.says told))
 
 pub returns-in_err-read_slot-clause-err : goal.returns-in_err-read_slot-clause-err
 returns-in_err-read_slot-clause-err g c =

@@ -1,24 +1,27 @@
-use Rattle.std.proofs.Common.{◌≡◌, None, Err, length}
+use Rattle.std.proofs.Common.{◌≡◌, None, Err, length, rules}
 use Rattle.part_events.specs.Event.{tag_of}
 use Rattle.part_events.specs.Reading.{reading}
 use Rattle.part_events.specs.Walk.{section_ahead}
 use Rattle.xlsx_error.specs.declared.error.XlsxError.TheVariants.{XmlAttr}
 use Rattle.xlsx_sections.specs.Elements.{IsInsideRefused, named_end}
 use Rattle.xlsx_sections.specs.Refusal.{placed_at}
-use Rattle.xlsx_sections.proofs.Failing.{given_back}
+use Rattle.xlsx_sections.proofs.SectionsRead.{leaves_further}
 use Rattle.xlsx_sections.proofs.StartsSaid.{at_start, own_refused, own_step_refused}
 use Rattle.xlsx_sections.proofs.StartsSaid.{said_further, said_refused}
+use Rattle.xlsx_styles.proofs.ElementsTold.{refused_inside}
 use Rattle.xlsx_theme.specs.ColorScheme.{slot_color, unless_given, model_answer}
-use Rattle.xlsx_theme.proofs.SchemeRead.{colors_behind, color_further, color_refused}
+use Rattle.xlsx_theme.proofs.SchemeRead.{step_kind, colors_behind, color_further, color_refused}
 use Rattle.xlsx_theme.proofs.slot.read_slot.Goals as goal
 
-pub returns-in_err-_at-clause-err : goal.returns-in_err-_at-clause-err
-returns-in_err-_at-clause-err g c =
+pub returns-in_err-_at : goal.returns-in_err-_at
+returns-in_err-_at g c =
     let old = reading (g.P.Package.state c.args.package.now) c.args.cursor.now in
-    given_back _ c.from_residual.result c.from_residual.ensures.1
+    refused_inside c.from_residual.result c.from_residual.ensures.1
+    (leaves_further c.models.invariant.keeps.section.reads c.in_err-_at.ensures.reads)
     (own_step_refused old (named_end None) (IsInsideRefused slot_color)
     (g.P.Package.state c.next_model.new.package) _ c.depth-base.ensures
     (c.in_err-_at.ensures.refused old c.models.invariant.keeps))
+    (step_kind _ c.in_err-_at.ensures.kind)
 
 pub models-preserved : goal.models-preserved
 models-preserved g c =
@@ -31,8 +34,8 @@ models-preserved g c =
     (λ rest. color_further c.models.color (placed_at (tag_of c.start_tag.result) behind) rest
     (c.in_ok-keep_first.ensures behind))
 
-pub returns-in_err-keep_first-clause-err : goal.returns-in_err-keep_first-clause-err
-returns-in_err-keep_first-clause-err g c =
+pub returns-in_err-keep_first : goal.returns-in_err-keep_first
+returns-in_err-keep_first g c =
     let old = reading (g.P.Package.state c.args.package.now) c.args.cursor.now in
     let new = reading (g.P.Package.state c.next_model.new.package) c.next_model.new.cursor in
     let found = at_start _ c.start_tag.ensures
@@ -40,8 +43,8 @@ returns-in_err-keep_first-clause-err g c =
     let behind = length (section_ahead c.depth-base.result new) in
     let start = placed_at (tag_of c.start_tag.result) behind in
     let error = XmlAttr c.in_err-keep_first.field-0.0 in
-    given_back _ c.from_residual-in_err-keep_first.result
-    c.from_residual-in_err-keep_first.ensures.1
+    refused_inside c.from_residual-in_err-keep_first.result
+    c.from_residual-in_err-keep_first.ensures.1 (search rules)
     (own_refused old (named_end None) (IsInsideRefused slot_color) new.source error
     c.depth-base.ensures
     (said_refused (named_end None)
@@ -49,3 +52,4 @@ returns-in_err-keep_first-clause-err g c =
     new.source error c.models.invariant found
     (λ rest refusal is. color_refused c.models.color start rest refusal is)
     (c.in_err-keep_first.ensures behind)))
+    tt

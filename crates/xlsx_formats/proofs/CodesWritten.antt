@@ -1,5 +1,5 @@
 -- The codes that are kept are those of some number formats.
-use Rattle.std.proofs.Common.{◌≡◌, ℕ, List, [], ◌∷◌, ◌++◌, Bool, Some, None}
+use Rattle.std.proofs.Common.{◌≡◌, ℕ, List, [], ◌∷◌, Bool, Some, None}
 use Rattle.std.proofs.Common.{refl, sym, ◌∙◌, ap, String, Global, string_bytes}
 use Rattle.std.specs.Prelude.{option_map, if◌then◌else◌, cond}
 use Rattle.std.specs.BTreeMap.{is_at}
@@ -11,17 +11,11 @@ use Rattle.std.specs.Str.{bytes_eq}
 use Rattle.std.proofs.lemmas.Bool.Decides.{same_from_decides}
 use Rattle.std.proofs.lemmas.Map.Text.{is_eq-slice_cmp}
 use Rattle.std.proofs.lemmas.Slice.Eq.{bytes_eq-Decides}
-use Rattle.xlsx_formats.specs.FormatCodes.{WrittenFormat, code_of, code_written, AreCodes}
+use Rattle.xlsx_formats.specs.FormatCodes.{code_of, code_written, formats_at, formats_kept}
+use Rattle.xlsx_formats.specs.FormatCodes.{AreCodes}
 use Rattle.xlsx_formats.specs.declared.format_codes.FormatCodes.{FormatCodes}
 use Rattle.xlsx_formats.specs.declared.kept_code.KeptCode.{KeptCode}
 use Rattle.xlsx_formats.proofs.CodesKept.{code_behind, code_chosen}
-
--- the formats of a map's entries, the first one last
-abbrev formats_of : List (String Global × KeptCode) → List WrittenFormat
-formats_of [] = []
-formats_of (entry ∷ entries) =
-    formats_of entries
-    ++ record { id = string_bytes entry.0; code = code_of entry.1 } ∷ []
 
 bytes_turned : (first second : List ℕ) → bytes_eq first second ≡ bytes_eq second first
 bytes_turned first second =
@@ -33,7 +27,7 @@ bytes_turned first second =
 entries_written : (id : List ℕ) (entries : List (String Global × KeptCode))
     → option_map code_of
     (lookup (is_at (λ (key : String Global). slice_cmp nat_cmp id (string_bytes key))) entries)
-    ≡ code_written id (formats_of entries)
+    ≡ code_written id (formats_at entries)
 entries_written id [] = refl
 entries_written id (entry ∷ entries) =
     let key = string_bytes entry.0 in
@@ -44,9 +38,8 @@ entries_written id (entry ∷ entries) =
     ∙ code_chosen code_of (bytes_eq key id) entry.1 others
     ∙ ap (option_or (if bytes_eq key id then Some (code_of entry.1) else None))
     (entries_written id entries)
-    ∙ sym (code_behind id (formats_of entries)
+    ∙ sym (code_behind id (formats_at entries)
     (record { id = key; code = code_of entry.1 }))
 
-pub codes_written : (kept : FormatCodes) → (formats : List WrittenFormat) × AreCodes formats kept
-codes_written kept =
-    (formats_of kept.by_id.entries, λ id. entries_written id kept.by_id.entries)
+pub codes_written : (kept : FormatCodes) → AreCodes (formats_kept kept) kept
+codes_written kept id = entries_written id kept.by_id.entries

@@ -1,1 +1,0 @@
--- How borders are refused whose start says which ways the diagonal goes.
