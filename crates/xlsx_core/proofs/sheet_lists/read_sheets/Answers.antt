@@ -1,0 +1,49 @@
+use Rattle.std.proofs.Common.{◌≡◌, ◌∙◌, ◌∷◌, [], ℕ, add-one, ap, arith, drop, length, refl, rules}
+use Rattle.std.proofs.Common.{string_bytes, sym}
+use Rattle.std.proofs.lemmas.List.{nil_from_length}
+use Rattle.std.proofs.lemmas.Result.{err_from_is_err_and}
+use Rattle.xlsx_parts.specs.ManyAsked.{each}
+use Rattle.xlsx_parts.specs.SheetPaths.{sheet_at}
+use Rattle.xlsx_parts.proofs.ManyRead.{leads_first, leads_on, leads_refused, leads_stopped}
+use Rattle.xlsx_parts.proofs.ManyRead.{leads_done, answers_all, answers_refused}
+use Rattle.xlsx_workbook.specs.KeptContents.{path_kept}
+use Rattle.xlsx_core.specs.Merges.{sheet_paths}
+use Rattle.xlsx_core.proofs.TablesListed.{named_there, next_there}
+use Rattle.xlsx_core.proofs.sheet_lists.read_sheets.Goals as goal
+
+pub sheets-init : goal.sheets-init
+sheets-init g c =
+    let r = g.R.ReadsSheets in
+    let whole = each r.Kind (r.ask c.args.by.now)
+    (sheet_paths c.args.sheets.now c.args.paths.now) in
+    record {
+      leads = rw c.requires (leads_first whole [] (g.P.Package.state c.args.package.now));
+      behind = refl;
+      within = search rules;
+    }
+
+pub sheets-preserved : goal.sheets-preserved
+sheets-preserved g c =
+    let now = c.sheets.invariant in
+    let sheets = c.args.sheets.now in
+    let number = c.sheets.number in
+    let sheet = c.in-Some.field-0-0.now in
+    let others = c.in-Some.others.now in
+    let path = c.in-Some-split_first.path.now in
+    let more = c.in-Some-split_first.more.now in
+    let left : c.sheets.left.now ≡ sheet ∷ others = search rules in
+    let rest : c.sheets.rest.now ≡ path ∷ more = search rules in
+    let there : c.as_str.result.now ≡ path_kept path =
+    c.as_str.ensures.value ∙ c.in_ok-path.ensures in
+    let front : drop number sheets ≡ sheet ∷ others = now.behind ∙ left in
+    let named = named_there sheets number sheet others front in
+    record {
+      leads =
+          leads_on (g.R.ReadsSheets.ask c.args.by.now)
+          (sheet_at (string_bytes sheet.name) (path_kept path)) (sheet_paths others more)
+          (rw (left, rest) at now.leads) (rw (named, there) at c.in_ok-keep.ensures);
+      behind =
+          ap (λ (n : ℕ). drop n sheets) (add-one number)
+          ∙ next_there sheets number sheet others front;
+      within = omega (arith, now.within, ap length left);
+    }
