@@ -9,13 +9,12 @@
 //! (`AreRefused`).
 #![tactic(auto)]
 
-mod custom_part;
 mod equality;
+mod keeping_texts;
 mod laws;
 mod open_custom;
 mod open_property;
 mod property;
-mod property_part;
 mod read;
 mod workbook_properties;
 

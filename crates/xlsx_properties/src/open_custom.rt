@@ -1,5 +1,5 @@
 ghost use Rattle.std.specs.Prelude.{◌≡◌, ◌∷◌, ℕ, List, length, Ok, Err, true, false};
-ghost use Rattle.std.specs.Prelude.{option_map, string_bytes, OnOk, IfErr};
+ghost use Rattle.std.specs.Prelude.{None, option_map, string_bytes, OnOk, IfErr, refl};
 ghost use Rattle.std.specs.Option.{option_or};
 ghost use Rattle.part_events.specs.Event.{Event, event_of, tag_of, start, end};
 ghost use Rattle.part_events.specs.JoinedText.{is_unknown};
@@ -13,6 +13,7 @@ ghost use Rattle.xlsx_properties.specs.Kept.{held, custom_held};
 ghost use Rattle.xlsx_properties.specs.Open.{custom_in_place, custom_behind};
 ghost use Rattle.xlsx_properties.specs.declared.property.Property.{Property};
 
+use crate::keeping_texts::KeepsTexts;
 use crate::workbook_properties::WorkbookProperties;
 use attr_text::local_name;
 use part_events::{PartEvent, StartTag};
@@ -22,17 +23,17 @@ use xlsx_sections::{name_by, push_text_at};
 
 /// A property that users named, whose end is still to come, with its text so far.
 #[derive(Drop)]
-pub(crate) struct OpenCustom {
+struct OpenCustom {
     name: String,
     text: String,
 }
 
 /// Where reading stands among the properties that users named.
 #[derive(Drop)]
-pub(crate) struct CustomPlace {
-    pub(crate) started: Option<OpenCustom>,
+struct CustomPlace {
+    started: Option<OpenCustom>,
     /// Whether the texts that come next count.
-    pub(crate) takes: bool,
+    takes: bool,
 }
 
 fn opened(alloc: Global, name: Option<String>) -> Option<OpenCustom>
@@ -131,7 +132,7 @@ fn push_leaf(place: &mut CustomPlace, event: PartEvent<'_>, at: u64) -> Result<(
 }
 
 /// Takes an event of the part of the properties that users named, which is number `at` of it.
-pub(crate) fn take_custom_event(
+fn take_custom_event(
     alloc: Global,
     place: &mut CustomPlace,
     properties: &mut WorkbookProperties,
@@ -156,4 +157,49 @@ pub(crate) fn take_custom_event(
             push_leaf(place, event, at)?,
     }
     Ok(())
+}
+
+/// Keeps the texts of the properties that users named.
+#[derive(Drop)]
+pub(crate) struct CustomKeeper {
+    alloc: Global,
+    place: CustomPlace,
+    pub(crate) properties: WorkbookProperties,
+}
+
+impl CustomKeeper {
+    /// A part of which nothing was taken, and what was kept of others.
+    pub(crate) fn new(alloc: Global, properties: WorkbookProperties) -> CustomKeeper
+        ensures started { custom_in_place result.place.started ≡ None }
+        ensures takes { result.place.takes ≡ false }
+        ensures properties { result.properties ≡ properties }
+    {
+        let place = CustomPlace {
+            started: None,
+            takes: false,
+        };
+        CustomKeeper {
+            alloc,
+            place,
+            properties,
+        }
+    }
+}
+
+impl KeepsTexts for CustomKeeper {
+    ghost Key = { List ℕ };
+
+    ghost held = { λ k name. custom_held name k.properties };
+
+    ghost following = { λ k. custom_behind k.place };
+
+    ghost Other = { Property };
+
+    ghost beside = { λ k own. held own k.properties };
+
+    fn take(&mut self, event: PartEvent<'_>, at: u64) -> Result<(), XlsxError> {
+        take_custom_event(self.alloc, &mut self.place, &mut self.properties, event, at)
+    }
+
+    ghost ended = { λ k name. refl };
 }

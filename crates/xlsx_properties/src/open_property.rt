@@ -1,16 +1,18 @@
 ghost use Rattle.std.specs.Prelude.{◌≡◌, ◌∷◌, ℕ, List, length, Err, Some, option_map, OnOk, IfErr};
-ghost use Rattle.std.specs.Prelude.{true, false, IsSome};
+ghost use Rattle.std.specs.Prelude.{true, false, None, IsSome};
 ghost use Rattle.std.specs.Option.{option_or};
 ghost use Rattle.part_events.specs.JoinedText.{event_text, is_unknown};
 ghost use Rattle.part_events.specs.Event.{Event, event_of, tag_of};
 ghost use Rattle.xlsx_sections.specs.Answers.{or_earlier};
 ghost use Rattle.xlsx_sections.specs.Refusal.{RefusedAt, IsDecodeError, no_character};
-ghost use Rattle.xlsx_properties.specs.Kept.{held};
+ghost use Rattle.xlsx_properties.specs.Kept.{held, custom_held};
 ghost use Rattle.xlsx_properties.specs.PropertyTexts.{listed_in, property_of, opened, text_kept};
 ghost use Rattle.xlsx_properties.specs.PropertyTexts.{continued, with_text};
 ghost use Rattle.xlsx_properties.specs.Open.{open_in};
 ghost use Rattle.xlsx_properties.specs.declared.property.Property.{Property};
+ghost use Rattle.xlsx_properties.proofs.TextsKept.{said_at_end};
 
+use crate::keeping_texts::KeepsTexts;
 use crate::property::{Property, core_property, program_property};
 use crate::workbook_properties::WorkbookProperties;
 use part_events::{PartEvent, StartTag};
@@ -38,7 +40,7 @@ impl PropertyPart {
 
 /// The property whose start was taken last, with its text so far.
 #[derive(Drop)]
-pub(crate) struct OpenProperty {
+struct OpenProperty {
     property: Property,
     text: String,
 }
@@ -88,7 +90,7 @@ fn push_leaf(
 
 /// Takes an event of a part, which is number `at` of it. What was taken so far is kept in
 /// `properties`, and in `started` the one that is read.
-pub(crate) fn take_event(
+fn take_event(
     alloc: Global,
     started: &mut Option<OpenProperty>,
     properties: &mut WorkbookProperties,
@@ -117,4 +119,53 @@ pub(crate) fn take_event(
             push_leaf(started, event, at)?,
     }
     Ok(())
+}
+
+/// Keeps the texts of the properties that a part says.
+#[derive(Drop)]
+pub(crate) struct PropertyKeeper {
+    alloc: Global,
+    part: PropertyPart,
+    started: Option<OpenProperty>,
+    pub(crate) properties: WorkbookProperties,
+}
+
+impl PropertyKeeper {
+    /// A part of which nothing was taken, and what was kept of others.
+    pub(crate) fn new(
+        alloc: Global,
+        part: PropertyPart,
+        properties: WorkbookProperties,
+    ) -> PropertyKeeper
+        ensures part { result.part ≡ part }
+        ensures started { open_in result.started ≡ None }
+        ensures properties { result.properties ≡ properties }
+    {
+        PropertyKeeper {
+            alloc,
+            part,
+            started: None,
+            properties,
+        }
+    }
+}
+
+impl KeepsTexts for PropertyKeeper {
+    ghost Key = { Property };
+
+    ghost held = { λ k wanted. held wanted k.properties };
+
+    ghost following = { λ k wanted. continued (listed_in k.part) wanted (open_in k.started) };
+
+    ghost Other = { List ℕ };
+
+    ghost beside = { λ k name. custom_held name k.properties };
+
+    #[tactic(auto, using(crate::proofs::Errors::decode_error))]
+    fn take(&mut self, event: PartEvent<'_>, at: u64) -> Result<(), XlsxError> {
+        let (started, properties) = (&mut self.started, &mut self.properties);
+        take_event(self.alloc, started, properties, self.part, event, at)
+    }
+
+    ghost ended = { λ k wanted. said_at_end (listed_in k.part) wanted (open_in k.started) };
 }
