@@ -1,4 +1,4 @@
-ghost use Rattle.std.specs.Prelude.{◌≡◌, ◌==◌, ◌++◌, List, ℕ, codes, true, Ok};
+ghost use Rattle.std.specs.Prelude.{◌≡◌, ◌==◌, ◌++◌, List, ℕ, true, Ok};
 ghost use Rattle.std.specs.Prelude.{string_bytes, IfOk, OnOk, OnErr, IfErr};
 ghost use Rattle.std.specs.List.{list_any};
 ghost use Rattle.attr_text.specs.Text.{unescaped};
@@ -8,8 +8,7 @@ ghost use Rattle.part_events.specs.Reading.{reading, IsReadingElement, ReadsElem
 ghost use Rattle.part_events.specs.Section.{content};
 ghost use Rattle.xlsx_error.specs.declared.error.XlsxError.TheVariants.{Io};
 ghost use Rattle.xlsx_sections.specs.Elements.{ElementReadFails};
-ghost use Rattle.xlsx_sections.specs.PartSection.{always};
-ghost use Rattle.xlsx_strings.specs.Strings.{blanks_kept, spaced, text_within, piece_of, string_of};
+ghost use Rattle.xlsx_strings.specs.Strings.{blanks_kept, spaced, piece_of, string_of};
 ghost use Rattle.xlsx_strings.specs.Strings.{end_in_piece, end_in_string, IsStringError};
 
 use crate::trim::trimmed;
