@@ -1,5 +1,5 @@
 ghost use Rattle.std.specs.Prelude.{◌≡◌, ◌∷◌, ℕ, List, length, Ok, Err, true, false};
-ghost use Rattle.std.specs.Prelude.{None, option_map, string_bytes, OnOk, IfErr, refl};
+ghost use Rattle.std.specs.Prelude.{option_map, string_bytes, OnOk, IfErr, refl};
 ghost use Rattle.std.specs.Option.{option_or};
 ghost use Rattle.part_events.specs.Event.{Event, event_of, tag_of, start, end};
 ghost use Rattle.part_events.specs.JoinedText.{is_unknown};
@@ -7,6 +7,7 @@ ghost use Rattle.xlsx_error.specs.declared.error.XlsxError.TheVariants.{OutOfMem
 ghost use Rattle.xlsx_sections.specs.Answers.{or_earlier};
 ghost use Rattle.xlsx_sections.specs.Refusal.{RefusedAt, no_character};
 ghost use Rattle.xlsx_properties.specs.CustomProperties.{custom_from, text_named, behind_leaf};
+ghost use Rattle.xlsx_properties.specs.CustomProperties.{custom_in};
 ghost use Rattle.xlsx_properties.specs.CustomProperties.{is_taken, ends_property, custom_opened};
 ghost use Rattle.xlsx_properties.specs.Errors.{IsPropertyError};
 ghost use Rattle.xlsx_properties.specs.Kept.{held, custom_held};
@@ -170,8 +171,7 @@ pub(crate) struct CustomKeeper {
 impl CustomKeeper {
     /// A part of which nothing was taken, and what was kept of others.
     pub(crate) fn new(alloc: Global, properties: WorkbookProperties) -> CustomKeeper
-        ensures started { custom_in_place result.place.started ≡ None }
-        ensures takes { result.place.takes ≡ false }
+        ensures following { custom_behind result.place ≡ custom_in }
         ensures properties { result.properties ≡ properties }
     {
         let place = CustomPlace {

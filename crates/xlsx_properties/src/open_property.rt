@@ -1,5 +1,5 @@
 ghost use Rattle.std.specs.Prelude.{◌≡◌, ◌∷◌, ℕ, List, length, Err, Some, option_map, OnOk, IfErr};
-ghost use Rattle.std.specs.Prelude.{true, false, None, IsSome};
+ghost use Rattle.std.specs.Prelude.{true, false, IsSome};
 ghost use Rattle.std.specs.Option.{option_or};
 ghost use Rattle.part_events.specs.JoinedText.{event_text, is_unknown};
 ghost use Rattle.part_events.specs.Event.{Event, event_of, tag_of};
@@ -7,10 +7,10 @@ ghost use Rattle.xlsx_sections.specs.Answers.{or_earlier};
 ghost use Rattle.xlsx_sections.specs.Refusal.{RefusedAt, IsDecodeError, no_character};
 ghost use Rattle.xlsx_properties.specs.Kept.{held, custom_held};
 ghost use Rattle.xlsx_properties.specs.PropertyTexts.{listed_in, property_of, opened, text_kept};
-ghost use Rattle.xlsx_properties.specs.PropertyTexts.{continued, with_text};
-ghost use Rattle.xlsx_properties.specs.Open.{open_in};
+ghost use Rattle.xlsx_properties.specs.PropertyTexts.{continued, with_text, said_at_end};
+ghost use Rattle.xlsx_properties.specs.PropertyTexts.{property_in};
+ghost use Rattle.xlsx_properties.specs.Open.{open_in, property_behind};
 ghost use Rattle.xlsx_properties.specs.declared.property.Property.{Property};
-ghost use Rattle.xlsx_properties.proofs.TextsKept.{said_at_end};
 
 use crate::keeping_texts::KeepsTexts;
 use crate::property::{Property, core_property, program_property};
@@ -137,8 +137,8 @@ impl PropertyKeeper {
         part: PropertyPart,
         properties: WorkbookProperties,
     ) -> PropertyKeeper
-        ensures part { result.part ≡ part }
-        ensures started { open_in result.started ≡ None }
+        ensures following { property_behind result.part result.started
+            ≡ property_in (listed_in part) }
         ensures properties { result.properties ≡ properties }
     {
         PropertyKeeper {
@@ -155,7 +155,7 @@ impl KeepsTexts for PropertyKeeper {
 
     ghost held = { λ k wanted. held wanted k.properties };
 
-    ghost following = { λ k wanted. continued (listed_in k.part) wanted (open_in k.started) };
+    ghost following = { λ k. property_behind k.part k.started };
 
     ghost Other = { List ℕ };
 

@@ -55,4 +55,4 @@ returns-clause-said g c = λ told.
     let ends = (rw c.in_default.is at
     (c.in_ok-at.ensures.step old c.events.invariant.keeps.keeps)) told in
     events_ended (λ told. begins_part old c.requires.reading c.requires.first told)
-    c.events.invariant.keeps (g.K.KeepsTexts.ended c.events.keeper) told ends.0.0 ends.1
+    c.events.invariant.keeps (g.met.K.KeepsTexts.ended c.events.keeper) told ends.0.0 ends.1

@@ -3,7 +3,7 @@ use Rattle.std.proofs.Common.{arith}
 use Rattle.std.proofs.lemmas.Result.{err_from_is_err_and}
 use Rattle.part_events.specs.Package.{UsesPackage, part_of, event_count}
 use Rattle.part_events.proofs.Uses.{uses_then, leaves_then, same_further}
-use Rattle.xlsx_sections.proofs.Failing.{fails_by_weaker}
+use Rattle.xlsx_sections.proofs.Failing.{fails_by_weaker, given_back, same_parts}
 use Rattle.xlsx_properties.specs.CustomProperties.{custom_in}
 use Rattle.xlsx_properties.specs.Kept.{held, custom_held}
 use Rattle.xlsx_properties.specs.Parts.{PropertiesCause, SaidCause, said_by, core_part}
@@ -12,6 +12,16 @@ use Rattle.xlsx_properties.specs.Property.{core_properties, program_properties}
 use Rattle.xlsx_properties.specs.PropertyTexts.{property_in}
 use Rattle.xlsx_properties.proofs.EventsSaid.{said_later, none_earlier}
 use Rattle.xlsx_properties.proofs.read.read_properties.Goals as goal
+
+pub returns-in_err-keep_part-clause-err : goal.returns-in_err-keep_part-clause-err
+returns-in_err-keep_part-clause-err g c =
+    let old = g.P.Package.state c.args.package.now in
+    let new = g.P.Package.state c.keep_part.new.package in
+    given_back _ c.from_residual.result c.from_residual.ensures.1
+    (fails_by_weaker (PropertiesCause old.parts)
+    (SaidCause (property_in core_properties) core_part old.parts) new c.in_err-keep_part.field-0.0
+    (same_parts old) (λ told. inl)
+    (rw c.new-core.ensures.following at c.in_err-keep_part.ensures.err))
 
 pub returns-in_err-keep_part-2-clause-uses : goal.returns-in_err-keep_part-2-clause-uses
 returns-in_err-keep_part-2-clause-uses g c =
@@ -33,7 +43,8 @@ returns-in_err-keep_part-2-clause-err g c =
     (fails_by_weaker (PropertiesCause old.parts)
     (SaidCause (property_in program_properties) program_part mid.parts) new
     c.in_err-keep_part-2.field-0.0 first.parts
-    (λ told cause. inr (inl (rw first.parts.parts at cause))) c.in_err-keep_part-2.ensures.err)
+    (λ told cause. inr (inl (rw first.parts.parts at cause)))
+    (rw c.new-program.ensures.following at c.in_err-keep_part-2.ensures.err))
 
 pub returns-in_err-keep_part-3-clause-uses : goal.returns-in_err-keep_part-3-clause-uses
 returns-in_err-keep_part-3-clause-uses g c =
@@ -61,7 +72,8 @@ returns-in_err-keep_part-3-clause-err g c =
     rw (p.1, p.2)
     (fails_by_weaker (PropertiesCause old.parts) (SaidCause custom_in custom_part mid.parts) new
     c.in_err-keep_part-3.field-0.0 both
-    (λ told cause. inr (inr (rw both.parts at cause))) c.in_err-keep_part-3.ensures.err)
+    (λ told cause. inr (inr (rw both.parts at cause)))
+    (rw c.new-custom.ensures.following at c.in_err-keep_part-3.ensures.err))
 
 pub returns-clause-uses : goal.returns-clause-uses
 returns-clause-uses g c =
@@ -104,14 +116,9 @@ returns-clause-properties g c = λ told wanted.
     let first = c.in_ok-keep_part.ensures.uses.parts in
     let core = c.new-core.ensures in
     let program = c.new-program.ensures in
-    let one = rw (
-      core.part,
-      core.started,
-      core.properties,
-      c.new-none.ensures.none wanted,
-    ) at
+    let one = rw (core.following, core.properties, c.new-none.ensures.none wanted) at
     (c.in_ok-keep_part.ensures.said told wanted) in
-    let two = rw (program.part, program.started, program.properties, first.parts) at
+    let two = rw (program.following, program.properties, first.parts) at
     (c.in_ok-keep_part-2.ensures.said (first.is_told ∙ told) wanted) in
     said_later (said_by (property_in core_properties) wanted (part_of old.parts core_part))
     (said_by (property_in program_properties) wanted (part_of old.parts program_part))
@@ -131,14 +138,7 @@ returns-clause-custom g c = λ told name.
     rw c.new-program.ensures.properties at (c.in_ok-keep_part-2.ensures.beside name)
     ∙ rw c.new-core.ensures.properties at (c.in_ok-keep_part.ensures.beside name)
     ∙ c.new-none.ensures.no_custom name in
-    let said = rw (
-      custom.started,
-      custom.takes,
-      custom.properties,
-      none,
-      second.parts,
-      first.parts,
-    ) at
+    let said = rw (custom.following, custom.properties, none, second.parts, first.parts) at
     (c.in_ok-keep_part-3.ensures.said still name) in
     none_earlier (said_by custom_in name (part_of old.parts custom_part))
     (custom_held name c.keep_part-3.new.keeper.properties) said
