@@ -6,9 +6,8 @@ ghost use Rattle.part_events.specs.JoinedText.{is_unknown};
 ghost use Rattle.xlsx_error.specs.declared.error.XlsxError.TheVariants.{OutOfMemory};
 ghost use Rattle.xlsx_sections.specs.Answers.{or_earlier};
 ghost use Rattle.xlsx_sections.specs.Refusal.{RefusedAt, no_character};
-ghost use Rattle.xlsx_properties.specs.CustomProperties.{custom_from, text_named, behind_leaf};
-ghost use Rattle.xlsx_properties.specs.CustomProperties.{custom_in};
-ghost use Rattle.xlsx_properties.specs.CustomProperties.{is_taken, ends_property, custom_opened};
+ghost use Rattle.xlsx_properties.specs.CustomProperties.{custom_in, text_named, behind_leaf};
+ghost use Rattle.xlsx_properties.specs.CustomProperties.{is_taken, custom_opened};
 ghost use Rattle.xlsx_properties.specs.Errors.{IsPropertyError};
 ghost use Rattle.xlsx_properties.specs.Kept.{held, custom_held};
 ghost use Rattle.xlsx_properties.specs.Open.{custom_in_place, custom_behind};
@@ -132,34 +131,6 @@ fn push_leaf(place: &mut CustomPlace, event: PartEvent<'_>, at: u64) -> Result<(
     Ok(())
 }
 
-/// Takes an event of the part of the properties that users named, which is number `at` of it.
-fn take_custom_event(
-    alloc: Global,
-    place: &mut CustomPlace,
-    properties: &mut WorkbookProperties,
-    event: PartEvent<'_>,
-    at: u64,
-) -> Result<(), XlsxError>
-    ensures ok { OnOk result ((name : List ℕ) (events : List Event) →
-        or_earlier (custom_held name properties.old)
-        (custom_behind place.old name (event_of event.entry ∷ events))
-        ≡ or_earlier (custom_held name properties.new) (custom_behind place.new name events)) }
-    ensures held { (own : Property) → held own properties.new ≡ held own properties.old }
-    ensures err { IfErr result (λ error. (events : List Event) →
-        RefusedAt (λ refusal. (name : List ℕ) →
-        custom_behind place.old name (event_of event.entry ∷ events) ≡ Err refusal)
-        at (length events) error) }
-    ensures kind { IfErr result IsPropertyError }
-{
-    match event {
-        PartEvent::Start(tag) => take_start(alloc, place, tag, at)?,
-        PartEvent::End(name) => take_end(properties, place, name)?,
-        PartEvent::Text(_) | PartEvent::CharData(_) | PartEvent::EntityRef(_) | PartEvent::Other =>
-            push_leaf(place, event, at)?,
-    }
-    Ok(())
-}
-
 /// Keeps the texts of the properties that users named.
 #[derive(Drop)]
 pub(crate) struct CustomKeeper {
@@ -198,7 +169,15 @@ impl KeepsTexts for CustomKeeper {
     ghost beside = { λ k own. held own k.properties };
 
     fn take(&mut self, event: PartEvent<'_>, at: u64) -> Result<(), XlsxError> {
-        take_custom_event(self.alloc, &mut self.place, &mut self.properties, event, at)
+        match event {
+            PartEvent::Start(tag) => take_start(self.alloc, &mut self.place, tag, at)?,
+            PartEvent::End(name) => take_end(&mut self.properties, &mut self.place, name)?,
+            PartEvent::Text(_)
+            | PartEvent::CharData(_)
+            | PartEvent::EntityRef(_)
+            | PartEvent::Other => push_leaf(&mut self.place, event, at)?,
+        }
+        Ok(())
     }
 
     ghost ended = { λ k name. refl };
