@@ -147,7 +147,8 @@ fn target_beside<P: Package>(
         "Relationships",
         &mut keeper,
     )?;
-    match keeper.kept {
+    let kept = keeper.kept;
+    match kept {
         Some(target) => Ok(target),
         None => Err(single.lacking()),
     }
