@@ -74,7 +74,7 @@ struct TargetKeeper<'a> {
     wanted: &'a str,
     single: Single,
     kept: Option<String>,
-    ghost written: { HasText (option_map string_bytes kept) } by { HasText-prop (option_map string_bytes kept) },
+    ghost written: { HasText (option_map string_bytes kept) } by { HasText-prop _ },
 }
 
 impl Keeps for TargetKeeper<'_> {
