@@ -120,8 +120,7 @@ fn target_beside<P: Package>(
         (P.state «package».old) (P.state «package».new) }
     ensures target { let old = P.state «package».old in
         old.is_told ≡ true → IfOk result (λ target.
-        target_beside old.parts wanted.now single path.now
-        ≡ Some (Some (string_bytes target))) }
+        target_beside old.parts wanted.now single path.now ≡ Some (Some (string_bytes target))) }
     ensures written { IfOk result (λ target. HasText (Some (string_bytes target))) }
     ensures err { let old = P.state «package».old in
         IfErr result (FailsBy (TargetCause old.parts wanted.now single path.now) old
@@ -133,21 +132,15 @@ fn target_beside<P: Package>(
         return Err(XlsxError::FileNotFound(part));
     };
     let base = cursor.depth();
-    let mut keeper = TargetKeeper {
+    let names = ["Relationship"];
+    let mut by = TargetKeeper {
         alloc,
         wanted,
         single,
         kept: None,
     };
-    keep_starts(
-        package,
-        &mut cursor,
-        base,
-        &["Relationship"],
-        "Relationships",
-        &mut keeper,
-    )?;
-    let kept = keeper.kept;
+    keep_starts(package, &mut cursor, base, &names, "Relationships", &mut by)?;
+    let kept = by.kept;
     match kept {
         Some(target) => Ok(target),
         None => Err(single.lacking()),
