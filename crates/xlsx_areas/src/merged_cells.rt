@@ -1,7 +1,6 @@
 ghost use Rattle.std.proofs.Common.{rules};
-ghost use Rattle.std.specs.Prelude.{◌≡◌, ◌≤◌, ◌++◌, ℕ, List, [], suc, length, true, Some, Ok};
-ghost use Rattle.std.specs.Prelude.{Result};
-ghost use Rattle.std.specs.Prelude.{IfOk, OnOk, IfErr, option_to_list};
+ghost use Rattle.std.specs.Prelude.{◌≡◌, ◌≤◌, ℕ, [], suc, length, true, Some, Ok};
+ghost use Rattle.std.specs.Prelude.{IfOk, OnOk, IfErr};
 ghost use Rattle.std.specs.Result.{is_err};
 ghost use Rattle.cell_refs.specs.declared.dimensions.Dimensions.{Dimensions};
 ghost use Rattle.part_events.specs.Event.{tag_of};
@@ -12,10 +11,10 @@ ghost use Rattle.part_events.specs.Reading.{events_of};
 ghost use Rattle.part_events.specs.Section.{content};
 ghost use Rattle.part_events.specs.Walk.{section_ahead};
 ghost use Rattle.xlsx_error.specs.declared.error.XlsxError.TheVariants.{Io};
-ghost use Rattle.xlsx_sections.specs.Answers.{prepended, and_others_if};
 ghost use Rattle.xlsx_sections.specs.Elements.{ElementReadFails, IsInsideRefused, ReachesEnd};
+ghost use Rattle.xlsx_sections.specs.Keeping.{put_behind};
 ghost use Rattle.xlsx_sections.specs.PartSection.{always, SectionFails};
-ghost use Rattle.xlsx_sections.specs.Refusal.{Refusal, ElementFails, placed_at};
+ghost use Rattle.xlsx_sections.specs.Refusal.{ElementFails, placed_at};
 ghost use Rattle.xlsx_parts.specs.WholePart.{IsMeaningRefused, WholePartFails};
 ghost use Rattle.xlsx_areas.specs.MergeErrors.{IsRegionsError, IsMergesError};
 ghost use Rattle.xlsx_areas.specs.MergedCells.{merge_of, merges_in, regions_of};
@@ -23,7 +22,7 @@ ghost use Rattle.xlsx_areas.specs.MergedCells.{merge_of, merges_in, regions_of};
 use attr_text::RawAttributes;
 use cell_refs::{Dimensions, get_dimension};
 use part_events::{Cursor, Package, StartTag, XlReader};
-use std::alloc::{AllocError, Global};
+use std::alloc::Global;
 use xlsx_error::XlsxError;
 use xlsx_parts::next_start_of_part;
 use xlsx_sections::{Reads, keep_all, start_tag};
@@ -42,29 +41,19 @@ fn merge_of(tag: StartTag<'_>) -> Result<Option<Dimensions>, XlsxError>
     }
 }
 
-/// Appends an area, where there is one.
-fn push_area(areas: &mut Vec<Dimensions>, area: Option<Dimensions>) -> Result<(), AllocError>
-    ensures { OnOk result (areas.new.items ≡ areas.old.items ++ option_to_list area) }
-{
-    if let Some(area) = area {
-        areas.push(area)?;
-    }
-    Ok(())
-}
-
 /// Appends the area of a start that names one.
 fn push_merge(areas: &mut Vec<Dimensions>, tag: StartTag<'_>) -> Result<(), XlsxError>
-    ensures ok { OnOk result ((behind : ℕ) (others : Result (List Dimensions) Refusal) →
-        prepended areas.new.items others
-        ≡ prepended areas.old.items
-        (and_others_if (merge_of (placed_at (tag_of tag.entry) behind)) others)) }
+    ensures ok { OnOk result ((behind : ℕ) →
+        put_behind merge_of (placed_at (tag_of tag.entry) behind) areas.old.items
+        ≡ Ok areas.new.items) }
     ensures err { IfErr result (λ error. (at behind : ℕ) →
         ElementFails (merge_of (placed_at (tag_of tag.entry) behind)) at behind error) }
     ensures kind { IfErr result IsRegionsError }
 {
-    let area = merge_of(tag)?;
-    push_area(areas, area)?;
-    Ok(())
+    match merge_of(tag)? {
+        Some(area) => Ok(areas.push(area)?),
+        None => Ok(()),
+    }
 }
 
 /// Reads the areas of merged cells.

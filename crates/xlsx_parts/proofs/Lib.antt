@@ -5,5 +5,4 @@ pub mod ManySaid
 pub mod SaidFrom
 pub mod SaidRead
 pub mod SoundParts
-pub mod StartLists
 pub mod WholeRead

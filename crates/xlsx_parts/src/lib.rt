@@ -9,9 +9,9 @@
 //! can't is a cause: `WholePartCause`, `LackingCause` of a section that may be lacking, `IfThere`
 //! of a part that may be absent, and `SomeCause` over many.
 //!
-//! Its lemma files: `WholeRead` (how a part is read whole), `StartLists` (what some starts give is
-//! kept in a list), `SaidRead` (what a part says, and how its refusal is handed on), `ManySaid`
-//! (what many say) and `SoundParts` (a part that says something has no cause to be refused).
+//! Its lemma files: `WholeRead` (how a part is read whole), `SaidRead` (what a part says, and how
+//! its refusal is handed on), `ManySaid` (what many say) and `SoundParts` (a part that says
+//! something has no cause to be refused).
 #![tactic(auto)]
 
 mod first_element;

@@ -21,12 +21,12 @@ use Rattle.xlsx_sections.specs.Refusal.{Refusal, in_element}
 use Rattle.xlsx_sections.proofs.ElementsRead.{IsElementFound}
 use Rattle.xlsx_sections.proofs.ElementsSaid.{KeepsElementsSaid, elements_further, elements_refused}
 use Rattle.xlsx_sections.proofs.Failing.{fails_by_weaker, same_parts}
+use Rattle.xlsx_sections.proofs.Kept.{prepended-and_others}
 use Rattle.xlsx_sections.proofs.Refused.{refused_weaker}
 use Rattle.xlsx_sections.proofs.StartsSaid.{FailsFrom}
 use Rattle.xlsx_parts.specs.PartSaid.{whole_said}
 use Rattle.xlsx_parts.specs.WholePart.{EndsPart, IsBroken, IsMeaningRefused, StepFails}
 use Rattle.xlsx_parts.proofs.SaidRead.{whole_there}
-use Rattle.xlsx_parts.proofs.StartLists.{some_kept}
 use Rattle.xlsx_parts.proofs.WholeRead.{BeginsPart}
 use Rattle.xlsx_pivot_cache.specs.CacheFields.{FieldSaid, field_said, is_field, fields_in}
 use Rattle.xlsx_pivot_cache.specs.CacheFields.{fields_said}
@@ -38,6 +38,14 @@ fields_behind kept elements = prepended kept (some_answers (element_said field_s
 
 abbrev pub KeepsFields : List FieldSaid → Reading → Reading → Type 0
 KeepsFields kept first now = KeepsElementsSaid is_field fields_behind fields_in 0 kept first now
+
+-- what an element says of a field, if anything, is put behind what was kept
+some_kept : {A : Type 0} (kept : List A) (own : Option A) (answer : Result (Option A) Refusal)
+    (others : Result (List A) Refusal) → answer ≡ Ok own
+    → prepended (kept ++ option_to_list own) others ≡ prepended kept (and_others_if answer others)
+some_kept kept None answer others is = rw (is, append-nil kept) refl
+some_kept kept (Some own) answer others is =
+    rw is (prepended-and_others kept own (Ok own) others refl)
 
 -- one more element was read
 pub fields_further : {kept : List FieldSaid} {place : ℕ} {tag : Tag} {first old new after : Reading}

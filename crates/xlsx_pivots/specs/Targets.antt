@@ -1,6 +1,7 @@
 -- Where the parts of a pivot table's cache lie (ECMA-376 part 2, section 9.3).
 use Rattle.std.specs.Prelude.{◌⊎◌, ⊤, ℕ, List, [], ◌∷◌, ◌++◌, nat_eq, codes, if◌then◌else◌}
 use Rattle.std.specs.Prelude.{Option, Some, None, option_map, option_and_then, Result, Ok, Err}
+use Rattle.std.specs.Coded.{Unit-prop}
 use Rattle.std.specs.List.{starts_with}
 use Rattle.part_events.specs.Event.{Event}
 use Rattle.part_events.specs.Package.{Part}
@@ -47,6 +48,12 @@ abbrev pub HasText : Option (List ℕ) → Type 0
 HasText None = ⊤
 HasText (Some []) = ⊥
 HasText (Some (byte ∷ target)) = ⊤
+
+-- a target says in one way alone that it isn't empty
+pub HasText-prop : (kept : Option (List ℕ)) → IsProp (HasText kept)
+HasText-prop None = Unit-prop
+HasText-prop (Some []) = λ is other. absurd is
+HasText-prop (Some (byte ∷ target)) = Unit-prop
 
 -- one more target, if the relationship is of this type
 abbrev pub target_kept :

@@ -1,4 +1,4 @@
-ghost use Rattle.std.specs.Prelude.{◌≡◌, ℕ, Ok, Some, option_map, string_bytes, OnOk, IfErr};
+ghost use Rattle.std.specs.Prelude.{◌≡◌, ℕ, Ok, Some, option_map, string_bytes, OnOk, OnErr, IfErr};
 ghost use Rattle.xlsx_sections.specs.Refusal.{ElementFails, plain_told};
 ghost use Rattle.xlsx_pivots.specs.PivotErrors.{IsSingleError, IsPivotsError};
 ghost use Rattle.xlsx_pivots.specs.Singles.{lacking, many, kept_with};
@@ -55,6 +55,8 @@ impl Single {
     pub fn keep(self, kept: &mut Option<String>, own: Option<String>) -> Result<(), XlsxError>
         ensures ok { OnOk result (kept_with self (option_map string_bytes kept.old)
             (option_map string_bytes own) ≡ Ok (option_map string_bytes kept.new)) }
+        ensures left { OnErr result
+            (option_map string_bytes kept.new ≡ option_map string_bytes kept.old) }
         ensures err { IfErr result (λ error. (at behind : ℕ) →
             ElementFails (kept_with self (option_map string_bytes kept.old)
             (option_map string_bytes own)) at behind error) }

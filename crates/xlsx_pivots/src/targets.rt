@@ -1,29 +1,26 @@
-ghost use Rattle.std.specs.Prelude.{◌≡◌, ◌≤◌, ℕ, Ok, Some, codes, suc, length, true, option_map};
+ghost use Rattle.std.proofs.Common.{rules};
+ghost use Rattle.std.specs.Prelude.{◌≡◌, ⊤, ℕ, List, Option, Ok, Some, codes, true, option_map};
 ghost use Rattle.std.specs.Prelude.{string_bytes, IfOk, OnOk, IfErr};
 ghost use Rattle.part_events.specs.Event.{tag_of};
 ghost use Rattle.part_events.specs.Package.{Uses, event_count};
-ghost use Rattle.part_events.specs.Reading.{reading, open_elements, IsReading, ReadsPart};
-ghost use Rattle.part_events.specs.Walk.{section_ahead, is_closed_ahead, section_end};
 ghost use Rattle.xlsx_error.specs.declared.error.XlsxError.TheVariants.{Io};
-ghost use Rattle.xlsx_sections.specs.Elements.{IsInsideRefused};
 ghost use Rattle.xlsx_sections.specs.Failing.{FailsBy};
-ghost use Rattle.xlsx_sections.specs.PartSection.{always, SectionFails};
 ghost use Rattle.xlsx_sections.specs.Refusal.{ElementFails, placed_at};
 ghost use Rattle.xlsx_sections.specs.SectionEvents.{ReadsToEnd};
 ghost use Rattle.xlsx_relationships.specs.Paths.{relationships_beside};
 ghost use Rattle.xlsx_pivots.specs.PivotErrors.{IsPivotsError};
-ghost use Rattle.xlsx_pivots.specs.Targets.{counted, HasText, target_kept, single_target_in};
+ghost use Rattle.xlsx_pivots.specs.Targets.{counted, HasText, HasText-prop, target_kept};
 ghost use Rattle.xlsx_pivots.specs.Targets.{target_beside, TargetCause, definitions_at};
 ghost use Rattle.xlsx_pivots.specs.Targets.{definitions_type, records_type, records_path};
 ghost use Rattle.xlsx_pivots.specs.Targets.{records_at};
 ghost use Rattle.xlsx_pivots.specs.declared.single.Single.TheVariants as single;
 
 use crate::single::Single;
-use part_events::{Cursor, Package, StartTag};
+use part_events::{Package, StartTag};
 use std::alloc::{AllocError, Global};
 use xlsx_error::XlsxError;
 use xlsx_relationships::{behind_slash, joined, relationships_beside, target_path, typed_target};
-use xlsx_sections::{enter_part, next_start_in, start_tag};
+use xlsx_sections::{Keeps, enter_part, keep_starts};
 
 const DEFINITIONS_TYPE: &str =
     "http://schemas.openxmlformats.org/officeDocument/2006/relationships/pivotCacheDefinition";
@@ -56,7 +53,7 @@ fn keep_target(
     single: Single,
 ) -> Result<(), XlsxError>
     requires written { HasText (option_map string_bytes kept.old) }
-    ensures written { OnOk result (HasText (option_map string_bytes kept.new)) }
+    ensures written { HasText (option_map string_bytes kept.new) }
     ensures ok { OnOk result ((behind : ℕ) →
         target_kept wanted.now single (placed_at (tag_of tag.entry) behind)
         (option_map string_bytes kept.old) ≡ Ok (option_map string_bytes kept.new)) }
@@ -70,49 +67,41 @@ fn keep_target(
     single.keep(kept, target)
 }
 
-/// The only target of this type, in a section of relationships whose element is number `base` of
-/// the open ones.
-#[tactic(auto, using(crate::proofs::PivotsRead::relationships_step))]
-fn target_in<P: Package>(
+/// Keeps the only target of a type.
+#[derive(Drop)]
+struct TargetKeeper<'a> {
     alloc: Global,
-    package: &mut P,
-    cursor: &mut Cursor,
-    base: usize,
-    wanted: &str,
+    wanted: &'a str,
     single: Single,
-) -> Result<Option<String>, XlsxError>
-    requires reading { IsReading (reading (P.state «package».old) cursor.old) }
-    requires within { base ≤ length (open_elements cursor.old) }
-    ensures reads { let old = reading (P.state «package».old) cursor.old in
-        let new = reading (P.state «package».new) cursor.new in
-        ReadsPart Io result old new }
-    ensures closed { let old = reading (P.state «package».old) cursor.old in
-        old.source.is_told ≡ true → OnOk result (is_closed_ahead base old ≡ true) }
-    ensures ends { let old = reading (P.state «package».old) cursor.old in
-        let new = reading (P.state «package».new) cursor.new in
-        old.source.is_told ≡ true → OnOk result (new.at ≡ suc (section_end base old)) }
-    ensures target { let old = reading (P.state «package».old) cursor.old in
-        old.source.is_told ≡ true → IfOk result (λ target.
-        single_target_in wanted.now single (section_ahead base old)
-        ≡ Ok (option_map string_bytes target)) }
-    ensures written { IfOk result (λ target. HasText (option_map string_bytes target)) }
-    ensures err { let old = reading (P.state «package».old) cursor.old in
-        let new = reading (P.state «package».new) cursor.new in
-        IfErr result (SectionFails (always (codes "Relationships"))
-        (IsInsideRefused (single_target_in wanted.now single)) base old new) }
-    ensures kind { IfErr result IsPivotsError }
-{
-    let mut kept = None;
-    'starts: while let Some(at) = next_start_in(
-        package,
-        cursor,
-        base,
-        "Relationship",
-        "Relationships",
-    )? {
-        keep_target(alloc, &mut kept, start_tag(package), at, wanted, single)?;
+    kept: Option<String>,
+    ghost written: { HasText (option_map string_bytes kept) } by { HasText-prop _ },
+}
+
+impl Keeps for TargetKeeper<'_> {
+    ghost Index = { ⊤ };
+
+    ghost Held = { Option (List ℕ) };
+
+    ghost held = { λ k i. option_map string_bytes k.kept };
+
+    ghost change = { λ k i. target_kept k.wanted.now k.single };
+
+    ghost section = { codes "Relationships" };
+
+    ghost Kind = { IsPivotsError };
+
+    ghost kinds = { Prim.search rules };
+
+    fn take(&mut self, tag: StartTag<'_>, at: u64) -> Result<(), XlsxError> {
+        keep_target(
+            self.alloc,
+            &mut self.kept,
+            tag,
+            at,
+            self.wanted,
+            self.single,
+        )
     }
-    Ok(kept)
 }
 
 /// The only target of the relationships of this type which the part at this path has.
@@ -131,8 +120,7 @@ fn target_beside<P: Package>(
         (P.state «package».old) (P.state «package».new) }
     ensures target { let old = P.state «package».old in
         old.is_told ≡ true → IfOk result (λ target.
-        target_beside old.parts wanted.now single path.now
-        ≡ Some (Some (string_bytes target))) }
+        target_beside old.parts wanted.now single path.now ≡ Some (Some (string_bytes target))) }
     ensures written { IfOk result (λ target. HasText (Some (string_bytes target))) }
     ensures err { let old = P.state «package».old in
         IfErr result (FailsBy (TargetCause old.parts wanted.now single path.now) old
@@ -144,7 +132,16 @@ fn target_beside<P: Package>(
         return Err(XlsxError::FileNotFound(part));
     };
     let base = cursor.depth();
-    match target_in(alloc, package, &mut cursor, base, wanted, single)? {
+    let names = ["Relationship"];
+    let mut by = TargetKeeper {
+        alloc,
+        wanted,
+        single,
+        kept: None,
+    };
+    keep_starts(package, &mut cursor, base, &names, "Relationships", &mut by)?;
+    let kept = by.kept;
+    match kept {
         Some(target) => Ok(target),
         None => Err(single.lacking()),
     }

@@ -164,11 +164,3 @@ leaf_event own (inl (x, is)) = (event.text x.now, ap event_of is)
 leaf_event own (inr (inl (x, is))) = (event.char_data x.now, ap event_of is)
 leaf_event own (inr (inr (inl (x, is)))) = (event.entity_ref x.now, ap event_of is)
 leaf_event own (inr (inr (inr is))) = (event.other, ap event_of is)
-
--- where nothing follows, nothing more is said
-pub said_at_end : (listed : Listed) (wanted : Property) (started : Option OpenText)
-    → continued listed wanted started [] ≡ Ok None
-said_at_end listed wanted None = refl
-said_at_end listed wanted (Some own) =
-    ap (λ (said : Option (List ℕ)). or_later (Ok said) (Ok None))
-    (either_way (is_same wanted own.property) None)

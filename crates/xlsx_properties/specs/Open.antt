@@ -2,11 +2,13 @@
 use Rattle.std.specs.Prelude.{ℕ, List, Option, option_map, string_bytes}
 use Rattle.xlsx_properties.specs.CustomProperties as custom
 use Rattle.xlsx_properties.specs.CustomProperties.{custom_from}
-use Rattle.xlsx_properties.specs.PropertyTexts.{OpenText}
+use Rattle.xlsx_properties.specs.PropertyTexts.{OpenText, continued, listed_in}
 use Rattle.xlsx_properties.specs.Said.{Saying}
 use Rattle.xlsx_properties.specs.declared.open_custom.CustomPlace.{CustomPlace}
 use Rattle.xlsx_properties.specs.declared.open_custom.OpenCustom as open_custom
 use Rattle.xlsx_properties.specs.declared.open_property.OpenProperty.{OpenProperty}
+use Rattle.xlsx_properties.specs.declared.open_property.PropertyPart.{PropertyPart}
+use Rattle.xlsx_properties.specs.declared.property.Property.{Property}
 
 -- the property that is open, with its text so far
 abbrev pub open_text : OpenProperty → OpenText
@@ -15,6 +17,12 @@ open_text own = record { property = own.property; text = string_bytes own.text }
 -- the same, if one is open
 abbrev pub open_in : Option OpenProperty → Option OpenText
 open_in started = option_map open_text started
+
+-- what follows says of a property, where this one is open
+abbrev pub property_behind :
+    PropertyPart → Option OpenProperty → Saying Property (List ℕ)
+property_behind part started wanted events =
+    continued (listed_in part) wanted (open_in started) events
 
 -- the property of the users that is open, with its text so far
 abbrev pub custom_text_of : open_custom.OpenCustom → custom.OpenCustom

@@ -1,6 +1,6 @@
 -- What a part says of a workbook's properties: the texts of its listed starts, of each the last.
-use Rattle.std.specs.Prelude.{ℕ, ◌+◌, ◌-◌, List, [], ◌∷◌, ◌++◌, length, Bool, true, false}
-use Rattle.std.specs.Prelude.{if◌then◌else◌, Option, Some, None, Result, Ok, Err}
+use Rattle.std.specs.Prelude.{◌≡◌, ℕ, ◌+◌, ◌-◌, List, [], ◌∷◌, ◌++◌, length, Bool, true, false}
+use Rattle.std.specs.Prelude.{refl, if◌then◌else◌, Option, Some, None, Result, Ok, Err}
 use Rattle.attr_text.specs.Attributes.{local_name_of}
 use Rattle.part_events.specs.Event.{Tag, Event, start, end, leaf}
 use Rattle.part_events.specs.JoinedText.{joined_text, unknown_entity}
@@ -103,3 +103,16 @@ continued listed wanted None events = property_in listed wanted events
 continued listed wanted (Some own) events =
     or_later (if_wanted (is_same wanted own.property) (text_behind own.text events))
     (property_in listed wanted events)
+
+-- where no event follows, nothing more is said
+pub said_at_end : (listed : Listed) (wanted : Property) (started : Option OpenText)
+    → continued listed wanted started [] ≡ Ok None
+said_at_end listed wanted None = refl
+said_at_end listed wanted (Some own) =
+    let none : Option (List ℕ) = None in
+    let answer : Result (Option (List ℕ)) Refusal = Ok none in
+    elim (is_same wanted own.property) as (λ b.
+    or_later (Ok (if b then none else none)) answer ≡ answer) [
+      | true ↦ refl
+      | false ↦ refl
+    ]

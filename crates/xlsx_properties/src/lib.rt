@@ -2,20 +2,20 @@
 //! section 11, and part 1, section 22.2), and those that users named (section 22.3).
 //!
 //! Rooms: `property` (the names of properties), `workbook_properties` (`WorkbookProperties`),
-//! `laws`, `open_property` and `property_part` (the core part and the program's), `open_custom` and
-//! `custom_part` (those that users named), `read` (the three parts). Both walks go event by event
-//! over a whole part. What is said by keys, of which the last text stands, has one invariant and
-//! three lemmas for any such walk: `EventsSaid`. The refusals of reading are one for all keys
-//! (`AreRefused`).
+//! `laws`, `keeping_texts` (a whole part is read event by event), `open_property` (what an event of
+//! the core part or of the program's gives), `open_custom` (what one of the users' own part gives),
+//! `read` (the three parts). What is said by keys, of which the last text stands, has one loop for
+//! both kinds of parts: a keeper (`KeepsTexts`) says by a ghost function what the events that
+//! follow say. Its invariant and three lemmas on it are in `EventsSaid`. The refusals of reading
+//! are one for all keys (`AreRefused`).
 #![tactic(auto)]
 
-mod custom_part;
 mod equality;
+mod keeping_texts;
 mod laws;
 mod open_custom;
 mod open_property;
 mod property;
-mod property_part;
 mod read;
 mod workbook_properties;
 

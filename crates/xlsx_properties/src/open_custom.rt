@@ -1,18 +1,19 @@
 ghost use Rattle.std.specs.Prelude.{◌≡◌, ◌∷◌, ℕ, List, length, Ok, Err, true, false};
-ghost use Rattle.std.specs.Prelude.{option_map, string_bytes, OnOk, IfErr};
+ghost use Rattle.std.specs.Prelude.{option_map, string_bytes, OnOk, IfErr, refl};
 ghost use Rattle.std.specs.Option.{option_or};
 ghost use Rattle.part_events.specs.Event.{Event, event_of, tag_of, start, end};
 ghost use Rattle.part_events.specs.JoinedText.{is_unknown};
 ghost use Rattle.xlsx_error.specs.declared.error.XlsxError.TheVariants.{OutOfMemory};
 ghost use Rattle.xlsx_sections.specs.Answers.{or_earlier};
 ghost use Rattle.xlsx_sections.specs.Refusal.{RefusedAt, no_character};
-ghost use Rattle.xlsx_properties.specs.CustomProperties.{custom_from, text_named, behind_leaf};
-ghost use Rattle.xlsx_properties.specs.CustomProperties.{is_taken, ends_property, custom_opened};
+ghost use Rattle.xlsx_properties.specs.CustomProperties.{custom_in, text_named, behind_leaf};
+ghost use Rattle.xlsx_properties.specs.CustomProperties.{is_taken, custom_opened};
 ghost use Rattle.xlsx_properties.specs.Errors.{IsPropertyError};
 ghost use Rattle.xlsx_properties.specs.Kept.{held, custom_held};
 ghost use Rattle.xlsx_properties.specs.Open.{custom_in_place, custom_behind};
 ghost use Rattle.xlsx_properties.specs.declared.property.Property.{Property};
 
+use crate::keeping_texts::KeepsTexts;
 use crate::workbook_properties::WorkbookProperties;
 use attr_text::local_name;
 use part_events::{PartEvent, StartTag};
@@ -22,17 +23,17 @@ use xlsx_sections::{name_by, push_text_at};
 
 /// A property that users named, whose end is still to come, with its text so far.
 #[derive(Drop)]
-pub(crate) struct OpenCustom {
+struct OpenCustom {
     name: String,
     text: String,
 }
 
 /// Where reading stands among the properties that users named.
 #[derive(Drop)]
-pub(crate) struct CustomPlace {
-    pub(crate) started: Option<OpenCustom>,
+struct CustomPlace {
+    started: Option<OpenCustom>,
     /// Whether the texts that come next count.
-    pub(crate) takes: bool,
+    takes: bool,
 }
 
 fn opened(alloc: Global, name: Option<String>) -> Option<OpenCustom>
@@ -130,30 +131,54 @@ fn push_leaf(place: &mut CustomPlace, event: PartEvent<'_>, at: u64) -> Result<(
     Ok(())
 }
 
-/// Takes an event of the part of the properties that users named, which is number `at` of it.
-pub(crate) fn take_custom_event(
+/// Keeps the texts of the properties that users named.
+#[derive(Drop)]
+pub(crate) struct CustomKeeper {
     alloc: Global,
-    place: &mut CustomPlace,
-    properties: &mut WorkbookProperties,
-    event: PartEvent<'_>,
-    at: u64,
-) -> Result<(), XlsxError>
-    ensures ok { OnOk result ((name : List ℕ) (events : List Event) →
-        or_earlier (custom_held name properties.old)
-        (custom_behind place.old name (event_of event.entry ∷ events))
-        ≡ or_earlier (custom_held name properties.new) (custom_behind place.new name events)) }
-    ensures held { (own : Property) → held own properties.new ≡ held own properties.old }
-    ensures err { IfErr result (λ error. (events : List Event) →
-        RefusedAt (λ refusal. (name : List ℕ) →
-        custom_behind place.old name (event_of event.entry ∷ events) ≡ Err refusal)
-        at (length events) error) }
-    ensures kind { IfErr result IsPropertyError }
-{
-    match event {
-        PartEvent::Start(tag) => take_start(alloc, place, tag, at)?,
-        PartEvent::End(name) => take_end(properties, place, name)?,
-        PartEvent::Text(_) | PartEvent::CharData(_) | PartEvent::EntityRef(_) | PartEvent::Other =>
-            push_leaf(place, event, at)?,
+    place: CustomPlace,
+    pub(crate) properties: WorkbookProperties,
+}
+
+impl CustomKeeper {
+    /// A part of which nothing was taken, and what was kept of others.
+    pub(crate) fn new(alloc: Global, properties: WorkbookProperties) -> CustomKeeper
+        ensures following { custom_behind result.place ≡ custom_in }
+        ensures properties { result.properties ≡ properties }
+    {
+        let place = CustomPlace {
+            started: None,
+            takes: false,
+        };
+        CustomKeeper {
+            alloc,
+            place,
+            properties,
+        }
     }
-    Ok(())
+}
+
+impl KeepsTexts for CustomKeeper {
+    ghost Key = { List ℕ };
+
+    ghost held = { λ k name. custom_held name k.properties };
+
+    ghost following = { λ k. custom_behind k.place };
+
+    ghost Other = { Property };
+
+    ghost beside = { λ k own. held own k.properties };
+
+    fn take(&mut self, event: PartEvent<'_>, at: u64) -> Result<(), XlsxError> {
+        match event {
+            PartEvent::Start(tag) => take_start(self.alloc, &mut self.place, tag, at)?,
+            PartEvent::End(name) => take_end(&mut self.properties, &mut self.place, name)?,
+            PartEvent::Text(_)
+            | PartEvent::CharData(_)
+            | PartEvent::EntityRef(_)
+            | PartEvent::Other => push_leaf(&mut self.place, event, at)?,
+        }
+        Ok(())
+    }
+
+    ghost ended = { λ k name. refl };
 }

@@ -1,16 +1,16 @@
-ghost use Rattle.std.specs.Prelude.{◌≡◌, ◌∷◌, ℕ, List, length, Err, Some, option_map, OnOk, IfErr};
+ghost use Rattle.std.specs.Prelude.{◌≡◌, ℕ, List, Some, option_map, OnOk, IfErr};
 ghost use Rattle.std.specs.Prelude.{true, false, IsSome};
 ghost use Rattle.std.specs.Option.{option_or};
 ghost use Rattle.part_events.specs.JoinedText.{event_text, is_unknown};
-ghost use Rattle.part_events.specs.Event.{Event, event_of, tag_of};
-ghost use Rattle.xlsx_sections.specs.Answers.{or_earlier};
+ghost use Rattle.part_events.specs.Event.{event_of, tag_of};
 ghost use Rattle.xlsx_sections.specs.Refusal.{RefusedAt, IsDecodeError, no_character};
-ghost use Rattle.xlsx_properties.specs.Kept.{held};
+ghost use Rattle.xlsx_properties.specs.Kept.{held, custom_held};
 ghost use Rattle.xlsx_properties.specs.PropertyTexts.{listed_in, property_of, opened, text_kept};
-ghost use Rattle.xlsx_properties.specs.PropertyTexts.{continued, with_text};
-ghost use Rattle.xlsx_properties.specs.Open.{open_in};
+ghost use Rattle.xlsx_properties.specs.PropertyTexts.{property_in, with_text, said_at_end};
+ghost use Rattle.xlsx_properties.specs.Open.{open_in, property_behind};
 ghost use Rattle.xlsx_properties.specs.declared.property.Property.{Property};
 
+use crate::keeping_texts::KeepsTexts;
 use crate::property::{Property, core_property, program_property};
 use crate::workbook_properties::WorkbookProperties;
 use part_events::{PartEvent, StartTag};
@@ -38,7 +38,7 @@ impl PropertyPart {
 
 /// The property whose start was taken last, with its text so far.
 #[derive(Drop)]
-pub(crate) struct OpenProperty {
+struct OpenProperty {
     property: Property,
     text: String,
 }
@@ -86,35 +86,58 @@ fn push_leaf(
     Ok(())
 }
 
-/// Takes an event of a part, which is number `at` of it. What was taken so far is kept in
-/// `properties`, and in `started` the one that is read.
-pub(crate) fn take_event(
+/// Keeps the texts of the properties that a part says.
+#[derive(Drop)]
+pub(crate) struct PropertyKeeper {
     alloc: Global,
-    started: &mut Option<OpenProperty>,
-    properties: &mut WorkbookProperties,
     part: PropertyPart,
-    event: PartEvent<'_>,
-    at: u64,
-) -> Result<(), XlsxError>
-    ensures ok { let listed = listed_in part in
-        OnOk result ((wanted : Property) (events : List Event) →
-        or_earlier (held wanted properties.old)
-        (continued listed wanted (open_in started.old) (event_of event.entry ∷ events))
-        ≡ or_earlier (held wanted properties.new)
-        (continued listed wanted (open_in started.new) events)) }
-    ensures custom { properties.new.custom_properties ≡ properties.old.custom_properties }
-    ensures err { let listed = listed_in part in
-        IfErr result (λ error. (events : List Event) →
-        RefusedAt (λ refusal. (wanted : Property) →
-        continued listed wanted (open_in started.old) (event_of event.entry ∷ events)
-        ≡ Err refusal) at (length events) error) }
-    ensures kind { IfErr result IsDecodeError }
-{
-    match event {
-        PartEvent::Start(tag) => *started = opened(alloc, part.property(tag)),
-        PartEvent::End(_) => keep_text(properties, started.take()),
-        PartEvent::Text(_) | PartEvent::CharData(_) | PartEvent::EntityRef(_) | PartEvent::Other =>
-            push_leaf(started, event, at)?,
+    started: Option<OpenProperty>,
+    pub(crate) properties: WorkbookProperties,
+}
+
+impl PropertyKeeper {
+    /// A part of which nothing was taken, and what was kept of others.
+    pub(crate) fn new(
+        alloc: Global,
+        part: PropertyPart,
+        properties: WorkbookProperties,
+    ) -> PropertyKeeper
+        ensures following { property_behind result.part result.started
+            ≡ property_in (listed_in part) }
+        ensures properties { result.properties ≡ properties }
+    {
+        PropertyKeeper {
+            alloc,
+            part,
+            started: None,
+            properties,
+        }
     }
-    Ok(())
+}
+
+impl KeepsTexts for PropertyKeeper {
+    ghost Key = { Property };
+
+    ghost held = { λ k wanted. held wanted k.properties };
+
+    ghost following = { λ k. property_behind k.part k.started };
+
+    ghost Other = { List ℕ };
+
+    ghost beside = { λ k name. custom_held name k.properties };
+
+    #[tactic(auto, using(crate::proofs::Errors::decode_error))]
+    fn take(&mut self, event: PartEvent<'_>, at: u64) -> Result<(), XlsxError> {
+        match event {
+            PartEvent::Start(tag) => self.started = opened(self.alloc, self.part.property(tag)),
+            PartEvent::End(_) => keep_text(&mut self.properties, self.started.take()),
+            PartEvent::Text(_)
+            | PartEvent::CharData(_)
+            | PartEvent::EntityRef(_)
+            | PartEvent::Other => push_leaf(&mut self.started, event, at)?,
+        }
+        Ok(())
+    }
+
+    ghost ended = { λ k wanted. said_at_end (listed_in k.part) wanted (open_in k.started) };
 }

@@ -1,5 +1,5 @@
-ghost use Rattle.std.specs.Prelude.{◌≡◌, ℕ, List, true, None, Ok, OnOk, IfOk, IfErr};
-ghost use Rattle.part_events.specs.Package.{Uses, CountsUp, part_of};
+ghost use Rattle.std.specs.Prelude.{◌≡◌, ℕ, List, true, Ok, OnOk, IfOk, IfErr};
+ghost use Rattle.part_events.specs.Package.{Uses, CountsUp};
 ghost use Rattle.xlsx_error.specs.declared.error.XlsxError.TheVariants.{Io};
 ghost use Rattle.xlsx_sections.specs.Failing.{FailsBy};
 ghost use Rattle.xlsx_properties.specs.Errors.{IsPropertyError};
@@ -8,48 +8,13 @@ ghost use Rattle.xlsx_properties.specs.Parts.{property_said, custom_said, Proper
 ghost use Rattle.xlsx_properties.specs.Parts.{property_events, AreWhole};
 ghost use Rattle.xlsx_properties.specs.declared.property.Property.{Property};
 
-use crate::custom_part::read_custom_part;
-use crate::open_property::PropertyPart;
-use crate::property_part::read_part;
+use crate::keeping_texts::keep_part;
+use crate::open_custom::CustomKeeper;
+use crate::open_property::{PropertyKeeper, PropertyPart};
 use crate::workbook_properties::WorkbookProperties;
 use part_events::Package;
 use std::alloc::Global;
 use xlsx_error::XlsxError;
-
-/// Gives properties that are none yet the texts that the three parts say.
-fn read_parts<P: Package>(
-    alloc: Global,
-    package: &mut P,
-    properties: &mut WorkbookProperties,
-) -> Result<(), XlsxError>
-    requires none { (own : Property) → held own properties.old ≡ None }
-    requires no_custom { (name : List ℕ) → custom_held name properties.old ≡ None }
-    ensures uses { let old = P.state «package».old in
-        let new = P.state «package».new in
-        Uses (property_events old.parts) Io result old new }
-    ensures to_end { let old = P.state «package».old in
-        let new = P.state «package».new in
-        old.is_told ≡ true →
-        OnOk result (CountsUp (property_events old.parts) old.taken new.taken) }
-    ensures whole { let old = P.state «package».old in
-        old.is_told ≡ true → OnOk result (AreWhole old.parts) }
-    ensures properties { let old = P.state «package».old in
-        old.is_told ≡ true → OnOk result ((wanted : Property) →
-        property_said old.parts wanted ≡ Ok (held wanted properties.new)) }
-    ensures custom { let old = P.state «package».old in
-        old.is_told ≡ true → OnOk result ((name : List ℕ) →
-        custom_said old.parts name ≡ Ok (custom_held name properties.new)) }
-    ensures err { let old = P.state «package».old in
-        let new = P.state «package».new in
-        IfErr result (FailsBy (PropertiesCause old.parts) old new) }
-    ensures kind { IfErr result IsPropertyError }
-{
-    let (core, program) = (PropertyPart::Core, PropertyPart::Program);
-    read_part(alloc, package, "docProps/core.xml", core, properties)?;
-    read_part(alloc, package, "docProps/app.xml", program, properties)?;
-    read_custom_part(alloc, package, "docProps/custom.xml", properties)?;
-    Ok(())
-}
 
 /// The properties of a workbook: of `docProps/core.xml` those of all names, then of
 /// `docProps/app.xml` the program's, of each the last text that isn't empty, and of
@@ -82,7 +47,12 @@ pub fn read_properties<P: Package>(
         IfErr result (FailsBy (PropertiesCause old.parts) old new) }
     ensures kind { IfErr result IsPropertyError }
 {
-    let mut properties = WorkbookProperties::new(alloc);
-    read_parts(alloc, package, &mut properties)?;
-    Ok(properties)
+    let none = WorkbookProperties::new(alloc);
+    let mut core = PropertyKeeper::new(alloc, PropertyPart::Core, none);
+    keep_part(alloc, package, "docProps/core.xml", &mut core)?;
+    let mut program = PropertyKeeper::new(alloc, PropertyPart::Program, core.properties);
+    keep_part(alloc, package, "docProps/app.xml", &mut program)?;
+    let mut custom = CustomKeeper::new(alloc, program.properties);
+    keep_part(alloc, package, "docProps/custom.xml", &mut custom)?;
+    Ok(custom.properties)
 }

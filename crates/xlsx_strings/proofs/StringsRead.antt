@@ -1,46 +1,12 @@
 -- How the elements of a string, and the strings of their section, are read one by one.
-use Rattle.std.proofs.Common.{◌≡◌, ℕ, List, [], ◌∷◌, ◌++◌, Bool, true, false, Some, Result, Ok, Err}
-use Rattle.std.proofs.Common.{refl, sym, ◌∙◌, ap, subst, codes, append_assoc}
-use Rattle.std.specs.Prelude.{◌||◌, if◌then◌else◌, IfErr}
+use Rattle.std.proofs.Common.{◌≡◌, ℕ, List, ◌∷◌, ◌++◌, Result, Ok, Err}
+use Rattle.std.proofs.Common.{refl, sym, ◌∙◌, ap, append_assoc}
 use Rattle.std.specs.List.{flat_map}
-use Rattle.std.specs.Str.{bytes_eq}
-use Rattle.attr_text.specs.Attributes.{local_name_of}
-use Rattle.part_events.specs.Event.{Tag, Event, start}
-use Rattle.part_events.specs.Reading.{Reading}
 use Rattle.part_events.specs.Section.{Element}
-use Rattle.xlsx_error.specs.declared.error.XlsxError.{XlsxError}
 use Rattle.xlsx_sections.specs.Answers.{with_first, and_others, all_answers}
 use Rattle.xlsx_sections.specs.ElementLists.{element_said}
-use Rattle.xlsx_sections.specs.Elements.{ElementReadFails}
-use Rattle.xlsx_sections.specs.PartSection.{always}
 use Rattle.xlsx_sections.specs.Refusal.{Refusal}
-use Rattle.xlsx_sections.proofs.SectionsRead.{same_tag}
-use Rattle.xlsx_strings.specs.Strings.{is_text, text_within, piece_of, end_in_piece, all_joined}
-
-or_false : (b : Bool) → (b || false) ≡ b
-or_false true = refl
-or_false false = refl
-
--- whether an element is a text goes by the local name of its start
-pub is_text_by : {event : Event} {own : Tag} {b : Bool} (tag : Tag) → start tag ≡ event
-    → start own ≡ event → b ≡ bytes_eq (local_name_of own.name) (codes "t") → is_text tag ≡ b
-is_text_by {own = own} {b = b} tag first second is =
-    let same : tag ≡ own = same_tag (first ∙ sym second) in
-    ap is_text same ∙ or_false (bytes_eq (local_name_of own.name) (codes "t")) ∙ sym is
-
-pub text_piece_fails : (tag : Tag) (old new : Reading) (error : XlsxError) → is_text tag ≡ true
-    → ElementReadFails (always (codes "t")) (text_within tag) old new error
-    → ElementReadFails (end_in_piece tag) (piece_of tag) old new error
-text_piece_fails tag old new error is fails =
-    subst (λ (b : Bool). ElementReadFails
-    (λ (inside : List Event). if b then Some (codes "t") else Some [])
-    (λ (inside : List Event). if b then text_within tag inside else Ok []) old new error)
-    (sym is) fails
-
-pub if_err_map : {A E : Type 0} {P Q : E → Type 0} (result : Result A E)
-    → ((error : E) → P error → Q error) → IfErr result P → IfErr result Q
-if_err_map (Ok a) weaker is = tt
-if_err_map (Err error) weaker is = weaker error is
+use Rattle.xlsx_strings.specs.Strings.{piece_of, all_joined}
 
 -- a text, and what is put behind it
 abbrev pub onto : List ℕ → Result (List ℕ) Refusal → Result (List ℕ) Refusal

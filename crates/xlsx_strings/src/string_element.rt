@@ -1,4 +1,4 @@
-ghost use Rattle.std.specs.Prelude.{◌≡◌, ◌++◌, List, ℕ, codes, true, Ok};
+ghost use Rattle.std.specs.Prelude.{◌≡◌, ◌++◌, List, ℕ, true, Ok};
 ghost use Rattle.std.specs.Prelude.{string_bytes, IfOk, OnOk, OnErr, IfErr};
 ghost use Rattle.attr_text.specs.Text.{unescaped};
 ghost use Rattle.part_events.specs.Event.{Tag, start, tag_of};
@@ -7,8 +7,7 @@ ghost use Rattle.part_events.specs.Reading.{reading, IsReadingElement, ReadsElem
 ghost use Rattle.part_events.specs.Section.{content};
 ghost use Rattle.xlsx_error.specs.declared.error.XlsxError.TheVariants.{Io};
 ghost use Rattle.xlsx_sections.specs.Elements.{ElementReadFails};
-ghost use Rattle.xlsx_sections.specs.PartSection.{always};
-ghost use Rattle.xlsx_strings.specs.Strings.{blanks_kept, spaced, text_within, piece_of, string_of};
+ghost use Rattle.xlsx_strings.specs.Strings.{blanks_kept, spaced, piece_of, string_of};
 ghost use Rattle.xlsx_strings.specs.Strings.{end_in_piece, end_in_string, IsStringError};
 
 use crate::trim::trimmed;
@@ -42,38 +41,8 @@ fn push_spaced(alloc: Global, out: &mut String, written: &str, kept: bool) -> Re
     }
 }
 
-/// Appends the text of the element `t` at whose start the package stands, and reads to its end.
-fn read_text<P: Package>(
-    alloc: Global,
-    package: &mut P,
-    cursor: &mut Cursor,
-    out: &mut String,
-    scratch: &mut String,
-) -> Result<(), XlsxError>
-    requires element { IsReadingElement (reading (P.state «package».old) cursor.old) }
-    ensures reads { let old = reading (P.state «package».old) cursor.old in
-        let new = reading (P.state «package».new) cursor.new in
-        ReadsElement Io result old new }
-    ensures text { let old = reading (P.state «package».old) cursor.old in
-        old.source.is_told ≡ true → OnOk result ((tag : Tag) → start tag ≡ old.source.current →
-        (text : List ℕ) × (text_within tag (content 0 (ahead old)) ≡ Ok text)
-        × (string_bytes out.new ≡ string_bytes out.old ++ text)) }
-    ensures front { IsFrontOf (string_bytes out.old) (string_bytes out.new) }
-    ensures err { let old = reading (P.state «package».old) cursor.old in
-        let new = reading (P.state «package».new) cursor.new in
-        IfErr result (λ error. (tag : Tag) → start tag ≡ old.source.current →
-        ElementReadFails (always (codes "t")) (text_within tag) old new error) }
-    ensures kind { IfErr result IsStringError }
-{
-    let kept = keeps_blanks(start_tag(package))?;
-    scratch.clear();
-    read_element_text(package, cursor, scratch, true, "t")?;
-    push_spaced(alloc, out, scratch.as_str(), kept)?;
-    Ok(())
-}
-
-/// Appends what the element at whose start the package stands adds to its string: a text is read,
-/// and what is said of the pronunciation is passed.
+/// Appends what the element at whose start the package stands adds to its string, and reads to its
+/// end: a text is read, and what is said of the pronunciation is passed.
 fn read_piece<P: Package>(
     alloc: Global,
     package: &mut P,
@@ -96,11 +65,14 @@ fn read_piece<P: Package>(
         ElementReadFails (end_in_piece tag) (piece_of tag) old new error) }
     ensures kind { IfErr result IsStringError }
 {
-    if start_tag(package).local_name() == "t" {
-        read_text(alloc, package, cursor, out, scratch)
-    } else {
-        skip_element_in(package, cursor, Some(""))
+    if start_tag(package).local_name() != "t" {
+        return skip_element_in(package, cursor, Some(""));
     }
+    let kept = keeps_blanks(start_tag(package))?;
+    scratch.clear();
+    read_element_text(package, cursor, scratch, true, "t")?;
+    push_spaced(alloc, out, scratch.as_str(), kept)?;
+    Ok(())
 }
 
 /// Appends the text of the string element, an `si` or an `is`, at whose start the package stands,

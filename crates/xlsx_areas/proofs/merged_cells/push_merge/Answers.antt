@@ -1,14 +1,20 @@
-use Rattle.std.proofs.Common.{List, ap, ◌∙◌}
+use Rattle.std.proofs.Common.{[], List, Ok, Option, Result, ap, ◌∙◌, append-nil}
 use Rattle.cell_refs.specs.declared.dimensions.Dimensions.{Dimensions}
-use Rattle.part_events.specs.Event.{tag_of}
-use Rattle.xlsx_sections.specs.Answers.{prepended}
-use Rattle.xlsx_sections.specs.Refusal.{placed_at}
-use Rattle.xlsx_parts.proofs.StartLists.{some_kept}
-use Rattle.xlsx_areas.specs.MergedCells.{merge_of}
+use Rattle.xlsx_sections.specs.Answers.{prepended, and_others_if}
+use Rattle.xlsx_sections.specs.Refusal.{Refusal}
 use Rattle.xlsx_areas.proofs.merged_cells.push_merge.Goals as goal
 
-pub returns-clause-ok : goal.returns-clause-ok
-returns-clause-ok c = λ behind others.
-    ap (λ (items : List Dimensions). prepended items others) c.in_ok-push_area.ensures
-    ∙ some_kept c.args.areas.now.items c.in_ok-area.area
-    (merge_of (placed_at (tag_of c.args.tag) behind)) others (c.in_ok-area.ensures.ok behind)
+pub returns-in_ok-push-in-Some-clause-ok : goal.returns-in_ok-push-in-Some-clause-ok
+returns-in_ok-push-in-Some-clause-ok c = λ behind.
+    let kept = c.args.areas.now.items in
+    rw c.in_ok-push-in-Some.ensures.items
+    (ap (λ (own : Result (Option Dimensions) Refusal). prepended kept (and_others_if own (Ok [])))
+    (rw c.in-Some.is at (c.in_ok-area.ensures.ok behind)))
+
+pub returns-in-None-clause-ok : goal.returns-in-None-clause-ok
+returns-in-None-clause-ok c = λ behind.
+    let kept = c.args.areas.now.items in
+    ap (λ (own : Result (Option Dimensions) Refusal). prepended kept (and_others_if own (Ok [])))
+    (rw c.in-None.is at (c.in_ok-area.ensures.ok behind))
+    ∙ ap (λ (all : List Dimensions). let own : Result (List Dimensions) Refusal = Ok all in own)
+    (append-nil kept)

@@ -1,21 +1,19 @@
-use Rattle.std.proofs.Common.{◌∙◌, refl}
-use Rattle.std.proofs.lemmas.Result.{err_from_is_err_and}
+use Rattle.std.proofs.Common.{◌∙◌}
 use Rattle.part_events.specs.Reading.{reading}
+use Rattle.xlsx_sections.proofs.Failing.{given_back}
 use Rattle.xlsx_parts.proofs.WholeRead.{begins_part, whole_step_refused}
-use Rattle.xlsx_properties.specs.CustomProperties.{custom_in}
 use Rattle.xlsx_properties.specs.Said.{AreRefused}
 use Rattle.xlsx_properties.proofs.EventsSaid.{events_further, events_refused, events_ended}
-use Rattle.xlsx_properties.proofs.custom_part.read_custom.Goals as goal
+use Rattle.xlsx_properties.proofs.keeping_texts.keep_texts.Goals as goal
 
 pub returns-in_err-at-clause-err : goal.returns-in_err-at-clause-err
 returns-in_err-at-clause-err g c =
     let old = reading (g.P.Package.state c.args.package.now) c.args.cursor.now in
     let new = reading (g.P.Package.state c.next_event_of_part.new.package)
     c.next_event_of_part.new.cursor in
-    let p = err_from_is_err_and c.from_residual.result c.from_residual.ensures.1 in
-    rw (p.1, p.2)
-    (whole_step_refused (AreRefused custom_in) old new c.in_err-at.field-0.0
-    (c.in_err-at.ensures.refused old c.events.invariant.keeps.keeps))
+    given_back _ c.from_residual.result c.from_residual.ensures.1
+    (whole_step_refused (AreRefused (g.K.KeepsTexts.following c.args.keeper.now)) old new
+    c.in_err-at.field-0.0 (c.in_err-at.ensures.refused old c.events.invariant.keeps.keeps))
 
 pub events-preserved : goal.events-preserved
 events-preserved g c =
@@ -23,21 +21,19 @@ events-preserved g c =
     let step = rw c.in-Some.is at (c.in_ok-at.ensures.step old c.events.invariant.keeps.keeps) in
     record {
       keeps = events_further c.events.invariant.keeps step
-          (rw c.event.ensures at c.in_ok-take_custom_event.ensures.ok);
-      held = λ own. c.take_custom_event.ensures.held own ∙ c.events.invariant.held own;
+          (rw c.event.ensures at c.in_ok-take.ensures.ok);
+      beside = λ other. c.take.ensures.beside other ∙ c.events.invariant.beside other;
     }
 
-pub returns-in_err-take_custom_event-clause-err : goal.returns-in_err-take_custom_event-clause-err
-returns-in_err-take_custom_event-clause-err g c =
+pub returns-in_err-take-clause-err : goal.returns-in_err-take-clause-err
+returns-in_err-take-clause-err g c =
     let old = reading (g.P.Package.state c.args.package.now) c.args.cursor.now in
     let new = g.P.Package.state c.next_event_of_part.new.package in
     let step = rw c.in-Some.is at (c.in_ok-at.ensures.step old c.events.invariant.keeps.keeps) in
-    let p = err_from_is_err_and c.from_residual-in_err-take_custom_event.result
-    c.from_residual-in_err-take_custom_event.ensures.1 in
-    rw (p.1, p.2)
-    (events_refused new c.in_err-take_custom_event.field-0.0
+    given_back _ c.from_residual-in_err-take.result c.from_residual-in_err-take.ensures.1
+    (events_refused new c.in_err-take.field-0.0
     (λ told. begins_part old c.requires.reading c.requires.first told) c.events.invariant.keeps step
-    (rw c.event.ensures at c.in_err-take_custom_event.ensures.err))
+    (rw c.event.ensures at c.in_err-take.ensures.err))
 
 pub returns-clause-ends : goal.returns-clause-ends
 returns-clause-ends g c = λ told.
@@ -59,4 +55,4 @@ returns-clause-said g c = λ told.
     let ends = (rw c.in_default.is at
     (c.in_ok-at.ensures.step old c.events.invariant.keeps.keeps)) told in
     events_ended (λ told. begins_part old c.requires.reading c.requires.first told)
-    c.events.invariant.keeps (λ name. refl) told ends.0.0 ends.1
+    c.events.invariant.keeps (g.met.K.KeepsTexts.ended c.events.keeper) told ends.0.0 ends.1

@@ -8,7 +8,7 @@ use Rattle.xlsx_properties.specs.CustomProperties.{is_taken}
 use Rattle.xlsx_properties.specs.Open.{custom_behind, custom_in_place}
 use Rattle.xlsx_properties.proofs.CustomKept.{text_refused}
 use Rattle.xlsx_properties.proofs.TextsKept.{leaf_event}
-use Rattle.xlsx_properties.proofs.open_custom.take_custom_event.Goals as goal
+use Rattle.xlsx_properties.proofs.open_custom.CustomKeeperKeepsTexts.take.Goals as goal
 
 pub returns-in_err-take_start-in-Start-clause-err :
     goal.returns-in_err-take_start-in-Start-clause-err
@@ -18,14 +18,14 @@ returns-in_err-take_start-in-Start-clause-err c =
 
 pub returns-in_err-push_leaf-in-Text : goal.returns-in_err-push_leaf-in-Text
 returns-in_err-push_leaf-in-Text c =
-    let place = c.args.place.now in
+    let place = c.args.self.now.place in
     let own = leaf_event c.args.event c.in-Text.is in
     let p = err_from_is_err_and c.from_residual-in_err-push_leaf-in-Text.result
     c.from_residual-in_err-push_leaf-in-Text.ensures.1 in
     rw (p.1, p.2)
     (record {
       ok = tt;
-      held = λ own. refl;
+      beside = λ own. refl;
       err = λ events. refused_at_weaker c.args.at (length events)
           (λ (refusal : Refusal). (name : List ℕ) →
           custom_behind place name (event_of c.args.event ∷ events) ≡ Err refusal)

@@ -1,0 +1,39 @@
+use Rattle.std.proofs.Common.{◌≡◌, true, Ok, ◌∙◌, codes, option_map, string_bytes, rules}
+use Rattle.part_events.specs.Reading.{reading}
+use Rattle.part_events.specs.Walk.{section_ahead}
+use Rattle.xlsx_sections.specs.Elements.{IsInsideRefused}
+use Rattle.xlsx_sections.specs.PartSection.{always, SectionFails}
+use Rattle.xlsx_sections.proofs.Failing.{given_back}
+use Rattle.xlsx_pivots.specs.Targets.{single_target_in}
+use Rattle.xlsx_pivots.proofs.targets.target_beside.Goals as goal
+
+pub returns-in_err-keep_starts-clause-err : goal.returns-in_err-keep_starts-clause-err
+returns-in_err-keep_starts-clause-err g c =
+    let mid = reading (g.P.Package.state c.enter_part.new.package) c.in-Some.cursor in
+    let new = reading (g.P.Package.state c.keep_starts.new.package) c.keep_starts.new.cursor in
+    let refused = IsInsideRefused (single_target_in c.args.wanted.now c.args.single) in
+    let here : SectionFails (always (codes "Relationships")) refused c.depth-base.result mid new
+    c.in_err-keep_starts.field-0.0 = c.in_err-keep_starts.ensures.err tt in
+    given_back _ c.from_residual-in_err-keep_starts.result
+    c.from_residual-in_err-keep_starts.ensures.1 (search rules)
+
+pub returns-in-Some-kept-clause-target : goal.returns-in-Some-kept-clause-target
+returns-in-Some-kept-clause-target g c = λ told.
+    let mid = reading (g.P.Package.state c.enter_part.new.package) c.in-Some.cursor in
+    let enters = rw c.in-Some.is at c.in_ok-cursor.ensures.enters in
+    let inside = section_ahead c.depth-base.result mid in
+    let said : single_target_in c.args.wanted.now c.args.single inside
+    ≡ Ok (option_map string_bytes c.keep_starts.new.keeper.kept) =
+    c.in_ok-keep_starts.ensures.kept (enters.parts.is_told ∙ told) tt in
+    search rules
+
+pub returns-clause-err : goal.returns-clause-err
+returns-clause-err g c =
+    let mid = reading (g.P.Package.state c.enter_part.new.package) c.in-Some.cursor in
+    let enters = rw c.in-Some.is at c.in_ok-cursor.ensures.enters in
+    let inside = section_ahead c.depth-base.result mid in
+    let said = λ (told : (g.P.Package.state c.args.package.now).is_told ≡ true).
+    let own : single_target_in c.args.wanted.now c.args.single inside
+    ≡ Ok (option_map string_bytes c.keep_starts.new.keeper.kept) =
+    c.in_ok-keep_starts.ensures.kept (enters.parts.is_told ∙ told) tt in own in
+    search rules
