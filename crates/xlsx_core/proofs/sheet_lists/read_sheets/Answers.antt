@@ -47,3 +47,24 @@ sheets-preserved g c =
           ∙ next_there sheets number sheet others front;
       within = omega (arith, now.within, ap length left);
     }
+
+pub returns-in_err-keep : goal.returns-in_err-keep
+returns-in_err-keep g c =
+    let r = g.R.ReadsSheets in
+    let sheets = c.args.sheets.now in
+    let sheet = c.in-Some.field-0-0.now in
+    let others = c.in-Some.others.now in
+    let path = c.in-Some-split_first.path.now in
+    let more = c.in-Some-split_first.more.now in
+    let left : c.sheets.left.now ≡ sheet ∷ others = search rules in
+    let rest : c.sheets.rest.now ≡ path ∷ more = search rules in
+    let there : c.as_str.result.now ≡ path_kept path =
+    c.as_str.ensures.value ∙ c.in_ok-path.ensures in
+    let named = named_there sheets c.sheets.number sheet others (c.sheets.invariant.behind ∙ left) in
+    let handed = err_from_is_err_and c.from_residual-in_err-keep.result
+    c.from_residual-in_err-keep.ensures.1 in
+    rw (handed.1, handed.2)
+    (answers_refused (r.held sheets)
+    (leads_refused (r.ask c.args.by.now) (sheet_at (string_bytes sheet.name) (path_kept path))
+    (sheet_paths others more) [] (λ is. search rules)
+    (rw (left, rest) at c.sheets.invariant.leads) (rw (named, there) at c.in_err-keep.ensures)))
