@@ -8,6 +8,7 @@ use Rattle.sheet_listing.specs.SheetListing.{listing}
 use Rattle.xlsx_error.specs.declared.error.XlsxError.{XlsxError}
 use Rattle.xlsx_areas.specs.Hyperlinks.{Link}
 use Rattle.xlsx_open.specs.Opening.{OpensSoundly, without_path}
+use Rattle.xlsx_core.specs.Comments.{PlacedCommentsCause}
 use Rattle.xlsx_core.specs.Links.{links_placed, PlacedLinksCause}
 use Rattle.xlsx_core.specs.SheetReading.{ReadsAs, IsReadable, SheetCause}
 use Rattle.xlsx_commands.specs.BookLists.{sheet_lines, name_lines}
@@ -15,7 +16,7 @@ use Rattle.xlsx_rows.specs.declared.options.CsvOptions.{CsvOptions}
 use Rattle.xlsx_commands.specs.declared.asked_rows.AskedRows.{AskedRows}
 use Rattle.xlsx_commands.specs.Command.{Command, cells, sheets, names, merges, links, props, csv}
 use Rattle.xlsx_commands.specs.Command.{csv_table, tables, table, pivots, pivot, precedents}
-use Rattle.xlsx_commands.specs.Command.{dependents, check, part, upgrade, resave, sample}
+use Rattle.xlsx_commands.specs.Command.{dependents, check, part, upgrade, resave, sample, comments}
 use Rattle.xlsx_commands.specs.Outputs.{IsOutput, RefusedWorkbookCause, IsTooLarge, OutputCause}
 use Rattle.xlsx_commands.specs.Outputs.{HasOutput}
 use Rattle.xlsx_commands.specs.PartNames.{PartPathCause}
@@ -26,6 +27,7 @@ use Rattle.xlsx_commands.specs.declared.error.ToolError.{ToolError}
 use Rattle.xlsx_commands.specs.declared.error.ToolError.TheVariants.{Workbook, BoxTooLarge}
 use Rattle.xlsx_commands.proofs.NamedSheets.{OpeningsNever, MergesNever, named_never, merges_never}
 use Rattle.xlsx_commands.proofs.CachesRead.{CachesNever, rows_never_refused}
+use Rattle.xlsx_commands.proofs.CommentsListed.{CommentsNever, comments_never}
 use Rattle.xlsx_commands.proofs.PartsNamed.{path_never}
 use Rattle.xlsx_commands.proofs.PivotsListed.{PivotsNever, pivots_never}
 use Rattle.xlsx_commands.proofs.PropertiesListed.{PropertiesNever, listed_never}
@@ -147,6 +149,7 @@ pub record AreNever : Type 0 where
   pub openings : OpeningsNever
   pub merges : MergesNever
   pub links : LinksNever
+  pub comments : CommentsNever
   pub properties : PropertiesNever
   pub alike : (parts : List Part) (name : List ℕ) → AreReadAlike parts parts name
   pub tables : TablesNever
@@ -173,6 +176,10 @@ workbook_never never (links name) parts output error prints cause =
     let (path, opens, taken) = prints.has in
     named_never (PlacedLinksCause name) parts name path error never.openings opens
     (never.links name path parts prints.links error taken) cause
+workbook_never never (comments name) parts output error prints cause =
+    let (path, opens, taken) = prints.has in
+    named_never (PlacedCommentsCause name) parts name path error never.openings opens
+    (comments_never never.comments name path parts prints.all error taken) cause
 workbook_never never props parts output error prints cause =
     listed_never parts prints.texts (text_of_name prints.customs) error never.openings
     never.properties prints.opens prints.say cause

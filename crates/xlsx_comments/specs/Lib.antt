@@ -1,0 +1,3 @@
+pub mod CommentErrors
+pub mod CommentParts
+pub mod Comments

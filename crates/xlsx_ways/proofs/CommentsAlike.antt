@@ -1,0 +1,107 @@
+-- The comments of a sheet whose parts two packages have in the same way.
+use Rattle.std.proofs.Common.{◌≡◌, ℕ, List, [], Option, Some, None, sym, ◌∙◌, ap, subst, inl, inr}
+use Rattle.std.proofs.Common.{codes, refl}
+use Rattle.std.specs.Prelude.{MatchOption, IsSomeAnd, option_map, option_and_then}
+use Rattle.part_events.specs.Event.{Event}
+use Rattle.part_events.specs.Package.{Part, part_of}
+use Rattle.xlsx_error.specs.declared.error.XlsxError.{XlsxError}
+use Rattle.xlsx_error.specs.declared.error.XlsxError.TheVariants.{WorksheetNotFound}
+use Rattle.xlsx_parts.specs.PartSaid.{unless_absent, section_said}
+use Rattle.xlsx_relationships.specs.RelatedParts.{related_parts}
+use Rattle.xlsx_comments.specs.CommentErrors.{CommentsCause}
+use Rattle.xlsx_comments.specs.CommentParts.{CommentsSaid, entries_in}
+use Rattle.xlsx_comments.specs.Comments.{comments_type, one_gathered, comments_at, comments_by}
+use Rattle.xlsx_comments.specs.Comments.{sheet_comments, CommentsByCause, SheetCommentsCause}
+use Rattle.xlsx_open.specs.Opening.{Opening}
+use Rattle.xlsx_core.specs.Agreement.{HaveSamePart}
+use Rattle.xlsx_core.specs.Comments.{PlacedCommentsCause}
+use Rattle.xlsx_commands.specs.CommentLists.{HasComments, NamedCommentsCause}
+use Rattle.xlsx_ways.specs.Ways.{Each, HaveSameOpening, HaveSameCommentParts, HaveSameComments}
+use Rattle.xlsx_ways.proofs.OpeningsAlike.{opening_over, opens_at_over}
+use Rattle.xlsx_ways.proofs.PartsAlike.{related_over, related_cause_over}
+use Rattle.xlsx_ways.proofs.SaidAlike.{each_over, said_over, some_over, then_over, cause_over}
+use Rattle.xlsx_ways.proofs.SheetsAlike.{named_over}
+
+part_over : (one two : List Part) (path : List ℕ) → HaveSamePart one two path
+    → comments_at one path ≡ comments_at two path
+part_over one two path same =
+    ap (λ (events : Option (List Event)). option_map one_gathered (unless_absent [] events
+    (option_and_then (section_said (codes "comments") entries_in) events))) same
+
+by_over : (one two : List Part) (paths : List (List ℕ)) → Each (HaveSamePart one two) paths
+    → comments_by one paths ≡ comments_by two paths
+by_over one two paths same =
+    said_over (comments_at one) (comments_at two) paths
+    (each_over (HaveSamePart one two) (λ path. comments_at one path ≡ comments_at two path) paths
+    (part_over one two) same)
+
+sheet_over : (one two : List Part) (path : List ℕ) → HaveSameCommentParts one two path
+    → sheet_comments one path ≡ sheet_comments two path
+sheet_over one two path same =
+    then_over (related_parts one comments_type path) (comments_by one) (comments_by two)
+    (λ paths is. by_over one two paths (same.comments paths is))
+    ∙ ap (option_and_then (comments_by two))
+    (related_over one two comments_type path same.relationships)
+
+by_cause_over : (one two : List Part) (paths : List (List ℕ)) (error : XlsxError)
+    → Each (HaveSamePart one two) paths → CommentsByCause one paths error
+    → CommentsByCause two paths error
+by_cause_over one two paths error same cause =
+    some_over (λ own. CommentsCause (part_of one own)) (λ own. CommentsCause (part_of two own))
+    paths error
+    (each_over (HaveSamePart one two) (λ own. CommentsCause (part_of one own) error
+    → CommentsCause (part_of two own) error) paths
+    (λ own is. subst (λ (events : Option (List Event)). CommentsCause events error) is) same) cause
+
+sheet_cause_over : (one two : List Part) (path : List ℕ) (error : XlsxError)
+    → HaveSameCommentParts one two path → SheetCommentsCause one path error
+    → SheetCommentsCause two path error
+sheet_cause_over one two path error same (inl cause) =
+    inl (related_cause_over one two comments_type path error same.relationships cause)
+sheet_cause_over one two path error same (inr cause) =
+    inr (subst (λ (found : Option (List (List ℕ))). MatchOption found ⊥
+    (λ paths. CommentsByCause two paths error))
+    (related_over one two comments_type path same.relationships)
+    (cause_over (related_parts one comments_type path) (λ paths. CommentsByCause one paths error)
+    (λ paths. CommentsByCause two paths error)
+    (λ paths is. by_cause_over one two paths error (same.comments paths is)) cause))
+
+placed_cause_over : (name : List ℕ) (path : Option (List ℕ)) (one two : List Part)
+    (error : XlsxError) → ((own : List ℕ) → path ≡ Some own → HaveSameCommentParts one two own)
+    → PlacedCommentsCause name path one error → PlacedCommentsCause name path two error
+placed_cause_over name path one two (WorksheetNotFound asked) same cause = cause
+placed_cause_over name None one two error same cause = cause
+placed_cause_over name (Some path) one two error same cause =
+    sheet_cause_over one two path error (same path refl) cause
+
+pub comments_over : (one two : List Part) (name : List ℕ) (all : List CommentsSaid)
+    → HaveSameOpening one two → HaveSameComments one two name → HasComments one name all
+    → HasComments two name all
+comments_over one two name all opened same (path, at, taken) = (
+  path,
+  opens_at_over one two name path opened at,
+  sym (then_over path (sheet_comments one) (sheet_comments two)
+      (λ (own : List ℕ) is. sheet_over one two own
+      (same at.opening own at.opens (at.named ∙ is)))) ∙ taken,
+)
+
+pub comments_cause_over : (one two : List Part) (name : List ℕ) (error : XlsxError)
+    → HaveSameOpening one two → HaveSameComments one two name → NamedCommentsCause one name error
+    → NamedCommentsCause two name error
+comments_cause_over one two name error opened same cause =
+    named_over (PlacedCommentsCause name) one two name error opened
+    (λ path at has. placed_cause_over name path one two error
+    (λ (own : List ℕ) is. same at.opening own at.opens (at.named ∙ is)) has) cause
+
+pub comments_back : (one two : List Part) (name : List ℕ) → HaveSameOpening two one
+    → HaveSameComments one two name → HaveSameComments two one name
+comments_back one two name back same =
+    λ (opening : Opening) (path : List ℕ) opens named.
+    let there = same opening path (opening_over two one opening back opens) named in
+    record {
+      relationships = sym there.relationships;
+      comments = λ (paths : List (List ℕ)) is.
+          each_over (HaveSamePart one two) (HaveSamePart two one) paths (λ own is. sym is)
+          (there.comments paths
+          (related_over one two comments_type path there.relationships ∙ is));
+    }
