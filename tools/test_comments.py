@@ -40,44 +40,62 @@ CASES = [
     ("an author and a text", ONE[1], FOUND),
     (
         "rich text of two runs",
-        commented(comment("<r><rPr><b/></rPr><t>a</t></r><r><t xml:space=\"preserve\"> b</t></r>")),
+        commented(comment('<r><rPr><b/></rPr><t>a</t></r><r><t xml:space="preserve"> b</t></r>')),
         "A1\t=Ann\t=a b\n",
     ),
     ("pronunciation", commented(comment("<t>a</t><rPh><t>b</t></rPh>")), FOUND),
-    ("no text", commented('<comment ref="B2" authorId="1"/>'), "B2\t=Bo\t=\n"),
-    ("a line end, a tab and an escape", commented(comment("<t>a\nb&#9;_x0041_</t>")), None),
+    ("no text", commented('<comment ref="b2" authorId="1"/>'), "B2\t=Bo\t=\n"),
+    ("a line end and an escape", commented(comment("<t>a\nb_x0041_</t>")), "A1\t=Ann\t=a\\nbA\n"),
     ("no ref", commented(comment(T, 'authorId="0"') + comment(T)), FOUND),
-    ("a ref that is no cell", commented(comment(T, 'ref="A0"')), None),
-    ("a ref of an area", commented(comment(T, 'ref="A1:B2"')), None),
+    (
+        "a ref that is no cell",
+        commented(comment(T, 'ref="A0"')),
+        refused("Range is missing the expected row component."),
+    ),
+    (
+        "a ref of an area",
+        commented(comment(T, 'ref="A1:B2"')),
+        refused("Expecting alphanumeric character, got 3A"),
+    ),
     ("no authorId", commented(comment(T, 'ref="A1"')), NOBODY),
     ("an authorId that is no number", commented(comment(T, 'ref="A1" authorId="+0"')), NOBODY),
     ("one past the authors", commented(comment(T, 'ref="A1" authorId="2"')), NOBODY),
     ("one past all numbers", commented(comment(T, f'ref="A1" authorId="{10**30}"')), NOBODY),
     ("two comments of one cell", commented(comment(T) * 2), FOUND * 2),
     ("no author", commented(comment(T), ""), NOBODY),
-    ("an author without a name", commented(comment(T), "<author/>"), "A1\t=\t=a\n"),
-    ("an escape in an author", commented(comment(T), "<author>_x0041_ </author>"), None),
+    ("an empty author", commented(comment(T), "<author/>"), "A1\t=\t=a\n"),
+    (
+        "an escape and a blank in an author",
+        commented(comment(T), "<author>_x0041_ </author>"),
+        "A1\t=A \t=a\n",
+    ),
     ("authors behind", f"<comments>{comment(T)}<author>Ann</author></comments>", FOUND),
     ("a comment in one", commented(comment(T + comment("<t>b</t>"))), "A1\t=Ann\t=ab\n"),
     ("another root", "<x/>", ended("comments")),
-    ("a second root", ONE[1] + "<comments>" + comment("<t>b</t>") + "</comments>", FOUND),
-    ("nesting that breaks", "<comments><authors></comments>", None),
+    ("a second root", ONE[1] + commented(comment("<t>b</t>")), FOUND),
+    (
+        "nesting that breaks",
+        "<comments><authors></comments>",
+        refused("Xml error: end tag mismatch at 2"),
+    ),
     ("nesting that breaks behind", ONE[1] + "</x>", FOUND),
-    ("an entity in an author", commented(comment(T), "<author><!bogus></author>"), None),
-    ("an entity in a text", commented(comment("<t><!bogus></t>")), None),
-    ("an entity in what is left out", commented(comment("<rPh><t><!bogus></t></rPh><t>a</t>")), FOUND),
-    ("an attribute at fault", commented(comment(T, 'ref="A1" x')), None),
+    (
+        "an author with an entity without a character",
+        commented(comment(T), "<author><!bogus></author>"),
+        refused("Xml error: unknown entity at 3"),
+    ),
+    (
+        "a text with one",
+        commented(comment("<t><!bogus></t>"), ""),
+        refused("Xml error: unknown entity at 7"),
+    ),
+    ("one in pronunciation", commented(comment("<rPh><t><!bogus></t></rPh><t>a</t>")), FOUND),
+    (
+        "an attribute at fault",
+        commented(comment(T, 'ref="A1" x')),
+        refused("Xml attribute error: expected '=' at 10"),
+    ),
 ]
-# Those that aren't told above.
-TOLD = {
-    "a line end, a tab and an escape": "A1\t=Ann\t=a\\nb&#9;A\n",
-    "a ref that is no cell": refused("Range without row component"),
-    "a ref of an area": refused("Expecting alphanumeric character, got 3A"),
-    "an escape in an author": "A1\t=A \t=a\n",
-    "nesting that breaks": refused("Xml error: end tag mismatch at 2"),
-    "an entity in an author": refused("Xml error: unknown entity at 3"),
-    "an entity in a text": refused("Xml error: unknown entity at 13"),
-}
 
 
 class Comments(unittest.TestCase):
@@ -100,19 +118,19 @@ class Comments(unittest.TestCase):
         self.check(package_with(ONE, (RELATED[0], "<x/>")), ended("Relationships"), "no section")
 
     def test_a_part_of_comments_ends_early(self):
-        names = [None, "comments", "comments", "comments", "author", "author", "comments"]
-        names[0] = "comments"
         events = events_of(ONE[1])
         for count in range(len(events)):
-            still_open = [own[1] for own in events[:count] if own[0] == "s"]
-            for own in events[:count]:
-                if own[0] == "e":
-                    still_open.remove(own[1])
+            inside = []
+            for kind, name, *_ in events[:count]:
+                if kind == "s":
+                    inside.append(name)
+                elif kind == "e":
+                    inside.pop()
             inner = "comments"
-            if "author" in still_open:
+            if "author" in inside:
                 inner = "author"
-            elif "comment" in still_open:
-                inner = "t" if "t" in still_open else ""
+            elif "comment" in inside:
+                inner = "t" if "t" in inside else ""
             self.check(package_cut(ONE, count, RELATED), ended(inner), count)
 
     def test_comments_need_a_sheet_of_the_name_and_no_part_of_it(self):
