@@ -1,8 +1,10 @@
 -- Which refusals of the layers below are refusals of comments, and how a refused author or comment
 -- makes its part refused.
-use Rattle.std.proofs.Common.{◌≡◌, ℕ, List, length, true, Some, Option, Result, Err, codes}
-use Rattle.std.proofs.Common.{inl, inr, sym, ◌∙◌, ap, subst}
-use Rattle.std.specs.Prelude.{if◌then◌else◌}
+use Rattle.std.proofs.Common.{◌≡◌, ℕ, List, length, Bool, true, false, Some, Option, Result, Err}
+use Rattle.std.proofs.Common.{codes, inl, inr, refl, sym, ◌∙◌, ap, subst}
+use Rattle.std.specs.Prelude.{◌||◌, if◌then◌else◌}
+use Rattle.std.specs.Str.{bytes_eq}
+use Rattle.attr_text.specs.Attributes.{local_name_of}
 use Rattle.part_events.specs.Event.{Tag, Event, start}
 use Rattle.part_events.specs.Package.{PackageState}
 use Rattle.part_events.specs.Reading.{Reading}
@@ -26,7 +28,7 @@ use Rattle.xlsx_strings.specs.Strings.{IsStringError, end_in_string}
 use Rattle.xlsx_comments.specs.CommentErrors.{IsCommentStartError, IsCommentsError}
 use Rattle.xlsx_comments.specs.CommentParts.{Entry, is_entry, is_author, entry_said, entries_in}
 use Rattle.xlsx_comments.specs.CommentParts.{end_in_entry, end_in_entries, comment_start}
-use Rattle.xlsx_comments.specs.CommentParts.{comment_said, with_start}
+use Rattle.xlsx_comments.specs.CommentParts.{comment_said, author_said, with_start}
 
 pub string_error : (error : XlsxError) → IsStringError error → IsCommentsError error
 string_error OutOfMemory is = tt
@@ -83,6 +85,27 @@ start_refused own tag current old new error one two is fails =
     begun_refused tag old new error is
     (subst (λ (t : Tag). ElementFails (comment_start t) 0 0 error) (same_tag (one ∙ sym two)) fails)
 
+or_false : (b : Bool) → (b || false) ≡ b
+or_false true = refl
+or_false false = refl
+
+-- whether an element is an author goes by the local name of its start
+pub is_author_by : {event : Event} {own : Tag} {b : Bool} (tag : Tag) → start tag ≡ event
+    → start own ≡ event → b ≡ bytes_eq (local_name_of own.name) (codes "author")
+    → is_author tag ≡ b
+is_author_by {own = own} tag first second is =
+    ap is_author (same_tag (first ∙ sym second))
+    ∙ or_false (bytes_eq (local_name_of own.name) (codes "author")) ∙ sym is
+
+pub comment_fails : (tag : Tag) (old new : Reading) (error : XlsxError) → is_author tag ≡ false
+    → ElementReadFails end_in_string (comment_said tag) old new error
+    → ElementReadFails (end_in_entry tag) (entry_said tag) old new error
+comment_fails tag old new error is fails =
+    subst (λ (b : Bool). ElementReadFails
+    (λ (inside : List Event). if b then Some (codes "author") else end_in_string inside)
+    (λ (inside : List Event). if b then author_said inside else comment_said tag inside) old new
+    error) (sym is) fails
+
 -- one of the elements is refused, and so are all
 pub entries_refused : {base place : ℕ} {step : Option ℕ} {before kept : List Entry}
     {first old : Reading} (new : Reading) (last : PackageState) (error : XlsxError)
@@ -100,8 +123,8 @@ entries_refused {base = base} {before = before} {kept = kept} {first = first} ne
     (record first { source = last }) error
     (λ refusal refuses. behind_refused before
     (entries_in (inside_of (section_left base first))) refuses)
-    (elements_refused (codes "comments") end_in_entry (entry_said found.0)
-    (list_behind entry_said) last error (record { keeps = list.keeps; same = list.said }) found.2
+    (elements_refused {meaning = list_from is_entry entry_said before} (codes "comments")
+    end_in_entry (entry_said found.0) (list_behind entry_said) last error (record { keeps = list.keeps; same = list.said }) found.2
     (λ rest refusal refuses. ap (λ (answer : Result Entry Refusal).
     prepended kept (and_others answer (all_answers (element_said entry_said) rest))) refuses)
     (fails found.0 found.1))

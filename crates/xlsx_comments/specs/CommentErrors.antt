@@ -9,6 +9,7 @@ use Rattle.xlsx_error.specs.declared.error.XlsxError.TheVariants.{RangeWithoutRo
 use Rattle.xlsx_error.specs.declared.error.XlsxError.TheVariants.{RangeWithoutColumnComponent}
 use Rattle.xlsx_error.specs.declared.error.XlsxError.TheVariants.{ColumnNumberOverflow}
 use Rattle.xlsx_error.specs.declared.error.XlsxError.TheVariants.{RowNumberOverflow}
+use Rattle.xlsx_error.specs.declared.error.XlsxError.TheVariants.{DimensionCount}
 use Rattle.xlsx_sections.specs.Elements.{IsInsideRefused}
 use Rattle.xlsx_sections.specs.PartSection.{OptionalPartCause}
 use Rattle.xlsx_comments.specs.CommentParts.{entries_in, end_in_entries}
@@ -26,6 +27,7 @@ IsCommentStartError RangeWithoutRowComponent = ⊤
 IsCommentStartError RangeWithoutColumnComponent = ⊤
 IsCommentStartError ColumnNumberOverflow = ⊤
 IsCommentStartError RowNumberOverflow = ⊤
+IsCommentStartError (DimensionCount count) = ⊤
 IsCommentStartError _ = ⊥
 
 -- how the end of the part is told in it

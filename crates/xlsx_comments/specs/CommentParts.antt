@@ -1,6 +1,7 @@
 -- What a part of comments says (ECMA-376 part 1, sections 18.7.1 to 18.7.7).
-use Rattle.std.specs.Prelude.{ℕ, ◌<◌, List, [], ◌∷◌, Bool, if◌then◌else◌, codes, Option, Some, None}
-use Rattle.std.specs.Prelude.{map, string_bytes, option_and_then, slice_get, Result, Ok, Err}
+use Rattle.std.specs.Prelude.{ℕ, ◌<◌, List, [], ◌∷◌, Bool, true, if◌then◌else◌, codes, Option, Some}
+use Rattle.std.specs.Prelude.{None, map, string_bytes, option_and_then, slice_get, Result, Ok, Err}
+use Rattle.std.specs.List.{flat_map}
 use Rattle.attr_text.specs.Attributes.{lookup}
 use Rattle.attr_text.specs.Text.{unescaped}
 use Rattle.attr_text.specs.declared.fault.AttrFault.{AttrFault}
@@ -54,8 +55,8 @@ StartSaid = Option (ℕ × ℕ) × Option ℕ
 
 -- a position beside the number of an author
 abbrev pub with_cell : Option ℕ → Result (Option (ℕ × ℕ)) Refusal → Result StartSaid Refusal
-with_cell author (Ok position) = Ok (position, author)
-with_cell author (Err refusal) = Err refusal
+with_cell id (Ok position) = Ok (position, id)
+with_cell id (Err refusal) = Err refusal
 
 -- what a start says by its `ref` and its `authorId`, which is a number in decimal digits alone, or
 -- names no author
@@ -73,9 +74,9 @@ comment_start tag = start_by (lookup (codes "ref" ∷ codes "authorId" ∷ []) t
 
 -- a comment of this text; without a cell it is left out
 abbrev pub placed_entry : Option (ℕ × ℕ) → Option ℕ → List ℕ → Entry
-placed_entry None author text = unplaced
-placed_entry (Some position) author text =
-    comment (record { position = position; author = author; text = text })
+placed_entry None id text = unplaced
+placed_entry (Some position) id text =
+    comment (record { position = position; author = id; text = text })
 
 -- a comment, once its text is read
 abbrev pub with_text : StartSaid → Result (List ℕ) Refusal → Result Entry Refusal
@@ -131,25 +132,21 @@ end_in_entry_element element = end_in_entry element.tag element.inside
 abbrev pub end_in_entries : List Event → Option (List ℕ)
 end_in_entries inside = end_among is_entry (codes "comments") end_in_entry_element inside
 
--- the names of the authors among them
-abbrev pub authors_among : List Entry → List (List ℕ)
-authors_among [] = []
-authors_among (author name ∷ entries) = name ∷ authors_among entries
-authors_among (comment own ∷ entries) = authors_among entries
-authors_among (unplaced ∷ entries) = authors_among entries
+-- the name of an author, and none of a comment
+abbrev pub names_of : Entry → List (List ℕ)
+names_of (author name) = name ∷ []
+names_of _ = []
 
--- and the comments
-abbrev pub comments_among : List Entry → List CommentSaid
-comments_among [] = []
-comments_among (author name ∷ entries) = comments_among entries
-comments_among (comment own ∷ entries) = own ∷ comments_among entries
-comments_among (unplaced ∷ entries) = comments_among entries
+-- a comment that has a cell
+abbrev pub comments_of : Entry → List CommentSaid
+comments_of (comment own) = own ∷ []
+comments_of _ = []
 
--- both of a part
+-- the names and the comments of a part, in order
 abbrev pub gathered : List Entry → CommentsSaid
 gathered entries = record {
-  authors = authors_among entries;
-  comments = comments_among entries;
+  authors = flat_map names_of entries;
+  comments = flat_map comments_of entries;
 }
 
 -- the author of a comment, if its number is one of them

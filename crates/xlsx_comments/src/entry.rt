@@ -1,14 +1,18 @@
 ghost use Rattle.std.specs.Prelude.{◌≡◌, ℕ, true, Ok, codes, string_bytes, IfOk, IfErr, IfSome};
+ghost use Rattle.std.specs.Prelude.{option_and_then};
+ghost use Rattle.std.specs.Option.{option_copied};
 ghost use Rattle.part_events.specs.Event.{Tag, start, tag_of};
 ghost use Rattle.part_events.specs.Reading.{reading, ahead, IsReadingElement, ReadsElement};
 ghost use Rattle.part_events.specs.Section.{content};
 ghost use Rattle.xlsx_error.specs.declared.error.XlsxError.TheVariants.{Io};
 ghost use Rattle.xlsx_sections.specs.Elements.{ElementReadFails};
+ghost use Rattle.xlsx_sections.specs.NumberText.{number_text};
 ghost use Rattle.xlsx_sections.specs.PartSection.{always};
 ghost use Rattle.xlsx_sections.specs.Refusal.{ElementFails};
 ghost use Rattle.xlsx_strings.specs.Strings.{end_in_string};
 ghost use Rattle.xlsx_comments.specs.CommentErrors.{IsCommentStartError, IsCommentsError};
-ghost use Rattle.xlsx_comments.specs.CommentParts.{IsCell, StartSaid, comment_start, placed_entry};
+ghost use Rattle.xlsx_comments.specs.CommentParts.{IsCell, cell_named, comment_start};
+ghost use Rattle.xlsx_comments.specs.CommentParts.{placed_entry};
 ghost use Rattle.xlsx_comments.specs.CommentParts.{comment_said, author_said, entry_said};
 ghost use Rattle.xlsx_comments.specs.CommentParts.{end_in_entry, entry_kept};
 
@@ -30,6 +34,27 @@ pub enum Entry {
     Unplaced,
 }
 
+/// The number of the author that an `authorId` names, if it is one.
+fn author_number(id: Option<&str>) -> Option<u64>
+    ensures { result ≡ option_and_then number_text (option_copied id.entry) }
+{
+    number_text(id?)
+}
+
+/// The position of the cell that a `ref` names, where there is one.
+fn cell_named(cell: Option<&str>) -> Result<Option<(u32, u32)>, XlsxError>
+    ensures ok { IfOk result (λ position. cell_named (option_copied cell.entry) ≡ Ok position) }
+    ensures inside { IfOk result (λ position. IfSome position IsCell) }
+    ensures err { IfErr result (λ error. (at behind : ℕ) →
+        ElementFails (cell_named (option_copied cell.entry)) at behind error) }
+    ensures kind { IfErr result IsCommentStartError }
+{
+    match cell {
+        Some(cell) => Ok(Some(get_row_column(cell)?)),
+        None => Ok(None),
+    }
+}
+
 /// What the start of a comment says: the position of its cell, and the number of its author.
 fn comment_start(tag: StartTag<'_>) -> Result<(Option<(u32, u32)>, Option<u64>), XlsxError>
     ensures ok { IfOk result (λ begun. comment_start (tag_of tag.entry) ≡ Ok begun) }
@@ -39,14 +64,7 @@ fn comment_start(tag: StartTag<'_>) -> Result<(Option<(u32, u32)>, Option<u64>),
     ensures kind { IfErr result IsCommentStartError }
 {
     let (cell, id) = get_attrs!(tag, "ref" => cell, "authorId" => id)?;
-    let author = match id {
-        Some(id) => number_text(id),
-        None => None,
-    };
-    match cell {
-        Some(cell) => Ok((Some(get_row_column(cell)?), author)),
-        None => Ok((None, author)),
-    }
+    Ok((cell_named(cell)?, author_number(id)))
 }
 
 /// The comment of this text at this position, if there is one.

@@ -1,9 +1,11 @@
 use Rattle.std.proofs.Common.{[], ◌∷◌}
 use Rattle.std.proofs.lemmas.List.{map-append}
+use Rattle.std.proofs.lemmas.Result.{err_from_is_err_and}
 use Rattle.part_events.specs.Reading.{reading}
 use Rattle.xlsx_sections.specs.Elements.{IsInsideRefused}
 use Rattle.xlsx_sections.proofs.Failing.{given_back}
 use Rattle.xlsx_sections.proofs.ListsRead.{list_added}
+use Rattle.xlsx_sections.proofs.SectionsRead.{leaves_further}
 use Rattle.xlsx_sections.proofs.StartsSaid.{section_stopped}
 use Rattle.xlsx_comments.specs.CommentParts.{entries_in, end_in_entries, end_in_entry_element}
 use Rattle.xlsx_comments.specs.CommentParts.{entry_kept}
@@ -24,6 +26,14 @@ returns-in_err-read_entry-clause-err g c =
     c.from_residual-in_err-read_entry.ensures.1
     (entries_refused _ (g.P.Package.state c.read_entry.new.package) _ c.in-Some.is
     c.entries.invariant c.in_ok-_at.ensures.step c.in_err-read_entry.ensures.err)
+
+pub returns-in_err-read_entry-clause-reads : goal.returns-in_err-read_entry-clause-reads
+returns-in_err-read_entry-clause-reads g c =
+    let p = err_from_is_err_and c.from_residual-in_err-read_entry.result
+    c.from_residual-in_err-read_entry.ensures.1 in
+    rw (p.1, p.2)
+    (leaves_further c.entries.invariant.keeps.section.reads
+    (leaves_further c.in_ok-_at.ensures.reads c.in_err-read_entry.ensures.reads))
 
 pub entries-preserved : goal.entries-preserved
 entries-preserved g c =
