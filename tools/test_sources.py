@@ -5,6 +5,8 @@ import pathlib
 import re
 import unittest
 
+from counts import FILE_LINES, FUNCTION_LINES, functions_of
+
 TOP = pathlib.Path(__file__).resolve().parent.parent
 OF_TESTS = re.compile(r"(worked|test)_\w+")
 
@@ -33,13 +35,7 @@ TOLD = {
     ("xlsx_tool/run.rt", "value_from", 1): "the reader of JSON says that it has none",
 }
 
-# The most lines of a function, its signature and its clauses included and the braces around its
-# body not, and of a file.
-FUNCTION_LINES = 40
-FILE_LINES = 800
-
 FUNCTION = re.compile(r"\bfn (\w+)")
-HEAD = re.compile(r"( *)(?:pub(?:\([^)]*\))? )?(?:const |unsafe )*fn (\w+)")
 CONVERSION = re.compile(
     r"^impl(?:<[^>]*>)? From<Alloc(?:Error|Failed<\w+>)> for \w+ \{$.*?^\}$", re.M | re.S
 )
@@ -109,28 +105,6 @@ def places_of(name, code):
     return {(*place, count) for place, count in counts.items()}
 
 
-def functions_of(code):
-    """The functions that have a body, each with the number of its lines: those of its signature, its
-    clauses and its body, without the braces around that where they stand alone."""
-    lines = code.splitlines()
-    begun = None
-    for number, line in enumerate(lines):
-        if begun is None and (head := HEAD.match(line)):
-            begun, (indent, name), in_body = number, head.groups(), False
-            braces = 0
-        if begun is None:
-            continue
-        own = line.startswith(indent) and not line.startswith(indent + " ")
-        if not in_body and line.endswith(";"):
-            begun = None
-        elif own and line.endswith("}"):
-            yield name, number - begun + 1 - braces - (line == indent + "}")
-            begun = None
-        elif own and line.endswith("{"):
-            in_body = True
-            braces += line == indent + "{"
-
-
 def exported(root):
     return {
         name
@@ -156,22 +130,16 @@ class Sources(unittest.TestCase):
             self.assertEqual(places_of("x.rt", body % plain), set(), plain)
 
     def test_functions_and_files_are_short(self):
-        found = {}
+        found = []
         for folder in crates():
             for path in sorted((folder / "src").glob("*.rt")):
                 code = text(path)
                 name = f"{folder.name}/{path.name}"
                 self.assertLessEqual(len(code.splitlines()), FILE_LINES, name)
                 if not path.stem.endswith("tests"):
-                    found |= {(name, *own): own[1] for own in functions_of(code)}
+                    found += [(name, own.name, own.head + own.body) for own in functions_of(code)]
         self.assertGreater(len(found), 1500)
-        long = {function for function, lines in found.items() if lines > FUNCTION_LINES}
-        self.assertEqual(long, set())
-
-    def test_a_function_is_counted_with_its_clauses(self):
-        code = "fn a(x: u8) -> u8\n    ensures { result ≡ x }\n{\n    x\n}\n"
-        code += "trait T {\n    fn b(&self);\n\n    fn c(\n        &self,\n    ) {\n    }\n}\n"
-        self.assertEqual(list(functions_of(code)), [("a", 3), ("c", 3)])
+        self.assertEqual([own for own in found if own[-1] > FUNCTION_LINES], [])
 
     def test_public_types_with_equality_or_copies_have_their_laws(self):
         for folder in crates():

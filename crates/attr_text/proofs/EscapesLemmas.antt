@@ -2,7 +2,8 @@
 use Rattle.std.proofs.Common.{◌≡◌, ℕ, zero, suc, ◌+◌, ◌<◌, ◌≤◌, Bool, true, false, ◌&&◌, List, []}
 use Rattle.std.proofs.Common.{◌∷◌, ◌++◌, length, take, drop, get_or, Option, Some, None, refl, sym}
 use Rattle.std.proofs.Common.{ap, ◌∙◌, arith, append_assoc, append-nil, length-drop}
-use Rattle.std.specs.Prelude.{◌==◌, nat_le, encode_utf8}
+use Rattle.std.specs.Prelude.{◌==◌, ◌||◌, nat_le, encode_utf8}
+use Rattle.std.specs.List.{list_any}
 use Rattle.std.specs.Str.Parse.{digits_value}
 use Rattle.std.proofs.lemmas.Bool.{eqb-true, leb-true}
 use Rattle.std.proofs.lemmas.Option.{cond_some}
@@ -111,3 +112,19 @@ pub unescaped-seven : (text : List ℕ) (c : ℕ) → escaped_character text ≡
     unescaped text ≡ encode_utf8 c ++ unescaped (drop 7 text)
 unescaped-seven [] c some = absurd cc
 unescaped-seven (b ∷ bs) c some = unescaped-escape b c bs some
+
+-- no byte of the text begins an escape
+no_escape : (b : ℕ) (rest : List ℕ) → (b == 95) ≡ false → escaped_character (b ∷ rest) ≡ None
+no_escape b rest not_it = grind (arith)
+
+either_false : (a b : Bool) → (a || b) ≡ false → (a ≡ false) × (b ≡ false)
+either_false true b is = absurd cc
+either_false false b is = (refl, is)
+
+pub unescaped_plain : (text : List ℕ) → list_any (λ (b : ℕ). b == 95) text ≡ false
+    → unescaped text ≡ text
+unescaped_plain [] none = unescaped-nil
+unescaped_plain (b ∷ rest) none =
+    let both = either_false (b == 95) (list_any (λ (c : ℕ). c == 95) rest) none in
+    unescaped-byte b rest (no_escape b rest both.0)
+    ∙ ap (λ (own : List ℕ). b ∷ own) (unescaped_plain rest both.1)

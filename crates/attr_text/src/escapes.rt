@@ -1,5 +1,6 @@
-ghost use Rattle.std.specs.Prelude.{◌≡◌, ◌++◌, ℕ, List, [], ◌∷◌, drop, MatchOption, IfOk, Some};
-ghost use Rattle.std.specs.Prelude.{None, string_bytes, encode_utf8};
+ghost use Rattle.std.specs.Prelude.{◌≡◌, ◌==◌, ◌++◌, ℕ, List, [], ◌∷◌, drop, MatchOption, Some};
+ghost use Rattle.std.specs.Prelude.{None, IfOk, OnOk, OnErr, string_bytes, encode_utf8};
+ghost use Rattle.std.specs.List.{list_any};
 ghost use Rattle.attr_text.specs.Text.{unescaped, escaped_character};
 ghost use Rattle.attr_text.specs.Escapes.{HasEscapeAt};
 
@@ -43,6 +44,38 @@ pub fn unescape_hex(alloc: Global, text: &str) -> Result<String, AllocError>
     }
     out.push_str(rest)?;
     Ok(out)
+}
+
+/// Whether a byte of the text may begin an escape.
+fn has_underscore(text: &[u8]) -> bool
+    ensures { result ≡ list_any (λ b. b == 95) text.now }
+{
+    text.iter().any(|b| *b == b'_')
+}
+
+/// Appends a text, each `_xHHHH_` of it replaced by the character of its number.
+pub fn push_unescaped(alloc: Global, out: &mut String, text: &str) -> Result<(), AllocError>
+    ensures ok { OnOk result (string_bytes out.new ≡ string_bytes out.old ++ unescaped text.now) }
+    ensures unchanged { OnErr result (string_bytes out.new ≡ string_bytes out.old) }
+{
+    if has_underscore(text.as_bytes()) {
+        out.push_str(unescape_hex(alloc, text)?.as_str())?;
+    } else {
+        out.push_str(text)?;
+    }
+    Ok(())
+}
+
+/// The text, each `_xHHHH_` of it replaced by the character of its number. A text without an
+/// underscore is answered as it is.
+pub fn unescaped(alloc: Global, text: String) -> Result<String, AllocError>
+    ensures { IfOk result (λ own. string_bytes own ≡ unescaped (string_bytes text)) }
+{
+    if has_underscore(text.as_bytes()) {
+        unescape_hex(alloc, text.as_str())
+    } else {
+        Ok(text)
+    }
 }
 
 /// A text without its escapes by what stands first in it: an escape, which has seven bytes, or a

@@ -23,7 +23,7 @@ mod values;
 
 pub use entity::{decode_attr, decoded_in_order, entity_char, push_entity};
 pub use equality::{copies_are_the_same, equality_is_by_all_fields};
-pub use escapes::{unescape_hex, unescaped_in_order};
+pub use escapes::{push_unescaped, unescape_hex, unescaped, unescaped_in_order};
 pub use fault::{AttrFault, TextFault};
 pub use items::{RawAttrIter, items_in_order};
 pub use line_ends::{line_ends_in_order, push_line_ends};

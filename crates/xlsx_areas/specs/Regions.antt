@@ -5,10 +5,12 @@ use Rattle.std.specs.Str.{bytes_eq}
 use Rattle.cell_refs.specs.declared.dimensions.Dimensions.{Dimensions}
 use Rattle.part_events.specs.Package.{Part, part_of, event_count}
 use Rattle.xlsx_error.specs.declared.error.XlsxError.{XlsxError}
+use Rattle.xlsx_sections.specs.Asking.{Ask}
+use Rattle.xlsx_parts.specs.ManyAsked.{each}
 use Rattle.xlsx_parts.specs.PartSaid.{unless_absent, all_said}
 use Rattle.xlsx_parts.specs.SheetPaths.{SheetPath, sheet_at}
 use Rattle.xlsx_parts.specs.WholePart.{IfThere, SomeCause}
-use Rattle.xlsx_areas.specs.MergeErrors.{RegionsCause}
+use Rattle.xlsx_areas.specs.MergeErrors.{RegionsCause, IsRegionsError}
 use Rattle.xlsx_areas.specs.MergedCells.{regions_at}
 use Rattle.xlsx_areas.specs.declared.regions.MergedRegion.{MergedRegion}
 use Rattle.xlsx_areas.specs.declared.regions.MergedRegions.{MergedRegions}
@@ -58,3 +60,17 @@ is_of_sheet name kept = bytes_eq (string_bytes kept.sheet) name
 -- the regions that an iterator has left
 abbrev pub regions_left : MergedRegions → List MergedRegion
 regions_left it = filter (is_of_sheet it.name.now) it.left.now
+
+-- what is asked for those of a sheet, whose part is read to its end
+abbrev pub regions_ask : SheetPath → Ask (List Region)
+regions_ask sheet = record {
+  most = λ parts. event_count parts sheet.path;
+  exact = λ parts. event_count parts sheet.path;
+  said = λ parts. regions_on parts sheet;
+  cause = λ parts. SheetRegionsCause parts sheet;
+  kind = IsRegionsError;
+}
+
+-- and for those of many sheets
+abbrev pub all_regions_ask : List SheetPath → Ask (List Region)
+all_regions_ask sheets = each IsRegionsError regions_ask sheets

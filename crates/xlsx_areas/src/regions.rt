@@ -1,12 +1,8 @@
-ghost use Rattle.std.specs.Prelude.{◌≡◌, ◌++◌, List, map, true, Some, OnOk, OnErr, IfErr};
+ghost use Rattle.std.specs.Prelude.{◌≡◌, ◌++◌, List, map, OnOk, OnErr};
 ghost use Rattle.std.specs.List.{filter};
-ghost use Rattle.part_events.specs.Package.{Uses, CountsUp, event_count};
-ghost use Rattle.xlsx_error.specs.declared.error.XlsxError.TheVariants.{Io, OutOfMemory};
-ghost use Rattle.xlsx_sections.specs.Failing.{FailsBy};
-ghost use Rattle.xlsx_areas.specs.MergeErrors.{IsRegionsError};
+ghost use Rattle.xlsx_parts.specs.ManyAsked.{Appends};
 ghost use Rattle.xlsx_parts.specs.SheetPaths.{sheet_at};
-ghost use Rattle.xlsx_areas.specs.Regions.{Region, region_in, region_of, regions_on};
-ghost use Rattle.xlsx_areas.specs.Regions.{SheetRegionsCause, is_of_sheet};
+ghost use Rattle.xlsx_areas.specs.Regions.{region_in, region_of, is_of_sheet, regions_ask};
 ghost use Rattle.xlsx_areas.specs.declared.regions.MergedRegion.{MergedRegion};
 
 use crate::merged_parts::read_regions;
@@ -60,22 +56,10 @@ pub fn read_sheet_regions<P: Package>(
     sheet: &str,
     path: &str,
 ) -> Result<(), XlsxError>
-    ensures uses { let old = P.state «package».old in
-        let new = P.state «package».new in
-        Uses (event_count old.parts path.now) Io result old new }
-    ensures to_end { let old = P.state «package».old in
-        let new = P.state «package».new in
-        old.is_told ≡ true →
-        OnOk result (CountsUp (event_count old.parts path.now) old.taken new.taken) }
-    ensures regions { let old = P.state «package».old in
-        let own = sheet_at sheet.now path.now in
-        old.is_told ≡ true → OnOk result ((found : List Region)
-        × (regions_on old.parts own ≡ Some found)
-        × (map region_of regions.new.items ≡ map region_of regions.old.items ++ found)) }
-    ensures err { let old = P.state «package».old in
-        let own = sheet_at sheet.now path.now in
-        IfErr result (FailsBy (SheetRegionsCause old.parts own) old (P.state «package».new)) }
-    ensures kind { IfErr result IsRegionsError }
+    ensures answers { let before = map region_of regions.old.items in
+        let after = map region_of regions.new.items in
+        Appends (regions_ask (sheet_at sheet.now path.now)) before after result
+        (P.state «package».old) (P.state «package».new) }
     ensures kept { OnErr result ((more : List MergedRegion)
         × (regions.new.items ≡ regions.old.items ++ more)) }
 {

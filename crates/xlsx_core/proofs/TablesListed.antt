@@ -1,26 +1,23 @@
 -- The tables of a workbook, as they are loaded and listed.
 use Rattle.std.proofs.Common.{◌≡◌, ℕ, zero, suc, List, [], ◌∷◌, ◌++◌, drop, map, refl, sym, ◌∙◌, ap}
-use Rattle.std.proofs.Common.{Option, Some, None, string_bytes}
+use Rattle.std.proofs.Common.{Option, Some, None, Result, Ok, Err, string_bytes}
 use Rattle.std.specs.Prelude.{option_map}
 use Rattle.std.proofs.lemmas.List.{map-append}
-use Rattle.part_events.specs.Package.{Part}
-use Rattle.xlsx_parts.specs.PartSaid.{put_together}
+use Rattle.part_events.specs.Package.{PackageState}
+use Rattle.xlsx_error.specs.declared.error.XlsxError.{XlsxError}
+use Rattle.xlsx_parts.specs.ManyAsked.{Appends, map_each}
 use Rattle.xlsx_parts.specs.SheetPaths.{sheet_at}
-use Rattle.xlsx_parts.proofs.ManySaid.{said_of_one}
 use Rattle.xlsx_tables.specs.TableParts.{TableSaid}
-use Rattle.xlsx_tables.specs.Tables.{SheetTable, tables_at, table_of_sheet, tables_on, tables_of}
-use Rattle.xlsx_tables.specs.Tables.{on_sheet, loaded_of}
+use Rattle.xlsx_tables.specs.Tables.{SheetTable, tables_at, table_of_sheet, on_sheet, loaded_of}
+use Rattle.xlsx_tables.specs.Tables.{tables_ask, tables_on_ask}
 use Rattle.xlsx_tables.specs.declared.loaded.LoadedTable.{LoadedTable}
-use Rattle.xlsx_workbook.specs.KeptContents.{path_kept}
-use Rattle.xlsx_workbook.specs.declared.paths.KeptPath.{KeptPath}
 use Rattle.xlsx_workbook.specs.declared.sheet.Sheet.{Sheet}
-use Rattle.xlsx_core.specs.Merges.{sheet_paths}
 use Rattle.xlsx_core.specs.TableList.{sheet_name, with_sheet, table_held, tables_held}
 use Rattle.xlsx_core.specs.TableList.{table_names_of}
 
 -- ---- the sheet that comes next
 
-named_there : (sheets : List Sheet) (number : ℕ) (sheet : Sheet) (others : List Sheet)
+pub named_there : (sheets : List Sheet) (number : ℕ) (sheet : Sheet) (others : List Sheet)
     → drop number sheets ≡ sheet ∷ others → sheet_name sheets number ≡ string_bytes sheet.name
 named_there [] zero sheet others is = absurd (cc)
 named_there [] (suc number) sheet others is = absurd (cc)
@@ -66,28 +63,45 @@ held_further sheets number name kept now found named is =
     ∙ ap (λ (rest : List SheetTable). tables_held sheets kept ++ rest)
     (on_one_sheet sheets number name found named)
 
--- the tables so far with what the sheets behind say: one sheet more
-pub tables_further : (parts : List Part) (sheets others : List Sheet) (sheet : Sheet)
-    (path : KeptPath) (more : List KeptPath) (number : ℕ)
-    (kept now : List LoadedTable) (found : List TableSaid) (all : Option (List SheetTable))
-    → drop number sheets ≡ sheet ∷ others → tables_at parts (path_kept path) ≡ Some found
-    → map loaded_of now ≡ map loaded_of kept ++ map (on_sheet number) found
-    → put_together (Some (tables_held sheets kept))
-    (tables_of parts (sheet_paths (sheet ∷ others) (path ∷ more))) ≡ all
-    → put_together (Some (tables_held sheets now)) (tables_of parts (sheet_paths others more))
-    ≡ all
-tables_further parts sheets others sheet path more number kept now found all front there is whole =
-    let name = string_bytes sheet.name in
-    let own = sheet_at name (path_kept path) in
-    let said : tables_on parts own ≡ Some (map (table_of_sheet name) found) =
-    ap (option_map (map (table_of_sheet name))) there in
-    ap (λ (held : List SheetTable). put_together (Some held)
-    (tables_of parts (sheet_paths others more)))
-    (held_further sheets number name kept now found
-    (named_there sheets number sheet others front) is)
-    ∙ said_of_one (tables_on parts) (tables_held sheets kept) (map (table_of_sheet name) found) own
-    (sheet_paths others more) said
-    ∙ whole
+-- what is said by numbers is said by names
+said_on_sheet : (sheets : List Sheet) (number : ℕ) (said : Option (List TableSaid))
+    (before after : List LoadedTable) → (found : List (ℕ × TableSaid))
+    × (option_map (map (on_sheet number)) said ≡ Some found)
+    × (map loaded_of after ≡ map loaded_of before ++ found)
+    → (found : List SheetTable)
+    × (option_map (map (table_of_sheet (sheet_name sheets number))) said ≡ Some found)
+    × (tables_held sheets after ≡ tables_held sheets before ++ found)
+said_on_sheet sheets number None before after kept = absurd (cc)
+said_on_sheet sheets number (Some own) before after kept =
+    let same : map (on_sheet number) own ≡ kept.0 = cc in
+    let name = sheet_name sheets number in (
+      map (table_of_sheet name) own,
+      refl,
+      held_further sheets number name before after own refl
+          (kept.2 ∙ ap (λ (rest : List (ℕ × TableSaid)). map loaded_of before ++ rest) (sym same)),
+    )
+
+pub kept_on_sheet : {R : Type 0} (sheets : List Sheet) (number : ℕ) (path : List ℕ)
+    (before after : List LoadedTable) (result : Result R XlsxError) {old new : PackageState}
+    → Appends (map_each (on_sheet number) (tables_ask path)) (map loaded_of before)
+    (map loaded_of after) result old new
+    → Appends (tables_on_ask (sheet_at (sheet_name sheets number) path))
+    (tables_held sheets before) (tables_held sheets after) result old new
+kept_on_sheet sheets number path before after (Ok answer) {old = old} kept = record {
+  uses = kept.uses;
+  to_end = kept.to_end;
+  said = λ told.
+      said_on_sheet sheets number (tables_at old.parts path) before after (kept.said told);
+  err = tt;
+  kind = tt;
+}
+kept_on_sheet sheets number path before after (Err error) kept = record {
+  uses = kept.uses;
+  to_end = kept.to_end;
+  said = λ told. tt;
+  err = kept.err;
+  kind = kept.kind;
+}
 
 -- ---- names
 

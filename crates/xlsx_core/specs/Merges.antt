@@ -1,5 +1,5 @@
 -- What the calls on merged cells of an open workbook answer.
-use Rattle.std.specs.Prelude.{◌≡◌, ⊤, ℕ, List, [], ◌∷◌, ◌++◌, map, Option, Some, option_map}
+use Rattle.std.specs.Prelude.{◌≡◌, ⊤, ℕ, List, [], ◌∷◌, ◌++◌, map, Option, Some, None, option_map}
 use Rattle.std.specs.Prelude.{option_and_then, slice_get, codes, decimal, string_bytes}
 use Rattle.std.specs.Prelude.{MatchOption, IsSomeAnd, Vec}
 use Rattle.std.specs.declared.alloc.Global.{Global}
@@ -11,7 +11,7 @@ use Rattle.xlsx_sections.specs.Failing.{FailsBy}
 use Rattle.xlsx_areas.specs.MergeErrors.{MergesCause, BreaksBefore, IsMergesError}
 use Rattle.xlsx_areas.specs.MergedCells.{merges_of, merges_or_none_of}
 use Rattle.xlsx_parts.specs.SheetPaths.{SheetPath, sheet_at}
-use Rattle.xlsx_areas.specs.Regions.{all_regions, region_of, AllRegionsCause}
+use Rattle.xlsx_areas.specs.Regions.{Region, region_of}
 use Rattle.xlsx_areas.specs.declared.regions.MergedRegion.{MergedRegion}
 use Rattle.xlsx_workbook.specs.KeptContents.{path_kept}
 use Rattle.xlsx_workbook.specs.declared.paths.KeptPath.{KeptPath}
@@ -88,12 +88,7 @@ PlacedBreaks path old new error =
     FailsBy (λ own. IsSomeAnd (events_at path old.parts) (λ events. BreaksBefore events own))
     old new error
 
--- these are the regions of all sheets
-abbrev pub HoldsRegions :
-    List Part → List SheetPath → Vec MergedRegion Global → Type 0
-HoldsRegions parts sheets kept = all_regions parts sheets ≡ Some (map region_of kept.items)
-
--- why the regions of these sheets are refused
-abbrev pub AllRegionsFail :
-    List SheetPath → PackageState → PackageState → XlsxError → Type 0
-AllRegionsFail sheets old new error = FailsBy (AllRegionsCause old.parts sheets) old new error
+-- the regions that were loaded, and none before
+abbrev pub regions_held : Option (Vec MergedRegion Global) → List Region
+regions_held None = []
+regions_held (Some kept) = map region_of kept.items

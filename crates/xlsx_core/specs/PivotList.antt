@@ -4,16 +4,8 @@ use Rattle.part_events.specs.Package.{PackageState}
 use Rattle.xlsx_error.specs.declared.error.XlsxError.{XlsxError}
 use Rattle.xlsx_error.specs.declared.error.XlsxError.TheVariants.{OutOfMemory}
 use Rattle.xlsx_error.specs.declared.error.XlsxError.TheVariants.{PivotTableNotFound}
-use Rattle.xlsx_sections.specs.Failing.{FailsBy}
-use Rattle.xlsx_parts.specs.SheetPaths.{SheetPath}
-use Rattle.xlsx_pivots.specs.Pivots.{PivotsCause}
 use Rattle.xlsx_pivot_cache.specs.CacheErrors.{IsCacheFieldsError}
 use Rattle.xlsx_pivot_cache.specs.CacheIter.{OpenCacheFails}
-
--- when the pivot tables of all sheets can't be taken
-abbrev pub AllPivotsFail :
-    List SheetPath → PackageState → PackageState → XlsxError → Type 0
-AllPivotsFail sheets old new error = FailsBy (PivotsCause old.parts sheets) old new error
 
 -- the refusal where no pivot table has a name on a sheet; want of memory may come at any time
 abbrev pub IsNoPivotTable : List ℕ → XlsxError → Type 0

@@ -3,12 +3,8 @@ use Rattle.std.specs.Prelude.{ℕ, List, [], map, Bool, true, Option, Some, None
 use Rattle.std.specs.Prelude.{option_copied, unwrap_or, slice_get, string_bytes, filter, Vec}
 use Rattle.std.specs.Str.{bytes_eq}
 use Rattle.std.specs.declared.alloc.Global.{Global}
-use Rattle.part_events.specs.Package.{PackageState}
-use Rattle.xlsx_error.specs.declared.error.XlsxError.{XlsxError}
-use Rattle.xlsx_parts.specs.SheetPaths.{SheetPath}
-use Rattle.xlsx_sections.specs.Failing.{FailsBy}
 use Rattle.xlsx_tables.specs.TableParts.{TableSaid}
-use Rattle.xlsx_tables.specs.Tables.{SheetTable, table_of_sheet, loaded_of, TablesCause}
+use Rattle.xlsx_tables.specs.Tables.{SheetTable, table_of_sheet, loaded_of}
 use Rattle.xlsx_tables.specs.declared.loaded.LoadedTable.{LoadedTable}
 use Rattle.xlsx_workbook.specs.declared.sheet.Sheet.{Sheet}
 use Rattle.xlsx_core.specs.declared.table_list.TableNames.{TableNames}
@@ -39,11 +35,6 @@ loaded_or_none sheets (Some loaded) = tables_held sheets loaded.items
 -- the tables that were loaded, each with the name of its sheet
 abbrev pub loaded_tables : {P : Type 0} → Xlsx P → List SheetTable
 loaded_tables xlsx = loaded_or_none xlsx.metadata.sheets.items xlsx.lists.tables
-
--- when the tables of all sheets can't be taken
-abbrev pub AllTablesFail :
-    List SheetPath → PackageState → PackageState → XlsxError → Type 0
-AllTablesFail sheets old new error = FailsBy (TablesCause old.parts sheets) old new error
 
 -- a table is wanted by the name of its sheet, or each one is
 abbrev pub is_wanted : Option (List ℕ) → List ℕ → Bool

@@ -62,6 +62,7 @@ mod placed_sheet;
 mod properties;
 mod ranges;
 mod read_cells;
+mod sheet_lists;
 mod sheet_reading;
 mod standing;
 mod table_data;

@@ -1,22 +1,26 @@
 ghost use Rattle.std.specs.Prelude.{◌≡◌, true, map, IfOk, OnOk, OnErr, IfErr, IfSome, IfNone};
 ghost use Rattle.std.specs.Prelude.{codes, IsSome, IsSomeAnd, MatchOption, None, Some, is_some};
 ghost use Rattle.std.specs.List.{filter};
-ghost use Rattle.part_events.specs.Package.{Uses, UsesPackage, CountsUp};
+ghost use Rattle.part_events.specs.Package.{Uses, UsesPackage};
 ghost use Rattle.xlsx_error.specs.declared.error.XlsxError.TheVariants.{Io};
+ghost use Rattle.xlsx_sections.specs.Asking.{Answers};
 ghost use Rattle.xlsx_sections.specs.SectionEvents.{ReadsToEnd};
 ghost use Rattle.xlsx_parts.specs.WholePart.{IsBreakError};
 ghost use Rattle.xlsx_areas.specs.MergeErrors.{IsRegionsError};
 ghost use Rattle.xlsx_areas.specs.MergedCells.{merges_at};
-ghost use Rattle.xlsx_areas.specs.Regions.{region_events, regions_left, is_of_sheet};
-ghost use Rattle.xlsx_core.specs.Merges.{sheet_paths, sheets_of_book, sheet_name_at, path_at};
+ghost use Rattle.xlsx_areas.specs.Regions.{Region, region_of, regions_ask, all_regions_ask};
+ghost use Rattle.xlsx_areas.specs.Regions.{regions_left, is_of_sheet};
+ghost use Rattle.xlsx_core.specs.Merges.{sheets_of_book, sheet_name_at, path_at};
 ghost use Rattle.xlsx_core.specs.Merges.{merges_placed, merges_or_none_placed, PlacedMergesFail};
 ghost use Rattle.xlsx_core.specs.Merges.{IsPlacedMergesError, IsIndexError, NumberedMergesFail};
-ghost use Rattle.xlsx_core.specs.Merges.{PlacedBreaks, HoldsRegions, AllRegionsFail};
+ghost use Rattle.xlsx_core.specs.Merges.{PlacedBreaks, regions_held};
 ghost use Rattle.xlsx_core.specs.Opened.{path_lent};
 ghost use Rattle.xlsx_core.specs.SheetReading.{events_at, placed_events};
 ghost use Rattle.xlsx_core.specs.Worksheets.{path_of, KeepsBook, KeepsWorkbook};
 
 use crate::placed_sheet::{numbered_sheet, path_named};
+use crate::sheet_lists::{ReadsSheets, read_sheets};
+use crate::table_list::sheet_name;
 use crate::xlsx::Xlsx;
 use cell_refs::Dimensions;
 use part_events::Package;
@@ -94,41 +98,37 @@ fn placed_merges_or_none<P: Package>(
     }
 }
 
-/// The regions of all these sheets, whose parts are at these paths.
-fn all_regions<P: Package>(
+/// Reads the regions of sheets.
+#[derive(Drop)]
+struct RegionLists {
     alloc: Global,
-    package: &mut P,
-    sheets: &[Sheet],
-    paths: &[KeptPath],
-) -> Result<Vec<MergedRegion>, XlsxError>
-    ensures uses { let old = P.state «package».old in
-        let new = P.state «package».new in
-        Uses (region_events old.parts (sheet_paths sheets.now paths.now)) Io result old new }
-    ensures to_end { let old = P.state «package».old in
-        let count = region_events old.parts (sheet_paths sheets.now paths.now) in
-        old.is_told ≡ true →
-        OnOk result (CountsUp count old.taken (P.state «package».new).taken) }
-    ensures regions { let old = P.state «package».old in
-        old.is_told ≡ true →
-        IfOk result (HoldsRegions old.parts (sheet_paths sheets.now paths.now)) }
-    ensures err { IfErr result (AllRegionsFail (sheet_paths sheets.now paths.now)
-        (P.state «package».old) (P.state «package».new)) }
-    ensures kind { IfErr result IsRegionsError }
-{
-    let mut regions = Vec::new(alloc);
-    let mut left = sheets;
-    let mut rest = paths;
-    'sheets: while let Some((sheet, others)) = left.split_first() {
-        let Some((path, more)) = rest.split_first() else {
-            return Ok(regions);
-        };
-        let path = path.joined(alloc)?;
-        let name = sheet.name.as_str();
-        read_sheet_regions(alloc, package, &mut regions, name, path.as_str())?;
-        left = others;
-        rest = more;
+}
+
+impl ReadsSheets for RegionLists {
+    type Items = Vec<MergedRegion>;
+
+    ghost Kept = { Region };
+
+    ghost held = { λ sheets regions. map region_of regions.items };
+
+    ghost ask = { λ r. regions_ask };
+
+    ghost Kind = { IsRegionsError };
+
+    ghost kinds = { λ r sheet error is. is };
+
+    ghost memory = { tt };
+
+    fn keep<P: Package>(
+        &self,
+        package: &mut P,
+        regions: &mut Vec<MergedRegion>,
+        sheets: &[Sheet],
+        number: usize,
+        path: &str,
+    ) -> Result<(), XlsxError> {
+        read_sheet_regions(self.alloc, package, regions, sheet_name(sheets, number), path)
     }
-    Ok(regions)
 }
 
 /// The merged cells of an open workbook.
@@ -266,27 +266,20 @@ impl<P: Package> Xlsx<P> {
     /// Fails by an end that breaks the nesting of a part, and by a start that can't be looked up or
     /// whose `ref` names no area. A refusal leaves what was loaded as it was.
     pub fn load_merged_regions(&mut self) -> Result<(), XlsxError>
-        ensures uses { let old = P.state self.old.package in
-            let new = P.state self.new.package in
-            Uses (region_events old.parts (sheets_of_book self.old)) Io result old new }
-        ensures to_end { let old = P.state self.old.package in
-            let count = region_events old.parts (sheets_of_book self.old) in
-            old.is_told ≡ true →
-            OnOk result (CountsUp count old.taken (P.state self.new.package).taken) }
+        ensures answers { let ask = all_regions_ask (sheets_of_book self.old) in
+            Answers ask (λ _. regions_held self.new.lists.regions) result
+            (P.state self.old.package) (P.state self.new.package) }
         ensures book { KeepsBook self.old self.new }
         ensures loaded { OnOk result (IsSome self.new.lists.regions) }
-        ensures regions { let old = P.state self.old.package in
-            old.is_told ≡ true → OnOk result (IsSomeAnd self.new.lists.regions
-            (HoldsRegions old.parts (sheets_of_book self.old))) }
         ensures properties { self.new.lists.properties ≡ self.old.lists.properties }
         ensures tables { self.new.lists.tables ≡ self.old.lists.tables }
         ensures unchanged { OnErr result (KeepsWorkbook self.old self.new) }
-        ensures err { IfErr result (AllRegionsFail (sheets_of_book self.old)
-            (P.state self.old.package) (P.state self.new.package)) }
-        ensures kind { IfErr result IsRegionsError }
     {
         let sheets = &self.metadata.sheets;
-        let regions = all_regions(self.alloc, &mut self.package, sheets, &self.paths)?;
+        let regions = Vec::new(self.alloc);
+        let by = RegionLists { alloc: self.alloc };
+        let package = &mut self.package;
+        let regions = read_sheets(self.alloc, package, regions, sheets, &self.paths, &by)?;
         self.lists.regions = Some(regions);
         Ok(())
     }

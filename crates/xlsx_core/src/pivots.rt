@@ -1,63 +1,60 @@
-ghost use Rattle.std.specs.Prelude.{◌≡◌, true, Some, IfOk, OnOk, IfErr, IsSomeAnd};
+ghost use Rattle.std.specs.Prelude.{◌≡◌, IfOk, IfErr, IsSomeAnd};
 ghost use Rattle.std.specs.Arc.{arc_str_bytes};
 ghost use Rattle.part_events.specs.Lending.{LentFails};
-ghost use Rattle.part_events.specs.Package.{Uses, CountsUp};
 ghost use Rattle.xlsx_error.specs.declared.error.XlsxError.TheVariants.{Io};
+ghost use Rattle.xlsx_sections.specs.Asking.{Answers};
 ghost use Rattle.xlsx_pivots.specs.PivotErrors.{IsPivotsError};
 ghost use Rattle.xlsx_pivots.specs.PivotTables.{pivots_kept, paths_of};
-ghost use Rattle.xlsx_pivots.specs.Pivots.{pivots_of, all_pivot_events, all_pivot_sections};
-ghost use Rattle.xlsx_core.specs.Merges.{sheet_paths, sheets_of_book};
+ghost use Rattle.xlsx_pivots.specs.Pivots.{PivotSaid, pivots_ask, pivots_on_ask};
+ghost use Rattle.xlsx_core.specs.Merges.{sheets_of_book};
 ghost use Rattle.xlsx_pivot_cache.specs.CacheIter.{rows_by};
 ghost use Rattle.xlsx_pivot_cache.specs.PivotRows.{OpensRows};
-ghost use Rattle.xlsx_core.specs.PivotList.{AllPivotsFail, PivotDataFails, IsPivotDataError};
+ghost use Rattle.xlsx_core.specs.PivotList.{PivotDataFails, IsPivotDataError};
 ghost use Rattle.xlsx_core.specs.Worksheets.{KeepsWorkbook};
 
+use crate::sheet_lists::{ReadsSheets, read_sheets};
+use crate::table_list::sheet_name;
 use crate::xlsx::Xlsx;
 use part_events::Package;
 use std::alloc::Global;
 use xlsx_error::XlsxError;
-use xlsx_open::{KeptPath, Sheet};
+use xlsx_open::Sheet;
 use xlsx_pivot_cache::PivotCacheIter;
 use xlsx_pivots::{PivotTables, read_sheet_pivots};
 
-/// The pivot tables of all these sheets, whose parts are at these paths, in the workbook's folder.
-fn all_pivots<P: Package>(
+/// Reads the pivot tables of sheets, in the workbook's folder.
+#[derive(Drop)]
+struct PivotLists<'a> {
     alloc: Global,
-    package: &mut P,
-    sheets: &[Sheet],
-    paths: &[KeptPath],
-    folder: &str,
-) -> Result<PivotTables, XlsxError>
-    ensures uses { let old = P.state «package».old in
-        let new = P.state «package».new in
-        let most = all_pivot_events old.parts (sheet_paths sheets.now paths.now) in
-        Uses most Io result old new }
-    ensures to_end { let old = P.state «package».old in
-        let new = P.state «package».new in
-        let count = all_pivot_sections old.parts (sheet_paths sheets.now paths.now) in
-        old.is_told ≡ true → OnOk result (CountsUp count old.taken new.taken) }
-    ensures pivots { let old = P.state «package».old in
-        old.is_told ≡ true → IfOk result (λ found.
-        pivots_of old.parts folder.now (sheet_paths sheets.now paths.now)
-        ≡ Some (pivots_kept found)) }
-    ensures err { IfErr result (AllPivotsFail (sheet_paths sheets.now paths.now)
-        (P.state «package».old) (P.state «package».new)) }
-    ensures kind { IfErr result IsPivotsError }
-{
-    let mut found = PivotTables::new(alloc);
-    let mut left = sheets;
-    let mut rest = paths;
-    'sheets: while let Some((sheet, others)) = left.split_first() {
-        let Some((path, more)) = rest.split_first() else {
-            return Ok(found);
-        };
-        let path = path.joined(alloc)?;
-        let name = sheet.name.as_str();
-        read_sheet_pivots(alloc, package, &mut found, name, path.as_str(), folder)?;
-        left = others;
-        rest = more;
+    folder: &'a str,
+}
+
+impl ReadsSheets for PivotLists<'_> {
+    type Items = PivotTables;
+
+    ghost Kept = { PivotSaid };
+
+    ghost held = { λ sheets pivots. pivots_kept pivots };
+
+    ghost ask = { λ r. pivots_on_ask r.folder.now };
+
+    ghost Kind = { IsPivotsError };
+
+    ghost kinds = { λ r sheet error is. is };
+
+    ghost memory = { tt };
+
+    fn keep<P: Package>(
+        &self,
+        package: &mut P,
+        pivots: &mut PivotTables,
+        sheets: &[Sheet],
+        number: usize,
+        path: &str,
+    ) -> Result<(), XlsxError> {
+        let name = sheet_name(sheets, number);
+        read_sheet_pivots(self.alloc, package, pivots, name, path, self.folder)
     }
-    Ok(found)
 }
 
 /// The pivot tables of an open workbook.
@@ -69,25 +66,17 @@ impl<P: Package> Xlsx<P> {
     ///
     /// Fails as `find_pivot_tables`. A pivot table whose cache keeps no records refuses all.
     pub fn pivot_tables(&mut self) -> Result<PivotTables, XlsxError>
-        ensures uses { let old = P.state self.old.package in
-            let new = P.state self.new.package in
-            Uses (all_pivot_events old.parts (sheets_of_book self.old)) Io result old new }
-        ensures to_end { let old = P.state self.old.package in
-            let count = all_pivot_sections old.parts (sheets_of_book self.old) in
-            old.is_told ≡ true →
-            OnOk result (CountsUp count old.taken (P.state self.new.package).taken) }
+        ensures answers { let folder = arc_str_bytes self.old.folder in
+            Answers (pivots_ask folder (sheets_of_book self.old)) pivots_kept result
+            (P.state self.old.package) (P.state self.new.package) }
         ensures workbook { KeepsWorkbook self.old self.new }
-        ensures pivots { let old = P.state self.old.package in
-            let folder = arc_str_bytes self.old.folder in
-            old.is_told ≡ true → IfOk result (λ found.
-            pivots_of old.parts folder (sheets_of_book self.old) ≡ Some (pivots_kept found)) }
-        ensures err { IfErr result (AllPivotsFail (sheets_of_book self.old)
-            (P.state self.old.package) (P.state self.new.package)) }
-        ensures kind { IfErr result IsPivotsError }
     {
-        let sheets = &self.metadata.sheets;
+        let alloc = self.alloc;
         let folder = self.folder.as_str();
-        all_pivots(self.alloc, &mut self.package, sheets, &self.paths, folder)
+        let by = PivotLists { alloc, folder };
+        let pivots = PivotTables::new(alloc);
+        let sheets = &self.metadata.sheets;
+        read_sheets(alloc, &mut self.package, pivots, sheets, &self.paths, &by)
     }
 
     /// The rows of the cache of the first of these pivot tables that has this name and is on a

@@ -1,16 +1,17 @@
-ghost use Rattle.std.specs.Prelude.{◌≡◌, ◌<◌, true, map, length, slice_get, IfOk, OnOk, OnErr};
-ghost use Rattle.std.specs.Prelude.{IfErr, IsSome, is_some, None, Some, option_map, string_bytes};
+ghost use Rattle.std.proofs.Common.{inl};
+ghost use Rattle.std.specs.Prelude.{◌≡◌, ◌<◌, map, length, slice_get, OnOk, OnErr, IsSome, is_some};
+ghost use Rattle.std.specs.Prelude.{None, Some, option_map, string_bytes};
 ghost use Rattle.std.specs.Option.{option_copied};
 ghost use Rattle.cell_refs.specs.Positions.{are_sheet_bounds};
-ghost use Rattle.part_events.specs.Package.{Uses, CountsUp};
-ghost use Rattle.xlsx_error.specs.declared.error.XlsxError.TheVariants.{Io};
-ghost use Rattle.xlsx_tables.specs.Tables.{SheetTable, tables_of, IsTablesError};
-ghost use Rattle.xlsx_tables.specs.Tables.{all_table_events, all_table_sections};
-ghost use Rattle.xlsx_core.specs.Merges.{sheet_paths, sheets_of_book};
+ghost use Rattle.xlsx_sections.specs.Asking.{Answers};
+ghost use Rattle.xlsx_tables.specs.Tables.{SheetTable, IsTablesError, tables_on_ask};
+ghost use Rattle.xlsx_tables.specs.Tables.{all_tables_ask};
+ghost use Rattle.xlsx_core.specs.Merges.{sheets_of_book};
 ghost use Rattle.xlsx_core.specs.TableList.{sheet_name, table_held, tables_held, loaded_tables};
-ghost use Rattle.xlsx_core.specs.TableList.{AllTablesFail, is_wanted, table_names_of};
+ghost use Rattle.xlsx_core.specs.TableList.{is_wanted, table_names_of};
 ghost use Rattle.xlsx_core.specs.Worksheets.{KeepsBook, KeepsWorkbook};
 
+use crate::sheet_lists::{ReadsSheets, read_sheets};
 use crate::xlsx::Xlsx;
 use cell_refs::Dimensions;
 use part_events::Package;
@@ -39,44 +40,37 @@ fn is_wanted(wanted: Option<&str>, sheet: &str) -> bool
     }
 }
 
-/// The tables of all these sheets, whose parts are at these paths.
-fn all_tables<P: Package>(
+/// Reads the tables of sheets, and keeps them with the numbers of these.
+#[derive(Drop)]
+struct TableLists {
     alloc: Global,
-    package: &mut P,
-    sheets: &[Sheet],
-    paths: &[KeptPath],
-) -> Result<Vec<LoadedTable>, XlsxError>
-    ensures uses { let old = P.state «package».old in
-        let new = P.state «package».new in
-        let most = all_table_events old.parts (sheet_paths sheets.now paths.now) in
-        Uses most Io result old new }
-    ensures to_end { let old = P.state «package».old in
-        let new = P.state «package».new in
-        let count = all_table_sections old.parts (sheet_paths sheets.now paths.now) in
-        old.is_told ≡ true → OnOk result (CountsUp count old.taken new.taken) }
-    ensures tables { let old = P.state «package».old in
-        old.is_told ≡ true → IfOk result (λ tables.
-        tables_of old.parts (sheet_paths sheets.now paths.now)
-        ≡ Some (tables_held sheets.now tables.items)) }
-    ensures err { IfErr result (AllTablesFail (sheet_paths sheets.now paths.now)
-        (P.state «package».old) (P.state «package».new)) }
-    ensures kind { IfErr result IsTablesError }
-{
-    let mut tables = Vec::new(alloc);
-    let mut number = 0;
-    let mut left = sheets;
-    let mut rest = paths;
-    'sheets: while let Some((_, others)) = left.split_first() {
-        let Some((path, more)) = rest.split_first() else {
-            return Ok(tables);
-        };
-        let path = path.joined(alloc)?;
-        read_sheet_tables(alloc, package, &mut tables, number, path.as_str())?;
-        number += 1;
-        left = others;
-        rest = more;
+}
+
+impl ReadsSheets for TableLists {
+    type Items = Vec<LoadedTable>;
+
+    ghost Kept = { SheetTable };
+
+    ghost held = { λ sheets tables. tables_held sheets tables.items };
+
+    ghost ask = { λ r. tables_on_ask };
+
+    ghost Kind = { IsTablesError };
+
+    ghost kinds = { λ r sheet error is. is };
+
+    ghost memory = { inl tt };
+
+    fn keep<P: Package>(
+        &self,
+        package: &mut P,
+        tables: &mut Vec<LoadedTable>,
+        sheets: &[Sheet],
+        number: usize,
+        path: &str,
+    ) -> Result<(), XlsxError> {
+        read_sheet_tables(self.alloc, package, tables, number, path)
     }
-    Ok(tables)
 }
 
 /// The names of tables, in their order.
@@ -137,27 +131,20 @@ impl<P: Package> Xlsx<P> {
     /// Fails by the relationships of a sheet or by the part of a table, as `read_sheet_tables`. A
     /// refusal leaves what was loaded as it was.
     pub fn load_tables(&mut self) -> Result<(), XlsxError>
-        ensures uses { let old = P.state self.old.package in
-            let new = P.state self.new.package in
-            Uses (all_table_events old.parts (sheets_of_book self.old)) Io result old new }
-        ensures to_end { let old = P.state self.old.package in
-            let count = all_table_sections old.parts (sheets_of_book self.old) in
-            old.is_told ≡ true →
-            OnOk result (CountsUp count old.taken (P.state self.new.package).taken) }
+        ensures answers { let ask = all_tables_ask (sheets_of_book self.old) in
+            Answers ask (λ _. loaded_tables self.new) result (P.state self.old.package)
+            (P.state self.new.package) }
         ensures book { KeepsBook self.old self.new }
         ensures loaded { OnOk result (IsSome self.new.lists.tables) }
-        ensures tables { let old = P.state self.old.package in
-            old.is_told ≡ true → OnOk result
-            (tables_of old.parts (sheets_of_book self.old) ≡ Some (loaded_tables self.new)) }
         ensures regions { self.new.lists.regions ≡ self.old.lists.regions }
         ensures properties { self.new.lists.properties ≡ self.old.lists.properties }
         ensures unchanged { OnErr result (KeepsWorkbook self.old self.new) }
-        ensures err { IfErr result (AllTablesFail (sheets_of_book self.old)
-            (P.state self.old.package) (P.state self.new.package)) }
-        ensures kind { IfErr result IsTablesError }
     {
         let sheets = &self.metadata.sheets;
-        let tables = all_tables(self.alloc, &mut self.package, sheets, &self.paths)?;
+        let tables = Vec::new(self.alloc);
+        let by = TableLists { alloc: self.alloc };
+        let package = &mut self.package;
+        let tables = read_sheets(self.alloc, package, tables, sheets, &self.paths, &by)?;
         self.lists.tables = Some(tables);
         Ok(())
     }

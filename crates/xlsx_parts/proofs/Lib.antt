@@ -1,5 +1,6 @@
 pub mod ElementsFound
 pub mod FirstStarts
+pub mod ManyRead
 pub mod ManySaid
 pub mod SaidFrom
 pub mod SaidRead

@@ -1,6 +1,8 @@
 -- What many say, one behind the other, is put together one by one.
 use Rattle.std.proofs.Common.{◌≡◌, List, [], ◌∷◌, ◌++◌, Option, Some, None, refl, sym, ◌∙◌, ap}
-use Rattle.std.proofs.Common.{append_assoc, append-nil, inl, inr}
+use Rattle.std.proofs.Common.{append_assoc, append-nil, inl, inr, map}
+use Rattle.std.proofs.lemmas.List.{map-append}
+use Rattle.std.specs.Prelude.{option_map}
 use Rattle.xlsx_error.specs.declared.error.XlsxError.{XlsxError}
 use Rattle.xlsx_parts.specs.PartSaid.{put_together, all_said}
 use Rattle.xlsx_parts.specs.WholePart.{SomeCause}
@@ -52,3 +54,19 @@ no_some_cause said cause (x ∷ xs) error all never says (inl own) =
 no_some_cause said cause (x ∷ xs) error all never says (inr others) =
     let both = both_said (said x) (all_said said xs) all says in
     no_some_cause said cause xs error both.1 never both.3 others
+
+-- what many say, put in another way, is said by each so
+put_mapped : {A B : Type 0} (f : A → B) (first others : Option (List A))
+    → put_together (option_map (map f) first) (option_map (map f) others)
+    ≡ option_map (map f) (put_together first others)
+put_mapped f None others = refl
+put_mapped f (Some found) None = refl
+put_mapped f (Some found) (Some more) =
+    ap (λ (all : List _). Some all) (sym (map-append f found more))
+
+pub all_said_mapped : {X A B : Type 0} (f : A → B) (said : X → Option (List A)) (xs : List X)
+    → all_said (λ x. option_map (map f) (said x)) xs ≡ option_map (map f) (all_said said xs)
+all_said_mapped f said [] = refl
+all_said_mapped f said (x ∷ xs) =
+    ap (put_together (option_map (map f) (said x))) (all_said_mapped f said xs)
+    ∙ put_mapped f (said x) (all_said said xs)

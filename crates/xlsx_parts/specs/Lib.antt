@@ -1,4 +1,5 @@
 pub mod FirstElement
+pub mod ManyAsked
 pub mod PartElements
 pub mod PartSaid
 pub mod SheetPaths

@@ -5,13 +5,16 @@ use Rattle.std.specs.List.{sum_by}
 use Rattle.std.specs.Option.{option_map_or}
 use Rattle.part_events.specs.Package.{Part, part_of, event_count}
 use Rattle.xlsx_error.specs.declared.error.XlsxError.{XlsxError}
+use Rattle.xlsx_sections.specs.Asking.{Ask}
 use Rattle.xlsx_sections.specs.PartSection.{LacksPart}
 use Rattle.xlsx_sections.specs.SectionEvents.{section_events_of}
+use Rattle.xlsx_parts.specs.ManyAsked.{each}
 use Rattle.xlsx_parts.specs.PartSaid.{all_said}
 use Rattle.xlsx_parts.specs.SheetPaths.{SheetPath}
 use Rattle.xlsx_parts.specs.WholePart.{IfThere, SomeCause}
 use Rattle.xlsx_relationships.specs.Paths.{relationships_beside}
 use Rattle.xlsx_relationships.specs.RelatedParts.{related_parts, sum_of_related, RelatedCause}
+use Rattle.xlsx_pivots.specs.PivotErrors.{IsPivotsError}
 use Rattle.xlsx_pivots.specs.PivotParts.{name_in_part, NameCause}
 use Rattle.xlsx_pivots.specs.Singles.{only_one}
 use Rattle.xlsx_pivots.specs.Targets.{definitions_type, records_type, definitions_at, records_at}
@@ -157,3 +160,37 @@ PivotsAtCause parts path error =
 abbrev pub PivotsCause : List Part → List SheetPath → XlsxError → Type 0
 PivotsCause parts sheets error =
     SomeCause (λ (sheet : SheetPath). PivotsAtCause parts sheet.path) sheets error
+
+-- what is asked for the pivot table of the part at a path
+abbrev pub pivot_ask : List ℕ → List ℕ → List ℕ → Ask PivotSaid
+pivot_ask folder sheet path = record {
+  most = λ parts. pivot_events parts path;
+  exact = λ parts. pivot_sections parts path;
+  said = λ parts. pivot_at parts folder sheet path;
+  cause = λ parts. PivotCause parts path;
+  kind = IsPivotsError;
+}
+
+-- for it as a list
+abbrev pub one_pivot_ask : List ℕ → List ℕ → List ℕ → Ask (List PivotSaid)
+one_pivot_ask folder sheet path = record {
+  most = λ parts. pivot_events parts path;
+  exact = λ parts. pivot_sections parts path;
+  said = λ parts. pivots_at parts folder sheet path;
+  cause = λ parts. PivotCause parts path;
+  kind = IsPivotsError;
+}
+
+-- for those of a sheet
+abbrev pub pivots_on_ask : List ℕ → SheetPath → Ask (List PivotSaid)
+pivots_on_ask folder sheet = record {
+  most = λ parts. sheet_events parts sheet.path;
+  exact = λ parts. sheet_sections parts sheet.path;
+  said = λ parts. pivots_on parts folder sheet;
+  cause = λ parts. PivotsAtCause parts sheet.path;
+  kind = IsPivotsError;
+}
+
+-- and for those of many sheets
+abbrev pub pivots_ask : List ℕ → List SheetPath → Ask (List PivotSaid)
+pivots_ask folder sheets = each IsPivotsError (pivots_on_ask folder) sheets

@@ -1,18 +1,12 @@
-ghost use Rattle.std.specs.Prelude.{◌≡◌, ◌++◌, List, map, string_bytes, true, Some, OnOk, IfOk};
-ghost use Rattle.std.specs.Prelude.{IfErr};
-ghost use Rattle.std.specs.List.{sum_by};
-ghost use Rattle.part_events.specs.Package.{Uses, CountsUp};
-ghost use Rattle.xlsx_error.specs.declared.error.XlsxError.TheVariants.{Io};
-ghost use Rattle.xlsx_sections.specs.Failing.{FailsBy};
+ghost use Rattle.std.specs.Prelude.{◌≡◌, ◌++◌, List, map};
+ghost use Rattle.xlsx_sections.specs.Asking.{Answers};
+ghost use Rattle.xlsx_parts.specs.ManyAsked.{Appends};
 ghost use Rattle.xlsx_parts.specs.SheetPaths.{sheet_at};
 ghost use Rattle.xlsx_pivots.specs.PivotErrors.{IsPivotsError};
 ghost use Rattle.xlsx_pivots.specs.PivotTables.{pivot_kept, pivots_kept, sheet_given};
-ghost use Rattle.xlsx_pivots.specs.Pivots.{PivotSaid, pivot_at, pivots_at, pivots_by, pivots_on};
-ghost use Rattle.xlsx_pivots.specs.Pivots.{pivots_of, PivotCause, PivotsByCause, PivotsAtCause};
-ghost use Rattle.xlsx_pivots.specs.Pivots.{PivotsCause, pivot_events, pivot_sections};
-ghost use Rattle.xlsx_pivots.specs.Pivots.{sheet_events, sheet_sections, all_pivot_events};
-ghost use Rattle.xlsx_pivots.specs.Pivots.{all_pivot_sections};
-ghost use Rattle.xlsx_pivots.specs.declared.pivot_tables.PivotTable.{PivotTable};
+ghost use Rattle.xlsx_pivots.specs.Pivots.{PivotSaid, pivot_ask, one_pivot_ask, pivots_on_ask};
+ghost use Rattle.xlsx_pivots.specs.Pivots.{pivots_ask};
+ghost use Rattle.xlsx_pivots.proofs.PivotsRead.{related_error};
 
 use crate::pivot_parts::name_at;
 use crate::pivot_tables::{PivotTable, PivotTables};
@@ -20,7 +14,7 @@ use crate::targets::{definitions_at, records_at};
 use part_events::Package;
 use std::alloc::Global;
 use xlsx_error::XlsxError;
-use xlsx_relationships::related_parts;
+use xlsx_relationships::{ReadsRelated, push_related};
 
 const PIVOT_TYPE: &str =
     "http://schemas.openxmlformats.org/officeDocument/2006/relationships/pivotTable";
@@ -33,19 +27,8 @@ fn pivot_at<P: Package>(
     path: &str,
     folder: &str,
 ) -> Result<PivotTable, XlsxError>
-    ensures uses { let old = P.state «package».old in
-        let new = P.state «package».new in
-        Uses (pivot_events old.parts path.now) Io result old new }
-    ensures to_end { let old = P.state «package».old in
-        let new = P.state «package».new in
-        let count = pivot_sections old.parts path.now in
-        old.is_told ≡ true → OnOk result (CountsUp count old.taken new.taken) }
-    ensures pivot { let old = P.state «package».old in
-        old.is_told ≡ true → IfOk result (λ pivot.
-        pivot_at old.parts folder.now sheet.now path.now ≡ Some (pivot_kept pivot)) }
-    ensures err { let old = P.state «package».old in
-        IfErr result (FailsBy (PivotCause old.parts path.now) old (P.state «package».new)) }
-    ensures kind { IfErr result IsPivotsError }
+    ensures answers { let ask = pivot_ask folder.now sheet.now path.now in
+        Answers ask pivot_kept result (P.state «package».old) (P.state «package».new) }
 {
     let name = name_at(alloc, package, path)?;
     let definitions = definitions_at(alloc, package, path)?;
@@ -58,74 +41,44 @@ fn pivot_at<P: Package>(
     })
 }
 
-/// Appends the pivot table of the part at this path.
-fn push_pivot<P: Package>(
+/// Reads the pivot tables of parts, on the sheet of this name in the workbook's folder.
+#[derive(Drop)]
+struct PivotReader<'a> {
     alloc: Global,
-    package: &mut P,
-    pivots: &mut Vec<PivotTable>,
-    sheet: &str,
-    path: &str,
-    folder: &str,
-) -> Result<(), XlsxError>
-    ensures uses { let old = P.state «package».old in
-        let new = P.state «package».new in
-        Uses (pivot_events old.parts path.now) Io result old new }
-    ensures to_end { let old = P.state «package».old in
-        let new = P.state «package».new in
-        let count = pivot_sections old.parts path.now in
-        old.is_told ≡ true → OnOk result (CountsUp count old.taken new.taken) }
-    ensures pivots { let old = P.state «package».old in
-        old.is_told ≡ true → OnOk result ((found : List PivotSaid)
-        × (pivots_at old.parts folder.now sheet.now path.now ≡ Some found)
-        × (map pivot_kept pivots.new.items ≡ map pivot_kept pivots.old.items ++ found)) }
-    ensures err { let old = P.state «package».old in
-        IfErr result (FailsBy (PivotCause old.parts path.now) old (P.state «package».new)) }
-    ensures kind { IfErr result IsPivotsError }
-    ensures kept { (more : List PivotTable) × (pivots.new.items ≡ pivots.old.items ++ more) }
-{
-    let pivot = pivot_at(alloc, package, sheet, path, folder)?;
-    pivots.push(pivot)?;
-    Ok(())
+    sheet: &'a str,
+    folder: &'a str,
 }
 
-/// Appends the pivot tables of the parts at these paths, in order.
-fn push_pivots<P: Package>(
-    alloc: Global,
-    package: &mut P,
-    pivots: &mut Vec<PivotTable>,
-    sheet: &str,
-    paths: &[String],
-    folder: &str,
-) -> Result<(), XlsxError>
-    ensures uses { let old = P.state «package».old in
-        let new = P.state «package».new in
-        Uses (sum_by (pivot_events old.parts) (map string_bytes paths.now)) Io result old new }
-    ensures to_end { let old = P.state «package».old in
-        let new = P.state «package».new in
-        let count = sum_by (pivot_sections old.parts) (map string_bytes paths.now) in
-        old.is_told ≡ true → OnOk result (CountsUp count old.taken new.taken) }
-    ensures pivots { let old = P.state «package».old in
-        old.is_told ≡ true → OnOk result ((found : List PivotSaid)
-        × (pivots_by old.parts folder.now sheet.now (map string_bytes paths.now) ≡ Some found)
-        × (map pivot_kept pivots.new.items ≡ map pivot_kept pivots.old.items ++ found)) }
-    ensures err { let old = P.state «package».old in
-        IfErr result (FailsBy (PivotsByCause old.parts (map string_bytes paths.now)) old
-        (P.state «package».new)) }
-    ensures kind { IfErr result IsPivotsError }
-    ensures kept { (more : List PivotTable) × (pivots.new.items ≡ pivots.old.items ++ more) }
-{
-    let mut left = paths;
-    'paths: while let Some((path, others)) = left.split_first() {
-        push_pivot(alloc, package, pivots, sheet, path.as_str(), folder)?;
-        left = others;
+impl ReadsRelated for PivotReader<'_> {
+    type Item = PivotTable;
+
+    ghost Kept = { PivotSaid };
+
+    ghost kept = { λ r own. pivot_kept own };
+
+    ghost ask = { λ r path. one_pivot_ask r.folder.now r.sheet.now path };
+
+    ghost Kind = { IsPivotsError };
+
+    ghost kinds = { λ r path error is. is };
+
+    ghost related_kinds = { related_error };
+
+    fn push<P: Package>(
+        &self,
+        package: &mut P,
+        pivots: &mut Vec<PivotTable>,
+        path: &str,
+    ) -> Result<(), XlsxError> {
+        let pivot = pivot_at(self.alloc, package, self.sheet, path, self.folder)?;
+        pivots.push(pivot)?;
+        Ok(())
     }
-    Ok(())
 }
 
 /// Appends the pivot tables of the sheet of this name whose part is at this path, in the workbook's
 /// folder, as `find_pivot_tables` finds those of many sheets. After a refusal some of them may be
 /// appended, behind those that were there.
-#[tactic(auto, using(crate::proofs::PivotsRead::related_error))]
 pub fn read_sheet_pivots<P: Package>(
     alloc: Global,
     package: &mut P,
@@ -134,24 +87,17 @@ pub fn read_sheet_pivots<P: Package>(
     path: &str,
     folder: &str,
 ) -> Result<(), XlsxError>
-    ensures uses { let old = P.state «package».old in
-        let new = P.state «package».new in
-        Uses (sheet_events old.parts path.now) Io result old new }
-    ensures to_end { let old = P.state «package».old in
-        let new = P.state «package».new in
-        let count = sheet_sections old.parts path.now in
-        old.is_told ≡ true → OnOk result (CountsUp count old.taken new.taken) }
-    ensures pivots { let old = P.state «package».old in
-        old.is_told ≡ true → OnOk result ((more : List PivotSaid)
-        × (pivots_on old.parts folder.now (sheet_at sheet.now path.now) ≡ Some more)
-        × (pivots_kept found.new ≡ pivots_kept found.old ++ more)) }
-    ensures err { let old = P.state «package».old in
-        IfErr result (FailsBy (PivotsAtCause old.parts path.now) old (P.state «package».new)) }
-    ensures kind { IfErr result IsPivotsError }
+    ensures answers { let ask = pivots_on_ask folder.now (sheet_at sheet.now path.now) in
+        Appends ask (pivots_kept found.old) (pivots_kept found.new) result
+        (P.state «package».old) (P.state «package».new) }
     ensures kept { (more : List PivotSaid) × (pivots_kept found.new ≡ pivots_kept found.old ++ more) }
 {
-    let paths = related_parts(alloc, package, path, PIVOT_TYPE)?;
-    push_pivots(alloc, package, &mut found.pivots, sheet, &paths, folder)
+    let by = PivotReader {
+        alloc,
+        sheet,
+        folder,
+    };
+    push_related(alloc, package, &mut found.pivots, path, PIVOT_TYPE, &by)
 }
 
 /// Finds the pivot tables of these sheets, which are given by their names and the paths of their
@@ -178,21 +124,8 @@ pub fn find_pivot_tables<P: Package>(
     sheets: &[(String, String)],
     xl_path: &str,
 ) -> Result<PivotTables, XlsxError>
-    ensures uses { let old = P.state «package».old in
-        let new = P.state «package».new in
-        Uses (all_pivot_events old.parts (map sheet_given sheets.now)) Io result old new }
-    ensures to_end { let old = P.state «package».old in
-        let new = P.state «package».new in
-        let count = all_pivot_sections old.parts (map sheet_given sheets.now) in
-        old.is_told ≡ true → OnOk result (CountsUp count old.taken new.taken) }
-    ensures pivots { let old = P.state «package».old in
-        old.is_told ≡ true → IfOk result (λ found.
-        pivots_of old.parts xl_path.now (map sheet_given sheets.now)
-        ≡ Some (pivots_kept found)) }
-    ensures err { let old = P.state «package».old in
-        IfErr result (FailsBy (PivotsCause old.parts (map sheet_given sheets.now)) old
-        (P.state «package».new)) }
-    ensures kind { IfErr result IsPivotsError }
+    ensures answers { let ask = pivots_ask xl_path.now (map sheet_given sheets.now) in
+        Answers ask pivots_kept result (P.state «package».old) (P.state «package».new) }
 {
     let mut found = PivotTables::new(alloc);
     let mut left = sheets;

@@ -1,6 +1,7 @@
 pub mod KeptRelationships
 pub mod LinkTargets
 pub mod Paths
+pub mod RelatedAsked
 pub mod RelatedParts
 pub mod RelationshipErrors
 pub mod Relationships

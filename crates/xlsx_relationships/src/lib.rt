@@ -13,12 +13,14 @@
 //! target for each relationship that counts, in order, and `target_in` finds the last of an Id. So
 //! a refusal is one whatever Id is asked for. The lemma file is `TargetsKept`. `targets` has where
 //! a target leads, `related` where the relationships of one type lead, by the target of each
-//! (`typed_target`); the lemma file of these two is `RelatedRead`.
+//! (`typed_target`), and `related_lists` what the parts say that they lead to; the lemma files of
+//! these are `RelatedRead` and `RelatedTaken`.
 #![tactic(auto)]
 
 mod link_targets;
 mod paths;
 mod related;
+mod related_lists;
 mod relationship_parts;
 mod relationships;
 mod targets;
@@ -26,6 +28,7 @@ mod targets;
 pub use link_targets::{link_text, read_sheet_hyperlink_rels};
 pub use paths::{behind_slash, folder_of, joined, last_piece, part_folder, relationships_beside};
 pub use related::{related_parts, typed_target};
+pub use related_lists::{ReadsRelated, push_related};
 pub use relationship_parts::{read_path, read_relationships};
 pub use relationships::{Relationship, find_relationship, text_or};
 pub use targets::target_path;

@@ -19,7 +19,7 @@ ghost use Rattle.xlsx_relationships.specs.RelationshipErrors.{IsRelatedError};
 
 use crate::paths::relationships_beside;
 use crate::relationships::text_or;
-use attr_text::{RawAttributes, get_attrs, unescape_hex};
+use attr_text::{RawAttributes, get_attrs, unescaped};
 use part_events::{Package, StartTag};
 use std::alloc::Global;
 use std::collections::BTreeMap;
@@ -37,7 +37,7 @@ pub fn link_text(alloc: Global, text: &str, at: u64) -> Result<String, XlsxError
     ensures kind { IfErr result IsDecodeError }
 {
     let decoded = decode_at(alloc, text, at)?;
-    Ok(unescape_hex(alloc, decoded.as_str())?)
+    Ok(unescaped(alloc, decoded)?)
 }
 
 fn is_hyperlink_type(typ: &str) -> bool

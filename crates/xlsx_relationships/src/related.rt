@@ -2,14 +2,10 @@ ghost use Rattle.std.proofs.Common.{rules};
 ghost use Rattle.std.specs.Prelude.{◌≡◌, ℕ, List, Ok, Some, codes, map, option_map, string_bytes};
 ghost use Rattle.std.specs.Prelude.{true, IfOk, IfErr};
 ghost use Rattle.part_events.specs.Event.{tag_of};
-ghost use Rattle.part_events.specs.Package.{Uses, event_count};
-ghost use Rattle.xlsx_error.specs.declared.error.XlsxError.TheVariants.{Io};
-ghost use Rattle.xlsx_sections.specs.Failing.{FailsBy};
+ghost use Rattle.xlsx_sections.specs.Asking.{Answers};
 ghost use Rattle.xlsx_sections.specs.Refusal.{ElementFails, placed_at};
-ghost use Rattle.xlsx_sections.specs.SectionEvents.{ReadsToEnd};
-ghost use Rattle.xlsx_relationships.specs.Paths.{relationships_beside};
+ghost use Rattle.xlsx_relationships.specs.RelatedAsked.{related_ask};
 ghost use Rattle.xlsx_relationships.specs.RelatedParts.{typed_target, leads_to};
-ghost use Rattle.xlsx_relationships.specs.RelatedParts.{related_parts, RelatedCause};
 ghost use Rattle.xlsx_relationships.specs.RelationshipErrors.{IsRelatedError};
 
 use crate::paths::relationships_beside;
@@ -113,18 +109,9 @@ pub fn related_parts<P: Package>(
     path: &str,
     typ: &str,
 ) -> Result<Vec<String>, XlsxError>
-    ensures uses { let old = P.state «package».old in
-        let new = P.state «package».new in
-        Uses (event_count old.parts (relationships_beside path.now)) Io result old new }
-    ensures to_end { ReadsToEnd (codes "Relationships") (relationships_beside path.now) result
-        (P.state «package».old) (P.state «package».new) }
-    ensures paths { let old = P.state «package».old in
-        old.is_told ≡ true → IfOk result (λ paths.
-        related_parts old.parts typ.now path.now ≡ Some (map string_bytes paths.items)) }
-    ensures err { let old = P.state «package».old in
-        IfErr result (FailsBy (RelatedCause old.parts typ.now path.now) old
-        (P.state «package».new)) }
-    ensures kind { IfErr result IsRelatedError }
+    ensures answers { let ask = related_ask typ.now path.now in
+        Answers ask (λ paths. map string_bytes paths.items) result (P.state «package».old)
+        (P.state «package».new) }
 {
     let part = relationships_beside(alloc, path)?;
     let Some(mut cursor) = enter_part(alloc, package, part.as_str(), "Relationships")? else {

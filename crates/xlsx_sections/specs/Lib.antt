@@ -1,4 +1,5 @@
 pub mod Answers
+pub mod Asking
 pub mod Changes
 pub mod ElementLists
 pub mod ElementText

@@ -1,9 +1,8 @@
--- Where a text may be cut at its blanks, and a text without escapes.
-use Rattle.std.proofs.Common.{◌≡◌, ◌⊎◌, ℕ, zero, suc, ◌+◌, ◌-◌, ◌<◌, ◌≤◌, List, [], ◌∷◌, length}
-use Rattle.std.proofs.Common.{get_or, Bool, true, false, None, refl, sym, ◌∙◌, ap, subst, inl, inr}
-use Rattle.std.proofs.Common.{arith, IsUtf8}
-use Rattle.std.specs.Prelude.{◌==◌, ◌||◌, reverse}
-use Rattle.std.specs.List.{list_any, prefix_len, suffix_len}
+-- Where a text may be cut at its blanks.
+use Rattle.std.proofs.Common.{◌≡◌, ◌⊎◌, ℕ, zero, suc, ◌+◌, ◌-◌, ◌<◌, ◌≤◌, List, length, get_or}
+use Rattle.std.proofs.Common.{true, sym, ◌∙◌, ap, subst, inl, inr, arith, IsUtf8}
+use Rattle.std.specs.Prelude.{reverse}
+use Rattle.std.specs.List.{prefix_len, suffix_len}
 use Rattle.std.specs.Str.{IsCharBoundary}
 use Rattle.std.proofs.lemmas.List.Sums.{prefix_len-le-length, prefix_len_passes}
 use Rattle.std.proofs.lemmas.List.Sums.{suffix_len-le-length}
@@ -11,8 +10,6 @@ use Rattle.std.proofs.lemmas.List.{get_or-reverse, length-reverse}
 use Rattle.std.proofs.lemmas.Str.{IsCharBoundary-start, IsCharBoundary-after_ascii}
 use Rattle.std.proofs.lemmas.Str.{IsCharBoundary-end, IsCharBoundary-before_ascii}
 use Rattle.std.proofs.lemmas.Bool.Decides.{nat_tests}
-use Rattle.attr_text.specs.Text.{unescaped, escaped_character}
-use Rattle.attr_text.proofs.EscapesLemmas.{unescaped-byte, unescaped-nil}
 use Rattle.xlsx_strings.specs.Strings.{is_blank}
 
 -- a blank is one byte of ASCII
@@ -58,19 +55,3 @@ cut_before_blanks text =
     ap (λ (k : ℕ). is_blank (get_or text k 0)) (sym at)
     ∙ ap is_blank (sym (get_or-reverse text (n - 1) 0 (omega (arith, below, fits))))
     ∙ prefix_len_passes is_blank (reverse text) (n - 1) 0 (omega (arith, below, fits)))
-
--- no byte of the text begins an escape
-no_escape : (b : ℕ) (rest : List ℕ) → (b == 95) ≡ false → escaped_character (b ∷ rest) ≡ None
-no_escape b rest not_it = grind (arith)
-
-either_false : (a b : Bool) → (a || b) ≡ false → (a ≡ false) × (b ≡ false)
-either_false true b is = absurd (cc)
-either_false false b is = (refl, is)
-
-pub unescaped_plain : (text : List ℕ) → list_any (λ (b : ℕ). b == 95) text ≡ false
-    → unescaped text ≡ text
-unescaped_plain [] none = unescaped-nil
-unescaped_plain (b ∷ rest) none =
-    let both = either_false (b == 95) (list_any (λ (c : ℕ). c == 95) rest) none in
-    unescaped-byte b rest (no_escape b rest both.0)
-    ∙ ap (λ (own : List ℕ). b ∷ own) (unescaped_plain rest both.1)

@@ -2,8 +2,7 @@
 //!
 //! Rooms: `string_element` (the text of an `si` or an `is`), `trim` (blanks at the ends of a text),
 //! `shared` (the part of shared strings). A text is read into a buffer that its caller lends, cut
-//! at its blanks, and only where it has an underscore are its escapes undone in a text of their
-//! own. A shared string takes the bytes of its text.
+//! at its blanks, and appended without its escapes. A shared string takes the bytes of its text.
 //!
 //! The lemma file is `Sound`.
 #![tactic(auto)]
@@ -12,5 +11,6 @@ mod shared;
 mod string_element;
 mod trim;
 
+pub use attr_text::unescaped;
 pub use shared::read_shared_strings;
-pub use string_element::{read_string, unescaped};
+pub use string_element::read_string;

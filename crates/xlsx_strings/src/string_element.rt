@@ -1,6 +1,5 @@
-ghost use Rattle.std.specs.Prelude.{◌≡◌, ◌==◌, ◌++◌, List, ℕ, codes, true, Ok};
+ghost use Rattle.std.specs.Prelude.{◌≡◌, ◌++◌, List, ℕ, codes, true, Ok};
 ghost use Rattle.std.specs.Prelude.{string_bytes, IfOk, OnOk, OnErr, IfErr};
-ghost use Rattle.std.specs.List.{list_any};
 ghost use Rattle.attr_text.specs.Text.{unescaped};
 ghost use Rattle.part_events.specs.Event.{Tag, start, tag_of};
 ghost use Rattle.part_events.specs.JoinedText.{IsFrontOf};
@@ -13,7 +12,7 @@ ghost use Rattle.xlsx_strings.specs.Strings.{blanks_kept, spaced, text_within, p
 ghost use Rattle.xlsx_strings.specs.Strings.{end_in_piece, end_in_string, IsStringError};
 
 use crate::trim::trimmed;
-use attr_text::{AttrFault, RawAttributes, unescape_hex};
+use attr_text::{AttrFault, RawAttributes, push_unescaped};
 use part_events::{Cursor, Package, StartTag};
 use std::alloc::{AllocError, Global};
 use xlsx_error::XlsxError;
@@ -26,38 +25,6 @@ fn keeps_blanks(tag: StartTag<'_>) -> Result<bool, AttrFault>
     match tag.raw_attr("xml:space")? {
         Some(space) => Ok(space == "preserve"),
         None => Ok(false),
-    }
-}
-
-/// Whether a byte of the text may begin an escape.
-fn has_underscore(text: &[u8]) -> bool
-    ensures { result ≡ list_any (λ b. b == 95) text.now }
-{
-    text.iter().any(|b| *b == b'_')
-}
-
-/// Appends a text, each `_xHHHH_` of it replaced by the character of its number.
-fn push_unescaped(alloc: Global, out: &mut String, text: &str) -> Result<(), AllocError>
-    ensures ok { OnOk result (string_bytes out.new ≡ string_bytes out.old ++ unescaped text.now) }
-    ensures unchanged { OnErr result (string_bytes out.new ≡ string_bytes out.old) }
-{
-    if has_underscore(text.as_bytes()) {
-        out.push_str(unescape_hex(alloc, text)?.as_str())?;
-    } else {
-        out.push_str(text)?;
-    }
-    Ok(())
-}
-
-/// The text, each `_xHHHH_` of it replaced by the character of its number. A text without an
-/// underscore is answered as it is.
-pub fn unescaped(alloc: Global, text: String) -> Result<String, AllocError>
-    ensures { IfOk result (λ own. string_bytes own ≡ unescaped (string_bytes text)) }
-{
-    if has_underscore(text.as_bytes()) {
-        unescape_hex(alloc, text.as_str())
-    } else {
-        Ok(text)
     }
 }
 

@@ -4,7 +4,9 @@ use Rattle.std.specs.Prelude.{option_and_then, MatchOption}
 use Rattle.std.specs.List.{sum_by}
 use Rattle.part_events.specs.Package.{Part, part_of, event_count}
 use Rattle.xlsx_error.specs.declared.error.XlsxError.{XlsxError}
+use Rattle.xlsx_sections.specs.Asking.{Ask}
 use Rattle.xlsx_sections.specs.SectionEvents.{section_events_of}
+use Rattle.xlsx_parts.specs.ManyAsked.{each, map_each}
 use Rattle.xlsx_parts.specs.PartSaid.{unless_absent, all_said}
 use Rattle.xlsx_parts.specs.SheetPaths.{SheetPath}
 use Rattle.xlsx_parts.specs.WholePart.{IfThere, SomeCause}
@@ -103,3 +105,31 @@ on_sheet sheet table = (sheet, table)
 -- a table that is loaded, with the number of its sheet
 abbrev pub loaded_of : LoadedTable → ℕ × TableSaid
 loaded_of loaded = (loaded.sheet, table_kept loaded.part)
+
+-- what is asked for the table of the part at a path
+abbrev pub table_ask : List ℕ → Ask (List TableSaid)
+table_ask path = record {
+  most = λ parts. event_count parts path;
+  exact = λ parts. section_events_of (codes "table") parts path;
+  said = λ parts. table_at parts path;
+  cause = λ parts. IfThere TableCause (part_of parts path);
+  kind = IsTablesError;
+}
+
+-- and for those of the sheet whose part is at a path
+abbrev pub tables_ask : List ℕ → Ask (List TableSaid)
+tables_ask path = record {
+  most = λ parts. table_events parts path;
+  exact = λ parts. table_sections parts path;
+  said = λ parts. tables_at parts path;
+  cause = λ parts. TablesAtCause parts path;
+  kind = IsTablesError;
+}
+
+-- for those of a sheet, with its name
+abbrev pub tables_on_ask : SheetPath → Ask (List SheetTable)
+tables_on_ask sheet = map_each (table_of_sheet sheet.name) (tables_ask sheet.path)
+
+-- and for those of many sheets
+abbrev pub all_tables_ask : List SheetPath → Ask (List SheetTable)
+all_tables_ask sheets = each IsTablesError tables_on_ask sheets

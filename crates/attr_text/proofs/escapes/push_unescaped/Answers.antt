@@ -1,8 +1,8 @@
 use Rattle.std.proofs.Common.{◌≡◌, ◌++◌, List, ℕ, false, sym, ◌∙◌, ap, string_bytes}
 use Rattle.std.specs.Prelude.{◌==◌}
 use Rattle.std.specs.List.{list_any}
-use Rattle.xlsx_strings.proofs.Texts.{unescaped_plain}
-use Rattle.xlsx_strings.proofs.string_element.push_unescaped.Goals as goal
+use Rattle.attr_text.proofs.EscapesLemmas.{unescaped_plain}
+use Rattle.attr_text.proofs.escapes.push_unescaped.Goals as goal
 
 pub returns-in_ok-push_str-2-clause-ok : goal.returns-in_ok-push_str-2-clause-ok
 returns-in_ok-push_str-2-clause-ok c =

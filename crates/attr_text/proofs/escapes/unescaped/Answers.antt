@@ -1,8 +1,8 @@
 use Rattle.std.proofs.Common.{◌≡◌, ℕ, false, sym, ◌∙◌, ap, string_bytes}
 use Rattle.std.specs.Prelude.{◌==◌}
 use Rattle.std.specs.List.{list_any}
-use Rattle.xlsx_strings.proofs.Texts.{unescaped_plain}
-use Rattle.xlsx_strings.proofs.string_element.unescaped.Goals as goal
+use Rattle.attr_text.proofs.EscapesLemmas.{unescaped_plain}
+use Rattle.attr_text.proofs.escapes.unescaped.Goals as goal
 
 pub returns-else-has_underscore : goal.returns-else-has_underscore
 returns-else-has_underscore c =

@@ -1,0 +1,20 @@
+use Rattle.std.proofs.Common.{◌≡◌, ◌+◌, [], drop, length}
+use Rattle.xlsx_parts.specs.ManyAsked.{Leads, each}
+use Rattle.xlsx_core.specs.Merges.{sheet_paths}
+use Rattle.xlsx_core.proofs.sheet_lists.read_sheets.Given as goal
+
+abbrev pub invariant-sheets : goal.invariant-sheets
+invariant-sheets g l =
+    let r = g.R.ReadsSheets in
+    let ask = each r.Kind (r.ask l.by) in
+    record {
+      leads :
+          Leads (ask (sheet_paths l.left l.rest)) (r.held l.fn.sheets l.items)
+          (g.P.Package.state l.package) (ask (sheet_paths l.fn.sheets l.fn.paths)) []
+          (g.P.Package.state l.fn.package);
+      behind : drop l.number l.fn.sheets ≡ l.left;
+      within : l.number + length l.left ≡ length l.fn.sheets;
+    }
+
+abbrev pub decreases-sheets : goal.decreases-sheets
+decreases-sheets g l = length l.left

@@ -1,0 +1,78 @@
+ghost use Rattle.std.specs.Prelude.{◌≡◌, List, []};
+ghost use Rattle.xlsx_error.specs.declared.error.XlsxError.{XlsxError};
+ghost use Rattle.xlsx_error.specs.declared.error.XlsxError.TheVariants.{OutOfMemory};
+ghost use Rattle.xlsx_parts.specs.ManyAsked.{Appends, each};
+ghost use Rattle.xlsx_parts.specs.SheetPaths.{SheetPath, sheet_at};
+ghost use Rattle.xlsx_sections.specs.Asking.{Ask, Answers};
+ghost use Rattle.xlsx_workbook.specs.declared.sheet.Sheet.{Sheet};
+ghost use Rattle.xlsx_core.specs.Merges.{sheet_paths};
+ghost use Rattle.xlsx_core.specs.TableList.{sheet_name};
+
+use part_events::Package;
+use std::alloc::Global;
+use xlsx_error::XlsxError;
+use xlsx_open::{KeptPath, Sheet};
+
+/// Reads what one of the sheets of a workbook says, and keeps it.
+pub(crate) trait ReadsSheets {
+    type Items: Drop;
+
+    ghost Kept: { Type 0 };
+
+    ghost held: { List Sheet → Self.Items → List Kept };
+
+    ghost ask: { Self → SheetPath → Ask (List Kept) };
+
+    ghost Kind: { XlsxError → Type 0 };
+
+    /// Keeps what the sheet of this number says, counted from 0, whose part is at this path.
+    fn keep<P: Package>(
+        &self,
+        package: &mut P,
+        items: &mut Self::Items,
+        sheets: &[Sheet],
+        number: usize,
+        path: &str,
+    ) -> Result<(), XlsxError>
+        ensures { let sheet = sheet_at (sheet_name sheets.now number) path.now in
+            Appends (ask self.now sheet) (held sheets.now items.old) (held sheets.now items.new)
+            result (P.state «package».old) (P.state «package».new) };
+
+    ghost kinds: {
+        (by : Self) (sheet : SheetPath) (error : XlsxError) → (ask by sheet).kind error →
+        Kind error
+    };
+
+    ghost memory: { Kind OutOfMemory };
+}
+
+/// What all these sheets say, whose parts are at these paths, in their order. `items` holds nothing
+/// before.
+pub(crate) fn read_sheets<P: Package, R: ReadsSheets>(
+    alloc: Global,
+    package: &mut P,
+    items: R::Items,
+    sheets: &[Sheet],
+    paths: &[KeptPath],
+    by: &R,
+) -> Result<R::Items, XlsxError>
+    requires { R.held sheets.now items ≡ [] }
+    ensures { let ask = each R.Kind (R.ask by.now) (sheet_paths sheets.now paths.now) in
+        Answers ask (R.held sheets.now) result (P.state «package».old) (P.state «package».new) }
+{
+    let mut items = items;
+    let mut number = 0;
+    let mut left = sheets;
+    let mut rest = paths;
+    'sheets: while let Some((_, others)) = left.split_first() {
+        let Some((path, more)) = rest.split_first() else {
+            return Ok(items);
+        };
+        let path = path.joined(alloc)?;
+        by.keep(package, &mut items, sheets, number, path.as_str())?;
+        number += 1;
+        left = others;
+        rest = more;
+    }
+    Ok(items)
+}

@@ -1,0 +1,19 @@
+use Rattle.std.proofs.Common.{◌≡◌, ◌++◌, List, length, map, string_bytes}
+use Rattle.xlsx_parts.specs.ManyAsked.{Leads, each}
+use Rattle.xlsx_relationships.specs.RelatedAsked.{each_related}
+use Rattle.xlsx_relationships.proofs.related_lists.push_related.Given as goal
+
+abbrev pub invariant-paths : goal.invariant-paths
+invariant-paths g l =
+    let r = g.R.ReadsRelated in
+    let held = map (r.kept l.by) in
+    record {
+      leads :
+          Leads (each r.Kind (r.ask l.by) (map string_bytes l.left)) (held l.items.items)
+          (g.P.Package.state l.package) (each_related r.Kind (r.ask l.by) l.typ l.path)
+          (held l.fn.items.items) (g.P.Package.state l.fn.package);
+      kept : (more : List g.row.R-Item.Denot) × (l.items.items ≡ l.fn.items.items ++ more);
+    }
+
+abbrev pub decreases-paths : goal.decreases-paths
+decreases-paths g l = length l.left
