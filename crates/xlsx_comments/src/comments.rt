@@ -1,28 +1,27 @@
-ghost use Rattle.std.specs.Prelude.{◌≡◌, ◌≤◌, [], ◌∷◌, true, Ok, Some, codes, suc, length, map};
-ghost use Rattle.std.specs.Prelude.{string_bytes, IfOk, OnOk, IfErr};
-ghost use Rattle.std.specs.List.{sum_by};
-ghost use Rattle.part_events.specs.Package.{Uses, CountsUp, event_count, part_of};
+ghost use Rattle.std.proofs.Common.{inl};
+ghost use Rattle.std.specs.Prelude.{◌≡◌, ◌≤◌, true, Ok, Some, codes, suc, length, map};
+ghost use Rattle.std.specs.Prelude.{IfOk, OnOk, IfErr};
+ghost use Rattle.part_events.specs.Package.{Uses, event_count, part_of};
 ghost use Rattle.part_events.specs.Reading.{reading, open_elements, IsReading, ReadsPart};
 ghost use Rattle.part_events.specs.Walk.{section_ahead, is_closed_ahead, section_end};
 ghost use Rattle.xlsx_error.specs.declared.error.XlsxError.TheVariants.{Io};
+ghost use Rattle.xlsx_sections.specs.Asking.{Answers};
 ghost use Rattle.xlsx_sections.specs.Elements.{IsInsideRefused};
 ghost use Rattle.xlsx_sections.specs.Failing.{FailsBy};
 ghost use Rattle.xlsx_sections.specs.PartSection.{SectionFails};
-ghost use Rattle.xlsx_sections.specs.SectionEvents.{ReadsToEnd, section_events_of};
+ghost use Rattle.xlsx_sections.specs.SectionEvents.{ReadsToEnd};
 ghost use Rattle.xlsx_comments.specs.CommentErrors.{CommentsCause, IsCommentsError};
-ghost use Rattle.xlsx_comments.specs.CommentParts.{entries_in, end_in_entries, gathered};
-ghost use Rattle.xlsx_comments.specs.CommentParts.{entry_kept, comments_kept};
-ghost use Rattle.xlsx_comments.specs.Comments.{entries_at, comments_at, comments_by};
-ghost use Rattle.xlsx_comments.specs.Comments.{sheet_comments, comment_events, comment_sections};
-ghost use Rattle.xlsx_comments.specs.Comments.{CommentsByCause, SheetCommentsCause};
-ghost use Rattle.xlsx_comments.specs.Comments.{AreSheetCommentsError};
+ghost use Rattle.xlsx_comments.specs.CommentParts.{CommentsSaid, entries_in, end_in_entries};
+ghost use Rattle.xlsx_comments.specs.CommentParts.{gathered, entry_kept, comments_kept};
+ghost use Rattle.xlsx_comments.specs.Comments.{entries_at, AreSheetCommentsError, comments_ask};
+ghost use Rattle.xlsx_comments.specs.Comments.{sheet_comments_ask};
 
 use crate::comment::Comments;
 use crate::entry::{Entry, read_entry};
 use part_events::{Cursor, Package};
 use std::alloc::{AllocError, Global};
 use xlsx_error::XlsxError;
-use xlsx_relationships::related_parts;
+use xlsx_relationships::{ReadsRelated, push_related};
 use xlsx_sections::{enter_part, next_element_in};
 
 const COMMENTS_TYPE: &str =
@@ -103,59 +102,38 @@ fn gathered(alloc: Global, entries: Vec<Entry>) -> Result<Comments, AllocError>
     Ok(Comments { authors, comments })
 }
 
-/// The comments of the part at this path. An absent part has none.
-fn read_comments<P: Package>(
+/// Reads the comments of parts.
+#[derive(Drop)]
+struct CommentsReader {
     alloc: Global,
-    package: &mut P,
-    path: &str,
-) -> Result<Comments, XlsxError>
-    ensures uses { let old = P.state «package».old in
-        let new = P.state «package».new in
-        Uses (event_count old.parts path.now) Io result old new }
-    ensures to_end { ReadsToEnd (codes "comments") path.now result (P.state «package».old)
-        (P.state «package».new) }
-    ensures comments { let old = P.state «package».old in
-        old.is_told ≡ true → IfOk result (λ own.
-        comments_at old.parts path.now ≡ Some (comments_kept own ∷ [])) }
-    ensures err { let old = P.state «package».old in
-        IfErr result (FailsBy (CommentsCause (part_of old.parts path.now)) old
-        (P.state «package».new)) }
-    ensures kind { IfErr result IsCommentsError }
-{
-    let entries = read_entries(alloc, package, path)?;
-    Ok(gathered(alloc, entries)?)
 }
 
-/// The comments of the parts at these paths, part by part.
-fn read_parts<P: Package>(
-    alloc: Global,
-    package: &mut P,
-    paths: &[String],
-) -> Result<Vec<Comments>, XlsxError>
-    ensures uses { let old = P.state «package».old in
-        let new = P.state «package».new in
-        let most = sum_by (event_count old.parts) (map string_bytes paths.now) in
-        Uses most Io result old new }
-    ensures to_end { let old = P.state «package».old in
-        let new = P.state «package».new in
-        let count = sum_by (section_events_of (codes "comments") old.parts)
-        (map string_bytes paths.now) in
-        old.is_told ≡ true → OnOk result (CountsUp count old.taken new.taken) }
-    ensures comments { let old = P.state «package».old in
-        old.is_told ≡ true → IfOk result (λ all.
-        comments_by old.parts (map string_bytes paths.now) ≡ Some (map comments_kept all.items)) }
-    ensures err { let old = P.state «package».old in
-        IfErr result (FailsBy (CommentsByCause old.parts (map string_bytes paths.now)) old
-        (P.state «package».new)) }
-    ensures kind { IfErr result IsCommentsError }
-{
-    let mut all = Vec::new(alloc);
-    let mut left = paths;
-    'paths: while let Some((path, others)) = left.split_first() {
-        all.push(read_comments(alloc, package, path.as_str())?)?;
-        left = others;
+impl ReadsRelated for CommentsReader {
+    type Item = Comments;
+
+    ghost Kept = { CommentsSaid };
+
+    ghost kept = { λ r own. comments_kept own };
+
+    ghost ask = { λ r. comments_ask };
+
+    ghost Kind = { AreSheetCommentsError };
+
+    ghost kinds = { λ r path error is. is };
+
+    ghost related_kinds = { λ error is. inl is };
+
+    /// A part that is absent has neither authors nor comments.
+    fn push<P: Package>(
+        &self,
+        package: &mut P,
+        all: &mut Vec<Comments>,
+        path: &str,
+    ) -> Result<(), XlsxError> {
+        let entries = read_entries(self.alloc, package, path)?;
+        all.push(gathered(self.alloc, entries)?)?;
+        Ok(())
     }
-    Ok(all)
 }
 
 /// The comments of the sheet whose part is at this path: those of the parts that its relationships
@@ -178,21 +156,11 @@ pub fn read_sheet_comments<P: Package>(
     package: &mut P,
     path: &str,
 ) -> Result<Vec<Comments>, XlsxError>
-    ensures uses { let old = P.state «package».old in
-        let new = P.state «package».new in
-        Uses (comment_events old.parts path.now) Io result old new }
-    ensures to_end { let old = P.state «package».old in
-        let new = P.state «package».new in
-        let count = comment_sections old.parts path.now in
-        old.is_told ≡ true → OnOk result (CountsUp count old.taken new.taken) }
-    ensures comments { let old = P.state «package».old in
-        old.is_told ≡ true → IfOk result (λ all.
-        sheet_comments old.parts path.now ≡ Some (map comments_kept all.items)) }
-    ensures err { let old = P.state «package».old in
-        IfErr result (FailsBy (SheetCommentsCause old.parts path.now) old
-        (P.state «package».new)) }
-    ensures kind { IfErr result AreSheetCommentsError }
+    ensures answers { Answers (sheet_comments_ask path.now) (λ all. map comments_kept all.items)
+        result (P.state «package».old) (P.state «package».new) }
 {
-    let paths = related_parts(alloc, package, path, COMMENTS_TYPE)?;
-    read_parts(alloc, package, &paths)
+    let mut all = Vec::new(alloc);
+    let by = CommentsReader { alloc };
+    push_related(alloc, package, &mut all, path, COMMENTS_TYPE, &by)?;
+    Ok(all)
 }
