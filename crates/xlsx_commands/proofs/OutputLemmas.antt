@@ -8,10 +8,10 @@ use Rattle.sheet_listing.specs.SheetListing.{listing}
 use Rattle.xlsx_error.specs.declared.error.XlsxError.{XlsxError}
 use Rattle.xlsx_areas.specs.Hyperlinks.{Link}
 use Rattle.xlsx_open.specs.Opening.{OpensSoundly, without_path}
-use Rattle.xlsx_core.specs.Comments.{PlacedCommentsCause}
 use Rattle.xlsx_core.specs.Links.{links_placed, PlacedLinksCause}
 use Rattle.xlsx_core.specs.SheetReading.{ReadsAs, IsReadable, SheetCause}
 use Rattle.xlsx_commands.specs.BookLists.{sheet_lines, name_lines}
+use Rattle.xlsx_commands.specs.CommentLists.{CommentsPathCause}
 use Rattle.xlsx_rows.specs.declared.options.CsvOptions.{CsvOptions}
 use Rattle.xlsx_commands.specs.declared.asked_rows.AskedRows.{AskedRows}
 use Rattle.xlsx_commands.specs.Command.{Command, cells, sheets, names, merges, links, props, csv}
@@ -178,7 +178,7 @@ workbook_never never (links name) parts output error prints cause =
     (never.links name path parts prints.links error taken) cause
 workbook_never never (comments name) parts output error prints cause =
     let (path, opens, taken) = prints.has in
-    named_never (PlacedCommentsCause name) parts name path error never.openings opens
+    named_never (CommentsPathCause name) parts name path error never.openings opens
     (comments_never never.comments name path parts prints.all error taken) cause
 workbook_never never props parts output error prints cause =
     listed_never parts prints.texts (text_of_name prints.customs) error never.openings

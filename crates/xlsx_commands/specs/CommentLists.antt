@@ -5,17 +5,22 @@ use Rattle.part_events.specs.Package.{Part}
 use Rattle.list_lines.specs.Lines.{comment_line}
 use Rattle.xlsx_error.specs.declared.error.XlsxError.{XlsxError}
 use Rattle.xlsx_comments.specs.CommentParts.{CommentSaid, CommentsSaid, author_of}
-use Rattle.xlsx_core.specs.Comments.{comments_placed, PlacedCommentsCause}
-use Rattle.xlsx_commands.specs.SheetLists.{OpensAt, NamedCause}
+use Rattle.xlsx_core.specs.Comments.{named_comments_ask}
+use Rattle.xlsx_commands.specs.SheetLists.{OpensAt, PathCause, NamedCause}
 
 -- the workbook opens, and its first sheet of this name has these comments, part by part
 abbrev pub HasComments : List Part → List ℕ → List CommentsSaid → Type 0
 HasComments parts name all =
-    (path : Option (List ℕ)) × OpensAt parts name path × (comments_placed path parts ≡ Some all)
+    (path : Option (List ℕ)) × OpensAt parts name path
+    × ((named_comments_ask name path).said parts ≡ Some all)
 
 -- why these aren't had
+abbrev pub CommentsPathCause : List ℕ → PathCause
+CommentsPathCause name path parts error = (named_comments_ask name path).cause parts error
+
+-- why the comments of the sheet of a name aren't
 abbrev pub NamedCommentsCause : List Part → List ℕ → XlsxError → Type 0
-NamedCommentsCause parts name error = NamedCause (PlacedCommentsCause name) parts name error
+NamedCommentsCause parts name error = NamedCause (CommentsPathCause name) parts name error
 
 -- the line of a comment of a part
 abbrev pub line_of_comment : CommentsSaid → CommentSaid → List ℕ

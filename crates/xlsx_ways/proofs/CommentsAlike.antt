@@ -5,17 +5,17 @@ use Rattle.std.specs.Prelude.{MatchOption, IsSomeAnd, option_map, option_and_the
 use Rattle.part_events.specs.Event.{Event}
 use Rattle.part_events.specs.Package.{Part, part_of}
 use Rattle.xlsx_error.specs.declared.error.XlsxError.{XlsxError}
-use Rattle.xlsx_error.specs.declared.error.XlsxError.TheVariants.{WorksheetNotFound}
-use Rattle.xlsx_parts.specs.PartSaid.{unless_absent, section_said}
+use Rattle.xlsx_parts.specs.PartSaid.{unless_absent, section_said, all_said}
+use Rattle.xlsx_parts.specs.WholePart.{SomeCause}
 use Rattle.xlsx_relationships.specs.RelatedParts.{related_parts}
 use Rattle.xlsx_comments.specs.CommentErrors.{CommentsCause}
 use Rattle.xlsx_comments.specs.CommentParts.{CommentsSaid, entries_in}
-use Rattle.xlsx_comments.specs.Comments.{comments_type, one_gathered, comments_at, comments_by}
-use Rattle.xlsx_comments.specs.Comments.{sheet_comments, CommentsByCause, SheetCommentsCause}
+use Rattle.xlsx_comments.specs.Comments.{comments_type, one_gathered, comments_at}
+use Rattle.xlsx_comments.specs.Comments.{sheet_comments_ask}
 use Rattle.xlsx_open.specs.Opening.{Opening}
 use Rattle.xlsx_core.specs.Agreement.{HaveSamePart}
-use Rattle.xlsx_core.specs.Comments.{PlacedCommentsCause}
-use Rattle.xlsx_commands.specs.CommentLists.{HasComments, NamedCommentsCause}
+use Rattle.xlsx_core.specs.Comments.{named_comments_ask}
+use Rattle.xlsx_commands.specs.CommentLists.{HasComments, CommentsPathCause, NamedCommentsCause}
 use Rattle.xlsx_ways.specs.Ways.{Each, HaveSameOpening, HaveSameCommentParts, HaveSameComments}
 use Rattle.xlsx_ways.proofs.OpeningsAlike.{opening_over, opens_at_over}
 use Rattle.xlsx_ways.proofs.PartsAlike.{related_over, related_cause_over}
@@ -28,24 +28,23 @@ part_over one two path same =
     ap (λ (events : Option (List Event)). option_map one_gathered (unless_absent [] events
     (option_and_then (section_said (codes "comments") entries_in) events))) same
 
+-- what is said of each part, and why it is refused
+abbrev By : List Part → List (List ℕ) → Option (List CommentsSaid)
+By parts paths = all_said (comments_at parts) paths
+
+abbrev ByCause : List Part → List (List ℕ) → XlsxError → Type 0
+ByCause parts paths error =
+    SomeCause (λ (own : List ℕ). CommentsCause (part_of parts own)) paths error
+
 by_over : (one two : List Part) (paths : List (List ℕ)) → Each (HaveSamePart one two) paths
-    → comments_by one paths ≡ comments_by two paths
+    → By one paths ≡ By two paths
 by_over one two paths same =
     said_over (comments_at one) (comments_at two) paths
     (each_over (HaveSamePart one two) (λ path. comments_at one path ≡ comments_at two path) paths
     (part_over one two) same)
 
-sheet_over : (one two : List Part) (path : List ℕ) → HaveSameCommentParts one two path
-    → sheet_comments one path ≡ sheet_comments two path
-sheet_over one two path same =
-    then_over (related_parts one comments_type path) (comments_by one) (comments_by two)
-    (λ paths is. by_over one two paths (same.comments paths is))
-    ∙ ap (option_and_then (comments_by two))
-    (related_over one two comments_type path same.relationships)
-
 by_cause_over : (one two : List Part) (paths : List (List ℕ)) (error : XlsxError)
-    → Each (HaveSamePart one two) paths → CommentsByCause one paths error
-    → CommentsByCause two paths error
+    → Each (HaveSamePart one two) paths → ByCause one paths error → ByCause two paths error
 by_cause_over one two paths error same cause =
     some_over (λ own. CommentsCause (part_of one own)) (λ own. CommentsCause (part_of two own))
     paths error
@@ -53,25 +52,38 @@ by_cause_over one two paths error same cause =
     → CommentsCause (part_of two own) error) paths
     (λ own is. subst (λ (events : Option (List Event)). CommentsCause events error) is) same) cause
 
+sheet_over : (one two : List Part) (path : List ℕ) → HaveSameCommentParts one two path
+    → (sheet_comments_ask path).said one ≡ (sheet_comments_ask path).said two
+sheet_over one two path same =
+    then_over (related_parts one comments_type path) (By one) (By two)
+    (λ paths is. by_over one two paths (same.comments paths is))
+    ∙ ap (option_and_then (By two)) (related_over one two comments_type path same.relationships)
+
 sheet_cause_over : (one two : List Part) (path : List ℕ) (error : XlsxError)
-    → HaveSameCommentParts one two path → SheetCommentsCause one path error
-    → SheetCommentsCause two path error
+    → HaveSameCommentParts one two path → (sheet_comments_ask path).cause one error
+    → (sheet_comments_ask path).cause two error
 sheet_cause_over one two path error same (inl cause) =
     inl (related_cause_over one two comments_type path error same.relationships cause)
 sheet_cause_over one two path error same (inr cause) =
     inr (subst (λ (found : Option (List (List ℕ))). MatchOption found ⊥
-    (λ paths. CommentsByCause two paths error))
+    (λ paths. ByCause two paths error))
     (related_over one two comments_type path same.relationships)
-    (cause_over (related_parts one comments_type path) (λ paths. CommentsByCause one paths error)
-    (λ paths. CommentsByCause two paths error)
+    (cause_over (related_parts one comments_type path) (λ paths. ByCause one paths error)
+    (λ paths. ByCause two paths error)
     (λ paths is. by_cause_over one two paths error (same.comments paths is)) cause))
 
-placed_cause_over : (name : List ℕ) (path : Option (List ℕ)) (one two : List Part)
+-- where a sheet has the name, both packages say the same of it
+said_by_name : (name : List ℕ) (path : Option (List ℕ)) (one two : List Part)
+    → ((own : List ℕ) → path ≡ Some own → HaveSameCommentParts one two own)
+    → (named_comments_ask name path).said one ≡ (named_comments_ask name path).said two
+said_by_name name None one two same = refl
+said_by_name name (Some path) one two same = sheet_over one two path (same path refl)
+
+cause_by_name : (name : List ℕ) (path : Option (List ℕ)) (one two : List Part)
     (error : XlsxError) → ((own : List ℕ) → path ≡ Some own → HaveSameCommentParts one two own)
-    → PlacedCommentsCause name path one error → PlacedCommentsCause name path two error
-placed_cause_over name path one two (WorksheetNotFound asked) same cause = cause
-placed_cause_over name None one two error same cause = cause
-placed_cause_over name (Some path) one two error same cause =
+    → CommentsPathCause name path one error → CommentsPathCause name path two error
+cause_by_name name None one two error same cause = cause
+cause_by_name name (Some path) one two error same cause =
     sheet_cause_over one two path error (same path refl) cause
 
 pub comments_over : (one two : List Part) (name : List ℕ) (all : List CommentsSaid)
@@ -80,17 +92,16 @@ pub comments_over : (one two : List Part) (name : List ℕ) (all : List Comments
 comments_over one two name all opened same (path, at, taken) = (
   path,
   opens_at_over one two name path opened at,
-  sym (then_over path (sheet_comments one) (sheet_comments two)
-      (λ (own : List ℕ) is. sheet_over one two own
-      (same at.opening own at.opens (at.named ∙ is)))) ∙ taken,
+  sym (said_by_name name path one two
+      (λ (own : List ℕ) is. same at.opening own at.opens (at.named ∙ is))) ∙ taken,
 )
 
 pub comments_cause_over : (one two : List Part) (name : List ℕ) (error : XlsxError)
     → HaveSameOpening one two → HaveSameComments one two name → NamedCommentsCause one name error
     → NamedCommentsCause two name error
 comments_cause_over one two name error opened same cause =
-    named_over (PlacedCommentsCause name) one two name error opened
-    (λ path at has. placed_cause_over name path one two error
+    named_over (CommentsPathCause name) one two name error opened
+    (λ path at has. cause_by_name name path one two error
     (λ (own : List ℕ) is. same at.opening own at.opens (at.named ∙ is)) has) cause
 
 pub comments_back : (one two : List Part) (name : List ℕ) → HaveSameOpening two one
