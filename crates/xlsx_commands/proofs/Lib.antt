@@ -1,6 +1,5 @@
 pub mod AreasInside
 pub mod CachesRead
-pub mod CommentsListed
 pub mod LinksInside
 pub mod MemoryCalls
 pub mod NamedSheets

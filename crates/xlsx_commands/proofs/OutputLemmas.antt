@@ -1,5 +1,5 @@
 -- The rows of the commands: what each call gives and what it is refused for.
-use Rattle.std.proofs.Common.{◌≡◌, ◌⊎◌, ℕ, List, map, refl, subst, Option, Some}
+use Rattle.std.proofs.Common.{◌≡◌, ◌⊎◌, ℕ, List, map, refl, subst, Option, Some, None}
 use Rattle.std.specs.Prelude.{Result, Ok, Err, IfOk, IfErr}
 use Rattle.part_events.specs.Package.{Part}
 use Rattle.cell_data.specs.CellValue.{CellValue}
@@ -8,10 +8,12 @@ use Rattle.sheet_listing.specs.SheetListing.{listing}
 use Rattle.xlsx_error.specs.declared.error.XlsxError.{XlsxError}
 use Rattle.xlsx_areas.specs.Hyperlinks.{Link}
 use Rattle.xlsx_open.specs.Opening.{OpensSoundly, without_path}
+use Rattle.xlsx_comments.specs.CommentParts.{CommentsSaid}
+use Rattle.xlsx_comments.specs.Comments.{sheet_comments_ask}
+use Rattle.xlsx_core.specs.Comments.{named_comments_ask}
 use Rattle.xlsx_core.specs.Links.{links_placed, PlacedLinksCause}
 use Rattle.xlsx_core.specs.SheetReading.{ReadsAs, IsReadable, SheetCause}
 use Rattle.xlsx_commands.specs.BookLists.{sheet_lines, name_lines}
-use Rattle.xlsx_commands.specs.CommentLists.{CommentsPathCause}
 use Rattle.xlsx_rows.specs.declared.options.CsvOptions.{CsvOptions}
 use Rattle.xlsx_commands.specs.declared.asked_rows.AskedRows.{AskedRows}
 use Rattle.xlsx_commands.specs.Command.{Command, cells, sheets, names, merges, links, props, csv}
@@ -22,12 +24,11 @@ use Rattle.xlsx_commands.specs.Outputs.{HasOutput}
 use Rattle.xlsx_commands.specs.PartNames.{PartPathCause}
 use Rattle.xlsx_commands.specs.PropertyLists.{text_of_name}
 use Rattle.xlsx_commands.specs.SampleLines.{sample_name}
-use Rattle.xlsx_commands.specs.SheetLists.{MergesPathCause}
+use Rattle.xlsx_commands.specs.SheetLists.{MergesPathCause, CommentsPathCause}
 use Rattle.xlsx_commands.specs.declared.error.ToolError.{ToolError}
 use Rattle.xlsx_commands.specs.declared.error.ToolError.TheVariants.{Workbook, BoxTooLarge}
 use Rattle.xlsx_commands.proofs.NamedSheets.{OpeningsNever, MergesNever, named_never, merges_never}
 use Rattle.xlsx_commands.proofs.CachesRead.{CachesNever, rows_never_refused}
-use Rattle.xlsx_commands.proofs.CommentsListed.{CommentsNever, comments_never}
 use Rattle.xlsx_commands.proofs.PartsNamed.{path_never}
 use Rattle.xlsx_commands.proofs.PivotsListed.{PivotsNever, pivots_never}
 use Rattle.xlsx_commands.proofs.PropertiesListed.{PropertiesNever, listed_never}
@@ -140,6 +141,23 @@ LinksNever =
     (name : List ℕ) (path : Option (List ℕ)) (parts : List Part) (all : List Link)
     (error : XlsxError)
     → links_placed path parts ≡ Some all → PlacedLinksCause name path parts error → ⊥
+
+-- ---- comments
+
+-- comments that can be taken aren't refused, as each is
+abbrev pub CommentsNever : Type 0
+CommentsNever =
+    (parts : List Part) (path : List ℕ) (all : List CommentsSaid) (error : XlsxError)
+    → (sheet_comments_ask path).said parts ≡ Some all
+    → (sheet_comments_ask path).cause parts error → ⊥
+
+comments_never : CommentsNever → (name : List ℕ) (path : Option (List ℕ)) (parts : List Part)
+    (all : List CommentsSaid) (error : XlsxError)
+    → (named_comments_ask name path).said parts ≡ Some all
+    → CommentsPathCause name path parts error → ⊥
+comments_never never name None parts all error says cause = absurd (cc)
+comments_never never name (Some path) parts all error says cause =
+    never parts path all error says cause
 
 -- ---- all commands
 

@@ -2,7 +2,6 @@ pub mod AskedRows
 pub mod BookLists
 pub mod CacheRows
 pub mod Command
-pub mod CommentLists
 pub mod FormulaLists
 pub mod Outputs
 pub mod PartNames

@@ -14,14 +14,13 @@ use Rattle.xlsx_commands.specs.Command.{Command, cells, sheets, names, merges, l
 use Rattle.xlsx_commands.specs.CacheRows.{ArePivotRows, NamedPivotCause}
 use Rattle.xlsx_commands.specs.Command.{csv_table, tables, table, pivots, pivot, precedents}
 use Rattle.xlsx_commands.specs.Command.{dependents, check, part, upgrade, resave, sample, comments}
-use Rattle.xlsx_commands.specs.CommentLists.{AreCommentLines, NamedCommentsCause}
 use Rattle.xlsx_commands.specs.FormulaLists.{ArePrecedentLines, AreDependentLines, AreCheckLines}
 use Rattle.xlsx_commands.specs.PartNames.{IsPartLine, NamedPartCause}
 use Rattle.xlsx_commands.specs.PivotLists.{ArePivotLines, ListedPivotsCause}
 use Rattle.xlsx_commands.specs.PropertyLists.{ArePropertyLines, ListedPropertiesCause}
 use Rattle.xlsx_commands.specs.SampleLines.{AreSampleLines, sample_name}
 use Rattle.xlsx_commands.specs.SheetLists.{AreMergeLines, NamedMergesCause, AreLinkLines}
-use Rattle.xlsx_commands.specs.SheetLists.{NamedLinksCause}
+use Rattle.xlsx_commands.specs.SheetLists.{NamedLinksCause, AreCommentLines, NamedCommentsCause}
 use Rattle.xlsx_commands.specs.SheetRows.{AreRowsOf, HasLargeArea}
 use Rattle.xlsx_commands.specs.TableLists.{AreTableLines, AreTableValueLines, ListedTablesCause}
 use Rattle.xlsx_commands.specs.TableLists.{NamedTableCause}

@@ -1,9 +1,9 @@
 ghost use Rattle.std.specs.Prelude.{◌≡◌, ◌++◌, map, string_bytes, OnOk, IfOk, IfErr};
 ghost use Rattle.xlsx_comments.specs.CommentParts.{comment_kept, comments_kept};
-ghost use Rattle.xlsx_commands.specs.CommentLists.{HasComments, NamedCommentsCause};
-ghost use Rattle.xlsx_commands.specs.CommentLists.{line_of_comment, part_lines, comment_lines};
-ghost use Rattle.xlsx_commands.specs.CommentLists.{AreCommentLines};
 ghost use Rattle.xlsx_commands.specs.Outputs.{CallFails};
+ghost use Rattle.xlsx_commands.specs.SheetLists.{HasComments, NamedCommentsCause};
+ghost use Rattle.xlsx_commands.specs.SheetLists.{line_of_comment, part_lines, comment_lines};
+ghost use Rattle.xlsx_commands.specs.SheetLists.{AreCommentLines};
 
 use crate::error::ToolError;
 use list_lines::push_comment_line;

@@ -24,10 +24,10 @@ use Rattle.xlsx_sections.proofs.Refused.{refused_as, told_weaker}
 use Rattle.xlsx_sections.proofs.SectionsRead.{same_tag}
 use Rattle.xlsx_sections.proofs.StartsSaid.{FailsFrom}
 use Rattle.xlsx_strings.specs.Strings.{IsStringError, end_in_string}
-use Rattle.xlsx_comments.specs.CommentErrors.{IsCommentStartError, IsCommentsError}
 use Rattle.xlsx_comments.specs.CommentParts.{Entry, is_entry, is_author, entry_said, entries_in}
 use Rattle.xlsx_comments.specs.CommentParts.{end_in_entry, end_in_entries, comment_start}
 use Rattle.xlsx_comments.specs.CommentParts.{comment_said, author_said, with_start}
+use Rattle.xlsx_comments.specs.Comments.{IsCommentStartError, IsCommentsError}
 
 pub string_error : (error : XlsxError) → IsStringError error → IsCommentsError error
 string_error OutOfMemory is = tt

@@ -9,10 +9,9 @@ use Rattle.xlsx_parts.proofs.SaidFrom.{mapped_from, and_then_from}
 use Rattle.xlsx_parts.proofs.SoundParts.{no_said_cause}
 use Rattle.xlsx_relationships.specs.Paths.{relationships_beside}
 use Rattle.xlsx_relationships.specs.RelatedParts.{related_parts, all_lead_to}
-use Rattle.xlsx_comments.specs.CommentErrors.{CommentsCause}
 use Rattle.xlsx_comments.specs.CommentParts.{CommentsSaid, entries_in, end_in_entries}
-use Rattle.xlsx_comments.specs.Comments.{comments_type, entries_at, one_gathered, comments_at}
-use Rattle.xlsx_comments.specs.Comments.{sheet_comments_ask}
+use Rattle.xlsx_comments.specs.Comments.{CommentsCause, comments_type, entries_at, one_gathered}
+use Rattle.xlsx_comments.specs.Comments.{comments_at, sheet_comments_ask}
 
 no_cause_at : (parts : List Part) (path : List ℕ) (error : XlsxError) (own : List CommentsSaid)
     → comments_at parts path ≡ Some own → CommentsCause (part_of parts path) error → ⊥

@@ -1,3 +1,2 @@
-pub mod CommentErrors
 pub mod CommentParts
 pub mod Comments

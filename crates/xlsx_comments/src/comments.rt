@@ -10,10 +10,10 @@ ghost use Rattle.xlsx_sections.specs.Elements.{IsInsideRefused};
 ghost use Rattle.xlsx_sections.specs.Failing.{FailsBy};
 ghost use Rattle.xlsx_sections.specs.PartSection.{SectionFails};
 ghost use Rattle.xlsx_sections.specs.SectionEvents.{ReadsToEnd};
-ghost use Rattle.xlsx_comments.specs.CommentErrors.{CommentsCause, IsCommentsError};
 ghost use Rattle.xlsx_comments.specs.CommentParts.{CommentsSaid, entries_in, end_in_entries};
 ghost use Rattle.xlsx_comments.specs.CommentParts.{gathered, entry_kept, comments_kept};
-ghost use Rattle.xlsx_comments.specs.Comments.{entries_at, AreSheetCommentsError, comments_ask};
+ghost use Rattle.xlsx_comments.specs.Comments.{CommentsCause, IsCommentsError, entries_at};
+ghost use Rattle.xlsx_comments.specs.Comments.{AreSheetCommentsError, comments_ask};
 ghost use Rattle.xlsx_comments.specs.Comments.{sheet_comments_ask};
 
 use crate::comment::Comments;

@@ -10,11 +10,11 @@ ghost use Rattle.xlsx_sections.specs.NumberText.{number_text};
 ghost use Rattle.xlsx_sections.specs.PartSection.{always};
 ghost use Rattle.xlsx_sections.specs.Refusal.{ElementFails};
 ghost use Rattle.xlsx_strings.specs.Strings.{end_in_string};
-ghost use Rattle.xlsx_comments.specs.CommentErrors.{IsCommentStartError, IsCommentsError};
 ghost use Rattle.xlsx_comments.specs.CommentParts.{IsCell, cell_named, comment_start};
 ghost use Rattle.xlsx_comments.specs.CommentParts.{placed_entry};
 ghost use Rattle.xlsx_comments.specs.CommentParts.{comment_said, author_said, entry_said};
 ghost use Rattle.xlsx_comments.specs.CommentParts.{end_in_entry, entry_kept};
+ghost use Rattle.xlsx_comments.specs.Comments.{IsCommentStartError, IsCommentsError};
 
 use crate::comment::Comment;
 use attr_text::{RawAttributes, get_attrs};

@@ -8,14 +8,14 @@ use Rattle.xlsx_error.specs.declared.error.XlsxError.{XlsxError}
 use Rattle.xlsx_parts.specs.PartSaid.{unless_absent, section_said, all_said}
 use Rattle.xlsx_parts.specs.WholePart.{SomeCause}
 use Rattle.xlsx_relationships.specs.RelatedParts.{related_parts}
-use Rattle.xlsx_comments.specs.CommentErrors.{CommentsCause}
+use Rattle.xlsx_comments.specs.Comments.{CommentsCause}
 use Rattle.xlsx_comments.specs.CommentParts.{CommentsSaid, entries_in}
 use Rattle.xlsx_comments.specs.Comments.{comments_type, one_gathered, comments_at}
 use Rattle.xlsx_comments.specs.Comments.{sheet_comments_ask}
 use Rattle.xlsx_open.specs.Opening.{Opening}
 use Rattle.xlsx_core.specs.Agreement.{HaveSamePart}
 use Rattle.xlsx_core.specs.Comments.{named_comments_ask}
-use Rattle.xlsx_commands.specs.CommentLists.{HasComments, CommentsPathCause, NamedCommentsCause}
+use Rattle.xlsx_commands.specs.SheetLists.{HasComments, CommentsPathCause, NamedCommentsCause}
 use Rattle.xlsx_ways.specs.Ways.{Each, HaveSameOpening, HaveSameCommentParts, HaveSameComments}
 use Rattle.xlsx_ways.proofs.OpeningsAlike.{opening_over, opens_at_over}
 use Rattle.xlsx_ways.proofs.PartsAlike.{related_over, related_cause_over}

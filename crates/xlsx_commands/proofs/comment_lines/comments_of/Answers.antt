@@ -4,7 +4,7 @@ use Rattle.part_events.specs.Package.{Part}
 use Rattle.xlsx_comments.specs.CommentParts.{comments_kept}
 use Rattle.xlsx_core.specs.Comments.{named_comments_ask}
 use Rattle.xlsx_core.specs.Worksheets.{path_of}
-use Rattle.xlsx_commands.specs.CommentLists.{CommentsPathCause}
+use Rattle.xlsx_commands.specs.SheetLists.{CommentsPathCause}
 use Rattle.xlsx_commands.proofs.NamedSheets.{opens_at, opening_fails_named, sheet_fails_named}
 use Rattle.xlsx_commands.proofs.comment_lines.comments_of.Goals as goal
 

@@ -1,6 +1,6 @@
 use Rattle.std.proofs.Common.{◌≡◌, ◌++◌, drop, map, string_bytes}
 use Rattle.xlsx_comments.specs.CommentParts.{comments_kept}
-use Rattle.xlsx_commands.specs.CommentLists.{comment_lines}
+use Rattle.xlsx_commands.specs.SheetLists.{comment_lines}
 use Rattle.xlsx_commands.proofs.comment_lines.lines_of_comments.Given as goal
 
 abbrev pub invariant-loop-part : goal.invariant-loop-part
