@@ -38,7 +38,8 @@ fn push_part(out: &mut String, part: &Comments) -> Result<(), AllocError>
     ensures { OnOk result
         (string_bytes out.new ≡ string_bytes out.old ++ part_lines (comments_kept part.now)) }
 {
-    for comment in part.comments() {
+    let comments = part.comments();
+    for comment in comments {
         push_comment(out, part, comment)?;
     }
     Ok(())

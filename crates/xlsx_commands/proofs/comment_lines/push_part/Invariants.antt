@@ -8,5 +8,5 @@ abbrev pub invariant-loop-comment : goal.invariant-loop-comment
 invariant-loop-comment l =
     string_bytes l.out
     ++ flat_map (line_of_comment (comments_kept l.part))
-    (map comment_kept (drop l.comment-index l.comments.result.now))
+    (map comment_kept (drop l.comment-index l.comments))
     ≡ string_bytes l.fn.out ++ part_lines (comments_kept l.part)
