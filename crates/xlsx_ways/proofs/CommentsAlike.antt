@@ -1,16 +1,15 @@
 -- The comments of a sheet whose parts two packages have in the same way.
 use Rattle.std.proofs.Common.{◌≡◌, ℕ, List, [], Option, Some, None, sym, ◌∙◌, ap, subst, inl, inr}
 use Rattle.std.proofs.Common.{codes, refl}
-use Rattle.std.specs.Prelude.{MatchOption, IsSomeAnd, option_map, option_and_then}
+use Rattle.std.specs.Prelude.{MatchOption, option_map, option_and_then}
 use Rattle.part_events.specs.Event.{Event}
 use Rattle.part_events.specs.Package.{Part, part_of}
 use Rattle.xlsx_error.specs.declared.error.XlsxError.{XlsxError}
 use Rattle.xlsx_parts.specs.PartSaid.{unless_absent, section_said, all_said}
 use Rattle.xlsx_parts.specs.WholePart.{SomeCause}
 use Rattle.xlsx_relationships.specs.RelatedParts.{related_parts}
-use Rattle.xlsx_comments.specs.Comments.{CommentsCause}
 use Rattle.xlsx_comments.specs.CommentParts.{CommentsSaid, entries_in}
-use Rattle.xlsx_comments.specs.Comments.{comments_type, one_gathered, comments_at}
+use Rattle.xlsx_comments.specs.Comments.{CommentsCause, comments_type, one_gathered, comments_at}
 use Rattle.xlsx_comments.specs.Comments.{sheet_comments_ask}
 use Rattle.xlsx_open.specs.Opening.{Opening}
 use Rattle.xlsx_core.specs.Agreement.{HaveSamePart}
@@ -29,15 +28,15 @@ part_over one two path same =
     (option_and_then (section_said (codes "comments") entries_in) events))) same
 
 -- what is said of each part, and why it is refused
-abbrev By : List Part → List (List ℕ) → Option (List CommentsSaid)
-By parts paths = all_said (comments_at parts) paths
+abbrev parts_said : List Part → List (List ℕ) → Option (List CommentsSaid)
+parts_said parts paths = all_said (comments_at parts) paths
 
 abbrev ByCause : List Part → List (List ℕ) → XlsxError → Type 0
 ByCause parts paths error =
     SomeCause (λ (own : List ℕ). CommentsCause (part_of parts own)) paths error
 
 by_over : (one two : List Part) (paths : List (List ℕ)) → Each (HaveSamePart one two) paths
-    → By one paths ≡ By two paths
+    → parts_said one paths ≡ parts_said two paths
 by_over one two paths same =
     said_over (comments_at one) (comments_at two) paths
     (each_over (HaveSamePart one two) (λ path. comments_at one path ≡ comments_at two path) paths
@@ -55,9 +54,9 @@ by_cause_over one two paths error same cause =
 sheet_over : (one two : List Part) (path : List ℕ) → HaveSameCommentParts one two path
     → (sheet_comments_ask path).said one ≡ (sheet_comments_ask path).said two
 sheet_over one two path same =
-    then_over (related_parts one comments_type path) (By one) (By two)
+    then_over (related_parts one comments_type path) (parts_said one) (parts_said two)
     (λ paths is. by_over one two paths (same.comments paths is))
-    ∙ ap (option_and_then (By two)) (related_over one two comments_type path same.relationships)
+    ∙ ap (option_and_then (parts_said two)) (related_over one two comments_type path same.relationships)
 
 sheet_cause_over : (one two : List Part) (path : List ℕ) (error : XlsxError)
     → HaveSameCommentParts one two path → (sheet_comments_ask path).cause one error
