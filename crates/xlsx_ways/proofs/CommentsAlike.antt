@@ -56,7 +56,8 @@ sheet_over : (one two : List Part) (path : List ℕ) → HaveSameCommentParts on
 sheet_over one two path same =
     then_over (related_parts one comments_type path) (parts_said one) (parts_said two)
     (λ paths is. by_over one two paths (same.comments paths is))
-    ∙ ap (option_and_then (parts_said two)) (related_over one two comments_type path same.relationships)
+    ∙ ap (option_and_then (parts_said two))
+    (related_over one two comments_type path same.relationships)
 
 sheet_cause_over : (one two : List Part) (path : List ℕ) (error : XlsxError)
     → HaveSameCommentParts one two path → (sheet_comments_ask path).cause one error
