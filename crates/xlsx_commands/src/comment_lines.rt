@@ -30,7 +30,12 @@ fn push_comment(out: &mut String, part: &Comments, comment: &Comment) -> Result<
     ensures { OnOk result (string_bytes out.new ≡ string_bytes out.old
         ++ line_of_comment (comments_kept part.now) (comment_kept comment.now)) }
 {
-    push_comment_line(out, comment.position(), part.author(comment), comment.text())
+    push_comment_line(
+        out,
+        comment.position(),
+        part.author(comment),
+        comment.text(),
+    )
 }
 
 /// Appends the lines of the comments of a part.

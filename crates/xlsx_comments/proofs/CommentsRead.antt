@@ -123,7 +123,8 @@ entries_refused {base = base} {before = before} {kept = kept} {first = first} ne
     (λ refusal refuses. behind_refused before
     (entries_in (inside_of (section_left base first))) refuses)
     (elements_refused {meaning = list_from is_entry entry_said before} (codes "comments")
-    end_in_entry (entry_said found.0) (list_behind entry_said) last error (record { keeps = list.keeps; same = list.said }) found.2
+    end_in_entry (entry_said found.0) (list_behind entry_said) last error
+    (record { keeps = list.keeps; same = list.said }) found.2
     (λ rest refusal refuses. ap (λ (answer : Result Entry Refusal).
     prepended kept (and_others answer (all_answers (element_said entry_said) rest))) refuses)
     (fails found.0 found.1))

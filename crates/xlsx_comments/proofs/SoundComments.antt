@@ -24,14 +24,14 @@ pub no_comments_cause : (parts : List Part) (path : List ℕ) (all : List Commen
     (error : XlsxError) → (sheet_comments_ask path).said parts ≡ Some all
     → (sheet_comments_ask path).cause parts error → ⊥
 no_comments_cause parts path all error says (inl cause) =
-    let there = and_then_from (all_said (comments_at parts)) (related_parts parts comments_type path)
-    all says in
+    let there = and_then_from (all_said (comments_at parts))
+    (related_parts parts comments_type path) all says in
     no_said_cause (codes "Relationships") (always (codes "Relationships")) []
     (all_lead_to path comments_type) (part_of parts (relationships_beside path)) error there.0
     there.1 cause
 no_comments_cause parts path all error says (inr cause) =
-    let there = and_then_from (all_said (comments_at parts)) (related_parts parts comments_type path)
-    all says in
+    let there = and_then_from (all_said (comments_at parts))
+    (related_parts parts comments_type path) all says in
     no_some_cause (comments_at parts) (λ (own : List ℕ). CommentsCause (part_of parts own))
     there.0 error all (λ own found. no_cause_at parts own error found) there.2
     (rw there.1 at cause)
