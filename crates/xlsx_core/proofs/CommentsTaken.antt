@@ -1,5 +1,5 @@
 -- How the comments of the sheet of a name are refused where no sheet has it.
-use Rattle.std.proofs.Common.{◌≡◌, ℕ, List, Option, Some, None, Result, Err, inl, refl, arith}
+use Rattle.std.proofs.Common.{ℕ, List, Option, Some, None, Result, Err, inl, refl, arith}
 use Rattle.part_events.specs.Package.{PackageState, LeavesPackage}
 use Rattle.xlsx_error.specs.declared.error.XlsxError.{XlsxError}
 use Rattle.xlsx_error.specs.declared.error.XlsxError.TheVariants.{OutOfMemory, Io}
