@@ -1,6 +1,6 @@
 #!/usr/bin/env python3
-"""Measures `merges S`, `links S`, `props`, `tables`, `table T1`, `pivots` and `pivot S P1` of
-xlsx_tool beside json.load of the same text, and prints a table for each list
+"""Measures `merges S`, `links S`, `comments S`, `props`, `tables`, `table T1`, `pivots` and
+`pivot S P1` of xlsx_tool beside json.load of the same text, and prints a table for each list
 (docs/PERFORMANCE.md).
 
 `bench/lists.py` writes a package for each list, at its whole size and at half of it, and runs on
@@ -9,6 +9,7 @@ each the program with the list's words and Python's `json.load`, as bench/cells.
 - `merges`: 250,000 areas of merged cells;
 - `links`: 65,530 links over as many relationships, which stand in the other order, each link with a
   displayed text and a tooltip;
+- `comments`: 100,000 comments of two runs each, by ten authors;
 - `properties`: 200,000 names that users gave, in no order, each with a text;
 - `merges_behind_cells`: ten areas of merged cells behind 100,000 cells;
 - `table`: the values of a table of 100,000 rows of three numbers, in a sheet of twice as many rows;
@@ -131,6 +132,34 @@ class Links:
     def lines(self, count):
         for row in range(1, count + 1):
             yield f"A{row}:A{row}\t={self.target(row)}\t-\t=item {row}\t=item {row} & more\n"
+
+
+class Comments:
+    """Comments of two runs each, by ten authors."""
+
+    words, count = ["comments", "S"], 100_000
+
+    def comments(self, count):
+        yield from (start("comments"), start("authors"))
+        for number in range(10):
+            yield from (start("author"), ["t", f"Author {number}"], end("author"))
+        yield from (end("authors"), start("commentList"))
+        for row in range(1, count + 1):
+            yield from (start("comment", f' ref="A{row}" authorId="{row % 10}"'), start("text"))
+            for text in ("note:", f"item {row}"):
+                yield from (start("r"), start("t"), ["t", text], end("t"), end("r"))
+            yield from (end("text"), end("comment"))
+        yield from (end("commentList"), end("comments"))
+
+    def parts(self, count):
+        related = relationships([("comments", "../comments1.xml")])
+        yield "xl/worksheets/_rels/sheet1.xml.rels", related
+        yield "xl/comments1.xml", self.comments(count)
+        yield "xl/worksheets/sheet1.xml", sheet_part()
+
+    def lines(self, count):
+        for row in range(1, count + 1):
+            yield f"A{row}\t=Author {row % 10}\t=note:item {row}\n"
 
 
 class Properties:
@@ -350,6 +379,7 @@ class PivotsOfSheets(TablesOfSheets):
 LISTS = {
     "merges": Merges,
     "links": Links,
+    "comments": Comments,
     "properties": Properties,
     "merges_behind_cells": MergesBehindCells,
     "table": TableData,

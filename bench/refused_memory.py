@@ -25,6 +25,7 @@ COMMANDS = [
     (["check", "libreoffice"], "libreoffice", "libreoffice.check"),
     (["merges", "S"], "tables_links_and_merges", "tables_links_and_merges.merges"),
     (["links", "S"], "tables_links_and_merges", "tables_links_and_merges.links"),
+    (["comments", "Goods"], "comments", "comments.comments"),
     (["props"], "tables_links_and_merges", "tables_links_and_merges.props"),
     (["tables"], "tables", "tables.tables"),
     (["table", "Sales"], "tables", "tables.table"),

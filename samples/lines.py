@@ -179,6 +179,13 @@ def links():
     yield link("A8:B9", "https://example.com/", "part", None, None)
 
 
+def comments():
+    """Of each its cell, its author and its text."""
+    yield link("B2", "Ann & Bo", r"Ann:\ncount again ")
+    yield link("C4", "", "\u6771\u4eac")
+    yield link("A7", None, "")
+
+
 def properties():
     made = MADE.strftime("%Y-%m-%dT%H:%M:%SZ")
     for name, text in (
@@ -277,6 +284,8 @@ LINES = {
     "shared_formulas": shared_formulas(),
     "shared_formulas.precedents": precedents(),
     "shared_formulas.dependents": ["C4\n", "A8\n", "A9\n", "A10\n"],
+    "comments": [line("B2", "n:3")],
+    "comments.comments": comments(),
     "pivot_table.pivot": rows_of_pivot(),
     "pivot_table.pivots": ["Report\tSold & paid\n"],
     "tables.tables": tables(),

@@ -234,6 +234,33 @@ def pivot_table():
     (HERE / "pivot_table.xlsx").write_bytes(archive(PIVOT))
 
 
+# The parts of comments on a sheet, as spreadsheet programs write them: of two authors, with a name
+# in front in bold, a line end, blanks at the ends and pronunciation.
+COMMENTS = {
+    **with_sheets(('name="Goods" sheetId="1"', "worksheet")),
+    "xl/worksheets/sheet1.xml": (
+        '<worksheet><sheetData><row r="2"><c r="B2"><v>3</v></c></row></sheetData>'
+        '<legacyDrawing r:id="rId2"/></worksheet>'
+    ),
+    "xl/worksheets/_rels/sheet1.xml.rels": relationships(
+        ("comments", "../comments1.xml"), ("vmlDrawing", "../drawings/vmlDrawing1.vml")
+    ),
+    "xl/comments1.xml": (
+        "<comments><authors><author>Ann &amp; Bo</author><author/></authors><commentList>"
+        '<comment ref="B2" authorId="0" shapeId="0"><text><r><rPr><b/><sz val="9"/></rPr>'
+        '<t>Ann:</t></r><r><rPr><sz val="9"/></rPr><t xml:space="preserve">\ncount again </t></r>'
+        '</text></comment><comment ref="C4" authorId="1"><text><t>\u6771\u4eac</t>'
+        '<rPh sb="0" eb="2"><t>\u30c8\u30a6</t></rPh></text></comment>'
+        '<comment ref="A7" authorId="2"><text/></comment></commentList></comments>'
+    ),
+}
+
+
+def comments():
+    """Comments of two authors, and one of none."""
+    (HERE / "comments.xlsx").write_bytes(archive(COMMENTS))
+
+
 # Comma-separated values, as LibreOffice opens them.
 VALUES = '''\
 name,amount,date
@@ -264,6 +291,7 @@ def main():
     tables_links_and_merges()
     tables()
     pivot_table()
+    comments()
     libreoffice()
 
 

@@ -60,6 +60,7 @@ TYPES = {
     "chartsheet",
     "dialogsheet",
     "table",
+    "comments",
     "pivotTable",
     "pivotCacheDefinition",
     "pivotCacheRecords",

@@ -5,6 +5,8 @@ import subprocess
 import unittest
 
 from noted import SHEET_NAME, STRINGS_NAME, package_with, refused, told, with_data
+from test_comments import FOUND, ONE
+from test_comments import RELATED as TO_COMMENTS
 from test_pivots import DEFINITIONS, PARTS, RECORDS, ROWS
 from test_program import BUILDS, OUT
 from test_tables import NUT, RELATED, TABLE_NAME, table
@@ -190,6 +192,7 @@ LISTS = [
     (["merges", "S"], [counted(MERGED, "mergeCells")], "A1:XFD1048576\n"),
     (["tables"], TABLE, "T1\tS\tA2:B1048576\tName\tQty\n"),
     (["table", "T1"], TABLE, "A2\ts:nut\nB2\tn:3\n"),
+    (["comments", "S"], [TO_COMMENTS, counted(ONE, "authors", "commentList")], FOUND),
     (["pivots"], PIVOT, "S\tP1\n"),
     (["pivot", "S", "P1"], PIVOT, ROWS),
 ]

@@ -114,9 +114,12 @@ class Parts(Files):
             "docProps/app.xml": "<Properties/>",
             "docProps/custom.xml": "<Properties/>",
             "xl/worksheets/_rels/sheet1.xml.rels": relationships(
-                ("table", "../tables/table1.xml"), ("pivotTable", "../pivotTables/pivotTable1.xml")
+                ("table", "../tables/table1.xml"),
+                ("comments", "../comments1.xml"),
+                ("pivotTable", "../pivotTables/pivotTable1.xml"),
             ),
             "xl/tables/table1.xml": "<table/>",
+            "xl/comments1.xml": "<comments/>",
             "xl/pivotTables/pivotTable1.xml": "<pivotTableDefinition/>",
             "xl/pivotTables/_rels/pivotTable1.xml.rels": relationships(
                 ("pivotCacheDefinition", "../pivotCache/pivotCacheDefinition1.xml")

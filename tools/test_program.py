@@ -177,6 +177,8 @@ class Edge:
             self.assertEqual(self.run_on(PACKAGE, words), refusal(2), words)
         for words in (["links"], ["links", "S", "S"], ["Links", "S"], ["csv"], ["csv", "S", "S"]):
             self.assertEqual(self.run_on(PACKAGE, words), refusal(2), words)
+        for words in (["comments"], ["comments", "S", "S"], ["comment", "S"], ["Comments", "S"]):
+            self.assertEqual(self.run_on(PACKAGE, words), refusal(2), words)
         for words in (["upgrade", "S"], ["Upgrade"], ["upgrades"], ["upgrade", "--version-1"]):
             self.assertEqual(self.run_on(PACKAGE, words), refusal(2), words)
         for words in (["csv-table"], ["csv-table", "S", "S"], ["csv_table", "S"], ["csv-", "S"]):

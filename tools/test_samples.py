@@ -22,6 +22,8 @@ LINES = {
     "chart_sheet": ["cells", "Data"],
     "chart_sheet.names": ["names"],
     "chart_sheet.sheets": ["sheets"],
+    "comments": ["cells", "Goods"],
+    "comments.comments": ["comments", "Goods"],
     "dates_1900": ["cells", "Dates"],
     "dates_1900.csv": ["csv", "Dates", "--dates", "--digits=15"],
     "dates_1904": ["cells", "Dates"],
@@ -163,7 +165,7 @@ class Samples(unittest.TestCase):
                     self.assertEqual(told_by_events(part["events"]), wanted, part["name"])
 
     def test_all_samples_fit(self):
-        self.assertEqual(len(WORKBOOKS), 12)
+        self.assertEqual(len(WORKBOOKS), 13)
         for path in WORKBOOKS:
             self.assertLess(len(package_text(path)), LIMIT)
 

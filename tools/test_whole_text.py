@@ -67,7 +67,8 @@ def sheets_at(*targets):
 
 PARTS = [f"worksheets/sheet{number}.xml" for number in (1, 2, 3)]
 
-# A workbook that every command has an answer on: three sheets, two tables, a pivot table.
+# A workbook that every command has an answer on: three sheets, two tables, a pivot table, a
+# comment.
 BASE = {
     "_rels/.rels": relationships(("officeDocument", "xl/workbook.xml")),
     BOOK_RELS: sheets_at(*PARTS),
@@ -84,11 +85,17 @@ BASE = {
     ),
     **{SHEET.format(number): sheet_part(number) for number in (1, 2, 3)},
     RELS.format(1): relationships(
-        LINKED, ("table", "../tables/table1.xml"), ("pivotTable", "../pivotTables/pivotTable1.xml")
+        LINKED,
+        ("table", "../tables/table1.xml"),
+        ("comments", "../comments1.xml"),
+        ("pivotTable", "../pivotTables/pivotTable1.xml"),
     ),
     RELS.format(2): relationships(LINKED, ("table", "../tables/table2.xml")),
     TABLE.format(1): table_part("T1"),
     TABLE.format(2): table_part("T2"),
+    "xl/comments1.xml": (
+        '<comments><author>Ann</author><comment ref="A1" authorId="0"><t>a</t></comment></comments>'
+    ),
     PIVOT: '<pivotTableDefinition name="P"/>',
     "xl/pivotTables/_rels/pivotTable1.xml.rels": relationships(
         ("pivotCacheDefinition", "../pivotCache/pivotCacheDefinition1.xml")

@@ -67,7 +67,8 @@ tables:*) printf 'T\\tTwo\\tA1:B2\\tx\\n' ;;
 *) echo "$fed" ;;
 esac
 """
-NAMED = ("cells", "merges", "links", "csv", "csv-table", "table", "precedents", "check", "sample")
+NAMED = ("cells", "merges", "links", "comments", "csv", "csv-table", "table", "precedents")
+NAMED += ("check", "sample")
 # Words that are references of a cell, and such that are none.
 REFERENCES = ("A1", "a7", "XFD1048576", "XFE1", "ZZZ1", "A1048577", "AAAA1", "A01", "A0", "7", "A")
 REFERENCES += ("", "$A$7", "A1:B2", "\u00e91", "A\u0661", "A1 ", "1A", "A" + "0" * 5_000 + "7")
@@ -361,7 +362,7 @@ class Wrapper(FrontCopy):
         self.written("several.xlsx", archive(parts))
         none = [*book, "xl/styles.xml"]
         without = ([word] for word in ("sheets", "names", "props", "tables", "pivots"))
-        for words in (*without, ["pivot", "S", "T"]):
+        for words in (*without, ["pivot", "S", "T"], ["comments", "Two"]):
             with self.subTest(words=words):
                 ran = self.run_on("several.xlsx", *words)
                 self.assertEqual(ran, (0, f"{' '.join(none)} \n".encode(), ""))

@@ -77,6 +77,17 @@ COMMANDS = {
             ),
         ),
         Command(
+            "comments",
+            ("NAME",),
+            A_SHEET,
+            Reads.NONE,
+            (
+                "prints one line for each comment of the worksheet NAME: its cell, its",
+                "author and its text, as in",
+                "A2\t=Ann\t=check this",
+            ),
+        ),
+        Command(
             "props",
             (),
             NOTHING,
@@ -252,8 +263,8 @@ REFERENCE = re.compile("([A-Za-z]{1,3})0*([1-9][0-9]{0,6})")
 STANDARD_INPUT = "-"
 
 USAGE = """\
-usage: ./xlsx FILE.xlsx cells NAME       (or merges, links, csv, csv-table, table, part,
-                                          precedents, check or resave NAME,
+usage: ./xlsx FILE.xlsx cells NAME       (or merges, links, comments, csv, csv-table, table,
+                                          part, precedents, check or resave NAME,
                                           dependents NAME REF,
                                           pivot SHEET NAME, or sheets, names, tables,
                                           pivots, props or upgrade)

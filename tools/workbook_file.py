@@ -67,6 +67,7 @@ KINDS = [
         (r"sharedstrings\.xml", f"{SPREADSHEET}.sharedStrings"),
         (r"styles\.xml", f"{SPREADSHEET}.styles"),
         (r"tables/[^/]+\.xml", f"{SPREADSHEET}.table"),
+        (r"comments[^/]*\.xml", f"{SPREADSHEET}.comments"),
         (r"pivottables/[^/]+\.xml", f"{SPREADSHEET}.pivotTable"),
         (r"pivotcachedefinition[^/]*\.xml", f"{SPREADSHEET}.pivotCacheDefinition"),
         (r"pivotcacherecords[^/]*\.xml", f"{SPREADSHEET}.pivotCacheRecords"),

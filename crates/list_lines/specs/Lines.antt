@@ -57,6 +57,12 @@ link_line area target location displayed tooltip =
     ++ (next_field (optional_field displayed) ++ (next_field (optional_field tooltip)
     ++ codes "\n"))))
 
+-- the line of a comment: the position of its cell, its author and its text
+abbrev pub comment_line : ℕ × ℕ → Option (List ℕ) → List ℕ → List ℕ
+comment_line position author text =
+    reference position
+    ++ (next_field (optional_field author) ++ (next_field (text_field text) ++ codes "\n"))
+
 -- the line of a property, by the name of its field and its text
 abbrev pub property_line : List ℕ → List ℕ → List ℕ
 property_line name text = name ++ (next_field (text_field text) ++ codes "\n")

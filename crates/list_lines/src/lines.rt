@@ -8,7 +8,7 @@ ghost use Rattle.list_lines.specs.Lines.{LiesInWorksheet, sheet_line, pair_line,
 ghost use Rattle.list_lines.specs.Lines.{link_line, property_line, custom_line};
 ghost use Rattle.list_lines.specs.Lines.{optional_area, column_fields, table_line};
 ghost use Rattle.list_lines.specs.Lines.{IsCellOfWorksheet, area_fields, position_line};
-ghost use Rattle.list_lines.specs.Lines.{position_areas_line, text_line};
+ghost use Rattle.list_lines.specs.Lines.{position_areas_line, text_line, comment_line};
 
 use cell_refs::{Dimensions, push_reference};
 use escaped_text::{or_cut_back, push_escaped};
@@ -193,6 +193,45 @@ pub fn push_link_line(
 {
     let len = out.len();
     let appended = push_link_fields(out, area, target, location, displayed, tooltip);
+    or_cut_back(out, len, appended)
+}
+
+/// Appends the fields of that line and its end. A refusal may leave a front of them behind.
+fn push_comment_fields(
+    out: &mut String,
+    pos: (u32, u32),
+    author: Option<&str>,
+    text: &str,
+) -> Result<(), AllocError>
+    requires { IsCellOfWorksheet pos }
+    ensures ok { let printed = comment_line pos (option_copied author.entry) text.now in
+        OnOk result (string_bytes out.new ≡ string_bytes out.old ++ printed) }
+    ensures err { OnErr result (Extends (string_bytes out.old) (string_bytes out.new)) }
+{
+    push_reference(out, pos.0, pos.1)?;
+    push_optional(out, author)?;
+    out.push_str("\t")?;
+    push_text_field(out, text)?;
+    out.push_str("\n")
+}
+
+/// Appends the line of a comment: the position of its cell, whose row and column are counted from
+/// 0, its author, escaped behind `=`, or `-` where it has none, and its text, escaped behind `=`. A
+/// refusal leaves the text as it was.
+#[tactic(auto, using(escaped_text::proofs::Extending::cut_back))]
+pub fn push_comment_line(
+    out: &mut String,
+    pos: (u32, u32),
+    author: Option<&str>,
+    text: &str,
+) -> Result<(), AllocError>
+    requires { IsCellOfWorksheet pos }
+    ensures ok { let printed = comment_line pos (option_copied author.entry) text.now in
+        OnOk result (string_bytes out.new ≡ string_bytes out.old ++ printed) }
+    ensures err { OnErr result (string_bytes out.new ≡ string_bytes out.old) }
+{
+    let len = out.len();
+    let appended = push_comment_fields(out, pos, author, text);
     or_cut_back(out, len, appended)
 }
 

@@ -1,6 +1,7 @@
 use crate::{
-    push_area_line, push_custom_line, push_link_line, push_pair_line, push_position_areas_line,
-    push_position_line, push_property_line, push_sheet_line, push_table_line, push_text_line,
+    push_area_line, push_comment_line, push_custom_line, push_link_line, push_pair_line,
+    push_position_areas_line, push_position_line, push_property_line, push_sheet_line,
+    push_table_line, push_text_line,
 };
 use cell_refs::Dimensions;
 use std::test::Fail;
@@ -50,6 +51,18 @@ fn areas_and_links_have_their_lines(rt: HostRuntime) -> Result<(), Fail> {
         D1:D1\t=https://example.com\t-\t=back\\\\\t=a&b\n\
         D1:D1\t-\t-\t=back\\\\\t=\n\
         D1:D1\t=tab\\there\t-\t=back\\\\\t-\n";
+    assert_eq!(rt; out.as_str(), wanted);
+    Ok(())
+}
+
+#[test]
+fn comments_have_their_lines(rt: HostRuntime) -> Result<(), Fail> {
+    let mut out = String::from_str(rt.alloc(), "lists:\n")?;
+    for (author, text) in [(Some("Ann"), "two\nlines"), (Some(""), ""), (None, "-")] {
+        push_comment_line(&mut out, (1_048_575, 16_383), author, text)?;
+    }
+    let wanted = "lists:\nXFD1048576\t=Ann\t=two\\nlines\nXFD1048576\t=\t=\n\
+        XFD1048576\t-\t=-\n";
     assert_eq!(rt; out.as_str(), wanted);
     Ok(())
 }

@@ -1,5 +1,5 @@
 -- The rows of the commands: what each call gives and what it is refused for.
-use Rattle.std.proofs.Common.{◌≡◌, ◌⊎◌, ℕ, List, map, refl, subst, Option, Some}
+use Rattle.std.proofs.Common.{◌≡◌, ◌⊎◌, ℕ, List, map, refl, subst, Option, Some, None}
 use Rattle.std.specs.Prelude.{Result, Ok, Err, IfOk, IfErr}
 use Rattle.part_events.specs.Package.{Part}
 use Rattle.cell_data.specs.CellValue.{CellValue}
@@ -8,6 +8,9 @@ use Rattle.sheet_listing.specs.SheetListing.{listing}
 use Rattle.xlsx_error.specs.declared.error.XlsxError.{XlsxError}
 use Rattle.xlsx_areas.specs.Hyperlinks.{Link}
 use Rattle.xlsx_open.specs.Opening.{OpensSoundly, without_path}
+use Rattle.xlsx_comments.specs.CommentParts.{CommentsSaid}
+use Rattle.xlsx_comments.specs.Comments.{sheet_comments_ask}
+use Rattle.xlsx_core.specs.Comments.{named_comments_ask}
 use Rattle.xlsx_core.specs.Links.{links_placed, PlacedLinksCause}
 use Rattle.xlsx_core.specs.SheetReading.{ReadsAs, IsReadable, SheetCause}
 use Rattle.xlsx_commands.specs.BookLists.{sheet_lines, name_lines}
@@ -15,13 +18,13 @@ use Rattle.xlsx_rows.specs.declared.options.CsvOptions.{CsvOptions}
 use Rattle.xlsx_commands.specs.declared.asked_rows.AskedRows.{AskedRows}
 use Rattle.xlsx_commands.specs.Command.{Command, cells, sheets, names, merges, links, props, csv}
 use Rattle.xlsx_commands.specs.Command.{csv_table, tables, table, pivots, pivot, precedents}
-use Rattle.xlsx_commands.specs.Command.{dependents, check, part, upgrade, resave, sample}
+use Rattle.xlsx_commands.specs.Command.{dependents, check, part, upgrade, resave, sample, comments}
 use Rattle.xlsx_commands.specs.Outputs.{IsOutput, RefusedWorkbookCause, IsTooLarge, OutputCause}
 use Rattle.xlsx_commands.specs.Outputs.{HasOutput}
 use Rattle.xlsx_commands.specs.PartNames.{PartPathCause}
 use Rattle.xlsx_commands.specs.PropertyLists.{text_of_name}
 use Rattle.xlsx_commands.specs.SampleLines.{sample_name}
-use Rattle.xlsx_commands.specs.SheetLists.{MergesPathCause}
+use Rattle.xlsx_commands.specs.SheetLists.{MergesPathCause, CommentsPathCause}
 use Rattle.xlsx_commands.specs.declared.error.ToolError.{ToolError}
 use Rattle.xlsx_commands.specs.declared.error.ToolError.TheVariants.{Workbook, BoxTooLarge}
 use Rattle.xlsx_commands.proofs.NamedSheets.{OpeningsNever, MergesNever, named_never, merges_never}
@@ -139,6 +142,23 @@ LinksNever =
     (error : XlsxError)
     → links_placed path parts ≡ Some all → PlacedLinksCause name path parts error → ⊥
 
+-- ---- comments
+
+-- comments that can be taken aren't refused, as each is
+abbrev pub CommentsNever : Type 0
+CommentsNever =
+    (parts : List Part) (path : List ℕ) (all : List CommentsSaid) (error : XlsxError)
+    → (sheet_comments_ask path).said parts ≡ Some all
+    → (sheet_comments_ask path).cause parts error → ⊥
+
+comments_never : CommentsNever → (name : List ℕ) (path : Option (List ℕ)) (parts : List Part)
+    (all : List CommentsSaid) (error : XlsxError)
+    → (named_comments_ask name path).said parts ≡ Some all
+    → CommentsPathCause name path parts error → ⊥
+comments_never never name None parts all error says cause = absurd (cc)
+comments_never never name (Some path) parts all error says cause =
+    never parts path all error says cause
+
 -- ---- all commands
 
 -- what is read of a workbook isn't refused
@@ -147,6 +167,7 @@ pub record AreNever : Type 0 where
   pub openings : OpeningsNever
   pub merges : MergesNever
   pub links : LinksNever
+  pub comments : CommentsNever
   pub properties : PropertiesNever
   pub alike : (parts : List Part) (name : List ℕ) → AreReadAlike parts parts name
   pub tables : TablesNever
@@ -173,6 +194,10 @@ workbook_never never (links name) parts output error prints cause =
     let (path, opens, taken) = prints.has in
     named_never (PlacedLinksCause name) parts name path error never.openings opens
     (never.links name path parts prints.links error taken) cause
+workbook_never never (comments name) parts output error prints cause =
+    let (path, opens, taken) = prints.has in
+    named_never (CommentsPathCause name) parts name path error never.openings opens
+    (comments_never never.comments name path parts prints.all error taken) cause
 workbook_never never props parts output error prints cause =
     listed_never parts prints.texts (text_of_name prints.customs) error never.openings
     never.properties prints.opens prints.say cause

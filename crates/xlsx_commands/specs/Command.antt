@@ -26,6 +26,7 @@ pub data Command : Type 0 where
   names : Command
   merges : List ℕ → Command
   links : List ℕ → Command
+  comments : List ℕ → Command
   props : Command
   csv : List ℕ → AskedRows → Command
   csv_table : List ℕ → CsvOptions → Command
@@ -48,6 +49,7 @@ command_meant asked.Sheets = sheets
 command_meant asked.Names = names
 command_meant (asked.Merges name) = merges name.now
 command_meant (asked.Links name) = links name.now
+command_meant (asked.Comments name) = comments name.now
 command_meant asked.Props = props
 command_meant (asked.Csv name rows) = csv name.now rows
 command_meant (asked.CsvTable name options) = csv_table name.now options
@@ -96,6 +98,7 @@ named_command word name =
     if bytes_eq word (codes "cells") then Some (cells name)
     else (if bytes_eq word (codes "merges") then Some (merges name)
     else (if bytes_eq word (codes "links") then Some (links name)
+    else (if bytes_eq word (codes "comments") then Some (comments name)
     else (if bytes_eq word (codes "csv") then Some (csv name plain_rows)
     else (if bytes_eq word (codes "csv-table") then Some (csv_table name plain_rows.options)
     else (if bytes_eq word (codes "table") then Some (table name)
@@ -104,7 +107,7 @@ named_command word name =
     else (if bytes_eq word (codes "part") then Some (part name)
     else (if bytes_eq word (codes "resave") then Some (resave name)
     else (if bytes_eq word (codes "sample") then option_map sample (rows_asked name)
-    else None))))))))))
+    else None)))))))))))
 
 -- a command of three
 abbrev pub placed_command : List ℕ → List ℕ → List ℕ → Option Command
@@ -140,6 +143,7 @@ own_parts sheets = None
 own_parts names = None
 own_parts (merges name) = None
 own_parts (links name) = None
+own_parts (comments name) = None
 own_parts props = None
 own_parts (csv name rows) = None
 own_parts (csv_table name options) = None

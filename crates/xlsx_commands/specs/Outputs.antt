@@ -13,14 +13,14 @@ use Rattle.xlsx_commands.specs.BookLists.{AreSheetLines, AreNameLines}
 use Rattle.xlsx_commands.specs.Command.{Command, cells, sheets, names, merges, links, props, csv}
 use Rattle.xlsx_commands.specs.CacheRows.{ArePivotRows, NamedPivotCause}
 use Rattle.xlsx_commands.specs.Command.{csv_table, tables, table, pivots, pivot, precedents}
-use Rattle.xlsx_commands.specs.Command.{dependents, check, part, upgrade, resave, sample}
+use Rattle.xlsx_commands.specs.Command.{dependents, check, part, upgrade, resave, sample, comments}
 use Rattle.xlsx_commands.specs.FormulaLists.{ArePrecedentLines, AreDependentLines, AreCheckLines}
 use Rattle.xlsx_commands.specs.PartNames.{IsPartLine, NamedPartCause}
 use Rattle.xlsx_commands.specs.PivotLists.{ArePivotLines, ListedPivotsCause}
 use Rattle.xlsx_commands.specs.PropertyLists.{ArePropertyLines, ListedPropertiesCause}
 use Rattle.xlsx_commands.specs.SampleLines.{AreSampleLines, sample_name}
 use Rattle.xlsx_commands.specs.SheetLists.{AreMergeLines, NamedMergesCause, AreLinkLines}
-use Rattle.xlsx_commands.specs.SheetLists.{NamedLinksCause}
+use Rattle.xlsx_commands.specs.SheetLists.{NamedLinksCause, AreCommentLines, NamedCommentsCause}
 use Rattle.xlsx_commands.specs.SheetRows.{AreRowsOf, HasLargeArea}
 use Rattle.xlsx_commands.specs.TableLists.{AreTableLines, AreTableValueLines, ListedTablesCause}
 use Rattle.xlsx_commands.specs.TableLists.{NamedTableCause}
@@ -59,6 +59,7 @@ IsOutput sheets parts output = AreSheetLines parts output
 IsOutput names parts output = AreNameLines parts output
 IsOutput (merges name) parts output = AreMergeLines parts name output
 IsOutput (links name) parts output = AreLinkLines parts name output
+IsOutput (comments name) parts output = AreCommentLines parts name output
 IsOutput props parts output = ArePropertyLines parts output
 IsOutput (csv name asked) parts output = AreRowsOf parts name asked output
 IsOutput (csv_table name options) parts output = AreTableRows parts name options output
@@ -81,6 +82,7 @@ RefusedWorkbookCause sheets parts error = OpeningCause parts error
 RefusedWorkbookCause names parts error = OpeningCause parts error
 RefusedWorkbookCause (merges name) parts error = NamedMergesCause parts name error
 RefusedWorkbookCause (links name) parts error = NamedLinksCause parts name error
+RefusedWorkbookCause (comments name) parts error = NamedCommentsCause parts name error
 RefusedWorkbookCause props parts error = ListedPropertiesCause parts error
 RefusedWorkbookCause (csv name asked) parts error = SheetCause parts name error
 RefusedWorkbookCause (csv_table name options) parts error = NamedTableCause parts name error
@@ -103,6 +105,7 @@ IsTooLarge sheets parts = ⊥
 IsTooLarge names parts = ⊥
 IsTooLarge (merges name) parts = ⊥
 IsTooLarge (links name) parts = ⊥
+IsTooLarge (comments name) parts = ⊥
 IsTooLarge props parts = ⊥
 IsTooLarge (csv name asked) parts = HasLargeArea parts name asked.from_a1
 IsTooLarge (csv_table name options) parts = HasLargeTable parts name

@@ -26,6 +26,8 @@ pub enum Command<'a> {
     Merges(&'a str),
     /// The links of the worksheet of this name.
     Links(&'a str),
+    /// The comments of the worksheet of this name.
+    Comments(&'a str),
     /// The workbook's properties.
     Props,
     /// The rows of the values of the worksheet of this name, as CSV, and what is asked of them.
@@ -116,6 +118,7 @@ fn named_command<'a>(word: &str, name: &'a str) -> Option<Command<'a>>
         "cells" => Some(Command::Cells(name)),
         "merges" => Some(Command::Merges(name)),
         "links" => Some(Command::Links(name)),
+        "comments" => Some(Command::Comments(name)),
         "csv" => Some(Command::Csv(name, AskedRows::PLAIN)),
         "csv-table" => Some(Command::CsvTable(name, CsvOptions::PLAIN)),
         "table" => Some(Command::Table(name)),

@@ -2,10 +2,11 @@
 //! (docs/FORMAT.md).
 //!
 //! Rooms: `command` (the words that ask for a command), `asked_rows` (the words that ask more of
-//! rows), `cell_lines`, `book_lists`, `merge_lines`, `link_lines`, `property_lines`, `table_lines`,
-//! `pivot_lines`, `pivot_rows`, `sheet_rows`, `table_rows`, `formula_lines`, `part_line`,
-//! `upgraded_text`, `resaved_text` and `sample_lines` (what each command prints), `output` (each
-//! command's own package, where it has one, and its output), `laws`, and `error` (`ToolError`).
+//! rows), `cell_lines`, `book_lists`, `merge_lines`, `link_lines`, `comment_lines`,
+//! `property_lines`, `table_lines`, `pivot_lines`, `pivot_rows`, `sheet_rows`, `table_rows`,
+//! `formula_lines`, `part_line`, `upgraded_text`, `resaved_text` and `sample_lines` (what each
+//! command prints), `output` (each command's own package, where it has one, and its output),
+//! `laws`, and `error` (`ToolError`).
 //!
 //! **A command is a row of a few tables**: of the words that ask for it (`command_of`), of the
 //! package that it works on where it reads no input (`own_parts`), of its output (`IsOutput`), of
@@ -37,6 +38,7 @@ mod asked_rows;
 mod book_lists;
 mod cell_lines;
 mod command;
+mod comment_lines;
 mod equality;
 mod error;
 mod formula_lines;

@@ -5,6 +5,7 @@ ghost use Rattle.xlsx_commands.specs.Outputs.{IsOutput, OutputFails};
 use crate::book_lists::{name_lines, sheet_lines};
 use crate::cell_lines::cell_lines;
 use crate::command::Command;
+use crate::comment_lines::comment_lines;
 use crate::error::ToolError;
 use crate::formula_lines::{check_lines, dependent_lines, precedent_lines};
 use crate::link_lines::link_lines;
@@ -35,6 +36,7 @@ pub fn own_package(alloc: Global, command: Command<'_>) -> Result<Option<MemoryP
         Command::Names => None,
         Command::Merges(_) => None,
         Command::Links(_) => None,
+        Command::Comments(_) => None,
         Command::Props => None,
         Command::Csv(_, _) => None,
         Command::CsvTable(_, _) => None,
@@ -70,6 +72,7 @@ pub fn output_of(
         Command::Names => name_lines(alloc, package),
         Command::Merges(name) => merge_lines(alloc, package, name),
         Command::Links(name) => link_lines(alloc, package, name),
+        Command::Comments(name) => comment_lines(alloc, package, name),
         Command::Props => property_lines(alloc, package),
         Command::Csv(name, asked) => sheet_rows(alloc, package, name, asked),
         Command::CsvTable(name, options) => table_rows(alloc, package, name, options),

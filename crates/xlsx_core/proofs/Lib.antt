@@ -1,5 +1,6 @@
 pub mod Agreeing
 pub mod BookRead
+pub mod CommentsTaken
 pub mod DataTaken
 pub mod LastOfEach
 pub mod LeastAreas

@@ -1,5 +1,6 @@
 pub mod Agreement
 pub mod Apart
+pub mod Comments
 pub mod Links
 pub mod Listing
 pub mod Merges

@@ -6,9 +6,9 @@
 //! `standing` (the last cell of each position, from the header row on), `ranges` (cells as ranges),
 //! `read_cells` (the cells of a sheet as they came, and the ranges of them), `sheet_reading`
 //! (`read_sheet`, `read_sheet_values`, `SheetReading`, `SheetAnswer`), `merges` (the calls on
-//! merged cells), `links` (those on hyperlinks), `properties` (the one on properties), `table_list`
-//! (tables that are loaded and listed), `table_data` (their data by their names), `pivots` (the
-//! call on pivot tables), `lists` (what was loaded), `laws`.
+//! merged cells), `links` (those on hyperlinks), `comments` (the one on comments), `properties`
+//! (the one on properties), `table_list` (tables that are loaded and listed), `table_data` (their
+//! data by their names), `pivots` (the call on pivot tables), `lists` (what was loaded), `laws`.
 //!
 //! A cause is one of opening or one of the sheet's part (`SheetPartCause`), so that each layer
 //! below says its own half.
@@ -52,6 +52,7 @@
 //! `worksheet_style`, which is lent the workbook, copies them, and only where a cell has a style.
 #![tactic(auto)]
 
+mod comments;
 mod laws;
 mod links;
 mod lists;
@@ -82,6 +83,7 @@ pub use workbook::Workbook;
 pub use xlsx::{OpenFailure, Xlsx};
 pub use xlsx_areas::{Hyperlink, MergedRegion, MergedRegions};
 pub use xlsx_cells::{SheetCursor, XlsxCellFormula, XlsxCellFormulaMetadataRecord, XlsxCellReader};
+pub use xlsx_comments::{Comment, Comments};
 pub use xlsx_error::XlsxError;
 pub use xlsx_formulas::XlsxFormulaMetadata;
 pub use xlsx_open::{Metadata, Sheet, SheetType, SheetVisible};

@@ -15,6 +15,7 @@ help_text =
     codes "Usage: xlsx_tool cells NAME < package.json\n"
     ++ (codes "       xlsx_tool merges NAME < package.json\n"
     ++ (codes "       xlsx_tool links NAME < package.json\n"
+    ++ (codes "       xlsx_tool comments NAME < package.json\n"
     ++ (codes "       xlsx_tool csv NAME [OPTION].. < package.json\n"
     ++ (codes "       xlsx_tool csv-table NAME [OPTION].. < package.json\n"
     ++ (codes "       xlsx_tool table NAME < package.json\n"
@@ -35,6 +36,7 @@ help_text =
     ++ (codes "  cells      cell with a value, formula or style: position, value, formula, fill\n"
     ++ (codes "  merges     area of merged cells: its corners\n"
     ++ (codes "  links      link: its area, target, location, displayed text, tooltip\n"
+    ++ (codes "  comments   comment: the position of its cell, its author, its text\n"
     ++ (codes "  csv        row of the values: a record of CSV\n"
     ++ (codes "  csv-table  header or row of the table NAME: a record of CSV\n"
     ++ (codes "  table      value in the table NAME: position, value\n"
@@ -60,7 +62,7 @@ help_text =
     ++ (codes "resave writes a package of the values and formulas of the worksheet NAME alone\n"
     ++ (codes "and prints its text in version 2.\n\n"
     ++ codes "sample makes a package of 1 to 20,000 rows and prints how much is read of it.\n"
-    ))))))))))))))))))))))))))))))))))))))))))))))
+    ))))))))))))))))))))))))))))))))))))))))))))))))
 
 -- the line of the version
 abbrev pub version_text : List ℕ

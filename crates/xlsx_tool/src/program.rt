@@ -19,6 +19,7 @@ const HELP: &str = "\
 Usage: xlsx_tool cells NAME < package.json
        xlsx_tool merges NAME < package.json
        xlsx_tool links NAME < package.json
+       xlsx_tool comments NAME < package.json
        xlsx_tool csv NAME [OPTION].. < package.json
        xlsx_tool csv-table NAME [OPTION].. < package.json
        xlsx_tool table NAME < package.json
@@ -41,6 +42,7 @@ One line is printed, of the worksheet NAME or of the workbook, for each
   cells      cell with a value, formula or style: position, value, formula, fill
   merges     area of merged cells: its corners
   links      link: its area, target, location, displayed text, tooltip
+  comments   comment: the position of its cell, its author, its text
   csv        row of the values: a record of CSV
   csv-table  header or row of the table NAME: a record of CSV
   table      value in the table NAME: position, value

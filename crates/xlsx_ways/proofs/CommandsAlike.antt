@@ -6,7 +6,7 @@ use Rattle.xlsx_error.specs.declared.error.XlsxError.TheVariants.{WorksheetNotFo
 use Rattle.xlsx_core.proofs.Agreeing.{same_back, reads_over}
 use Rattle.xlsx_commands.specs.Command.{Command, cells, sheets, names, merges, links, props, csv}
 use Rattle.xlsx_commands.specs.Command.{csv_table, tables, table, pivots, pivot, precedents}
-use Rattle.xlsx_commands.specs.Command.{dependents, check, part, upgrade, resave, sample}
+use Rattle.xlsx_commands.specs.Command.{dependents, check, part, upgrade, resave, sample, comments}
 use Rattle.xlsx_commands.specs.Outputs.{IsOutput, RefusedWorkbookCause, IsTooLarge, OutputCause}
 use Rattle.xlsx_commands.specs.Outputs.{IsUpgrade}
 use Rattle.xlsx_commands.specs.PartNames.{PartPathCause}
@@ -15,6 +15,7 @@ use Rattle.xlsx_commands.specs.SampleLines.{sample_name}
 use Rattle.xlsx_commands.specs.declared.error.ToolError.{ToolError}
 use Rattle.xlsx_commands.specs.declared.error.ToolError.TheVariants.{Workbook, BoxTooLarge}
 use Rattle.xlsx_ways.specs.Ways.{HaveSameWay, HaveSameOpening, HaveSameProperties}
+use Rattle.xlsx_ways.proofs.CommentsAlike.{comments_over, comments_cause_over, comments_back}
 use Rattle.xlsx_ways.proofs.ListsAlike.{properties_over, properties_cause_over, properties_back}
 use Rattle.xlsx_ways.proofs.ListsAlike.{tables_had_over, tables_listed_over, each_tables_back}
 use Rattle.xlsx_ways.proofs.ListsAlike.{table_over, table_cause_over, table_data_back}
@@ -38,6 +39,8 @@ way_back (merges name) one two same = same_back one two name same
 way_back (links name) one two same =
     let back = same_back one two name same.0 in
     (back, links_back one two name (opening_of_sheet two one name back) same.1)
+way_back (comments name) one two same =
+    let back = opening_back one two same.0 in (back, comments_back one two name back same.1)
 way_back props one two same = (opening_back one two same.0, properties_back one two same.1)
 way_back (csv name asked) one two same = same_back one two name same
 way_back (csv_table name options) one two same = table_data_back one two name same
@@ -84,6 +87,11 @@ output_over (merges name) one two output same prints = record {
 output_over (links name) one two output same prints = record {
   links = prints.links;
   has = links_over one two name prints.links same.0 same.1 prints.has;
+  listed = prints.listed;
+}
+output_over (comments name) one two output same prints = record {
+  all = prints.all;
+  has = comments_over one two name prints.all same.0 same.1 prints.has;
   listed = prints.listed;
 }
 output_over props one two output same prints = record {
@@ -203,6 +211,8 @@ cause_over names one two error same cause = opening_cause_over one two error sam
 cause_over (merges name) one two error same cause = merges_cause_over one two name error same cause
 cause_over (links name) one two error same cause =
     links_cause_over one two name error same.0 same.1 cause
+cause_over (comments name) one two error same cause =
+    comments_cause_over one two name error same.0 same.1 cause
 cause_over props one two error same cause =
     listed_properties_over one two error same.0 same.1 cause
 cause_over (csv name asked) one two error same cause =
@@ -248,6 +258,7 @@ large_over sheets one two same large = large
 large_over names one two same large = large
 large_over (merges name) one two same large = large
 large_over (links name) one two same large = large
+large_over (comments name) one two same large = large
 large_over props one two same large = large
 large_over tables one two same large = large
 large_over (table name) one two same large = large

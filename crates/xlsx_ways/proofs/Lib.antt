@@ -6,4 +6,5 @@ pub mod OpeningsAlike
 pub mod SheetsAlike
 pub mod ListsAlike
 pub mod CommandsAlike
+pub mod CommentsAlike
 pub mod PlacesAlike

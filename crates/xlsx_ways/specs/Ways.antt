@@ -6,6 +6,7 @@ use Rattle.xlsx_properties.specs.Parts.{core_part, program_part, custom_part}
 use Rattle.xlsx_relationships.specs.Paths.{relationships_beside}
 use Rattle.xlsx_relationships.specs.RelatedParts.{related_parts}
 use Rattle.xlsx_workbook.specs.Paths.{workbook_part, relationships_part}
+use Rattle.xlsx_comments.specs.Comments.{comments_type}
 use Rattle.xlsx_tables.specs.Tables.{table_type}
 use Rattle.xlsx_pivots.specs.Pivots.{pivot_type}
 use Rattle.xlsx_pivots.specs.Targets.{definitions_at}
@@ -15,7 +16,7 @@ use Rattle.xlsx_core.specs.SheetReading.{path_named}
 use Rattle.xlsx_commands.specs.CacheRows.{HasCache}
 use Rattle.xlsx_commands.specs.Command.{Command, cells, sheets, names, merges, links, props, csv}
 use Rattle.xlsx_commands.specs.Command.{csv_table, tables, table, pivots, pivot, precedents}
-use Rattle.xlsx_commands.specs.Command.{dependents, check, part, upgrade, resave, sample}
+use Rattle.xlsx_commands.specs.Command.{dependents, check, part, upgrade, resave, sample, comments}
 use Rattle.xlsx_commands.specs.SampleLines.{sample_name}
 use Rattle.xlsx_commands.specs.SheetsOpened.{sheets_opened}
 use Rattle.xlsx_commands.specs.TableLists.{HasNamedTable}
@@ -44,6 +45,19 @@ abbrev pub HaveSameLinks : List Part → List Part → List ℕ → Type 0
 HaveSameLinks one two name =
     (opening : Opening) (path : List ℕ) → OpensAs one opening →
     path_named name opening.sheets ≡ Some path → HaveSamePart one two (relationships_beside path)
+
+-- they have the same relationships of the sheet at this path, and the same parts of its comments
+pub record HaveSameCommentParts (one two : List Part) (path : List ℕ) : Type 0 where
+  pub relationships : HaveSamePart one two (relationships_beside path)
+  pub comments :
+      (paths : List (List ℕ)) → related_parts one comments_type path ≡ Some paths →
+      Each (HaveSamePart one two) paths
+
+-- the same of the sheet of this name
+abbrev pub HaveSameComments : List Part → List Part → List ℕ → Type 0
+HaveSameComments one two name =
+    (opening : Opening) (path : List ℕ) → OpensAs one opening →
+    path_named name opening.sheets ≡ Some path → HaveSameCommentParts one two path
 
 -- they have the same properties
 pub record HaveSameProperties (one two : List Part) : Type 0 where
@@ -109,6 +123,7 @@ HaveSameWay sheets one two = HaveSameOpening one two
 HaveSameWay names one two = HaveSameOpening one two
 HaveSameWay (merges name) one two = HaveSameSheet one two name
 HaveSameWay (links name) one two = HaveSameSheet one two name × HaveSameLinks one two name
+HaveSameWay (comments name) one two = HaveSameOpening one two × HaveSameComments one two name
 HaveSameWay props one two = HaveSameOpening one two × HaveSameProperties one two
 HaveSameWay (csv name asked) one two = HaveSameSheet one two name
 HaveSameWay (csv_table name options) one two = HaveSameTableData one two name

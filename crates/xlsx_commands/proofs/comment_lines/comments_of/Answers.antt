@@ -1,0 +1,46 @@
+use Rattle.std.proofs.Common.{◌≡◌, List, refl, subst, Some, map}
+use Rattle.std.proofs.lemmas.Result.{err_from_is_err_and}
+use Rattle.part_events.specs.Package.{Part}
+use Rattle.xlsx_comments.specs.CommentParts.{comments_kept}
+use Rattle.xlsx_core.specs.Comments.{named_comments_ask}
+use Rattle.xlsx_core.specs.Worksheets.{path_of}
+use Rattle.xlsx_commands.specs.SheetLists.{CommentsPathCause}
+use Rattle.xlsx_commands.proofs.NamedSheets.{opens_at, opening_fails_named, sheet_fails_named}
+use Rattle.xlsx_commands.proofs.comment_lines.comments_of.Goals as goal
+
+pub returns-in_err-xlsx-clause-err : goal.returns-in_err-xlsx-clause-err
+returns-in_err-xlsx-clause-err c =
+    let name = c.args.name.now in
+    let failure = c.in_err-xlsx.field-0.0 in
+    let handed = err_from_is_err_and c.from_residual.result c.from_residual.ensures.1 in
+    rw (handed.1, handed.2)
+    (opening_fails_named (CommentsPathCause name) name c.args.package failure.package
+    failure.error c.in_err-xlsx.ensures.kind c.in_err-xlsx.ensures.err)
+
+pub returns-in_err-comments_by_sheet_name-clause-err :
+    goal.returns-in_err-comments_by_sheet_name-clause-err
+returns-in_err-comments_by_sheet_name-clause-err c =
+    let name = c.args.name.now in
+    let xlsx = c.in_ok-xlsx.xlsx in
+    let opened = c.in_ok-xlsx.ensures.opens refl in
+    let handed = err_from_is_err_and c.from_residual-in_err-comments_by_sheet_name.result
+    c.from_residual-in_err-comments_by_sheet_name.ensures.1 in
+    rw (handed.1, handed.2)
+    (sheet_fails_named (CommentsPathCause name) name (path_of xlsx name) c.args.package
+    xlsx.package c.comments_by_sheet_name.new.self.package
+    c.in_err-comments_by_sheet_name.field-0.0 c.in_ok-xlsx.ensures.uses.parts.parts
+    (opens_at name opened.0 opened.1 opened.2)
+    c.in_err-comments_by_sheet_name.ensures.answers.err)
+
+pub returns-clause-ok : goal.returns-clause-ok
+returns-clause-ok c =
+    let name = c.args.name.now in
+    let path = path_of c.in_ok-xlsx.xlsx name in
+    let opened = c.in_ok-xlsx.ensures.opens refl in
+    let found = map comments_kept c.in_ok-comments_by_sheet_name.field-0.items in (
+      path,
+      opens_at name opened.0 opened.1 opened.2,
+      subst (λ (own : List Part). (named_comments_ask name path).said own ≡ Some found)
+          c.in_ok-xlsx.ensures.uses.parts.parts
+          (c.in_ok-comments_by_sheet_name.ensures.answers.said refl),
+    )

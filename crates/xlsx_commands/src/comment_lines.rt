@@ -1,0 +1,74 @@
+ghost use Rattle.std.specs.Prelude.{◌≡◌, ◌++◌, map, string_bytes, OnOk, IfOk, IfErr};
+ghost use Rattle.xlsx_comments.specs.CommentParts.{comment_kept, comments_kept};
+ghost use Rattle.xlsx_commands.specs.Outputs.{CallFails};
+ghost use Rattle.xlsx_commands.specs.SheetLists.{HasComments, NamedCommentsCause};
+ghost use Rattle.xlsx_commands.specs.SheetLists.{line_of_comment, part_lines, comment_lines};
+ghost use Rattle.xlsx_commands.specs.SheetLists.{AreCommentLines};
+
+use crate::error::ToolError;
+use list_lines::push_comment_line;
+use part_events::MemoryPackage;
+use std::alloc::{AllocError, Global};
+use xlsx_core::{Comment, Comments, Xlsx};
+
+/// The comments of the first sheet of this name, part by part.
+fn comments_of(
+    alloc: Global,
+    package: MemoryPackage,
+    name: &str,
+) -> Result<Vec<Comments>, ToolError>
+    ensures ok { IfOk result (λ all.
+        HasComments «package».parts name.now (map comments_kept all.items)) }
+    ensures err { IfErr result (CallFails (NamedCommentsCause «package».parts name.now)) }
+{
+    let mut xlsx = Xlsx::new(alloc, package)?;
+    Ok(xlsx.comments_by_sheet_name(name)?)
+}
+
+/// Appends the line of a comment of a part.
+fn push_comment(out: &mut String, part: &Comments, comment: &Comment) -> Result<(), AllocError>
+    ensures { OnOk result (string_bytes out.new ≡ string_bytes out.old
+        ++ line_of_comment (comments_kept part.now) (comment_kept comment.now)) }
+{
+    push_comment_line(
+        out,
+        comment.position(),
+        part.author(comment),
+        comment.text(),
+    )
+}
+
+/// Appends the lines of the comments of a part.
+fn push_part(out: &mut String, part: &Comments) -> Result<(), AllocError>
+    ensures { OnOk result
+        (string_bytes out.new ≡ string_bytes out.old ++ part_lines (comments_kept part.now)) }
+{
+    let comments = part.comments();
+    for comment in comments {
+        push_comment(out, part, comment)?;
+    }
+    Ok(())
+}
+
+fn lines_of_comments(alloc: Global, all: &[Comments]) -> Result<String, AllocError>
+    ensures { IfOk result (λ out. string_bytes out ≡ comment_lines (map comments_kept all.now)) }
+{
+    let mut out = String::new(alloc);
+    for part in all {
+        push_part(&mut out, part)?;
+    }
+    Ok(out)
+}
+
+/// A line for each comment of the first sheet of this name.
+pub fn comment_lines(
+    alloc: Global,
+    package: MemoryPackage,
+    name: &str,
+) -> Result<Vec<u8>, ToolError>
+    ensures ok { IfOk result (λ output. AreCommentLines «package».parts name.now output.items) }
+    ensures err { IfErr result (CallFails (NamedCommentsCause «package».parts name.now)) }
+{
+    let all = comments_of(alloc, package, name)?;
+    Ok(lines_of_comments(alloc, &all)?.into_bytes())
+}

@@ -1,0 +1,2 @@
+pub mod CommentsRead
+pub mod SoundComments

@@ -1,0 +1,88 @@
+-- The comments of a sheet (ECMA-376 part 1, section 18.7), and which refusals they have.
+use Rattle.std.specs.Prelude.{◌≡◌, ◌⊎◌, ⊤, ℕ, List, [], ◌∷◌, codes, Option, option_map}
+use Rattle.part_events.specs.Event.{Event}
+use Rattle.part_events.specs.Package.{Part, part_of, event_count}
+use Rattle.part_events.specs.declared.fault.XmlFault.TheVariants.{EndMismatch, Entity}
+use Rattle.xlsx_error.specs.declared.error.XlsxError.{XlsxError}
+use Rattle.xlsx_error.specs.declared.error.XlsxError.TheVariants.{OutOfMemory, Io, Xml}
+use Rattle.xlsx_error.specs.declared.error.XlsxError.TheVariants.{XmlAttr, XmlEof, Alphanumeric}
+use Rattle.xlsx_error.specs.declared.error.XlsxError.TheVariants.{RangeWithoutRowComponent}
+use Rattle.xlsx_error.specs.declared.error.XlsxError.TheVariants.{RangeWithoutColumnComponent}
+use Rattle.xlsx_error.specs.declared.error.XlsxError.TheVariants.{ColumnNumberOverflow}
+use Rattle.xlsx_error.specs.declared.error.XlsxError.TheVariants.{RowNumberOverflow}
+use Rattle.xlsx_error.specs.declared.error.XlsxError.TheVariants.{DimensionCount}
+use Rattle.xlsx_sections.specs.Asking.{Ask}
+use Rattle.xlsx_sections.specs.Elements.{IsInsideRefused}
+use Rattle.xlsx_sections.specs.PartSection.{OptionalPartCause}
+use Rattle.xlsx_sections.specs.SectionEvents.{section_events_of}
+use Rattle.xlsx_parts.specs.PartSaid.{part_said, unless_absent}
+use Rattle.xlsx_relationships.specs.RelatedAsked.{each_related}
+use Rattle.xlsx_relationships.specs.RelationshipErrors.{IsRelatedError}
+use Rattle.xlsx_comments.specs.CommentParts.{Entry, CommentsSaid, entries_in, end_in_entries}
+use Rattle.xlsx_comments.specs.CommentParts.{gathered}
+
+-- why the comments of a part can't be taken, which may be absent
+abbrev pub CommentsCause : Option (List Event) → XlsxError → Type 0
+CommentsCause part error =
+    OptionalPartCause (codes "comments") end_in_entries (IsInsideRefused entries_in) part error
+
+-- the refusals that the start of a comment can have
+abbrev pub IsCommentStartError : XlsxError → Type 0
+IsCommentStartError (XmlAttr fault) = ⊤
+IsCommentStartError (Alphanumeric byte) = ⊤
+IsCommentStartError RangeWithoutRowComponent = ⊤
+IsCommentStartError RangeWithoutColumnComponent = ⊤
+IsCommentStartError ColumnNumberOverflow = ⊤
+IsCommentStartError RowNumberOverflow = ⊤
+IsCommentStartError (DimensionCount count) = ⊤
+IsCommentStartError _ = ⊥
+
+-- how the end of the part is told in it
+abbrev pub IsCommentsEnd : List ℕ → Type 0
+IsCommentsEnd name =
+    (name ≡ codes "comments") ⊎ (name ≡ codes "author") ⊎ (name ≡ codes "t") ⊎ (name ≡ [])
+
+-- and those of all comments of a part, whatever the package tells
+abbrev pub IsCommentsError : XlsxError → Type 0
+IsCommentsError OutOfMemory = ⊤
+IsCommentsError Io = ⊤
+IsCommentsError (Xml (EndMismatch at)) = ⊤
+IsCommentsError (Xml (Entity at)) = ⊤
+IsCommentsError (XmlEof element) = IsCommentsEnd element.now
+IsCommentsError error = IsCommentStartError error
+
+-- the type of the relationships from a sheet to its comments
+abbrev pub comments_type : List ℕ
+comments_type =
+    codes "http://schemas.openxmlformats.org/officeDocument/2006/relationships/comments"
+
+-- what the elements of the part at a path say; an absent part says nothing
+abbrev pub entries_at : List Part → List ℕ → Option (List Entry)
+entries_at parts path =
+    unless_absent [] (part_of parts path) (part_said (codes "comments") entries_in parts path)
+
+-- what is said of one part
+abbrev pub one_gathered : List Entry → List CommentsSaid
+one_gathered entries = gathered entries ∷ []
+
+-- the comments of the part at a path
+abbrev pub comments_at : List Part → List ℕ → Option (List CommentsSaid)
+comments_at parts path = option_map one_gathered (entries_at parts path)
+
+-- a refusal that reading the comments of a sheet can have
+abbrev pub AreSheetCommentsError : XlsxError → Type 0
+AreSheetCommentsError error = IsRelatedError error ⊎ IsCommentsError error
+
+-- what is asked for the comments of the part at a path
+abbrev pub comments_ask : List ℕ → Ask (List CommentsSaid)
+comments_ask path = record {
+  most = λ parts. event_count parts path;
+  exact = λ parts. section_events_of (codes "comments") parts path;
+  said = λ parts. comments_at parts path;
+  cause = λ parts. CommentsCause (part_of parts path);
+  kind = AreSheetCommentsError;
+}
+
+-- and for those of the sheet whose part is at a path, in the order of its relationships
+abbrev pub sheet_comments_ask : List ℕ → Ask (List CommentsSaid)
+sheet_comments_ask path = each_related AreSheetCommentsError comments_ask comments_type path

@@ -1,0 +1,166 @@
+ghost use Rattle.std.proofs.Common.{inl};
+ghost use Rattle.std.specs.Prelude.{◌≡◌, ◌≤◌, true, Ok, Some, codes, suc, length, map};
+ghost use Rattle.std.specs.Prelude.{IfOk, OnOk, IfErr};
+ghost use Rattle.part_events.specs.Package.{Uses, event_count, part_of};
+ghost use Rattle.part_events.specs.Reading.{reading, open_elements, IsReading, ReadsPart};
+ghost use Rattle.part_events.specs.Walk.{section_ahead, is_closed_ahead, section_end};
+ghost use Rattle.xlsx_error.specs.declared.error.XlsxError.TheVariants.{Io};
+ghost use Rattle.xlsx_sections.specs.Asking.{Answers};
+ghost use Rattle.xlsx_sections.specs.Elements.{IsInsideRefused};
+ghost use Rattle.xlsx_sections.specs.Failing.{FailsBy};
+ghost use Rattle.xlsx_sections.specs.PartSection.{SectionFails};
+ghost use Rattle.xlsx_sections.specs.SectionEvents.{ReadsToEnd};
+ghost use Rattle.xlsx_comments.specs.CommentParts.{CommentsSaid, entries_in, end_in_entries};
+ghost use Rattle.xlsx_comments.specs.CommentParts.{gathered, entry_kept, comments_kept};
+ghost use Rattle.xlsx_comments.specs.Comments.{CommentsCause, IsCommentsError, entries_at};
+ghost use Rattle.xlsx_comments.specs.Comments.{AreSheetCommentsError, comments_ask};
+ghost use Rattle.xlsx_comments.specs.Comments.{sheet_comments_ask};
+
+use crate::comment::Comments;
+use crate::entry::{Entry, read_entry};
+use part_events::{Cursor, Package};
+use std::alloc::{AllocError, Global};
+use xlsx_error::XlsxError;
+use xlsx_relationships::{ReadsRelated, push_related};
+use xlsx_sections::{enter_part, next_element_in};
+
+const COMMENTS_TYPE: &str =
+    "http://schemas.openxmlformats.org/officeDocument/2006/relationships/comments";
+
+/// What the authors and the comments say in a root whose element is number `base` of the open ones.
+fn entries_in<P: Package>(
+    alloc: Global,
+    package: &mut P,
+    cursor: &mut Cursor,
+    base: usize,
+) -> Result<Vec<Entry>, XlsxError>
+    requires reading { IsReading (reading (P.state «package».old) cursor.old) }
+    requires within { base ≤ length (open_elements cursor.old) }
+    ensures reads { let old = reading (P.state «package».old) cursor.old in
+        let new = reading (P.state «package».new) cursor.new in
+        ReadsPart Io result old new }
+    ensures closed { let old = reading (P.state «package».old) cursor.old in
+        old.source.is_told ≡ true → OnOk result (is_closed_ahead base old ≡ true) }
+    ensures ends { let old = reading (P.state «package».old) cursor.old in
+        let new = reading (P.state «package».new) cursor.new in
+        old.source.is_told ≡ true → OnOk result (new.at ≡ suc (section_end base old)) }
+    ensures entries { let old = reading (P.state «package».old) cursor.old in
+        old.source.is_told ≡ true → IfOk result (λ entries.
+        entries_in (section_ahead base old) ≡ Ok (map entry_kept entries.items)) }
+    ensures err { let old = reading (P.state «package».old) cursor.old in
+        let new = reading (P.state «package».new) cursor.new in
+        IfErr result (SectionFails end_in_entries (IsInsideRefused entries_in) base old new) }
+    ensures kind { IfErr result IsCommentsError }
+{
+    let mut entries = Vec::new(alloc);
+    let names = ["author", "comment"];
+    'entries: while let Some(_at) = next_element_in(package, cursor, base, &names, "comments")? {
+        entries.push(read_entry(alloc, package, cursor)?)?;
+    }
+    Ok(entries)
+}
+
+/// What the authors and the comments say in the part at this path. An absent part has none.
+fn read_entries<P: Package>(
+    alloc: Global,
+    package: &mut P,
+    path: &str,
+) -> Result<Vec<Entry>, XlsxError>
+    ensures uses { let old = P.state «package».old in
+        let new = P.state «package».new in
+        Uses (event_count old.parts path.now) Io result old new }
+    ensures to_end { ReadsToEnd (codes "comments") path.now result (P.state «package».old)
+        (P.state «package».new) }
+    ensures entries { let old = P.state «package».old in
+        old.is_told ≡ true → IfOk result (λ entries.
+        entries_at old.parts path.now ≡ Some (map entry_kept entries.items)) }
+    ensures err { let old = P.state «package».old in
+        IfErr result (FailsBy (CommentsCause (part_of old.parts path.now)) old
+        (P.state «package».new)) }
+    ensures kind { IfErr result IsCommentsError }
+{
+    let Some(mut cursor) = enter_part(alloc, package, path, "comments")? else {
+        return Ok(Vec::new(alloc));
+    };
+    let base = cursor.depth();
+    entries_in(alloc, package, &mut cursor, base)
+}
+
+/// The authors and the comments among these, each in order.
+fn gathered(alloc: Global, entries: Vec<Entry>) -> Result<Comments, AllocError>
+    ensures { IfOk result (λ own. comments_kept own ≡ gathered (map entry_kept entries.items)) }
+{
+    let mut authors = Vec::new(alloc);
+    let mut comments = Vec::new(alloc);
+    for entry in entries {
+        match entry {
+            Entry::Author(name) => authors.push(name)?,
+            Entry::Comment(comment) => comments.push(comment)?,
+            Entry::Unplaced => {}
+        }
+    }
+    Ok(Comments { authors, comments })
+}
+
+/// Reads the comments of parts.
+#[derive(Drop)]
+struct CommentsReader {
+    alloc: Global,
+}
+
+impl ReadsRelated for CommentsReader {
+    type Item = Comments;
+
+    ghost Kept = { CommentsSaid };
+
+    ghost kept = { λ r own. comments_kept own };
+
+    ghost ask = { λ r. comments_ask };
+
+    ghost Kind = { AreSheetCommentsError };
+
+    ghost kinds = { λ r path error is. is };
+
+    ghost related_kinds = { λ error is. inl is };
+
+    /// A part that is absent has neither authors nor comments.
+    fn push<P: Package>(
+        &self,
+        package: &mut P,
+        all: &mut Vec<Comments>,
+        path: &str,
+    ) -> Result<(), XlsxError> {
+        let entries = read_entries(self.alloc, package, path)?;
+        all.push(gathered(self.alloc, entries)?)?;
+        Ok(())
+    }
+}
+
+/// The comments of the sheet whose part is at this path: those of the parts that its relationships
+/// of the type for comments lead to, part by part, in order (ECMA-376 part 1, section 18.7.3). One
+/// that two of them name comes twice, and a part that is absent has none.
+///
+/// An author has the text of its `author`, and a comment those of the `t` in it, but for what is
+/// said of its pronunciation, as in a shared string; each `_xHHHH_` is replaced. A comment without
+/// `ref` is left out. Authors and comments count at any depth of the root `comments`, outermost
+/// ones alone.
+///
+/// Fails as `related_parts` of this type. A part without a root `comments`, or one that ends in it,
+/// is `XmlEof("comments")`, one that ends in an author `XmlEof("author")`, and one that ends in a
+/// comment `XmlEof` of `t` or of an empty text, as in a string. An end that breaks the nesting is
+/// `Xml(EndMismatch)`, and a reference without a character `Xml(Entity)`, each with its number in
+/// the part, counted from 0. A start that can't be looked up is `XmlAttr`, and a `ref` that names
+/// no cell has the refusal of its text.
+pub fn read_sheet_comments<P: Package>(
+    alloc: Global,
+    package: &mut P,
+    path: &str,
+) -> Result<Vec<Comments>, XlsxError>
+    ensures answers { Answers (sheet_comments_ask path.now) (λ all. map comments_kept all.items)
+        result (P.state «package».old) (P.state «package».new) }
+{
+    let mut all = Vec::new(alloc);
+    let by = CommentsReader { alloc };
+    push_related(alloc, package, &mut all, path, COMMENTS_TYPE, &by)?;
+    Ok(all)
+}

@@ -1,0 +1,30 @@
+ghost use Rattle.std.specs.Prelude.{map};
+ghost use Rattle.xlsx_comments.specs.CommentParts.{comments_kept};
+ghost use Rattle.xlsx_sections.specs.Asking.{Answers};
+ghost use Rattle.xlsx_core.specs.Comments.{named_comments_ask};
+ghost use Rattle.xlsx_core.specs.Worksheets.{path_of, KeepsWorkbook};
+
+use crate::xlsx::Xlsx;
+use part_events::Package;
+use xlsx_comments::{Comments, read_sheet_comments};
+use xlsx_error::XlsxError;
+
+/// The comments of an open workbook.
+impl<P: Package> Xlsx<P> {
+    /// The comments of the first sheet of this name (ECMA-376 part 1, section 18.7), as
+    /// `read_sheet_comments` reads them beside its part: for each part that the sheet's
+    /// relationships lead to its comments, in order, and the names of their authors. A sheet that
+    /// names no such part has none.
+    ///
+    /// Fails with `WorksheetNotFound` where no sheet has the name, and else as
+    /// `read_sheet_comments`. Whether the package has the part of the sheet isn't asked.
+    pub fn comments_by_sheet_name(&mut self, name: &str) -> Result<Vec<Comments>, XlsxError>
+        ensures answers { let ask = named_comments_ask name.now (path_of self.old name.now) in
+            Answers ask (λ all. map comments_kept all.items) result (P.state self.old.package)
+            (P.state self.new.package) }
+        ensures rest { KeepsWorkbook self.old self.new }
+    {
+        let path = self.worksheet_path(name)?;
+        read_sheet_comments(self.alloc, &mut self.package, path.as_str())
+    }
+}
