@@ -1,6 +1,6 @@
 ghost use Rattle.std.proofs.Common.{inl};
 ghost use Rattle.std.specs.Prelude.{◌≡◌, ◌<◌, map, length, slice_get, OnOk, OnErr, IsSome, is_some};
-ghost use Rattle.std.specs.Prelude.{None, Some, option_map, string_bytes};
+ghost use Rattle.std.specs.Prelude.{None, Some, true, option_map, string_bytes};
 ghost use Rattle.std.specs.Option.{option_copied};
 ghost use Rattle.cell_refs.specs.Positions.{are_sheet_bounds};
 ghost use Rattle.xlsx_sections.specs.Asking.{Answers};

@@ -24,12 +24,12 @@ returns-in_err-pivots-clause-err c =
     (sheets_unlisted PivotsCause opened.0 c.args.package xlsx.package
     c.pivot_tables.new.self.package c.in_err-pivots.field-0.0 opened.1 opened.2
     c.in_ok-xlsx.ensures.uses.parts.parts
-    (pivots_there c.in_err-pivots.field-0.0 c.in_err-pivots.ensures.kind)
-    c.in_err-pivots.ensures.err)
+    (pivots_there c.in_err-pivots.field-0.0 c.in_err-pivots.ensures.answers.kind)
+    c.in_err-pivots.ensures.answers.err)
 
 pub returns-clause-ok : goal.returns-clause-ok
 returns-clause-ok c =
     let opened = c.in_ok-xlsx.ensures.opens refl in
     has_pivots c.args.package.parts opened.0 c.in_ok-xlsx.xlsx (pivots_kept c.in_ok-pivots.pivots)
     opened.2 opened.1 (c.in_ok-xlsx.ensures.folder refl) c.in_ok-xlsx.ensures.uses.parts.parts
-    (c.in_ok-pivots.ensures.pivots refl)
+    (c.in_ok-pivots.ensures.answers.said refl)
