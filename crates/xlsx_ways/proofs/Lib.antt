@@ -1,3 +1,4 @@
+pub mod RelatedAlike
 pub mod SaidAlike
 pub mod PartsAlike
 pub mod TablesAlike

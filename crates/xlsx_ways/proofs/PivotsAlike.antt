@@ -1,5 +1,5 @@
 -- The pivot tables of sheets whose parts two packages have in the same way, and their caches.
-use Rattle.std.proofs.Common.{◌≡◌, ℕ, List, Option, sym, ◌∙◌, ap, subst, inl, inr}
+use Rattle.std.proofs.Common.{◌≡◌, ℕ, List, [], Option, sym, ◌∙◌, ap, subst, inl, inr}
 use Rattle.std.proofs.Common.{codes}
 use Rattle.std.specs.Prelude.{MatchOption, option_map, option_and_then}
 use Rattle.part_events.specs.Event.{Event}
@@ -11,12 +11,13 @@ use Rattle.xlsx_parts.specs.PartSaid.{section_said}
 use Rattle.xlsx_parts.specs.SheetPaths.{SheetPath}
 use Rattle.xlsx_parts.specs.WholePart.{IfThere}
 use Rattle.xlsx_relationships.specs.Paths.{relationships_beside}
-use Rattle.xlsx_relationships.specs.RelatedParts.{target_path, related_parts}
+use Rattle.xlsx_relationships.specs.RelatedParts.{target_path}
+use Rattle.xlsx_pivots.specs.PivotErrors.{IsPivotsError}
 use Rattle.xlsx_pivots.specs.PivotParts.{name_in_part, NameCause}
 use Rattle.xlsx_pivots.specs.Pivots.{pivot_type, pivot_with, pivot_name_at, pivot_from}
-use Rattle.xlsx_pivots.specs.Pivots.{pivot_named, one_pivot, pivots_at, pivots_by, pivots_on}
+use Rattle.xlsx_pivots.specs.Pivots.{pivot_named, one_pivot, pivots_at, pivots_on}
 use Rattle.xlsx_pivots.specs.Pivots.{pivots_of, NameAtCause, CacheAtCause, PivotCause}
-use Rattle.xlsx_pivots.specs.Pivots.{PivotsByCause, PivotsAtCause, PivotsCause}
+use Rattle.xlsx_pivots.specs.Pivots.{PivotsAtCause, PivotsCause, one_pivot_ask}
 use Rattle.xlsx_pivots.specs.Singles.{only_one, Lacks}
 use Rattle.xlsx_pivots.specs.Targets.{definitions_type, records_type, single_target_in}
 use Rattle.xlsx_pivots.specs.Targets.{target_beside, TargetCause, definitions_at, records_path}
@@ -29,8 +30,8 @@ use Rattle.xlsx_pivot_cache.specs.CacheRecords.{records_name, rows_in, names_fir
 use Rattle.xlsx_pivot_cache.specs.CacheRecords.{cache_rows, RowsCause, OpenRowsCause, CacheCause}
 use Rattle.xlsx_core.specs.Agreement.{HaveSamePart}
 use Rattle.xlsx_ways.specs.Ways.{Each, HaveSamePivot, HaveSamePivots}
-use Rattle.xlsx_ways.proofs.PartsAlike.{lacks_over, there_over, part_cause_over, related_over}
-use Rattle.xlsx_ways.proofs.PartsAlike.{related_cause_over}
+use Rattle.xlsx_ways.proofs.PartsAlike.{lacks_over, there_over, part_cause_over}
+use Rattle.xlsx_ways.proofs.RelatedAlike.{each_said_over, each_cause_over, related_back}
 use Rattle.xlsx_ways.proofs.SaidAlike.{each_over, said_over, some_over, then_over, cause_over}
 
 -- ---- the relationships of one
@@ -141,14 +142,8 @@ sheet_pivots_over : (one two : List Part) (folder : List ℕ) (sheet : SheetPath
     → HaveSamePivots one two sheet.path
     → pivots_on one folder sheet ≡ pivots_on two folder sheet
 sheet_pivots_over one two folder sheet same =
-    then_over (related_parts one pivot_type sheet.path) (pivots_by one folder sheet.name)
-    (pivots_by two folder sheet.name)
-    (λ paths is. said_over (pivots_at one folder sheet.name) (pivots_at two folder sheet.name) paths
-    (each_over (HaveSamePivot one two)
-    (λ path. pivots_at one folder sheet.name path ≡ pivots_at two folder sheet.name path) paths
-    (pivot_over one two folder sheet.name) (same.pivots paths is)))
-    ∙ ap (option_and_then (pivots_by two folder sheet.name))
-    (related_over one two pivot_type sheet.path same.relationships)
+    each_said_over IsPivotsError (one_pivot_ask folder sheet.name) (HaveSamePivot one two)
+    pivot_type sheet.path one two (pivot_over one two folder sheet.name) same
 
 -- the pivot tables of a sheet are the same in both
 abbrev SamePivots : List Part → List Part → SheetPath → Type 0
@@ -164,18 +159,9 @@ all_pivots_over one two folder sheets same =
 
 pivots_cause_over : (one two : List Part) (path : List ℕ) (error : XlsxError)
     → HaveSamePivots one two path → PivotsAtCause one path error → PivotsAtCause two path error
-pivots_cause_over one two path error same (inl cause) =
-    inl (related_cause_over one two pivot_type path error same.relationships cause)
-pivots_cause_over one two path error same (inr cause) =
-    inr (subst (λ (found : Option (List (List ℕ))). MatchOption found ⊥
-    (λ paths. PivotsByCause two paths error))
-    (related_over one two pivot_type path same.relationships)
-    (cause_over (related_parts one pivot_type path) (λ paths. PivotsByCause one paths error)
-    (λ paths. PivotsByCause two paths error)
-    (λ paths is. some_over (PivotCause one) (PivotCause two) paths error
-    (each_over (HaveSamePivot one two)
-    (λ own. PivotCause one own error → PivotCause two own error) paths
-    (λ own. pivot_cause_over one two own error) (same.pivots paths is))) cause))
+pivots_cause_over one two path error same cause =
+    each_cause_over IsPivotsError (one_pivot_ask [] []) (HaveSamePivot one two) pivot_type path one
+    two error (λ own. pivot_cause_over one two own error) same cause
 
 pub all_pivots_cause_over : (one two : List Part) (sheets : List SheetPath) (error : XlsxError)
     → Each (SamePivots one two) sheets → PivotsCause one sheets error
@@ -189,12 +175,9 @@ all_pivots_cause_over one two sheets error same cause =
 
 pub pivots_back : (one two : List Part) (path : List ℕ) → HaveSamePivots one two path
     → HaveSamePivots two one path
-pivots_back one two path same = record {
-  relationships = sym same.relationships;
-  pivots = λ (paths : List (List ℕ)) is.
-      each_over (HaveSamePivot one two) (HaveSamePivot two one) paths (pivot_back one two)
-      (same.pivots paths (related_over one two pivot_type path same.relationships ∙ is));
-}
+pivots_back one two path same =
+    related_back (HaveSamePivot one two) (HaveSamePivot two one) pivot_type path one two
+    (pivot_back one two) same
 
 -- ---- a cache
 

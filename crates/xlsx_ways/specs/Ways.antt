@@ -46,12 +46,18 @@ HaveSameLinks one two name =
     (opening : Opening) (path : List ℕ) → OpensAs one opening →
     path_named name opening.sheets ≡ Some path → HaveSamePart one two (relationships_beside path)
 
--- they have the same relationships of the sheet at this path, and the same parts of its comments
-pub record HaveSameCommentParts (one two : List Part) (path : List ℕ) : Type 0 where
+-- they have the same relationships of the part at this path, and the parts that those of a type
+-- lead to are alike
+pub record HaveSameRelated (alike : List ℕ → Type 0) (wanted : List ℕ) (one two : List Part)
+    (path : List ℕ) : Type 0 where
   pub relationships : HaveSamePart one two (relationships_beside path)
-  pub comments :
-      (paths : List (List ℕ)) → related_parts one comments_type path ≡ Some paths →
-      Each (HaveSamePart one two) paths
+  pub related :
+      (paths : List (List ℕ)) → related_parts one wanted path ≡ Some paths → Each alike paths
+
+-- they have the same parts of the comments of the sheet at this path
+abbrev pub HaveSameCommentParts : List Part → List Part → List ℕ → Type 0
+HaveSameCommentParts one two path =
+    HaveSameRelated (HaveSamePart one two) comments_type one two path
 
 -- the same of the sheet of this name
 abbrev pub HaveSameComments : List Part → List Part → List ℕ → Type 0
@@ -65,12 +71,9 @@ pub record HaveSameProperties (one two : List Part) : Type 0 where
   pub program : HaveSamePart one two program_part
   pub custom : HaveSamePart one two custom_part
 
--- they have the same relationships of the sheet at this path, and the same parts of its tables
-pub record HaveSameTables (one two : List Part) (path : List ℕ) : Type 0 where
-  pub relationships : HaveSamePart one two (relationships_beside path)
-  pub tables :
-      (paths : List (List ℕ)) → related_parts one table_type path ≡ Some paths →
-      Each (HaveSamePart one two) paths
+-- they have the same parts of the tables of the sheet at this path
+abbrev pub HaveSameTables : List Part → List Part → List ℕ → Type 0
+HaveSameTables one two path = HaveSameRelated (HaveSamePart one two) table_type one two path
 
 -- they have the same pivot table at this path: its part, its relationships and, where these lead to
 -- definitions, those of these
@@ -81,12 +84,9 @@ pub record HaveSamePivot (one two : List Part) (path : List ℕ) : Type 0 where
       (there : List ℕ) → definitions_at one path ≡ Some there →
       HaveSamePart one two (relationships_beside there)
 
--- they have the same relationships of the sheet at this path, and the same pivot tables
-pub record HaveSamePivots (one two : List Part) (path : List ℕ) : Type 0 where
-  pub relationships : HaveSamePart one two (relationships_beside path)
-  pub pivots :
-      (paths : List (List ℕ)) → related_parts one pivot_type path ≡ Some paths →
-      Each (HaveSamePivot one two) paths
+-- they have the same pivot tables of the sheet at this path
+abbrev pub HaveSamePivots : List Part → List Part → List ℕ → Type 0
+HaveSamePivots one two path = HaveSameRelated (HaveSamePivot one two) pivot_type one two path
 
 -- what is the same of each sheet's path
 abbrev pub OfEachSheet : (List ℕ → Type 0) → List Part → Type 0
