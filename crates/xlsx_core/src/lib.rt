@@ -7,8 +7,9 @@
 //! `read_cells` (the cells of a sheet as they came, and the ranges of them), `sheet_reading`
 //! (`read_sheet`, `read_sheet_values`, `SheetReading`, `SheetAnswer`), `merges` (the calls on
 //! merged cells), `links` (those on hyperlinks), `comments` (the one on comments), `properties`
-//! (the one on properties), `table_list` (tables that are loaded and listed), `table_data` (their
-//! data by their names), `pivots` (the call on pivot tables), `lists` (what was loaded), `laws`.
+//! (the one on properties), `sheet_lists` (the loop over what the sheets say), `table_list` (tables
+//! that are loaded and listed), `table_data` (their data by their names), `pivots` (the call on
+//! pivot tables), `lists` (what was loaded), `laws`.
 //!
 //! A cause is one of opening or one of the sheet's part (`SheetPartCause`), so that each layer
 //! below says its own half.

@@ -127,7 +127,13 @@ impl ReadsSheets for RegionLists {
         number: usize,
         path: &str,
     ) -> Result<(), XlsxError> {
-        read_sheet_regions(self.alloc, package, regions, sheet_name(sheets, number), path)
+        read_sheet_regions(
+            self.alloc,
+            package,
+            regions,
+            sheet_name(sheets, number),
+            path,
+        )
     }
 }
 

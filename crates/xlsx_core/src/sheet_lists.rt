@@ -38,10 +38,8 @@ pub(crate) trait ReadsSheets {
             Appends (ask self.now sheet) (held sheets.now items.old) (held sheets.now items.new)
             result (P.state «package».old) (P.state «package».new) };
 
-    ghost kinds: {
-        (by : Self) (sheet : SheetPath) (error : XlsxError) → (ask by sheet).kind error →
-        Kind error
-    };
+    ghost kinds: { (by : Self) (sheet : SheetPath) (error : XlsxError) → (ask by sheet).kind error →
+        Kind error };
 
     ghost memory: { Kind OutOfMemory };
 }

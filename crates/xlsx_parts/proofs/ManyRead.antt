@@ -57,27 +57,27 @@ pub leads_on : {X A R : Type 0} {kind : XlsxError → Type 0} {whole : Ask (List
     → Leads (each kind ask xs) next new whole before first
 leads_on {X = X} {whole = whole} {before = before} {now = now} {next = next} {first = first}
     {here = here} {new = new} ask x xs leads step = record {
-  same = same_further leads.same step.uses.parts;
-  faults = step.uses.faults ∙ leads.faults;
-  forward = omega (arith, leads.forward, step.uses.forward);
-  most = λ told.
-      sum_further (λ (own : X). (ask own).most first.parts) x xs first.taken here.taken new.taken
-      (whole.most first.parts) (leads.most told)
-      (rw leads.same.parts at (step.uses.taken (leads.same.is_told ∙ told)));
-  exact = λ told.
-      counts_further (λ (own : X). (ask own).exact first.parts) x xs first.taken here.taken
-      new.taken (whole.exact first.parts) (leads.exact told)
-      (rw leads.same.parts at (step.to_end (leads.same.is_told ∙ told)));
-  said = λ told.
-      let so_far = leads.said told in
-      let own = step.said (leads.same.is_told ∙ told) in (
-        so_far.0 ++ own.0,
-        kept_behind before now next so_far.0 own.0 so_far.1 own.2,
-        said_of_one (λ (each : X). (ask each).said first.parts) so_far.0 own.0 x xs
-            (rw leads.same.parts at own.1) ∙ so_far.2,
-      );
-  cause = λ told error cause. leads.cause told error (inr cause);
-}
+      same = same_further leads.same step.uses.parts;
+      faults = step.uses.faults ∙ leads.faults;
+      forward = omega (arith, leads.forward, step.uses.forward);
+      most = λ told.
+          sum_further (λ (own : X). (ask own).most first.parts) x xs first.taken here.taken new.taken
+          (whole.most first.parts) (leads.most told)
+          (rw leads.same.parts at (step.uses.taken (leads.same.is_told ∙ told)));
+      exact = λ told.
+          counts_further (λ (own : X). (ask own).exact first.parts) x xs first.taken here.taken
+          new.taken (whole.exact first.parts) (leads.exact told)
+          (rw leads.same.parts at (step.to_end (leads.same.is_told ∙ told)));
+      said = λ told.
+          let so_far = leads.said told in
+          let own = step.said (leads.same.is_told ∙ told) in (
+            so_far.0 ++ own.0,
+            kept_behind before now next so_far.0 own.0 so_far.1 own.2,
+            said_of_one (λ (each : X). (ask each).said first.parts) so_far.0 own.0 x xs
+                (rw leads.same.parts at own.1) ∙ so_far.2,
+          );
+      cause = λ told error cause. leads.cause told error (inr cause);
+    }
 
 -- one of them is refused, and so is what was asked
 pub leads_refused : {X A R T : Type 0} {kind : XlsxError → Type 0} {whole : Ask (List A)}
@@ -89,24 +89,24 @@ pub leads_refused : {X A R T : Type 0} {kind : XlsxError → Type 0} {whole : As
     → Appends {R = T} whole before after (Err error) first new
 leads_refused {X = X} {whole = whole} {first = first} {here = here} {new = new} {error = error} ask
     x xs after kinds leads step = record {
-  uses = record {
-    parts = same_further leads.same step.uses.parts;
-    faults = λ other. step.uses.faults other ∙ leads.faults;
-    forward = omega (arith, leads.forward, step.uses.forward);
-    taken = λ told.
-        let count : X → ℕ = λ (own : X). (ask own).most first.parts in
-        let both = sum_by-cons count x xs in
-        let so_far = leads.most told in
-        let own = rw leads.same.parts at (step.uses.taken (leads.same.is_told ∙ told)) in
-        omega (arith, both, so_far, own);
-  };
-  to_end = λ told. tt;
-  said = λ told. tt;
-  err =
-      fails_by_weaker (whole.cause first.parts) ((ask x).cause here.parts) new error leads.same
-      (λ told cause. leads.cause told error (inl (rw leads.same.parts at cause))) step.err;
-  kind = kinds step.kind;
-}
+      uses = record {
+        parts = same_further leads.same step.uses.parts;
+        faults = λ other. step.uses.faults other ∙ leads.faults;
+        forward = omega (arith, leads.forward, step.uses.forward);
+        taken = λ told.
+            let count : X → ℕ = λ (own : X). (ask own).most first.parts in
+            let both = sum_by-cons count x xs in
+            let so_far = leads.most told in
+            let own = rw leads.same.parts at (step.uses.taken (leads.same.is_told ∙ told)) in
+            omega (arith, both, so_far, own);
+      };
+      to_end = λ told. tt;
+      said = λ told. tt;
+      err =
+          fails_by_weaker (whole.cause first.parts) ((ask x).cause here.parts) new error leads.same
+          (λ told cause. leads.cause told error (inl (rw leads.same.parts at cause))) step.err;
+      kind = kinds step.kind;
+    }
 
 -- none is left
 pub leads_done : {X A T : Type 0} {kind : XlsxError → Type 0} {whole : Ask (List A)}
@@ -122,8 +122,7 @@ leads_done {X = X} {first = first} ask leads = record {
   };
   to_end = λ told. let exact = leads.exact told in omega (arith, exact);
   said = λ told.
-      let so_far = leads.said told in
-      (
+      let so_far = leads.said told in (
         so_far.0,
         sym so_far.2 ∙ said_of_none (λ (own : X). (ask own).said first.parts) so_far.0,
         so_far.1,
