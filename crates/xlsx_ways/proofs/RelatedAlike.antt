@@ -8,7 +8,7 @@ use Rattle.xlsx_parts.specs.PartSaid.{all_said}
 use Rattle.xlsx_parts.specs.WholePart.{SomeCause}
 use Rattle.xlsx_relationships.specs.RelatedAsked.{each_related}
 use Rattle.xlsx_relationships.specs.RelatedParts.{related_parts}
-use Rattle.xlsx_ways.specs.Ways.{Each, HaveSameRelated}
+use Rattle.xlsx_ways.specs.Ways.{HaveSameRelated}
 use Rattle.xlsx_ways.proofs.PartsAlike.{related_over, related_cause_over}
 use Rattle.xlsx_ways.proofs.SaidAlike.{each_over, said_over, some_over, then_over, cause_over}
 
