@@ -1,6 +1,6 @@
 -- The merged cells of the sheets of a workbook.
 use Rattle.std.specs.Prelude.{ℕ, List, [], map, Bool, Option, option_map, string_bytes}
-use Rattle.std.specs.List.{filter, sum_by}
+use Rattle.std.specs.List.{filter}
 use Rattle.std.specs.Str.{bytes_eq}
 use Rattle.cell_refs.specs.declared.dimensions.Dimensions.{Dimensions}
 use Rattle.part_events.specs.Package.{Part, part_of, event_count}
@@ -33,10 +33,6 @@ regions_on parts sheet =
 -- those of many sheets, one after the other
 abbrev pub all_regions : List Part → List SheetPath → Option (List Region)
 all_regions parts sheets = all_said (regions_on parts) sheets
-
--- how many events the parts of these sheets have
-abbrev pub region_events : List Part → List SheetPath → ℕ
-region_events parts sheets = sum_by (λ (sheet : SheetPath). event_count parts sheet.path) sheets
 
 -- why those of a sheet can't be taken
 abbrev pub SheetRegionsCause : List Part → SheetPath → XlsxError → Type 0

@@ -1,7 +1,6 @@
 -- The pivot tables of the sheets of a workbook.
 use Rattle.std.specs.Prelude.{◌⊎◌, ℕ, ◌+◌, List, [], ◌∷◌, codes, Option, option_map}
 use Rattle.std.specs.Prelude.{option_and_then, MatchOption}
-use Rattle.std.specs.List.{sum_by}
 use Rattle.std.specs.Option.{option_map_or}
 use Rattle.part_events.specs.Package.{Part, part_of, event_count}
 use Rattle.xlsx_error.specs.declared.error.XlsxError.{XlsxError}
@@ -113,16 +112,6 @@ abbrev pub sheet_sections : List Part → List ℕ → ℕ
 sheet_sections parts path =
     section_events_of (codes "Relationships") parts (relationships_beside path)
     + sum_of_related (pivot_sections parts) parts pivot_type path
-
--- and for those of many sheets
-abbrev pub all_pivot_events : List Part → List SheetPath → ℕ
-all_pivot_events parts sheets =
-    sum_by (λ (sheet : SheetPath). sheet_events parts sheet.path) sheets
-
--- the same of those up to the ends of the sections
-abbrev pub all_pivot_sections : List Part → List SheetPath → ℕ
-all_pivot_sections parts sheets =
-    sum_by (λ (sheet : SheetPath). sheet_sections parts sheet.path) sheets
 
 -- why the name of the part at a path can't be taken: the part is absent or refused
 abbrev pub NameAtCause : List Part → List ℕ → XlsxError → Type 0

@@ -1,7 +1,6 @@
 -- The tables of the sheets of a workbook.
 use Rattle.std.specs.Prelude.{◌⊎◌, ℕ, ◌+◌, List, [], ◌∷◌, map, codes, Option, option_map}
 use Rattle.std.specs.Prelude.{option_and_then, MatchOption}
-use Rattle.std.specs.List.{sum_by}
 use Rattle.part_events.specs.Package.{Part, part_of, event_count}
 use Rattle.xlsx_error.specs.declared.error.XlsxError.{XlsxError}
 use Rattle.xlsx_sections.specs.Asking.{Ask}
@@ -65,16 +64,6 @@ abbrev pub table_sections : List Part → List ℕ → ℕ
 table_sections parts path =
     section_events_of (codes "Relationships") parts (relationships_beside path)
     + sum_of_related (section_events_of (codes "table") parts) parts table_type path
-
--- those of many sheets
-abbrev pub all_table_events : List Part → List SheetPath → ℕ
-all_table_events parts sheets =
-    sum_by (λ (sheet : SheetPath). table_events parts sheet.path) sheets
-
--- the same up to the ends of these sections
-abbrev pub all_table_sections : List Part → List SheetPath → ℕ
-all_table_sections parts sheets =
-    sum_by (λ (sheet : SheetPath). table_sections parts sheet.path) sheets
 
 -- why those of the parts at some paths can't be taken: one that is there is refused
 abbrev pub TablesByCause : List Part → List (List ℕ) → XlsxError → Type 0
