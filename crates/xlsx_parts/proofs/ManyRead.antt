@@ -1,17 +1,14 @@
 -- How calls for each of many lead to one that asks all of them.
-use Rattle.std.proofs.Common.{◌≡◌, ◌+◌, ◌≤◌, ℕ, List, [], ◌∷◌, ◌++◌, Some, Result, Ok, Err}
+use Rattle.std.proofs.Common.{◌≡◌, ◌+◌, ◌≤◌, ℕ, List, [], ◌∷◌, ◌++◌, Some, Ok, Err}
 use Rattle.std.proofs.Common.{refl, sym, ◌∙◌, ap, append_assoc, append-nil, arith, inl, inr}
-use Rattle.std.proofs.lemmas.List.{map-append}
 use Rattle.std.proofs.lemmas.List.Sums.{sum_by-cons}
 use Rattle.std.specs.List.{sum_by}
-use Rattle.std.specs.Prelude.{Option, map, option_map}
 use Rattle.part_events.specs.Package.{PackageState, CountsUp}
 use Rattle.part_events.proofs.Uses.{same_further}
 use Rattle.xlsx_error.specs.declared.error.XlsxError.{XlsxError}
-use Rattle.xlsx_error.specs.declared.error.XlsxError.TheVariants.{OutOfMemory}
 use Rattle.xlsx_sections.specs.Asking.{Ask, Answers}
 use Rattle.xlsx_sections.proofs.Failing.{fails_by_weaker, same_parts}
-use Rattle.xlsx_parts.specs.ManyAsked.{Appends, Leads, each, map_each}
+use Rattle.xlsx_parts.specs.ManyAsked.{Appends, Leads, each}
 use Rattle.xlsx_parts.proofs.ManySaid.{said_of_one, said_of_none, said_before}
 
 -- what is kept behind what was kept behind something
@@ -131,24 +128,6 @@ leads_done {X = X} {first = first} ask leads = record {
   kind = tt;
 }
 
--- memory was wanting before the next one
-pub leads_stopped : {A T : Type 0} {left whole : Ask (List A)} {before now : List A}
-    {first here : PackageState} (after : List A) → whole.kind OutOfMemory
-    → Leads left now here whole before first
-    → Appends {R = T} whole before after (Err OutOfMemory) first here
-leads_stopped after kind leads = record {
-  uses = record {
-    parts = leads.same;
-    faults = λ other. leads.faults;
-    forward = leads.forward;
-    taken = λ told. let bound = leads.most told in omega (arith, bound);
-  };
-  to_end = λ told. tt;
-  said = λ told. tt;
-  err = tt;
-  kind = kind;
-}
-
 -- what was kept behind nothing is what is said
 pub answers_all : {A T : Type 0} {ask : Ask (List A)} {after : List A} {old new : PackageState}
     (view : T → List A) (value : T) → after ≡ view value
@@ -171,37 +150,6 @@ pub answers_refused : {A T : Type 0} {ask : Ask (List A)} {before after : List A
 answers_refused view kept = record {
   uses = kept.uses;
   to_end = λ told. tt;
-  said = λ told. tt;
-  err = kept.err;
-  kind = kept.kind;
-}
-
--- what is kept so is kept of another view of it
-said_mapped : {A B : Type 0} (f : A → B) (said : Option (List A)) (before after : List A)
-    → (found : List A) × (said ≡ Some found) × (after ≡ before ++ found)
-    → (found : List B) × (option_map (map f) said ≡ Some found)
-    × (map f after ≡ map f before ++ found)
-said_mapped f said before after kept = (
-  map f kept.0,
-  ap (option_map (map f)) kept.1,
-  ap (map f) kept.2 ∙ map-append f before kept.0,
-)
-
-pub appends_mapped : {A B R : Type 0} (f : A → B) {ask : Ask (List A)} {before after : List A}
-    (result : Result R XlsxError) {old new : PackageState}
-    → Appends ask before after result old new
-    → Appends (map_each f ask) (map f before) (map f after) result old new
-appends_mapped f {ask = ask} {before = before} {after = after} (Ok answer) {old = old} kept =
-    record {
-      uses = kept.uses;
-      to_end = kept.to_end;
-      said = λ told. said_mapped f (ask.said old.parts) before after (kept.said told);
-      err = tt;
-      kind = tt;
-    }
-appends_mapped f (Err error) kept = record {
-  uses = kept.uses;
-  to_end = kept.to_end;
   said = λ told. tt;
   err = kept.err;
   kind = kept.kind;
